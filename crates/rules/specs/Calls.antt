@@ -1,0 +1,132 @@
+-- The calls: for every input, every number returned and the output octets afterwards. Refusals stand in the order of their numbers.
+use mathlib.Core.Bool.{Bool, true, false, not, _&&_}
+use mathlib.Core.List.{List, []}
+use Prim.Native.Nat.{ℕ, _%_}
+use lib.Dec.{eqb, leb, ltb}
+use lib.ListN.{length, getD, take}
+use lib.IntN.{ℤ, pos}
+use Rattle.rules.specs.Bits.{Word, bit, octets, count, flipped, if_then_else_}
+use Rattle.rules.specs.Codes.{Code, code}
+use Rattle.rules.specs.Checks.{broken}
+use Rattle.rules.specs.Encoding.{lifted, sent, encoded, codeword}
+use Rattle.rules.specs.Flipping.{Next, quiet, stuck, flip, byExcess, Run, run}
+
+-- Codes 1 to 5 are offered; by open all but code 4, by step all but code 5.
+abbrev pub offered : ℕ → Bool
+offered n = leb 1 n && leb n 5
+
+-- Number 2: the input's length differs. Number 3: the output's length differs.
+abbrev pub unlike : List ℕ → ℕ → Bool
+unlike octets long = not (eqb (length octets) long)
+
+-- The octets of a word as it is sent.
+abbrev pub written : Code → Word → List ℕ
+written c x = octets (c .wordOctets) (sent c x)
+
+-- Encode: information in, word out.
+pub record Encoded : Type 0 where
+  pub number : ℕ
+  pub out : List ℕ
+
+-- For code 4 the information fills 7154 bits; the last six bits of octet 894 must be 0.
+abbrev pub sixSet : ℕ → List ℕ → Bool
+sixSet n information = eqb n 4 && not (eqb (getD information 894 0 % 64) 0)
+
+unfoldable pub encodeAnswer : ℕ → List ℕ → List ℕ → Encoded
+encodeAnswer n information out =
+    let c = code n in
+    if not (offered n) then record { number = 1; out = out }
+    else if unlike information (c .informationOctets) then record { number = 2; out = out }
+    else if unlike out (c .wordOctets) then record { number = 3; out = out }
+    else if sixSet n information then record { number = 4; out = out }
+    else record { number = 0; out = written c (encoded c (lifted c (bit information))) }
+
+-- Check: the count of broken checks; for code 5 with the unsent bits 0 and the last two unread.
+pub record Checked : Type 0 where
+  pub number : ℕ
+  pub broken : ℕ
+
+unfoldable pub checkAnswer : ℕ → List ℕ → Checked
+checkAnswer n word =
+    let c = code n in
+    if not (offered n) then record { number = 1; broken = 0 }
+    else if unlike word (c .wordOctets) then record { number = 2; broken = 0 }
+    else record { number = 0; broken = broken c (lifted c (bit word)) }
+
+-- Open: for a codeword, its information octets, lent back as a part of the caller's own word; a refused open lends back an empty part.
+pub record Opened : Type 0 where
+  pub number : ℕ
+  pub part : List ℕ
+
+unfoldable pub openAnswer : ℕ → List ℕ → Opened
+openAnswer n word =
+    let c = code n in
+    if not (offered n && not (eqb n 4)) then record { number = 1; part = [] }
+    else if unlike word (c .wordOctets) then record { number = 2; part = [] }
+    else if not (codeword c (bit word)) then record { number = 9; part = [] }
+    else record { number = 0; part = take (c .informationOctets) word }
+
+-- Correct: received word, limit, output word. Gives number, flips, broken checks at the start, broken checks at the end.
+pub record Corrected : Type 0 where
+  pub number : ℕ
+  pub flips : ℕ
+  pub first : ℕ
+  pub last : ℕ
+  pub out : List ℕ
+
+-- After a quiet end: an unsent bit that is 1 gives refusal 7; then parity unlike the encoder's gives refusal 8.
+abbrev pub judged : Code → Run → ℕ
+judged c r =
+    if not (eqb (r .number) 0) then r .number
+    else if ltb 0 (count (c .unsent) (r .word)) then 7
+    else if not (codeword c (sent c (r .word))) then 8
+    else 0
+
+-- Refusals 1 to 4 return all other numbers as 0; refusals 5 to 8 return the flips made and the true counts. On 0 the output is written whole.
+abbrev pub refusedCorrect : ℕ → List ℕ → Corrected
+refusedCorrect number out = record { number = number; flips = 0; first = 0; last = 0; out = out }
+
+unfoldable pub ranCorrect : Code → Word → Run → List ℕ → Corrected
+ranCorrect c x r out =
+    record {
+      number = judged c r;
+      flips = length (r .flips);
+      first = broken c x;
+      last = broken c (r .word);
+      out = if eqb (judged c r) 0 then written c (r .word) else out;
+    }
+
+unfoldable pub correctAnswer : ℕ → List ℕ → ℕ → List ℕ → Corrected
+correctAnswer n word limit out =
+    let c = code n in
+    let x = lifted c (bit word) in
+    if not (offered n) then refusedCorrect 1 out
+    else if unlike word (c .wordOctets) then refusedCorrect 2 out
+    else if unlike out (c .wordOctets) then refusedCorrect 3 out
+    else ranCorrect c x (run (byExcess c) limit x) out
+
+-- Step: one flip of the run into an output word, with the bit's number and excess; or quiet and marked so, in which case
+-- the word is copied and both numbers are 0; or refusal 5. A refused step returns 0 for both, and is not marked quiet.
+pub record Stepped : Type 0 where
+  pub number : ℕ
+  pub quiet : Bool
+  pub bit : ℕ
+  pub excess : ℤ
+  pub out : List ℕ
+
+abbrev pub refusedStep : ℕ → List ℕ → Stepped
+refusedStep number out = record { number = number; quiet = false; bit = 0; excess = pos 0; out = out }
+
+unfoldable pub nextStep : Code → List ℕ → Word → List ℕ → Next → Stepped
+nextStep c word x out quiet = record { number = 0; quiet = true; bit = 0; excess = pos 0; out = word }
+nextStep c word x out stuck = refusedStep 5 out
+nextStep c word x out (flip k e) = record { number = 0; quiet = false; bit = k; excess = e; out = written c (flipped x k) }
+
+unfoldable pub stepAnswer : ℕ → List ℕ → List ℕ → Stepped
+stepAnswer n word out =
+    let c = code n in
+    let x = lifted c (bit word) in
+    if not (offered n && not (eqb n 5)) then refusedStep 1 out
+    else if unlike word (c .wordOctets) then refusedStep 2 out
+    else if unlike out (c .wordOctets) then refusedStep 3 out
+    else nextStep c word x out (byExcess c x)

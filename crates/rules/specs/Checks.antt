@@ -1,0 +1,35 @@
+-- Circulants, checks, and the count of broken checks.
+use mathlib.Core.Bool.{Bool, true, false, not, _&&_, _||_}
+use mathlib.Core.List.{List, [], _∷_}
+use Prim.Native.Nat.{ℕ, _+_, _/_, _%_}
+use lib.Dec.{eqb}
+use lib.ListN.{getD}
+use lib.IntN.{ℤ, subℕ}
+use Rattle.rules.specs.Bits.{Word, sum, count}
+use Rattle.rules.specs.Codes.{Code, bits, checks}
+
+-- A block is a square circulant of size M. An entry s means: in row i, a one at column (i + s) mod M. Two entries mean both ones.
+abbrev pub oneAt : ℕ → List ℕ → ℕ → ℕ → Bool
+oneAt M [] i column = false
+oneAt M (s ∷ shifts) i column = eqb ((i + s) % M) column || oneAt M shifts i column
+
+-- Checks are numbered from 0, block row by block row: check k is row k mod M of block row k / M, and bit n is column n mod M of block n / M.
+abbrev pub covers : Code → ℕ → ℕ → Bool
+covers c k n =
+    let M = c .size in
+    oneAt M (getD (getD (c .parity) (k / M) []) (n / M) []) (k % M) (n % M)
+
+-- A check is the sum modulo 2 of the word's bits at the ones of its row; it is broken where that is 1.
+unfoldable pub check : Code → Word → ℕ → Bool
+check c x k = sum (bits c) (λ n. covers c k n && x n)
+
+-- The count of broken checks.
+unfoldable pub broken : Code → Word → ℕ
+broken c x = count (checks c) (check c x)
+
+-- For a bit, its excess is the number of its broken checks less the number of its met checks: a signed number.
+unfoldable pub excess : Code → Word → ℕ → ℤ
+excess c x n =
+    subℕ
+    (count (checks c) (λ k. covers c k n && check c x k))
+    (count (checks c) (λ k. covers c k n && not (check c x k)))

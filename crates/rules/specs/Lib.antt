@@ -1,0 +1,7 @@
+pub mod Bits
+pub mod Tables
+pub mod Codes
+pub mod Checks
+pub mod Encoding
+pub mod Flipping
+pub mod Calls
