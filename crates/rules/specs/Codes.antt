@@ -29,65 +29,49 @@ bits c = length (getD (c .parity) 0 []) * c .size
 abbrev pub information : Code → ℕ
 information c = length (c .generator) * c .size
 
+-- The telecommand codes send every bit, and their printed digits have M bits.
+abbrev pub telecommand : ℕ → ℕ → ℕ → List (List (List ℕ)) → List (List ℕ) → Code
+telecommand wordOctets informationOctets M parity generator = record {
+  wordOctets = wordOctets;
+  informationOctets = informationOctets;
+  unsent = 0;
+  size = M;
+  parity = parity;
+  generator = generator;
+  printed = M;
+}
+
+-- The near-Earth codes have the same tables, M = 511; the printed digits have 512 bits.
+abbrev pub nearEarth : ℕ → ℕ → ℕ → Code
+nearEarth wordOctets informationOctets unsent = record {
+  wordOctets = wordOctets;
+  informationOctets = informationOctets;
+  unsent = unsent;
+  size = 511;
+  parity = parity511;
+  generator = generator511;
+  printed = 512;
+}
+
 -- Code 1, (128,64): 64 checks.
 unfoldable pub code1 : Code
-code1 = record {
-  wordOctets = 16;
-  informationOctets = 8;
-  unsent = 0;
-  size = 16;
-  parity = parity16;
-  generator = generator16;
-  printed = 16;
-}
+code1 = telecommand 16 8 16 parity16 generator16
 
 -- Code 2, (256,128): 128 checks.
 unfoldable pub code2 : Code
-code2 = record {
-  wordOctets = 32;
-  informationOctets = 16;
-  unsent = 0;
-  size = 32;
-  parity = parity32;
-  generator = generator32;
-  printed = 32;
-}
+code2 = telecommand 32 16 32 parity32 generator32
 
 -- Code 3, (512,256): 256 checks.
 unfoldable pub code3 : Code
-code3 = record {
-  wordOctets = 64;
-  informationOctets = 32;
-  unsent = 0;
-  size = 64;
-  parity = parity64;
-  generator = generator64;
-  printed = 64;
-}
+code3 = telecommand 64 32 64 parity64 generator64
 
 -- Code 4, (8176,7154): 1022 checks.
 unfoldable pub code4 : Code
-code4 = record {
-  wordOctets = 1022;
-  informationOctets = 895;
-  unsent = 0;
-  size = 511;
-  parity = parity511;
-  generator = generator511;
-  printed = 512;
-}
+code4 = nearEarth 1022 895 0
 
 -- Code 5, (8160,7136): code 4 with 18 zero bits before the information, not sent, and with two zero bits sent after the parity.
 unfoldable pub code5 : Code
-code5 = record {
-  wordOctets = 1020;
-  informationOctets = 892;
-  unsent = 18;
-  size = 511;
-  parity = parity511;
-  generator = generator511;
-  printed = 512;
-}
+code5 = nearEarth 1020 892 18
 
 -- The code with a number from 1 to 5.
 unfoldable pub code : ℕ → Code
