@@ -5,3 +5,4 @@ pub mod Checks
 pub mod Encoding
 pub mod Flipping
 pub mod Calls
+pub mod Identity
