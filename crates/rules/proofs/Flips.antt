@@ -1,0 +1,126 @@
+-- What one flip does to the checks, for any code.
+use mathlib.Core.Path.{_≡_, refl, sym, ap, ap₂, _∙_, fun-ext, subst}
+use mathlib.Core.Bool.{Bool, true, false, not, _&&_, and-comm}
+use mathlib.Core.List.{List, [], _∷_}
+use Prim.Native.Nat.{ℕ, zero, suc, _+_, _-_, _*_, _≤_, _<_, zero-le, suc-le-suc}
+use native.Mathlib.Nat.{zero-lt-suc, le-refl, le-of-eq, le-trans, le-step, not-suc-le-zero}
+use native.Mathlib.Decide.{ℕ-discrete}
+use native.Mathlib.Omega.{arith}
+use lib.Dec.{T, eqb, ltb, ltb→lt, lt→ltb, nltb→le}
+use lib.IntN.{ℤ, pos, negsuc, subℕ}
+use lib.Signed.{ltZ}
+use borrow.Author.Tests.{lt-ltb, le-ltb}
+use Rattle.rules.specs.Bits.{Word, _⊕_, sum, count, flipped, if_then_else_}
+use Rattle.rules.specs.Codes.{Code, bits, checks}
+use Rattle.rules.specs.Checks.{covers, check, broken, excess}
+use Rattle.rules.specs.Flipping.{greater, greatest}
+use Rattle.rules.proofs.Sums.{and-⊕, ⊕-assoc, ⊕-comm, ⊕-self, ⊕-false, sum-linear, pick}
+use Rattle.rules.proofs.Counting.{count-same, count-xor, count-split}
+
+-- a flip of a flip is none; two flips may change places
+pub flip-back : (x : Word) (n : ℕ) → flipped (flipped x n) n ≡ x
+flip-back x n = fun-ext (λ i. ⊕-assoc (x i) (eqb i n) (eqb i n) ∙ ap (λ z. x i ⊕ z) (⊕-self (eqb i n)) ∙ ⊕-false (x i))
+
+module _ (c : Code) (x : Word) (n : ℕ) where
+  -- of the checks that cover bit n: the broken ones, the met ones, all
+  pub brokenOf : ℕ
+  brokenOf = count (checks c) (λ k. covers c k n && check c x k)
+
+  pub metOf : ℕ
+  metOf = count (checks c) (λ k. covers c k n && not (check c x k))
+
+pub degreeOf : Code → ℕ → ℕ
+degreeOf c n = count (checks c) (λ k. covers c k n)
+
+module _ (c : Code) (x : Word) (n : ℕ) where
+  pub broken-met : brokenOf c x n + metOf c x n ≡ degreeOf c n
+  unfolding brokenOf metOf degreeOf
+  broken-met = count-split (checks c) (check c x) (λ k. covers c k n)
+
+  pub excess-is : excess c x n ≡ subℕ (brokenOf c x n) (metOf c x n)
+  unfolding excess brokenOf metOf
+  excess-is = refl
+
+  -- the checks that cover the bit are turned over, no others
+  pub check-flip : n < bits c → (k : ℕ) → check c (flipped x n) k ≡ check c x k ⊕ covers c k n
+  unfolding check
+  check-flip h k =
+      ap (sum (bits c)) (fun-ext (λ j. and-⊕ (covers c k j) (x j) (eqb j n)))
+      ∙ sum-linear (bits c) .plus (λ j. covers c k j && x j) (λ j. covers c k j && eqb j n)
+      ∙ ap (λ z. sum (bits c) (λ j. covers c k j && x j) ⊕ z) (pick (bits c) n (covers c k) h)
+
+  pub broken-flip : n < bits c → broken c (flipped x n) + brokenOf c x n ≡ broken c x + metOf c x n
+  unfolding broken brokenOf metOf degreeOf
+  broken-flip h =
+      let turned : count (checks c) (check c (flipped x n)) ≡ count (checks c) (λ k. check c x k ⊕ covers c k n) =
+          count-same (checks c) _ _ (λ k l. check-flip h k) in
+      omega (arith, turned, count-xor (checks c) (check c x) (λ k. covers c k n), count-split (checks c) (check c x) (λ k. covers c k n))
+
+-- ---- the order of excesses
+
+-- a - b is below c - d where a + d is below c + b
+pub sub-order : (a b a′ b′ : ℕ) → ltZ (subℕ a b) (subℕ a′ b′) ≡ ltb (a + b′) (a′ + b)
+sub-order a b a′ b′ = go (ltb a b) (ltb a′ b′) refl refl
+  where
+    same : (p q r s : ℕ) → (p < q → r < s) → (q ≤ p → s ≤ r) → ltb p q ≡ ltb r s
+    same p q r s f g = go (ltb p q) refl
+      where
+        go : (t : Bool) → ltb p q ≡ t → ltb p q ≡ ltb r s
+        go true e = e ∙ sym (lt-ltb r s (f (ltb→lt p q (subst T (sym e) tt))))
+        go false e = e ∙ sym (le-ltb r s (g (nltb→le p q (subst (λ t. T (not t)) (sym e) tt))))
+    yes-lt : (p q : ℕ) → ltb p q ≡ true → p < q
+    yes-lt p q e = ltb→lt p q (subst T (sym e) tt)
+    no-lt : (p q : ℕ) → ltb p q ≡ false → q ≤ p
+    no-lt p q e = nltb→le p q (subst (λ t. T (not t)) (sym e) tt)
+    cases : (s t : Bool) → ltb a b ≡ s → ltb a′ b′ ≡ t
+        → ltZ (mathlib.Core.Bool.cond s (negsuc (b - suc a)) (pos (a - b))) (mathlib.Core.Bool.cond t (negsuc (b′ - suc a′)) (pos (a′ - b′))) ≡ ltb (a + b′) (a′ + b)
+    cases true true e f =
+        let h = yes-lt a b e in let h′ = yes-lt a′ b′ f in
+        same (b′ - suc a′) (b - suc a) (a + b′) (a′ + b) (λ l. omega arith) (λ l. omega arith)
+    cases true false e f =
+        let h = yes-lt a b e in let h′ = no-lt a′ b′ f in
+        sym (lt-ltb (a + b′) (a′ + b) (omega arith))
+    cases false true e f =
+        let h = no-lt a b e in let h′ = yes-lt a′ b′ f in
+        sym (le-ltb (a + b′) (a′ + b) (omega arith))
+    cases false false e f =
+        let h = no-lt a b e in let h′ = no-lt a′ b′ f in
+        same (a - b) (a′ - b′) (a + b′) (a′ + b) (λ l. omega arith) (λ l. omega arith)
+    go : (s t : Bool) → ltb a b ≡ s → ltb a′ b′ ≡ t → ltZ (subℕ a b) (subℕ a′ b′) ≡ ltb (a + b′) (a′ + b)
+    go s t e f = ap₂ (λ s t. ltZ (mathlib.Core.Bool.cond s (negsuc (b - suc a)) (pos (a - b))) (mathlib.Core.Bool.cond t (negsuc (b′ - suc a′)) (pos (a′ - b′)))) e f ∙ cases s t e f
+
+-- ---- the greatest
+
+greater-lt : (b : Bool) (n e : ℕ) → e < suc n → (if b then n else e) < suc n
+greater-lt true n e h = le-refl (suc n)
+greater-lt false n e h = h
+
+pub greatest-lt : (n : ℕ) (f : ℕ → ℤ) → greatest (suc n) f < suc n
+unfolding greatest
+greatest-lt zero f = greater-lt (ltZ (f 0) (f 0)) 0 0 (le-refl 1)
+greatest-lt (suc n) f = greater-lt (ltZ (f (greatest (suc n) f)) (f (suc n))) (suc n) (greatest (suc n) f) (le-step (greatest-lt n f))
+
+-- a bit that is above every other is the greatest
+pub greatest-is : (n : ℕ) (f : ℕ → ℤ) (k : ℕ) → k < n → ((i : ℕ) → i < n → (i ≡ k → ⊥) → (ltZ (f i) (f k) ≡ true) × (ltZ (f k) (f i) ≡ false)) → greatest n f ≡ k
+unfolding greatest
+greatest-is zero f k h up = absurd (not-suc-le-zero h)
+greatest-is (suc n) f k h up = go (ℕ-discrete n k) (greatest-is n f k)
+  where
+    at-zero : (f : ℕ → ℤ) → ltZ (f 0) (f 0) ≡ ltZ (f 0) (f 0)
+    at-zero f = refl
+    go : Dec (n ≡ k) → (k < n → ((i : ℕ) → i < n → (i ≡ k → ⊥) → (ltZ (f i) (f k) ≡ true) × (ltZ (f k) (f i) ≡ false)) → greatest n f ≡ k) → greater f (greatest n f) n ≡ k
+    go (yes e) ih = last n e h up
+      where
+        last : (n : ℕ) → n ≡ k → k < suc n → ((i : ℕ) → i < suc n → (i ≡ k → ⊥) → (ltZ (f i) (f k) ≡ true) × (ltZ (f k) (f i) ≡ false)) → greater f (greatest n f) n ≡ k
+        last zero e h up = either (ltZ (f 0) (f 0))
+          where
+            either : (b : Bool) → (if b then 0 else 0) ≡ k
+            either true = e
+            either false = e
+        last (suc n) e h up =
+            ap (λ b. if b then suc n else greatest (suc n) f)
+              (ap (λ z. ltZ (f (greatest (suc n) f)) (f z)) e ∙ up (greatest (suc n) f) (le-step (greatest-lt n f)) (λ q. omega (arith, greatest-lt n f)) .0)
+            ∙ e
+    go (no d) ih =
+        let below : greatest n f ≡ k = ih (omega arith) (λ i l. up i (le-step l)) in
+        ap (λ z. greater f z n) below ∙ ap (λ b. if b then n else k) (up n (le-refl (suc n)) d .1)
