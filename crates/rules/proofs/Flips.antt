@@ -23,13 +23,13 @@ flip-back x n = fun-ext (λ i. ⊕-assoc (x i) (eqb i n) (eqb i n) ∙ ap (λ z.
 
 module _ (c : Code) (x : Word) (n : ℕ) where
   -- of the checks that cover bit n: the broken ones, the met ones, all
-  pub brokenOf : ℕ
+  unfoldable pub brokenOf : ℕ
   brokenOf = count (checks c) (λ k. covers c k n && check c x k)
 
-  pub metOf : ℕ
+  unfoldable pub metOf : ℕ
   metOf = count (checks c) (λ k. covers c k n && not (check c x k))
 
-pub degreeOf : Code → ℕ → ℕ
+unfoldable pub degreeOf : Code → ℕ → ℕ
 degreeOf c n = count (checks c) (λ k. covers c k n)
 
 module _ (c : Code) (x : Word) (n : ℕ) where
@@ -106,8 +106,6 @@ unfolding greatest
 greatest-is zero f k h up = absurd (not-suc-le-zero h)
 greatest-is (suc n) f k h up = go (ℕ-discrete n k) (greatest-is n f k)
   where
-    at-zero : (f : ℕ → ℤ) → ltZ (f 0) (f 0) ≡ ltZ (f 0) (f 0)
-    at-zero f = refl
     go : Dec (n ≡ k) → (k < n → ((i : ℕ) → i < n → (i ≡ k → ⊥) → (ltZ (f i) (f k) ≡ true) × (ltZ (f k) (f i) ≡ false)) → greatest n f ≡ k) → greater f (greatest n f) n ≡ k
     go (yes e) ih = last n e h up
       where
@@ -124,3 +122,7 @@ greatest-is (suc n) f k h up = go (ℕ-discrete n k) (greatest-is n f k)
     go (no d) ih =
         let below : greatest n f ≡ k = ih (omega arith) (λ i l. up i (le-step l)) in
         ap (λ z. greater f z n) below ∙ ap (λ b. if b then n else k) (up n (le-refl (suc n)) d .1)
+
+-- one bit's excess is below another's
+pub excess-order : (c : Code) (x : Word) (n n′ : ℕ) → ltZ (excess c x n) (excess c x n′) ≡ ltb (brokenOf c x n + metOf c x n′) (brokenOf c x n′ + metOf c x n)
+excess-order c x n n′ = ap₂ ltZ (excess-is c x n) (excess-is c x n′) ∙ sub-order (brokenOf c x n) (metOf c x n) (brokenOf c x n′) (metOf c x n′)

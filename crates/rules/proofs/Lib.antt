@@ -3,4 +3,7 @@ pub mod Cyclic
 pub mod Counting
 pub mod Blocks
 pub mod Flips
+pub mod Runs
+pub mod Choosing
+pub mod Shared
 pub mod Facts
