@@ -6,4 +6,6 @@ pub mod Flips
 pub mod Runs
 pub mod Choosing
 pub mod Shared
+pub mod Quiet
+pub mod Unique
 pub mod Facts
