@@ -8,4 +8,6 @@ pub mod Choosing
 pub mod Shared
 pub mod Quiet
 pub mod Unique
+pub mod Inverse
+pub mod Octets
 pub mod Facts
