@@ -9,5 +9,6 @@ pub mod Shared
 pub mod Quiet
 pub mod Unique
 pub mod Inverse
+pub mod Parity
 pub mod Octets
 pub mod Facts
