@@ -10,5 +10,5 @@ pub mod Quiet
 pub mod Unique
 pub mod Inverse
 pub mod Parity
+pub mod Published
 pub mod Octets
-pub mod Facts

@@ -16,7 +16,7 @@ use Rattle.rules.proofs.Sums.{⊕-self, ⊕-assoc, sum-same, sum-front}
 use Rattle.rules.proofs.Counting.{count-none, none-counted}
 use Rattle.rules.proofs.Blocks.{blk, checkIn, shaped, withTables, check-in, sum-blocks}
 use Rattle.rules.proofs.Quiet.{drawn, shiftedSum, parityIn, drops, sized, quiet-all, differ}
-use Rattle.rules.proofs.Unique.{Code as Invertible, unique, constant, turned, evens}
+use Rattle.rules.proofs.Unique.{Invertible, unique, constant, turned, evens}
 
 -- the parity of a word is what the encoder gives for its information bits
 abbrev pub OwnParity : Code → Word → Type 0

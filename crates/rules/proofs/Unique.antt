@@ -152,13 +152,13 @@ module _ (m printed : ℕ) where
       (inverse-at C e Ps (suc j) R (and-r (inverseRow (suc m) C e Ps j rs) (inverseTest (suc m) C e Ps (suc j) R) t) b (le-of-suc-le-suc h))
 
   -- the tests of one code: its tables, and the inverse of its parity part up to e
-  pub record Code (C : ℕ) (e : ℕ → Bool) (H : List (List (List ℕ))) (gs R : List (List ℕ)) : Type 0 where
+  pub record Invertible (C : ℕ) (e : ℕ → Bool) (H : List (List (List ℕ))) (gs R : List (List ℕ)) : Type 0 where
     pub table : T (rowsTied (suc m) printed H gs)
     pub size : T (sized C (drops (length gs) H))
     pub inverse : T (inverseTest (suc m) C e (drops (length gs) H) 0 R)
     pub rank : length R ≡ C
 
-  module _ (C : ℕ) (e : ℕ → Bool) (H : List (List (List ℕ))) (gs R : List (List ℕ)) (code : Code C e H gs R)
+  module _ (C : ℕ) (e : ℕ → Bool) (H : List (List (List ℕ))) (gs R : List (List ℕ)) (code : Invertible C e H gs R)
       (w : ℕ → ℕ → Bool) (met : (r i : ℕ) → r < length H → i < suc m → checkIn (suc m) (getD H r []) w i ≡ false) where
     left : (b k : ℕ) → b < C → sum (suc m) (λ n. differ m printed gs w b n && e ((n + (suc m - k)) % suc m)) ≡ false
     left b k h =
@@ -171,7 +171,7 @@ module _ (m printed : ℕ) where
         fits {a} l = subst (λ z. a < z) (length-drops (length gs) H) l
 
   -- codes 1 to 3: the parity is the encoder's
-  pub unique : (C : ℕ) (H : List (List (List ℕ))) (gs R : List (List ℕ)) → Code C (λ d. eqb d 0) H gs R
+  pub unique : (C : ℕ) (H : List (List (List ℕ))) (gs R : List (List ℕ)) → Invertible C (λ d. eqb d 0) H gs R
       → (w : ℕ → ℕ → Bool) → ((r i : ℕ) → r < length H → i < suc m → checkIn (suc m) (getD H r []) w i ≡ false)
       → (c k : ℕ) → c < C → k < suc m → w (length gs + c) k ≡ parityIn (suc m) printed gs 0 w c k
   unfolding differ
@@ -179,7 +179,7 @@ module _ (m printed : ℕ) where
       sym (⊕-eq (parityIn (suc m) printed gs 0 w c k) (w (length gs + c) k) (sym (only (differ m printed gs w c) k hk) ∙ left C (λ d. eqb d 0) H gs R code w met c k hc))
 
   -- code 4: each parity block is the encoder's, or the encoder's with every bit the other way
-  pub constant : (C : ℕ) (H : List (List (List ℕ))) (gs R : List (List ℕ)) → Code C (λ d. not (eqb d 0)) H gs R
+  pub constant : (C : ℕ) (H : List (List (List ℕ))) (gs R : List (List ℕ)) → Invertible C (λ d. not (eqb d 0)) H gs R
       → (w : ℕ → ℕ → Bool) → ((r i : ℕ) → r < length H → i < suc m → checkIn (suc m) (getD H r []) w i ≡ false)
       → (c k : ℕ) → c < C → k < suc m → differ m printed gs w c k ≡ sum (suc m) (differ m printed gs w c)
   constant C H gs R code w met c k hc hk =
