@@ -1,0 +1,5 @@
+pub mod Digits
+pub mod Adder
+pub mod Narrowing
+pub mod Ranges
+pub mod Choice
