@@ -69,6 +69,13 @@ digit-and = digit-by bitAnd min _&&_ and-shr and-step table
 pub digit-zero : (w i : ℕ) → digit w 0 i ≡ false
 digit-zero w i = ap (λ (n : ℕ). eqb (n % 2) 1) (zero-div (2 ^ (w - suc i)))
 
+-- A half adder: the sum's digit and the carry.
+pub half : (a x : Bool) → tally (a ⊕ x) + 2 * tally (a && x) ≡ tally a + tally x
+half true true = refl
+half true false = refl
+half false true = refl
+half false false = refl
+
 -- ---- the first bit that is set
 
 -- Bit i of a number is its first that is set.
