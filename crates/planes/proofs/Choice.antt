@@ -1,0 +1,153 @@
+-- The bit where a signed number is greatest, and the lowest number of several: what `greatest` gives, and how scores find it.
+-- Assumes nothing.
+use mathlib.Core.Path.{_≡_, refl, sym, ap, ap₂, _∙_, subst}
+use mathlib.Core.Bool.{Bool, true, false, not, cond}
+use Prim.Native.Nat.{ℕ, zero, suc, _-_, _≤_, _<_}
+use native.Mathlib.Nat.{le-refl, lt-of-le-of-lt, lt-of-lt-of-le, lt-of-not-le, lt-suc-self, zero-lt-suc}
+use native.Mathlib.Decide.{ℕ-discrete, decLt}
+use native.Mathlib.Omega.{arith}
+use borrow.Author.Tests.{lt-ltb, le-ltb}
+use lib.Dec.{T, ltb, ltb→lt, lt→ltb, leb→le, le→leb}
+use lib.IntN.{ℤ, pos, negsuc, subℕ}
+use lib.Signed.{ltZ, leZ, _≤ℤ_, _<ℤ_, ltZ-yes, ltZ-no, ≤ℤ-refl, clashℤ}
+use Rattle.rules.specs.Bits.{if_then_else_}
+use Rattle.rules.specs.Flipping.{greatest}
+use Rattle.planes.specs.Ranges.{Top}
+
+-- ---- the order of signed numbers
+
+le-lt : (a b c : ℤ) → T (leZ a b) → T (ltZ b c) → T (ltZ a c)
+le-lt (pos a) (pos b) (pos c) h k = lt→ltb a c (lt-of-le-of-lt (leb→le a b h) (ltb→lt b c k))
+le-lt (pos a) (pos b) (negsuc c) h k = k
+le-lt (pos a) (negsuc b) c h k = absurd h
+le-lt (negsuc a) b (pos c) h k = tt
+le-lt (negsuc a) (pos b) (negsuc c) h k = absurd k
+le-lt (negsuc a) (negsuc b) (negsuc c) h k = lt→ltb c a (lt-of-lt-of-le (ltb→lt c b k) (leb→le b a h))
+
+lt-le : (a b : ℤ) → T (ltZ a b) → T (leZ a b)
+lt-le (pos a) (pos b) h = le→leb a b (omega (arith, ltb→lt a b h))
+lt-le (pos a) (negsuc b) h = h
+lt-le (negsuc a) (pos b) h = tt
+lt-le (negsuc a) (negsuc b) h = le→leb b a (omega (arith, ltb→lt b a h))
+
+pub ≤ℤ-<ℤ-trans : {a b c : ℤ} → a ≤ℤ b → b <ℤ c → a <ℤ c
+≤ℤ-<ℤ-trans {a} {b} {c} h k = record { lt = le-lt a b c (h .le) (k .lt) }
+
+pub <ℤ-≤ℤ : {a b : ℤ} → a <ℤ b → a ≤ℤ b
+<ℤ-≤ℤ {a} {b} h = record { le = lt-le a b (h .lt) }
+
+-- ---- `greatest`
+
+-- Below n, f is greatest at `bit`, and less at every lower number.
+pub record Greatest (n : ℕ) (f : ℕ → ℤ) (bit : ℕ) : Type 0 where
+  pub under : bit < n
+  pub most : (i : ℕ) → i < n → f i ≤ℤ f bit
+  pub first : (i : ℕ) → i < bit → f i <ℤ f bit
+
+pub greatest-is : (n : ℕ) (f : ℕ → ℤ) → 0 < n → Greatest n f (greatest n f)
+unfolding greatest
+greatest-is zero f h = absurd (omega arith)
+greatest-is (suc zero) f h = go (ltZ (f 0) (f 0))
+  where
+    only : Greatest 1 f 0
+    only = record {
+      under = h;
+      most = λ i l. let e : i ≡ 0 = omega arith in subst (λ (k : ℕ). f k ≤ℤ f 0) (sym e) (≤ℤ-refl (f 0));
+      first = λ i l. absurd (omega arith);
+    }
+
+    go : (t : Bool) → Greatest 1 f (if t then 0 else 0)
+    go true = only
+    go false = only
+greatest-is (suc (suc n)) f h = go (ltZ (f (greatest (suc n) f)) (f (suc n))) refl (greatest-is (suc n) f (zero-lt-suc n))
+  where
+    -- Of every number below n + 2: it is below n + 1, or that.
+    more : (P : ℕ → Type 0) → ((i : ℕ) → i < suc n → P i) → P (suc n) → (i : ℕ) → i < suc (suc n) → P i
+    more P below here i l = pick (ℕ-discrete i (suc n))
+      where
+        pick : Dec (i ≡ suc n) → P i
+        pick (yes e) = subst P (sym e) here
+        pick (no d) = below i (omega arith)
+
+    go : (t : Bool) → ltZ (f (greatest (suc n) f)) (f (suc n)) ≡ t → Greatest (suc n) f (greatest (suc n) f)
+        → Greatest (suc (suc n)) f (if t then suc n else greatest (suc n) f)
+    go true e b =
+        let l : f (greatest (suc n) f) <ℤ f (suc n) = ltZ-yes (subst T (sym e) tt) in
+        record {
+          under = lt-suc-self (suc n);
+          most = more (λ i. f i ≤ℤ f (suc n)) (λ i u. <ℤ-≤ℤ (≤ℤ-<ℤ-trans (b .most i u) l)) (≤ℤ-refl (f (suc n)));
+          first = λ i u. ≤ℤ-<ℤ-trans (b .most i u) l;
+        }
+    go false e b =
+        record {
+          under = omega (arith, b .under);
+          most = more (λ i. f i ≤ℤ f (greatest (suc n) f)) (b .most) (ltZ-no (subst (λ (t : Bool). T (not t)) (sym e) tt));
+          first = b .first;
+        }
+
+-- ---- scores: signed numbers, all raised by the same number
+
+ltb-iff : (a b c d : ℕ) → (a < b → c < d) → (b ≤ a → d ≤ c) → ltb a b ≡ ltb c d
+ltb-iff a b c d yes-too no-too = go (decLt a b)
+  where
+    go : Dec (a < b) → ltb a b ≡ ltb c d
+    go (yes l) = lt-ltb a b l ∙ sym (lt-ltb c d (yes-too l))
+    go (no n) = let l : b ≤ a = omega (arith, lt-of-not-le n) in le-ltb a b l ∙ sym (le-ltb c d (no-too l))
+
+-- A difference, by which is less.
+less-is : (a k : ℕ) → a < k → subℕ a k ≡ negsuc (k - suc a)
+less-is a k l = ap (λ (t : Bool). cond t (negsuc (k - suc a)) (pos (a - k))) (lt-ltb a k l)
+
+more-is : (a k : ℕ) → k ≤ a → subℕ a k ≡ pos (a - k)
+more-is a k l = ap (λ (t : Bool). cond t (negsuc (k - suc a)) (pos (a - k))) (le-ltb a k l)
+
+pub raised-lt : (a b k : ℕ) → ltZ (subℕ a k) (subℕ b k) ≡ ltb a b
+raised-lt a b k = go (decLt a k) (decLt b k)
+  where
+    go : Dec (a < k) → Dec (b < k) → ltZ (subℕ a k) (subℕ b k) ≡ ltb a b
+    go (yes p) (yes q) = ap₂ ltZ (less-is a k p) (less-is b k q) ∙ ltb-iff (k - suc b) (k - suc a) a b (λ l. omega arith) (λ l. omega arith)
+    go (yes p) (no q) =
+        let u : k ≤ b = omega (arith, lt-of-not-le q) in
+        ap₂ ltZ (less-is a k p) (more-is b k u) ∙ sym (lt-ltb a b (omega arith))
+    go (no p) (yes q) =
+        let u : k ≤ a = omega (arith, lt-of-not-le p) in
+        ap₂ ltZ (more-is a k u) (less-is b k q) ∙ sym (le-ltb a b (omega arith))
+    go (no p) (no q) =
+        let u : k ≤ a = omega (arith, lt-of-not-le p) in
+        let w : k ≤ b = omega (arith, lt-of-not-le q) in
+        ap₂ ltZ (more-is a k u) (more-is b k w) ∙ ltb-iff (a - k) (b - k) a b (λ l. omega arith) (λ l. omega arith)
+
+-- A raised number is above 0 where its score is above what 0 is raised to.
+pub raised-above : (a k : ℕ) → ltZ (pos 0) (subℕ a k) ≡ ltb k a
+raised-above a k =
+    let z : k - k ≡ 0 = omega arith in
+    ap (λ (n : ℤ). ltZ n (subℕ a k)) (sym (more-is k k (le-refl k) ∙ ap pos z)) ∙ raised-lt k a k
+
+module _ (f : ℕ → ℤ) (g : ℕ → ℕ) (K n bit score : ℕ) (raised : (i : ℕ) → i < n → f i ≡ subℕ (g i) K) (t : Top g 0 n bit score) where
+  same-order : (i j : ℕ) → i < n → j < n → ltZ (f i) (f j) ≡ ltb (g i) (g j)
+  same-order i j hi hj = ap₂ ltZ (raised i hi) (raised j hj) ∙ raised-lt (g i) (g j) K
+
+  -- The bit of greatest score is the bit that is chosen.
+  pub top-greatest : greatest n f ≡ bit
+  top-greatest = go (decLt (greatest n f) bit) (decLt bit (greatest n f))
+    where
+      b : Greatest n f (greatest n f)
+      b = greatest-is n f (omega (arith, t .under))
+
+      go : Dec (greatest n f < bit) → Dec (bit < greatest n f) → greatest n f ≡ bit
+      go (yes l) q =
+          let less : g (greatest n f) < g bit = omega (arith, t .first (greatest n f) (omega arith) l, t .is) in
+          clashℤ (ltZ-yes (subst T (sym (same-order (greatest n f) bit (b .under) (t .under))) (lt→ltb (g (greatest n f)) (g bit) less))) (b .most bit (t .under))
+      go (no p) (yes l) =
+          let less : g bit < g (greatest n f) = ltb→lt (g bit) (g (greatest n f)) (subst T (same-order bit (greatest n f) (t .under) (b .under)) (b .first bit l .lt)) in
+          absurd (omega (arith, t .is, t .most (greatest n f) (omega arith) (b .under)))
+      go (no p) (no q) = omega (arith, lt-of-not-le p, lt-of-not-le q)
+
+  score-is : f bit ≡ subℕ score K
+  score-is = raised bit (t .under) ∙ ap (λ (s : ℕ). subℕ s K) (t .is)
+
+  pub top-excess : f (greatest n f) ≡ subℕ score K
+  top-excess = ap f top-greatest ∙ score-is
+
+  pub top-above : ltZ (pos 0) (f bit) ≡ ltb K score
+  top-above = ap (ltZ (pos 0)) score-is ∙ raised-above score K

@@ -1,0 +1,146 @@
+-- The bits of a number, once over the width.
+-- Assumes nothing.
+use mathlib.Core.Path.{_≡_, refl, sym, ap, ap₂, _∙_}
+use mathlib.Core.Bool.{Bool, true, false, _&&_}
+use Prim.Native.Nat.{ℕ, zero, suc, min, _+_, _-_, _*_, _/_, _%_, _^_, _≤_, _<_}
+use native.Mathlib.Nat.{mod-lt, zero-lt-suc, zero-div, pow-suc, div-eq-of-lt, div-eq-of-lt-le, lt-of-lt-of-le, mul-div-cancel, mul-mod-left, mul-assoc, add-zero, lt-of-not-le}
+use native.Mathlib.Decide.{decLt}
+use native.Mathlib.Omega.{arith}
+use borrow.Author.Tests.{lt-ltb, le-ltb}
+use lib.Arith.{digits-mod, mod-mul}
+use lib.Bits.{bitXor, bitAnd, differ, xor-step, xor-shr, and-step, and-shr, shifted-even}
+use lib.Count.{leadingZeros, leading-top}
+use lib.Dec.{eqb, ltb, lit≤}
+use lib.Pow.{pow-pos, pow-mono, pow-add, shr-shr, shl-shr, high, low, ones-lt, ones-split}
+use Rattle.rules.specs.Bits.{digit, tally, _⊕_}
+
+-- ---- two numbers bit by bit
+
+pub tally-le : (b : Bool) → tally b ≤ 1
+tally-le true = lit≤ tt
+tally-le false = lit≤ tt
+
+tally-eqb : (b : Bool) → eqb (tally b) 1 ≡ b
+tally-eqb true = refl
+tally-eqb false = refl
+
+odd : (n : ℕ) → n < 2 → n ≡ tally (eqb n 1)
+odd zero h = refl
+odd (suc zero) h = refl
+odd (suc (suc n)) h = absurd (omega arith)
+
+-- An operation that works digit by digit, as f does on numbers below 2, works on bits as g does.
+module _ (op f : ℕ → ℕ → ℕ) (g : Bool → Bool → Bool)
+    (shr : (a b k : ℕ) → op a b / 2 ^ k ≡ op (a / 2 ^ k) (b / 2 ^ k))
+    (step : (a b : ℕ) → op a b ≡ op (a / 2) (b / 2) * 2 + f (a % 2) (b % 2))
+    (table : (a b : Bool) → f (tally a) (tally b) ≡ tally (g a b)) where
+  digit-by : (w a b i : ℕ) → digit w (op a b) i ≡ g (digit w a i) (digit w b i)
+  digit-by w a b i =
+      let k = w - suc i in
+      let p = a / 2 ^ k in
+      let q = b / 2 ^ k in
+      let r = g (digit w a i) (digit w b i) in
+      ap (λ (n : ℕ). eqb (n % 2) 1)
+      (shr a b k
+      ∙ step p q
+      ∙ ap (λ (n : ℕ). op (p / 2) (q / 2) * 2 + n)
+      (ap₂ f (odd (p % 2) (mod-lt p (zero-lt-suc 1))) (odd (q % 2) (mod-lt q (zero-lt-suc 1))) ∙ table (digit w a i) (digit w b i)))
+      ∙ ap (λ (n : ℕ). eqb n 1) (digits-mod (op (p / 2) (q / 2)) (omega (arith, tally-le r)))
+      ∙ tally-eqb r
+
+pub digit-xor : (w a b i : ℕ) → digit w (bitXor a b) i ≡ digit w a i ⊕ digit w b i
+digit-xor = digit-by bitXor differ _⊕_ xor-shr xor-step table
+  where
+    table : (a b : Bool) → differ (tally a) (tally b) ≡ tally (a ⊕ b)
+    table true true = refl
+    table true false = refl
+    table false true = refl
+    table false false = refl
+
+pub digit-and : (w a b i : ℕ) → digit w (bitAnd a b) i ≡ (digit w a i && digit w b i)
+digit-and = digit-by bitAnd min _&&_ and-shr and-step table
+  where
+    table : (a b : Bool) → min (tally a) (tally b) ≡ tally (a && b)
+    table true true = refl
+    table true false = refl
+    table false true = refl
+    table false false = refl
+
+pub digit-zero : (w i : ℕ) → digit w 0 i ≡ false
+digit-zero w i = ap (λ (n : ℕ). eqb (n % 2) 1) (zero-div (2 ^ (w - suc i)))
+
+-- A half adder: the sum's digit and the carry.
+pub half : (a x : Bool) → tally (a ⊕ x) + 2 * tally (a && x) ≡ tally a + tally x
+half true true = refl
+half true false = refl
+half false true = refl
+half false false = refl
+
+-- ---- the first bit that is set
+
+-- Bit i of a number is its first that is set.
+pub record First (w x i : ℕ) : Type 0 where
+  pub inside : i < w
+  pub here : digit w x i ≡ true
+  pub clear : (q : ℕ) → q < i → digit w x q ≡ false
+
+pub first-digit : (w x : ℕ) → 0 < x → x < 2 ^ w → First w x (leadingZeros w x)
+first-digit w x some small =
+    let t = leading-top w x some small in
+    let j = t .0 in
+    let z = leadingZeros w x in
+    let e : z + suc j ≡ w = t .1 in
+    let d : w - suc z ≡ j = omega arith in
+    let one : x / 2 ^ j ≡ 1 = div-eq-of-lt-le (2 ^ j) (omega (arith, t .2)) (omega (arith, pow-suc 2 j, t .3)) in
+    record {
+      inside = omega arith;
+      here = ap (λ (n : ℕ). eqb (x / 2 ^ n % 2) 1) d ∙ ap (λ (n : ℕ). eqb (n % 2) 1) one;
+      clear = λ q hq.
+          let l : suc j ≤ w - suc q = omega arith in
+          ap (λ (n : ℕ). eqb (n % 2) 1) (div-eq-of-lt (lt-of-lt-of-le (t .3) (pow-mono l)));
+    }
+
+-- ---- the first v of w places: all ones, shifted up by w - v
+
+odd-ones : (i : ℕ) → (2 ^ suc i - 1) % 2 ≡ 1
+odd-ones i = omega (arith, pow-suc 2 i, pow-pos i)
+
+-- What the shift leaves: v ones in front of s zeros.
+pub ones-shl : (v s w : ℕ) → w ≡ v + s → ((2 ^ w - 1) * 2 ^ s) % 2 ^ w ≡ (2 ^ v - 1) * 2 ^ s
+ones-shl v s w e =
+    ap (λ (n : ℕ). ((2 ^ w - 1) * 2 ^ s) % n) (ap (λ (n : ℕ). 2 ^ n) e ∙ pow-add 2 v s)
+    ∙ mod-mul ((2 ^ w - 1) * 2 ^ s) (pow-pos v) (pow-pos s)
+    ∙ ap (λ (n : ℕ). n % 2 ^ v * 2 ^ s + ((2 ^ w - 1) * 2 ^ s) % 2 ^ s) (mul-div-cancel (2 ^ w - 1) (pow-pos s))
+    ∙ ap (λ (n : ℕ). (2 ^ w - 1) % 2 ^ v * 2 ^ s + n) (mul-mod-left (2 ^ w - 1) (2 ^ s))
+    ∙ add-zero ((2 ^ w - 1) % 2 ^ v * 2 ^ s)
+    ∙ ap (λ (n : ℕ). n % 2 ^ v * 2 ^ s) (ap (λ (n : ℕ). 2 ^ n - 1) (e ∙ turned) ∙ ones-split s v)
+    ∙ ap (λ (n : ℕ). n * 2 ^ s) (low (2 ^ s - 1) v (ones-lt v))
+  where
+    turned : v + s ≡ s + v
+    turned = omega arith
+
+pub places : (v s w i : ℕ) → w ≡ v + s → i < w → digit w ((2 ^ v - 1) * 2 ^ s) i ≡ ltb i v
+places v s w i e hi = go (decLt i v)
+  where
+    go : Dec (i < v) → digit w ((2 ^ v - 1) * 2 ^ s) i ≡ ltb i v
+    go (yes l) =
+        let k = v - suc i in
+        let d : w - suc i ≡ s + k = omega arith in
+        let u : v ≡ suc i + k = omega arith in
+        ap (λ (n : ℕ). eqb (n % 2) 1)
+        (ap (λ (n : ℕ). (2 ^ v - 1) * 2 ^ s / 2 ^ n) d
+        ∙ sym (shr-shr ((2 ^ v - 1) * 2 ^ s) s k)
+        ∙ ap (λ (n : ℕ). n / 2 ^ k) (shl-shr (2 ^ v - 1) s ∙ ap (λ (n : ℕ). 2 ^ n - 1) u ∙ ones-split (suc i) k)
+        ∙ high (2 ^ suc i - 1) k (ones-lt k))
+        ∙ ap (λ (n : ℕ). eqb n 1) (odd-ones i)
+        ∙ sym (lt-ltb i v l)
+    go (no g) =
+        let k = w - suc i in
+        let h : v ≤ i = omega (arith, lt-of-not-le g) in
+        let u : s ≡ suc (i - v) + k = omega arith in
+        ap (λ (n : ℕ). eqb (n / 2 ^ k % 2) 1)
+        (ap (λ (n : ℕ). (2 ^ v - 1) * n) (ap (λ (n : ℕ). 2 ^ n) u ∙ pow-add 2 (suc (i - v)) k)
+        ∙ sym (mul-assoc (2 ^ v - 1) (2 ^ suc (i - v)) (2 ^ k)))
+        ∙ ap (λ (n : ℕ). eqb (n % 2) 1) (shl-shr ((2 ^ v - 1) * 2 ^ suc (i - v)) k)
+        ∙ ap (λ (n : ℕ). eqb n 1) (shifted-even (2 ^ v - 1) (i - v))
+        ∙ sym (le-ltb i v h)

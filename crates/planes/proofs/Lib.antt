@@ -1,0 +1,4 @@
+pub mod Digits
+pub mod Narrowing
+pub mod Ranges
+pub mod Choice
