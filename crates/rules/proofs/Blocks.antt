@@ -83,9 +83,9 @@ module _ (m : ℕ) where
   pub at-shift : (k s i : ℕ) → k < suc m → s < suc m → i < suc m → eqb ((i + s) % suc m) k ≡ eqb i ((k + (suc m - s)) % suc m)
   at-shift k s i hk hs hi =
       eqb-iff ((i + s) % suc m) k i ((k + (suc m - s)) % suc m)
-        (λ e. sym (sym (ap (λ z. (z + (suc m - s)) % suc m) e) ∙ mod-add-mod (i + s) (suc m) (suc m - s) ∙ around i ∙ mod-eq-of-lt hi) ∙ refl)
-        (λ e. ap (λ z. (z + s) % suc m) e ∙ mod-add-mod (k + (suc m - s)) (suc m) s
-          ∙ ap (λ z. z % suc m) (add-assoc k (suc m - s) s ∙ ap (λ z. k + z) (sub-add-cancel (le-of-lt hs))) ∙ add-mod-right k (suc m) ∙ mod-eq-of-lt hk)
+      (λ e. sym (sym (ap (λ z. (z + (suc m - s)) % suc m) e) ∙ mod-add-mod (i + s) (suc m) (suc m - s) ∙ around i ∙ mod-eq-of-lt hi) ∙ refl)
+      (λ e. ap (λ z. (z + s) % suc m) e ∙ mod-add-mod (k + (suc m - s)) (suc m) s
+      ∙ ap (λ z. z % suc m) (add-assoc k (suc m - s) s ∙ ap (λ z. k + z) (sub-add-cancel (le-of-lt hs))) ∙ add-mod-right k (suc m) ∙ mod-eq-of-lt hk)
     where
       around : (i : ℕ) → (i + s + (suc m - s)) % suc m ≡ i % suc m
       around i = ap (λ z. z % suc m) (add-assoc i s (suc m - s) ∙ ap (λ z. i + z) (add-sub-of-le (le-of-lt hs))) ∙ add-mod-right i (suc m)
@@ -98,9 +98,10 @@ module _ (m : ℕ) where
       moved : eqb ((i + s₀) % suc m) ((i + s) % suc m) ≡ eqb ((0 + s₀) % suc m) s
       moved =
           eqb-iff ((i + s₀) % suc m) ((i + s) % suc m) ((0 + s₀) % suc m) s
-            (λ q. ap (λ z. z % suc m) (zero-add s₀) ∙ cancel m s₀ s i (ap (λ z. z % suc m) (add-comm s₀ i) ∙ q ∙ ap (λ z. z % suc m) (add-comm i s)) ∙ mod-eq-of-lt h)
-            (λ q. ap (λ z. z % suc m) (add-comm i s₀) ∙ sym (mod-add-mod s₀ (suc m) i)
-              ∙ ap (λ z. (z + i) % suc m) (sym (ap (λ z. z % suc m) (zero-add s₀)) ∙ q) ∙ ap (λ z. z % suc m) (add-comm s i))
+          (λ q. ap (λ z. z % suc m) (zero-add s₀) ∙ cancel m s₀ s i (ap (λ z. z % suc m) (add-comm s₀ i) ∙ q ∙ ap (λ z. z % suc m) (add-comm i s)) ∙ mod-eq-of-lt h)
+          (λ q. ap (λ z. z % suc m) (add-comm i s₀) ∙ sym (mod-add-mod s₀ (suc m) i)
+          ∙ ap (λ z. (z + i) % suc m) (sym (ap (λ z. z % suc m) (zero-add s₀)) ∙ q) ∙ ap (λ z. z % suc m) (add-comm s i))
+
       go : (b : Bool) → eqb ((0 + s₀) % suc m) s ≡ b → (oneAt (suc m) S 0 s ≡ false → oneAt (suc m) S i ((i + s) % suc m) ≡ false)
           → eqb ((i + s₀) % suc m) ((i + s) % suc m) || oneAt (suc m) S i ((i + s) % suc m) ≡ false
       go true q ih = absurd (subst T (sym (ap (λ z. z || oneAt (suc m) S 0 s) q) ∙ e) tt)
@@ -120,12 +121,12 @@ module _ (m : ℕ) where
   one-sum [] i y t = sum-linear (suc m) .none
   one-sum (s ∷ S) i y t =
       ap (sum (suc m)) (fun-ext (λ k. or-apart (eqb ((i + s) % suc m) k) (oneAt (suc m) S i k) (y k) (λ e.
-        ap (oneAt (suc m) S i) (sym (eqb→eq ((i + s) % suc m) k (subst T (sym e) tt))) ∙ one-elsewhere S i s (low s S t) (alone s S t))))
+      ap (oneAt (suc m) S i) (sym (eqb→eq ((i + s) % suc m) k (subst T (sym e) tt))) ∙ one-elsewhere S i s (low s S t) (alone s S t))))
       ∙ sum-linear (suc m) .plus (λ k. eqb ((i + s) % suc m) k && y k) (λ k. oneAt (suc m) S i k && y k)
       ∙ ap₂ (λ a b. a ⊕ b)
-          (ap (sum (suc m)) (fun-ext (λ k. and-comm (eqb ((i + s) % suc m) k) (y k) ∙ ap (λ z. y k && z) (eqb-iff ((i + s) % suc m) k k ((i + s) % suc m) sym sym)))
-          ∙ pick (suc m) ((i + s) % suc m) y (mod-lt (i + s) (zero-lt-suc m)))
-          (one-sum S i y (rest s S t))
+      (ap (sum (suc m)) (fun-ext (λ k. and-comm (eqb ((i + s) % suc m) k) (y k) ∙ ap (λ z. y k && z) (eqb-iff ((i + s) % suc m) k k ((i + s) % suc m) sym sym)))
+      ∙ pick (suc m) ((i + s) % suc m) y (mod-lt (i + s) (zero-lt-suc m)))
+      (one-sum S i y (rest s S t))
 
   -- the rows that have a one at column k
   pub one-count : (S : List ℕ) (k : ℕ) (g : ℕ → Bool) → k < suc m → T (distinct (suc m) S)
@@ -133,12 +134,12 @@ module _ (m : ℕ) where
   one-count [] k g h t = count-none (suc m) (λ i. false && g i) (λ i l. refl)
   one-count (s ∷ S) k g h t =
       count-apart (suc m) (λ i. eqb ((i + s) % suc m) k && g i) (λ i. oneAt (suc m) S i k && g i) (λ i. oneAt (suc m) (s ∷ S) i k && g i)
-        (λ i l. tally-apart (eqb ((i + s) % suc m) k) (oneAt (suc m) S i k) (g i) (λ e.
-          ap (oneAt (suc m) S i) (sym (eqb→eq ((i + s) % suc m) k (subst T (sym e) tt))) ∙ one-elsewhere S i s (low s S t) (alone s S t)))
+      (λ i l. tally-apart (eqb ((i + s) % suc m) k) (oneAt (suc m) S i k) (g i) (λ e.
+      ap (oneAt (suc m) S i) (sym (eqb→eq ((i + s) % suc m) k (subst T (sym e) tt))) ∙ one-elsewhere S i s (low s S t) (alone s S t)))
       ∙ ap₂ (λ a b. a + b)
-          (count-same (suc m) _ (λ i. eqb i ((k + (suc m - s)) % suc m) && g i) (λ i l. ap (λ z. z && g i) (at-shift k s i h (low s S t) l))
-          ∙ count-pick (suc m) ((k + (suc m - s)) % suc m) g (mod-lt (k + (suc m - s)) (zero-lt-suc m)))
-          (one-count S k g h (rest s S t))
+      (count-same (suc m) _ (λ i. eqb i ((k + (suc m - s)) % suc m) && g i) (λ i l. ap (λ z. z && g i) (at-shift k s i h (low s S t) l))
+      ∙ count-pick (suc m) ((k + (suc m - s)) % suc m) g (mod-lt (k + (suc m - s)) (zero-lt-suc m)))
+      (one-count S k g h (rest s S t))
 
 sum-add : (a b : ℕ) (f : ℕ → Bool) → sum (a + b) f ≡ sum a f ⊕ sum b (λ i. f (a + i))
 unfolding sum
@@ -181,10 +182,10 @@ module _ (wordOctets informationOctets unsent m : ℕ) (H : List (List (List ℕ
       ap (λ z. sum (z * suc m) (λ n. covers c k n && x n)) (first .long)
       ∙ sum-blocks B (suc m) (λ n. covers c k n && x n)
       ∙ sum-same B _ (λ b. over (getD (getD H (k / suc m) []) b []) (λ s. blk (suc m) x (0 + b) ((k % suc m + s) % suc m))) (λ b l.
-          sum-same (suc m) _ (λ t. oneAt (suc m) (getD (getD H (k / suc m) []) b []) (k % suc m) t && x (b * suc m + t)) (λ t l′.
-            ap₂ (λ q r. oneAt (suc m) (getD (getD H (k / suc m) []) q []) (k % suc m) r && x (b * suc m + t)) (digits-div b l′) (digits-mod b l′))
-          ∙ one-sum m (getD (getD H (k / suc m) []) b []) (k % suc m) (λ t. x (b * suc m + t)) (here .apart b l)
-          ∙ ap (λ z. over (getD (getD H (k / suc m) []) b []) (λ s. x (z * suc m + (k % suc m + s) % suc m))) (sym (zero-add b)))
+      sum-same (suc m) _ (λ t. oneAt (suc m) (getD (getD H (k / suc m) []) b []) (k % suc m) t && x (b * suc m + t)) (λ t l′.
+      ap₂ (λ q r. oneAt (suc m) (getD (getD H (k / suc m) []) q []) (k % suc m) r && x (b * suc m + t)) (digits-div b l′) (digits-mod b l′))
+      ∙ one-sum m (getD (getD H (k / suc m) []) b []) (k % suc m) (λ t. x (b * suc m + t)) (here .apart b l)
+      ∙ ap (λ z. over (getD (getD H (k / suc m) []) b []) (λ s. x (z * suc m + (k % suc m + s) % suc m))) (sym (zero-add b)))
       ∙ ap (λ z. sum z (λ b. over (getD (getD H (k / suc m) []) b []) (λ s. blk (suc m) x (0 + b) ((k % suc m + s) % suc m)))) (sym (here .long))
       ∙ sym (blocks-sum (getD H (k / suc m) []) 0 (λ b s. blk (suc m) x b ((k % suc m + s) % suc m)))
 
@@ -201,9 +202,9 @@ module _ (wordOctets informationOctets unsent m : ℕ) (H : List (List (List ℕ
       go [] t = refl
       go (row ∷ H) t =
           ap₂ (λ a b. a + b)
-            (one-count m (getD row (n / suc m) []) (n % suc m) (G row) (mod-lt n (zero-lt-suc m))
-              (row-shaped (suc m) B row (and-l (eqb (length row) B && below B (λ b. distinct (suc m) (getD row b []))) (shaped (suc m) B H) t) .apart (n / suc m) (div-lt-iff-lt-mul (zero-lt-suc m) .1 h)))
-            (go H (and-r (eqb (length row) B && below B (λ b. distinct (suc m) (getD row b []))) (shaped (suc m) B H) t))
+          (one-count m (getD row (n / suc m) []) (n % suc m) (G row) (mod-lt n (zero-lt-suc m))
+          (row-shaped (suc m) B row (and-l (eqb (length row) B && below B (λ b. distinct (suc m) (getD row b []))) (shaped (suc m) B H) t) .apart (n / suc m) (div-lt-iff-lt-mul (zero-lt-suc m) .1 h)))
+          (go H (and-r (eqb (length row) B && below B (λ b. distinct (suc m) (getD row b []))) (shaped (suc m) B H) t))
 
   pub broken-in : (x : Word) (n : ℕ) → n < B * suc m → count (checks c) (λ k. covers c k n && check c x k) ≡ brokenIn (suc m) H (blk (suc m) x) (n / suc m) (n % suc m)
   broken-in x n h =
@@ -216,6 +217,7 @@ module _ (wordOctets informationOctets unsent m : ℕ) (H : List (List (List ℕ
       all : (S : List ℕ) → countOf S (λ s. true) ≡ length S
       all [] = refl
       all (s ∷ S) = ap (λ z. 1 + z) (all S) ∙ one-add (length S)
+
       go : (H : List (List (List ℕ))) → each H (λ row. countOf (getD row (n / suc m) []) (λ s. true)) ≡ each H (λ row. length (getD row (n / suc m) []))
       go [] = refl
       go (row ∷ H) = ap₂ (λ a b. a + b) (all (getD row (n / suc m) [])) (go H)

@@ -130,11 +130,12 @@ module _ (c : Code) (girth : Girth c) (x : Word) (met : broken c x ≡ 0) (n₀ 
   above-others : (n : ℕ) → n < bits c → (n ≡ n₀ → ⊥)
       → (ltZ (excess c (flipped x n₀) n) (excess c (flipped x n₀) n₀) ≡ true) × (ltZ (excess c (flipped x n₀) n₀) (excess c (flipped x n₀) n) ≡ false)
   above-others n h d =
-      let one : brokenOf c (flipped x n₀) n ≤ 1 = le-trans (le-of-eq (broken-shared n)) (girth .few n n₀ h h₀ d) in
-      (excess-order c (flipped x n₀) n n₀
-        ∙ lt-ltb (brokenOf c (flipped x n₀) n + metOf c (flipped x n₀) n₀) (brokenOf c (flipped x n₀) n₀ + metOf c (flipped x n₀) n) (omega (arith, one, own, none-met, girth .many n₀ h₀)),
-      excess-order c (flipped x n₀) n₀ n
-        ∙ le-ltb (brokenOf c (flipped x n₀) n₀ + metOf c (flipped x n₀) n) (brokenOf c (flipped x n₀) n + metOf c (flipped x n₀) n₀) (omega (arith, one, own, none-met, girth .many n₀ h₀)))
+      let one : brokenOf c (flipped x n₀) n ≤ 1 = le-trans (le-of-eq (broken-shared n)) (girth .few n n₀ h h₀ d) in (
+        excess-order c (flipped x n₀) n n₀
+            ∙ lt-ltb (brokenOf c (flipped x n₀) n + metOf c (flipped x n₀) n₀) (brokenOf c (flipped x n₀) n₀ + metOf c (flipped x n₀) n) (omega (arith, one, own, none-met, girth .many n₀ h₀)),
+        excess-order c (flipped x n₀) n₀ n
+            ∙ le-ltb (brokenOf c (flipped x n₀) n₀ + metOf c (flipped x n₀) n) (brokenOf c (flipped x n₀) n + metOf c (flipped x n₀) n₀) (omega (arith, one, own, none-met, girth .many n₀ h₀)),
+      )
 
   excess-own : excess c (flipped x n₀) n₀ ≡ pos (degreeOf c n₀)
   excess-own = excess-is c (flipped x n₀) n₀ ∙ ap₂ subℕ own none-met ∙ whole (degreeOf c n₀)
@@ -147,8 +148,8 @@ module _ (c : Code) (girth : Girth c) (x : Word) (met : broken c x ≡ 0) (n₀ 
   one-next =
       let at : greatest (bits c) (excess c (flipped x n₀)) ≡ n₀ = greatest-is (bits c) (excess c (flipped x n₀)) n₀ h₀ above-others in
       flip-next c (flipped x n₀)
-        (λ e. omega (arith, sym first-count ∙ e, girth .many n₀ h₀))
-        (ap (λ z. ltZ (pos 0) (excess c (flipped x n₀) z)) at ∙ ap (ltZ (pos 0)) excess-own ∙ lt-ltb 0 (degreeOf c n₀) (lt-of-lt-of-le (zero-lt-suc 2) (girth .many n₀ h₀)))
+      (λ e. omega (arith, sym first-count ∙ e, girth .many n₀ h₀))
+      (ap (λ z. ltZ (pos 0) (excess c (flipped x n₀) z)) at ∙ ap (ltZ (pos 0)) excess-own ∙ lt-ltb 0 (degreeOf c n₀) (lt-of-lt-of-le (zero-lt-suc 2) (girth .many n₀ h₀)))
       ∙ ap₂ flip at (ap (excess c (flipped x n₀)) at ∙ excess-own)
 
   -- and the run ends with it

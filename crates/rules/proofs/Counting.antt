@@ -107,14 +107,17 @@ count-rows m (row ∷ rows) d F =
     ap (λ z. count z (λ k. F (getD (row ∷ rows) (k / suc m) d) (k % suc m))) (suc-mul (length rows) (suc m) ∙ add-comm (length rows * suc m) (suc m))
     ∙ count-add (suc m) (length rows * suc m) (λ k. F (getD (row ∷ rows) (k / suc m) d) (k % suc m))
     ∙ ap₂ (λ a b. a + b)
-        (count-same (suc m) _ (F row) (λ i l. ap₂ (λ q r. F (getD (row ∷ rows) q d) r) (first-div i l) (first-mod i l)))
-        (ap (count (length rows * suc m)) (fun-ext (λ i. ap₂ (λ q r. F (getD (row ∷ rows) q d) r) (next-div i) (next-mod i))) ∙ count-rows m rows d F)
+    (count-same (suc m) _ (F row) (λ i l. ap₂ (λ q r. F (getD (row ∷ rows) q d) r) (first-div i l) (first-mod i l)))
+    (ap (count (length rows * suc m)) (fun-ext (λ i. ap₂ (λ q r. F (getD (row ∷ rows) q d) r) (next-div i) (next-mod i))) ∙ count-rows m rows d F)
   where
     first-div : (i : ℕ) → i < suc m → i / suc m ≡ 0
     first-div i l = ap (λ z. z / suc m) (sym (zero-add i) ∙ ap (λ z. z + i) (sym (zero-mul (suc m)))) ∙ digits-div 0 l
+
     first-mod : (i : ℕ) → i < suc m → i % suc m ≡ i
     first-mod i l = mod-eq-of-lt l
+
     next-div : (i : ℕ) → (suc m + i) / suc m ≡ suc (i / suc m)
     next-div i = add-div-left i (zero-lt-suc m) ∙ add-one (i / suc m)
+
     next-mod : (i : ℕ) → (suc m + i) % suc m ≡ i % suc m
     next-mod i = add-mod-left (suc m) i

@@ -27,8 +27,8 @@ module _ (m : ℕ) where
   pub near : (x t : ℕ) → x < suc m → t < suc m → eqb ((x + (suc m - t)) % suc m) 0 ≡ eqb t x
   near x t hx ht =
       eqb-iff ((x + (suc m - t)) % suc m) 0 t x
-        (λ e. sym (mod-eq-of-lt ht) ∙ cancel t x (suc m - t) (ap (λ z. z % suc m) whole ∙ mod-self (suc m) ∙ sym e) ∙ mod-eq-of-lt hx)
-        (λ e. ap (λ z. (z + (suc m - t)) % suc m) (sym e) ∙ ap (λ z. z % suc m) whole ∙ mod-self (suc m))
+      (λ e. sym (mod-eq-of-lt ht) ∙ cancel t x (suc m - t) (ap (λ z. z % suc m) whole ∙ mod-self (suc m) ∙ sym e) ∙ mod-eq-of-lt hx)
+      (λ e. ap (λ z. (z + (suc m - t)) % suc m) (sym e) ∙ ap (λ z. z % suc m) whole ∙ mod-self (suc m))
     where
       whole : t + (suc m - t) ≡ suc m
       whole = add-sub-of-le (le-of-lt ht)

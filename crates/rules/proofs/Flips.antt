@@ -53,7 +53,7 @@ module _ (c : Code) (x : Word) (n : ℕ) where
   unfolding broken brokenOf metOf degreeOf
   broken-flip h =
       let turned : count (checks c) (check c (flipped x n)) ≡ count (checks c) (λ k. check c x k ⊕ covers c k n) =
-          count-same (checks c) _ _ (λ k l. check-flip h k) in
+      count-same (checks c) _ _ (λ k l. check-flip h k) in
       omega (arith, turned, count-xor (checks c) (check c x) (λ k. covers c k n), count-split (checks c) (check c x) (λ k. covers c k n))
 
 -- ---- the order of excesses
@@ -68,10 +68,13 @@ sub-order a b a′ b′ = go (ltb a b) (ltb a′ b′) refl refl
         go : (t : Bool) → ltb p q ≡ t → ltb p q ≡ ltb r s
         go true e = e ∙ sym (lt-ltb r s (f (ltb→lt p q (subst T (sym e) tt))))
         go false e = e ∙ sym (le-ltb r s (g (nltb→le p q (subst (λ t. T (not t)) (sym e) tt))))
+
     yes-lt : (p q : ℕ) → ltb p q ≡ true → p < q
     yes-lt p q e = ltb→lt p q (subst T (sym e) tt)
+
     no-lt : (p q : ℕ) → ltb p q ≡ false → q ≤ p
     no-lt p q e = nltb→le p q (subst (λ t. T (not t)) (sym e) tt)
+
     cases : (s t : Bool) → ltb a b ≡ s → ltb a′ b′ ≡ t
         → ltZ (mathlib.Core.Bool.cond s (negsuc (b - suc a)) (pos (a - b))) (mathlib.Core.Bool.cond t (negsuc (b′ - suc a′)) (pos (a′ - b′))) ≡ ltb (a + b′) (a′ + b)
     cases true true e f =
@@ -86,6 +89,7 @@ sub-order a b a′ b′ = go (ltb a b) (ltb a′ b′) refl refl
     cases false false e f =
         let h = no-lt a b e in let h′ = no-lt a′ b′ f in
         same (a - b) (a′ - b′) (a + b′) (a′ + b) (λ l. omega arith) (λ l. omega arith)
+
     go : (s t : Bool) → ltb a b ≡ s → ltb a′ b′ ≡ t → ltZ (subℕ a b) (subℕ a′ b′) ≡ ltb (a + b′) (a′ + b)
     go s t e f = ap₂ (λ s t. ltZ (mathlib.Core.Bool.cond s (negsuc (b - suc a)) (pos (a - b))) (mathlib.Core.Bool.cond t (negsuc (b′ - suc a′)) (pos (a′ - b′)))) e f ∙ cases s t e f
 
@@ -117,7 +121,7 @@ greatest-is (suc n) f k h up = go (ℕ-discrete n k) (greatest-is n f k)
             either false = e
         last (suc n) e h up =
             ap (λ b. if b then suc n else greatest (suc n) f)
-              (ap (λ z. ltZ (f (greatest (suc n) f)) (f z)) e ∙ up (greatest (suc n) f) (le-step (greatest-lt n f)) (λ q. omega (arith, greatest-lt n f)) .0)
+            (ap (λ z. ltZ (f (greatest (suc n) f)) (f z)) e ∙ up (greatest (suc n) f) (le-step (greatest-lt n f)) (λ q. omega (arith, greatest-lt n f)) .0)
             ∙ e
     go (no d) ih =
         let below : greatest n f ≡ k = ih (omega arith) (λ i l. up i (le-step l)) in

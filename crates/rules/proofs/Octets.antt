@@ -44,6 +44,7 @@ digit-number (suc w) x k h = go (ℕ-discrete k w) (digit-number w x k)
   where
     half : (2 * number w x + tally (x w)) / 2 ≡ number w x
     half = omega (arith, tally-le (x w))
+
     go : Dec (k ≡ w) → (k < w → digit w (number w x) k ≡ x k) → digit (suc w) (2 * number w x + tally (x w)) k ≡ x k
     go (yes e) ih = ap (digit (suc w) (2 * number w x + tally (x w))) e ∙ digit-last w (2 * number w x + tally (x w)) ∙ odd (number w x) (x w) ∙ ap x (sym e)
     go (no d) ih = digit-half w (2 * number w x + tally (x w)) k (omega arith) ∙ ap (λ z. digit w z k) half ∙ ih (omega arith)
@@ -53,9 +54,9 @@ unfolding number
 number-digit zero v h = sym (lt-one h)
 number-digit (suc w) v h =
     ap₂ (λ a b. 2 * a + tally b)
-      (number-same w (digit (suc w) v) (digit w (v / 2)) (λ k l. digit-half w v k l)
-      ∙ number-digit w (v / 2) (div-lt-iff-lt-mul (zero-lt-suc 1) .1 (subst (λ z. v < z) (pow-suc 2 w) h)))
-      (digit-last w v)
+    (number-same w (digit (suc w) v) (digit w (v / 2)) (λ k l. digit-half w v k l)
+    ∙ number-digit w (v / 2) (div-lt-iff-lt-mul (zero-lt-suc 1) .1 (subst (λ z. v < z) (pow-suc 2 w) h)))
+    (digit-last w v)
     ∙ whole (v % 2) (mod-lt v (zero-lt-suc 1)) refl
   where
     whole : (r : ℕ) → r < 2 → v % 2 ≡ r → 2 * (v / 2) + tally (eqb (v % 2) 1) ≡ v
@@ -121,8 +122,8 @@ unfolding octets
 octets-bit [] h = refl
 octets-bit (b ∷ o) h =
     ap₂ (λ a r. a ∷ r)
-      (number-same 8 (bit (b ∷ o)) (digit 8 b) (λ k l. this-octet o b k l) ∙ number-digit 8 b (h 0))
-      (ap (octets (length o)) (fun-ext (λ k. next-octet o b k)) ∙ octets-bit o (λ i. h (suc i)))
+    (number-same 8 (bit (b ∷ o)) (digit 8 b) (λ k l. this-octet o b k l) ∙ number-digit 8 b (h 0))
+    (ap (octets (length o)) (fun-ext (λ k. next-octet o b k)) ∙ octets-bit o (λ i. h (suc i)))
 
 -- past the last octet there is nothing
 pub bit-past : (o : List ℕ) (i : ℕ) → 8 * length o ≤ i → bit o i ≡ false

@@ -226,4 +226,4 @@ module _ (wordOctets informationOctets unsent : ℕ) where
   unfolding generator511
   inverted-near =
       inverted-met wordOctets informationOctets unsent 510 parity511 generator511 512 16 2 (nearTests wordOctets informationOctets unsent .shape) (nearTests wordOctets informationOctets unsent .room)
-        rows511 (nearTests wordOctets informationOctets unsent .size) evens511
+      rows511 (nearTests wordOctets informationOctets unsent .size) evens511

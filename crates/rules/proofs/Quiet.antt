@@ -48,7 +48,7 @@ module _ (m printed : ℕ) where
   pub itself : (u : ℕ → Bool) (x : ℕ) → x < suc m → u x ≡ shiftedSum (suc m) (λ d. eqb d 0) u x
   itself u x h =
       sym (sum-same (suc m) (λ t. u t && eqb ((x + (suc m - t)) % suc m) 0) (λ t. u t && eqb t x) (λ t l. ap (λ z. u t && z) (near m x t h l))
-        ∙ pick (suc m) x u h)
+      ∙ pick (suc m) x u h)
 
   -- shifts of a convolution: those of its row
   pub moved : (P : List (List ℕ)) (g : ℕ → ℕ → Bool) (u : ℕ → Bool) (i : ℕ)
@@ -57,8 +57,8 @@ module _ (m printed : ℕ) where
   moved P g u i =
       swap (blocks′ P 0) (blocks-linear P 0) (suc m) (λ p t. u t && g (p .0) (((i + p .1) % suc m + (suc m - t)) % suc m))
       ∙ ap (sum (suc m)) (fun-ext (λ t.
-          into (blocks′ P 0) (blocks-linear P 0) (u t) (λ p. g (p .0) (((i + p .1) % suc m + (suc m - t)) % suc m))
-          ∙ ap (λ F. u t && blocks P 0 F) (fun-ext (λ c. fun-ext (λ s. ap (g c) (either m i s (suc m - t)))))))
+      into (blocks′ P 0) (blocks-linear P 0) (u t) (λ p. g (p .0) (((i + p .1) % suc m + (suc m - t)) % suc m))
+      ∙ ap (λ F. u t && blocks P 0 F) (fun-ext (λ c. fun-ext (λ s. ap (g c) (either m i s (suc m - t)))))))
 
   -- the same with one block
   pub moved-over : (S : List ℕ) (g : ℕ → Bool) (u : ℕ → Bool) (i : ℕ)
@@ -67,8 +67,8 @@ module _ (m printed : ℕ) where
   moved-over S g u i =
       swap (over S) (over-linear S) (suc m) (λ s t. u t && g (((i + s) % suc m + (suc m - t)) % suc m))
       ∙ ap (sum (suc m)) (fun-ext (λ t.
-          into (over S) (over-linear S) (u t) (λ s. g (((i + s) % suc m + (suc m - t)) % suc m))
-          ∙ ap (λ F. u t && over S F) (fun-ext (λ s. ap g (either m i s (suc m - t))))))
+      into (over S) (over-linear S) (u t) (λ s. g (((i + s) % suc m + (suc m - t)) % suc m))
+      ∙ ap (λ F. u t && over S F) (fun-ext (λ s. ap g (either m i s (suc m - t))))))
 
   -- one information block and what it adds to the parity blocks
   one : (P : List (List ℕ)) (S : List ℕ) (g : List ℕ) (u : ℕ → Bool) (i : ℕ)
@@ -76,15 +76,15 @@ module _ (m printed : ℕ) where
       → over S (λ s. u ((i + s) % suc m)) ⊕ blocks P 0 (λ c s. shiftedSum (suc m) (drawn (suc m) printed (getD g c 0)) u ((i + s) % suc m)) ≡ false
   one P S g u i t′ =
       ap₂ (λ x y. x ⊕ y)
-        (ap (over S) (fun-ext (λ s. itself u ((i + s) % suc m) (mod-lt (i + s) (zero-lt-suc m)))) ∙ moved-over S (λ d. eqb d 0) u i)
-        (moved P (λ c. drawn (suc m) printed (getD g c 0)) u i)
+      (ap (over S) (fun-ext (λ s. itself u ((i + s) % suc m) (mod-lt (i + s) (zero-lt-suc m)))) ∙ moved-over S (λ d. eqb d 0) u i)
+      (moved P (λ c. drawn (suc m) printed (getD g c 0)) u i)
       ∙ sym (sum-linear (suc m) .plus
-          (λ t. u t && over S (λ s. eqb (((i + (suc m - t)) % suc m + s) % suc m) 0))
-          (λ t. u t && blocks P 0 (λ c s. drawn (suc m) printed (getD g c 0) (((i + (suc m - t)) % suc m + s) % suc m))))
+      (λ t. u t && over S (λ s. eqb (((i + (suc m - t)) % suc m + s) % suc m) 0))
+      (λ t. u t && blocks P 0 (λ c s. drawn (suc m) printed (getD g c 0) (((i + (suc m - t)) % suc m + s) % suc m))))
       ∙ sum-none (suc m) _ (λ t l.
-          sym (and-⊕ (u t) (over S (λ s. eqb (((i + (suc m - t)) % suc m + s) % suc m) 0)) (blocks P 0 (λ c s. drawn (suc m) printed (getD g c 0) (((i + (suc m - t)) % suc m + s) % suc m))))
-          ∙ ap (λ z. u t && z) (not-true (over S (λ s. eqb (((i + (suc m - t)) % suc m + s) % suc m) 0) ⊕ blocks P 0 (λ c s. drawn (suc m) printed (getD g c 0) (((i + (suc m - t)) % suc m + s) % suc m))) (below-at (suc m) (cancels (suc m) printed S P g) t′ ((i + (suc m - t)) % suc m) (mod-lt (i + (suc m - t)) (zero-lt-suc m))))
-          ∙ and-false (u t))
+      sym (and-⊕ (u t) (over S (λ s. eqb (((i + (suc m - t)) % suc m + s) % suc m) 0)) (blocks P 0 (λ c s. drawn (suc m) printed (getD g c 0) (((i + (suc m - t)) % suc m + s) % suc m))))
+      ∙ ap (λ z. u t && z) (not-true (over S (λ s. eqb (((i + (suc m - t)) % suc m + s) % suc m) 0) ⊕ blocks P 0 (λ c s. drawn (suc m) printed (getD g c 0) (((i + (suc m - t)) % suc m + s) % suc m))) (below-at (suc m) (cancels (suc m) printed S P g) t′ ((i + (suc m - t)) % suc m) (mod-lt (i + (suc m - t)) (zero-lt-suc m))))
+      ∙ and-false (u t))
 
   -- the information blocks of a row, one after the other
   pub rows : (P Ss gs : List (List ℕ)) (j : ℕ) (w : ℕ → ℕ → Bool) (i : ℕ) → T (rowTied (suc m) printed P Ss gs)
@@ -95,17 +95,17 @@ module _ (m printed : ℕ) where
   rows P [] (g ∷ gs) j w i t = absurd t
   rows P (S ∷ Ss) (g ∷ gs) j w i t =
       ap₂ (λ x y. x ⊕ y)
-        (⊕-eq (over S (λ s. w j ((i + s) % suc m))) (blocks P 0 (λ c s. shiftedSum (suc m) (drawn (suc m) printed (getD g c 0)) (w j) ((i + s) % suc m))) (one P S g (w j) i (and-l (below (suc m) (cancels (suc m) printed S P g)) (rowTied (suc m) printed P Ss gs) t)))
-        (rows P Ss gs (suc j) w i (and-r (below (suc m) (cancels (suc m) printed S P g)) (rowTied (suc m) printed P Ss gs) t))
+      (⊕-eq (over S (λ s. w j ((i + s) % suc m))) (blocks P 0 (λ c s. shiftedSum (suc m) (drawn (suc m) printed (getD g c 0)) (w j) ((i + s) % suc m))) (one P S g (w j) i (and-l (below (suc m) (cancels (suc m) printed S P g)) (rowTied (suc m) printed P Ss gs) t)))
+      (rows P Ss gs (suc j) w i (and-r (below (suc m) (cancels (suc m) printed S P g)) (rowTied (suc m) printed P Ss gs) t))
       ∙ sym (⊕-assoc
-          (blocks P 0 (λ c s. shiftedSum (suc m) (drawn (suc m) printed (getD g c 0)) (w j) ((i + s) % suc m)))
-          (blocks P 0 (λ c s. parityIn (suc m) printed gs (suc j) w c ((i + s) % suc m)))
-          (blocks (drop (length gs) Ss) (suc j + length gs) (λ b s. w b ((i + s) % suc m))))
+      (blocks P 0 (λ c s. shiftedSum (suc m) (drawn (suc m) printed (getD g c 0)) (w j) ((i + s) % suc m)))
+      (blocks P 0 (λ c s. parityIn (suc m) printed gs (suc j) w c ((i + s) % suc m)))
+      (blocks (drop (length gs) Ss) (suc j + length gs) (λ b s. w b ((i + s) % suc m))))
       ∙ ap₂ (λ x y. x ⊕ y)
-          (sym (blocks-linear P 0 .plus
-            (λ p. shiftedSum (suc m) (drawn (suc m) printed (getD g (p .0) 0)) (w j) ((i + p .1) % suc m))
-            (λ p. parityIn (suc m) printed gs (suc j) w (p .0) ((i + p .1) % suc m))))
-          (ap (λ z. blocks (drop (length gs) Ss) z (λ b s. w b ((i + s) % suc m))) (suc-add j (length gs) ∙ sym (add-suc j (length gs))))
+      (sym (blocks-linear P 0 .plus
+      (λ p. shiftedSum (suc m) (drawn (suc m) printed (getD g (p .0) 0)) (w j) ((i + p .1) % suc m))
+      (λ p. parityIn (suc m) printed gs (suc j) w (p .0) ((i + p .1) % suc m))))
+      (ap (λ z. blocks (drop (length gs) Ss) z (λ b s. w b ((i + s) % suc m))) (suc-add j (length gs) ∙ sym (add-suc j (length gs))))
 
   -- a check of a word: the same check on the parity blocks alone, of what they differ by from the encoder's parity
   unfoldable pub differ : (gs : List (List ℕ)) → (ℕ → ℕ → Bool) → ℕ → ℕ → Bool
@@ -117,10 +117,10 @@ module _ (m printed : ℕ) where
   reduce row gs w t i =
       rows (drop (length gs) row) row gs 0 w i t
       ∙ ap (λ x. blocks (drop (length gs) row) 0 (λ c s. parityIn (suc m) printed gs 0 w c ((i + s) % suc m)) ⊕ x)
-          (ap (λ z. blocks (drop (length gs) row) z (λ b s. w b ((i + s) % suc m))) (zero-add (length gs) ∙ sym (add-zero (length gs)))
-          ∙ blocks-from (drop (length gs) row) (length gs) 0 (λ b s. w b ((i + s) % suc m)))
+      (ap (λ z. blocks (drop (length gs) row) z (λ b s. w b ((i + s) % suc m))) (zero-add (length gs) ∙ sym (add-zero (length gs)))
+      ∙ blocks-from (drop (length gs) row) (length gs) 0 (λ b s. w b ((i + s) % suc m)))
       ∙ sym (blocks-linear (drop (length gs) row) 0 .plus
-          (λ p. parityIn (suc m) printed gs 0 w (p .0) ((i + p .1) % suc m)) (λ p. w (length gs + p .0) ((i + p .1) % suc m)))
+      (λ p. parityIn (suc m) printed gs 0 w (p .0) ((i + p .1) % suc m)) (λ p. w (length gs + p .0) ((i + p .1) % suc m)))
 
   -- the same for all rows of the table
   pub reduce-all : (H : List (List (List ℕ))) (gs : List (List ℕ)) (w : ℕ → ℕ → Bool) → T (rowsTied (suc m) printed H gs)
@@ -140,6 +140,6 @@ module _ (m printed : ℕ) where
       let wide : length P ≡ C = sized-at C (drops (length gs) H) sz r (subst (λ z. r < z) (sym (length-drops (length gs) H)) h) in
       reduce-all H gs w t r i h
       ∙ blocks-same (getD (drops (length gs) H) r []) _ (λ c s. false) (λ c s l.
-          ap (λ z. parityIn (suc m) printed gs 0 w c ((i + s) % suc m) ⊕ z) (enc c ((i + s) % suc m) (subst (λ z. c < z) wide l) (mod-lt (i + s) (zero-lt-suc m)))
-          ∙ ⊕-self (parityIn (suc m) printed gs 0 w c ((i + s) % suc m)))
+      ap (λ z. parityIn (suc m) printed gs 0 w c ((i + s) % suc m) ⊕ z) (enc c ((i + s) % suc m) (subst (λ z. c < z) wide l) (mod-lt (i + s) (zero-lt-suc m)))
+      ∙ ⊕-self (parityIn (suc m) printed gs 0 w c ((i + s) % suc m)))
       ∙ blocks-linear (getD (drops (length gs) H) r []) 0 .none

@@ -66,6 +66,7 @@ occurs-once d (x ∷ xs) t = go (ℕ-discrete x d) (occurs-once d xs (and-r (eqb
   where
     e : occurs x xs ≡ 0
     e = eqb→eq (occurs x xs) 0 (and-l (eqb (occurs x xs) 0) (once xs) t)
+
     go : Dec (x ≡ d) → occurs d xs ≤ 1 → tally (eqb x d) + occurs d xs ≤ 1
     go (yes q) ih = le-of-eq (ap₂ (λ a b. tally a + b) (eq-eqb x d q) (ap (λ z. occurs z xs) (sym q) ∙ e))
     go (no n) ih = le-trans (le-of-eq (ap (λ a. tally a + occurs d xs) (ne-eqb x d n) ∙ zero-add (occurs d xs))) ih
@@ -85,8 +86,8 @@ module _ (m : ℕ) where
   meets k k₀ y s₀ hk hk₀ =
       ap (λ z. eqb z k₀) (mod-add-mod (k + y) (suc m) s₀ ∙ ap (λ z. z % suc m) (add-assoc k y s₀))
       ∙ eqb-iff ((k + (y + s₀)) % suc m) k₀ ((y + s₀) % suc m) ((k₀ + (suc m - k)) % suc m)
-          (λ e. cancel m (y + s₀) (k₀ + (suc m - k)) k (ap (λ z. z % suc m) (add-comm (y + s₀) k) ∙ e ∙ sym round))
-          (λ e. ap (λ z. z % suc m) (add-comm k (y + s₀)) ∙ sym (mod-add-mod (y + s₀) (suc m) k) ∙ ap (λ z. (z + k) % suc m) e ∙ mod-add-mod (k₀ + (suc m - k)) (suc m) k ∙ round)
+      (λ e. cancel m (y + s₀) (k₀ + (suc m - k)) k (ap (λ z. z % suc m) (add-comm (y + s₀) k) ∙ e ∙ sym round))
+      (λ e. ap (λ z. z % suc m) (add-comm k (y + s₀)) ∙ sym (mod-add-mod (y + s₀) (suc m) k) ∙ ap (λ z. (z + k) % suc m) e ∙ mod-add-mod (k₀ + (suc m - k)) (suc m) k ∙ round)
     where
       round : (k₀ + (suc m - k) + k) % suc m ≡ k₀
       round = ap (λ z. z % suc m) (add-assoc k₀ (suc m - k) k ∙ ap (λ z. k₀ + z) (sub-add-cancel (le-of-lt hk))) ∙ add-mod-right k₀ (suc m) ∙ mod-eq-of-lt hk₀
@@ -95,8 +96,12 @@ module _ (m : ℕ) where
       → tally (oneAt (suc m) S₀ ((k + (suc m - s)) % suc m) k₀) + occurs (gap k k₀) rest ≤ occurs (gap k k₀) (apart (suc m) s S₀ rest)
   one-few [] rest k k₀ s hk hk₀ = le-of-eq (zero-add (occurs (gap k k₀) rest))
   one-few (s₀ ∷ S₀) rest k k₀ s hk hk₀ =
-      omega (arith, tally-or (eqb (((k + (suc m - s)) % suc m + s₀) % suc m) k₀) (oneAt (suc m) S₀ ((k + (suc m - s)) % suc m) k₀),
-        ap tally (meets k k₀ (suc m - s) s₀ hk hk₀), one-few S₀ rest k k₀ s hk hk₀)
+      omega (
+        arith,
+        tally-or (eqb (((k + (suc m - s)) % suc m + s₀) % suc m) k₀) (oneAt (suc m) S₀ ((k + (suc m - s)) % suc m) k₀),
+        ap tally (meets k k₀ (suc m - s) s₀ hk hk₀),
+        one-few S₀ rest k k₀ s hk hk₀,
+      )
 
   block-few : (S S₀ rest : List ℕ) (k k₀ : ℕ) → k < suc m → k₀ < suc m
       → countOf S (λ s. oneAt (suc m) S₀ ((k + (suc m - s)) % suc m) k₀) + occurs (gap k k₀) rest ≤ occurs (gap k k₀) (aparts (suc m) S S₀ rest)
@@ -120,19 +125,25 @@ module _ (wordOctets informationOctets unsent m : ℕ) (H : List (List (List ℕ
     where
       k-lt : n % suc m < suc m
       k-lt = mod-lt n (zero-lt-suc m)
+
       k₀-lt : n₀ % suc m < suc m
       k₀-lt = mod-lt n₀ (zero-lt-suc m)
+
       place : ℕ
       place = (n₀ % suc m + (suc m - n % suc m)) % suc m
+
       diffs : List ℕ
       diffs = differences (suc m) H (n / suc m) (n₀ / suc m)
+
       tested : T (once (others (eqb (n / suc m) (n₀ / suc m)) (differences (suc m) H (n / suc m) (n₀ / suc m))))
       tested =
           below-at B (λ b₀. once (others (eqb (n / suc m) b₀) (differences (suc m) H (n / suc m) b₀)))
-            (below-at B (λ b. below B (λ b₀. once (others (eqb b b₀) (differences (suc m) H b b₀)))) test (n / suc m) (div-lt-iff-lt-mul (zero-lt-suc m) .1 h))
-            (n₀ / suc m) (div-lt-iff-lt-mul (zero-lt-suc m) .1 h₀)
+          (below-at B (λ b. below B (λ b₀. once (others (eqb b b₀) (differences (suc m) H b b₀)))) test (n / suc m) (div-lt-iff-lt-mul (zero-lt-suc m) .1 h))
+          (n₀ / suc m) (div-lt-iff-lt-mul (zero-lt-suc m) .1 h₀)
+
       same : n / suc m ≡ n₀ / suc m → n % suc m ≡ n₀ % suc m → n ≡ n₀
       same p q = sym (div-add-mod' n (suc m)) ∙ ap₂ (λ a b. a * suc m + b) p q ∙ div-add-mod' n₀ (suc m)
+
       go : Dec (n / suc m ≡ n₀ / suc m) → occurs place diffs ≤ 1
       go (yes e) =
           le-trans (le-of-eq (sym (occurs-nonzero place diffs (λ z. d (same e (eqb→eq (n % suc m) (n₀ % suc m) (subst T (near m (n₀ % suc m) (n % suc m) k₀-lt k-lt) (subst (λ y. T (eqb y 0)) (sym z) tt))))))))

@@ -74,15 +74,15 @@ unfolding sum
 sum-linear zero = record { none = refl; plus = λ f g. refl }
 sum-linear (suc n) = record {
   none = ap (λ x. x ⊕ false) (sum-linear n .none);
-  plus = λ f g. ap (λ x. x ⊕ (f n ⊕ g n)) (sum-linear n .plus f g) ∙ ⊕-mid (sum n f) (sum n g) (f n) (g n)
-  }
+  plus = λ f g. ap (λ x. x ⊕ (f n ⊕ g n)) (sum-linear n .plus f g) ∙ ⊕-mid (sum n f) (sum n g) (f n) (g n);
+}
 
 pub over-linear : (S : List ℕ) → Linear (over S)
 over-linear [] = record { none = refl; plus = λ f g. refl }
 over-linear (s ∷ S) = record {
   none = over-linear S .none;
-  plus = λ f g. ap (λ x. f s ⊕ g s ⊕ x) (over-linear S .plus f g) ∙ ⊕-mid (f s) (g s) (over S f) (over S g)
-  }
+  plus = λ f g. ap (λ x. f s ⊕ g s ⊕ x) (over-linear S .plus f g) ∙ ⊕-mid (f s) (g s) (over S f) (over S g);
+}
 
 abbrev pub blocks′ : List (List ℕ) → ℕ → (ℕ × ℕ → Bool) → Bool
 blocks′ P b f = blocks P b (λ c s. f (c, s))
@@ -92,8 +92,8 @@ blocks-linear [] b = record { none = refl; plus = λ f g. refl }
 blocks-linear (S ∷ P) b = record {
   none = ap (λ x. x ⊕ blocks′ P (suc b) (λ a. false)) (over-linear S .none) ∙ blocks-linear P (suc b) .none;
   plus = λ f g. ap₂ (λ x y. x ⊕ y) (over-linear S .plus (λ s. f (b, s)) (λ s. g (b, s))) (blocks-linear P (suc b) .plus f g)
-    ∙ ⊕-mid (over S (λ s. f (b, s))) (over S (λ s. g (b, s))) (blocks′ P (suc b) f) (blocks′ P (suc b) g)
-  }
+      ∙ ⊕-mid (over S (λ s. f (b, s))) (over S (λ s. g (b, s))) (blocks′ P (suc b) f) (blocks′ P (suc b) g);
+}
 
 -- ---- sums below a bound
 
@@ -127,8 +127,8 @@ pick (suc n) x f h = go (ℕ-discrete n x) (pick n x f)
     go : Dec (n ≡ x) → (x < n → sum n (λ t. f t && eqb t x) ≡ f x) → sum n (λ t. f t && eqb t x) ⊕ (f n && eqb n x) ≡ f x
     go (yes e) ih =
         ap₂ (λ a b. a ⊕ b)
-          (sum-none n (λ t. f t && eqb t x) (λ i l. ap (λ z. f i && z) (ne-eqb i x (λ q. omega arith)) ∙ and-false (f i)))
-          (ap (λ z. f n && z) (eq-eqb n x e) ∙ and-true (f n))
+        (sum-none n (λ t. f t && eqb t x) (λ i l. ap (λ z. f i && z) (ne-eqb i x (λ q. omega arith)) ∙ and-false (f i)))
+        (ap (λ z. f n && z) (eq-eqb n x e) ∙ and-true (f n))
         ∙ ap f e
     go (no d) ih =
         ap₂ (λ a b. a ⊕ b) (ih (omega arith)) (ap (λ z. f n && z) (ne-eqb n x d) ∙ and-false (f n))
@@ -140,8 +140,8 @@ turn-one : (m : ℕ) (f : ℕ → Bool) → sum (suc m) (λ i. f ((i + 1) % suc 
 unfolding sum
 turn-one m f =
     ap₂ (λ a b. a ⊕ b)
-      (sum-same m (λ i. f ((i + 1) % suc m)) (λ i. f (suc i)) (λ i l. ap f (ap (λ x. x % suc m) (add-one i) ∙ mod-eq-of-lt (suc-le-suc l))))
-      (ap f (ap (λ x. x % suc m) (add-one m) ∙ mod-self (suc m)))
+    (sum-same m (λ i. f ((i + 1) % suc m)) (λ i. f (suc i)) (λ i l. ap f (ap (λ x. x % suc m) (add-one i) ∙ mod-eq-of-lt (suc-le-suc l))))
+    (ap f (ap (λ x. x % suc m) (add-one m) ∙ mod-self (suc m)))
     ∙ ⊕-comm (sum m (λ i. f (suc i))) (f 0) ∙ sym (sum-front m f)
 
 pub turn : (m s : ℕ) (f : ℕ → Bool) → sum (suc m) (λ i. f ((i + s) % suc m)) ≡ sum (suc m) f
@@ -157,14 +157,14 @@ unfolding sum
 blocks-sum [] b f = refl
 blocks-sum (S ∷ P) b f =
     ap₂ (λ x y. x ⊕ y) (ap (λ z. over S (f z)) (sym (add-zero b)))
-      (blocks-sum P (suc b) f ∙ ap (sum (length P)) (fun-ext (λ c. ap (λ z. over (getD P c []) (f z)) (suc-add b c ∙ sym (add-suc b c)))))
+    (blocks-sum P (suc b) f ∙ ap (sum (length P)) (fun-ext (λ c. ap (λ z. over (getD P c []) (f z)) (suc-add b c ∙ sym (add-suc b c)))))
     ∙ sym (sum-front (length P) (λ c. over (getD (S ∷ P) c []) (f (b + c))))
 
 pub blocks-same : (P : List (List ℕ)) (f g : ℕ → ℕ → Bool) → ((c s : ℕ) → c < length P → f c s ≡ g c s) → blocks P 0 f ≡ blocks P 0 g
 blocks-same P f g h =
     blocks-sum P 0 f
     ∙ sum-same (length P) (λ c. over (getD P c []) (f (0 + c))) (λ c. over (getD P c []) (g (0 + c)))
-        (λ c l. ap (over (getD P c [])) (fun-ext (λ s. h (0 + c) s (subst (λ z. z < length P) (sym (zero-add c)) l))))
+    (λ c l. ap (over (getD P c [])) (fun-ext (λ s. h (0 + c) s (subst (λ z. z < length P) (sym (zero-add c)) l))))
     ∙ sym (blocks-sum P 0 g)
 
 pub blocks-from : (P : List (List ℕ)) (j b : ℕ) (f : ℕ → ℕ → Bool) → blocks P (j + b) f ≡ blocks P b (λ c. f (j + c))

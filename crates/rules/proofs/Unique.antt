@@ -72,8 +72,8 @@ module _ (m printed : ℕ) where
       ≡ sum (length P) (λ c. sum (suc m) (λ n. v c n && over (getD P c []) (λ s. r (((n + x) % suc m + s * (suc m - 1)) % suc m))))
   weigh P r v x =
       ap (sum (suc m)) (fun-ext (λ i.
-        ap (λ z. r ((i + x) % suc m) && z) (blocks-sum P 0 (λ b s. v b ((i + s) % suc m)))
-        ∙ sym (into (sum (length P)) (sum-linear (length P)) (r ((i + x) % suc m)) (λ c. over (getD P c []) (λ s. v (0 + c) ((i + s) % suc m))))))
+      ap (λ z. r ((i + x) % suc m) && z) (blocks-sum P 0 (λ b s. v b ((i + s) % suc m)))
+      ∙ sym (into (sum (length P)) (sum-linear (length P)) (r ((i + x) % suc m)) (λ c. over (getD P c []) (λ s. v (0 + c) ((i + s) % suc m))))))
       ∙ swap (sum (suc m)) (sum-linear (suc m)) (length P) (λ i c. r ((i + x) % suc m) && over (getD P c []) (λ s. v (0 + c) ((i + s) % suc m)))
       ∙ ap (sum (length P)) (fun-ext (λ c. block c))
     where
@@ -84,12 +84,12 @@ module _ (m printed : ℕ) where
           ∙ ap (sum (suc m)) (fun-ext (λ i. sym (into (over (getD P c [])) (over-linear (getD P c [])) (r ((i + x) % suc m)) (λ s. v c ((i + s) % suc m)))))
           ∙ sym (swap (over (getD P c [])) (over-linear (getD P c [])) (suc m) (λ s i. r ((i + x) % suc m) && v c ((i + s) % suc m)))
           ∙ ap (over (getD P c [])) (fun-ext (λ s.
-              ap (sum (suc m)) (fun-ext (λ i. ap (λ z. r z && v c ((i + s) % suc m)) (sym (back i s x))))
-              ∙ turn m s (λ n. r (((n + x) % suc m + s * (suc m - 1)) % suc m) && v c n)))
+          ap (sum (suc m)) (fun-ext (λ i. ap (λ z. r z && v c ((i + s) % suc m)) (sym (back i s x))))
+          ∙ turn m s (λ n. r (((n + x) % suc m + s * (suc m - 1)) % suc m) && v c n)))
           ∙ swap (over (getD P c [])) (over-linear (getD P c [])) (suc m) (λ s n. r (((n + x) % suc m + s * (suc m - 1)) % suc m) && v c n)
           ∙ ap (sum (suc m)) (fun-ext (λ n.
-              ap (over (getD P c [])) (fun-ext (λ s. and-comm (r (((n + x) % suc m + s * (suc m - 1)) % suc m)) (v c n)))
-              ∙ into (over (getD P c [])) (over-linear (getD P c [])) (v c n) (λ s. r (((n + x) % suc m + s * (suc m - 1)) % suc m))))
+          ap (over (getD P c [])) (fun-ext (λ s. and-comm (r (((n + x) % suc m + s * (suc m - 1)) % suc m)) (v c n)))
+          ∙ into (over (getD P c [])) (over-linear (getD P c [])) (v c n) (λ s. r (((n + x) % suc m + s * (suc m - 1)) % suc m))))
 
   -- all checks met: each combination of them is 0
   combined : (C : ℕ) (rs : List ℕ) (Ps : List (List (List ℕ))) (v : ℕ → ℕ → Bool) (x : ℕ)
@@ -102,16 +102,16 @@ module _ (m printed : ℕ) where
       sum-none C _ (λ c l. sum-none (suc m) (λ n. v c n && false) (λ n l′. and-false (v c n)))
   combined C (r ∷ rs) (P ∷ Ps) v x len met =
       ap (sum C) (fun-ext (λ c.
-        ap (sum (suc m)) (fun-ext (λ n. and-⊕ (v c n) (over (getD P c []) (λ s. digit (suc m) r (((n + x) % suc m + s * (suc m - 1)) % suc m))) (column (suc m) rs Ps c ((n + x) % suc m))))
-        ∙ sum-linear (suc m) .plus (λ n. v c n && over (getD P c []) (λ s. digit (suc m) r (((n + x) % suc m + s * (suc m - 1)) % suc m))) (λ n. v c n && column (suc m) rs Ps c ((n + x) % suc m))))
+      ap (sum (suc m)) (fun-ext (λ n. and-⊕ (v c n) (over (getD P c []) (λ s. digit (suc m) r (((n + x) % suc m + s * (suc m - 1)) % suc m))) (column (suc m) rs Ps c ((n + x) % suc m))))
+      ∙ sum-linear (suc m) .plus (λ n. v c n && over (getD P c []) (λ s. digit (suc m) r (((n + x) % suc m + s * (suc m - 1)) % suc m))) (λ n. v c n && column (suc m) rs Ps c ((n + x) % suc m))))
       ∙ sum-linear C .plus
-          (λ c. sum (suc m) (λ n. v c n && over (getD P c []) (λ s. digit (suc m) r (((n + x) % suc m + s * (suc m - 1)) % suc m))))
-          (λ c. sum (suc m) (λ n. v c n && column (suc m) rs Ps c ((n + x) % suc m)))
+      (λ c. sum (suc m) (λ n. v c n && over (getD P c []) (λ s. digit (suc m) r (((n + x) % suc m + s * (suc m - 1)) % suc m))))
+      (λ c. sum (suc m) (λ n. v c n && column (suc m) rs Ps c ((n + x) % suc m)))
       ∙ ap₂ (λ a b. a ⊕ b)
-          (ap (λ z. sum z (λ c. sum (suc m) (λ n. v c n && over (getD P c []) (λ s. digit (suc m) r (((n + x) % suc m + s * (suc m - 1)) % suc m))))) (sym (len 0 (zero-lt-suc (length Ps))))
-          ∙ sym (weigh P (digit (suc m) r) v x)
-          ∙ sum-none (suc m) _ (λ i l. ap (λ z. digit (suc m) r ((i + x) % suc m) && z) (met 0 i (zero-lt-suc (length Ps)) l) ∙ and-false (digit (suc m) r ((i + x) % suc m))))
-          (combined C rs Ps v x (λ a l. len (suc a) (suc-le-suc l)) (λ a i l l′. met (suc a) i (suc-le-suc l) l′))
+      (ap (λ z. sum z (λ c. sum (suc m) (λ n. v c n && over (getD P c []) (λ s. digit (suc m) r (((n + x) % suc m + s * (suc m - 1)) % suc m))))) (sym (len 0 (zero-lt-suc (length Ps))))
+      ∙ sym (weigh P (digit (suc m) r) v x)
+      ∙ sum-none (suc m) _ (λ i l. ap (λ z. digit (suc m) r ((i + x) % suc m) && z) (met 0 i (zero-lt-suc (length Ps)) l) ∙ and-false (digit (suc m) r ((i + x) % suc m))))
+      (combined C rs Ps v x (λ a l. len (suc a) (suc-le-suc l)) (λ a i l l′. met (suc a) i (suc-le-suc l) l′))
 
   -- so what the inverse makes of a block is 0
   made : (C : ℕ) (e : ℕ → Bool) (b k : ℕ) (rs : List ℕ) (Ps : List (List (List ℕ))) (v : ℕ → ℕ → Bool)
@@ -129,11 +129,11 @@ module _ (m printed : ℕ) where
           and-comm (sum (suc m) (λ n. v c n && e ((n + (suc m - k)) % suc m))) (eqb c b)
           ∙ sym (into (sum (suc m)) (sum-linear (suc m)) (eqb c b) (λ n. v c n && e ((n + (suc m - k)) % suc m)))
           ∙ ap (sum (suc m)) (fun-ext (λ n.
-              and-left (eqb c b) (v c n) (e ((n + (suc m - k)) % suc m))
-              ∙ ap (λ z. v c n && z) (sym (same-eq (eqb c b && e ((n + (suc m - k)) % suc m)) (column (suc m) rs Ps c ((n + (suc m - k)) % suc m))
-                  (below-at (suc m) (λ d. same (eqb c b && e d) (column (suc m) rs Ps c d))
-                    (below-at C (λ c. below (suc m) (λ d. same (eqb c b && e d) (column (suc m) rs Ps c d))) t c l)
-                    ((n + (suc m - k)) % suc m) (mod-lt (n + (suc m - k)) (zero-lt-suc m)))))))
+          and-left (eqb c b) (v c n) (e ((n + (suc m - k)) % suc m))
+          ∙ ap (λ z. v c n && z) (sym (same-eq (eqb c b && e ((n + (suc m - k)) % suc m)) (column (suc m) rs Ps c ((n + (suc m - k)) % suc m))
+          (below-at (suc m) (λ d. same (eqb c b && e d) (column (suc m) rs Ps c d))
+          (below-at C (λ c. below (suc m) (λ d. same (eqb c b && e d) (column (suc m) rs Ps c d))) t c l)
+          ((n + (suc m - k)) % suc m) (mod-lt (n + (suc m - k)) (zero-lt-suc m)))))))
 
   eqb-comm : (a b : ℕ) → eqb a b ≡ eqb b a
   eqb-comm a b = eqb-iff a b b a sym sym
@@ -163,9 +163,9 @@ module _ (m printed : ℕ) where
     left : (b k : ℕ) → b < C → sum (suc m) (λ n. differ m printed gs w b n && e ((n + (suc m - k)) % suc m)) ≡ false
     left b k h =
         made C e b k (getD R b []) (drops (length gs) H) (differ m printed gs w) h (sized-at C (drops (length gs) H) (code .size))
-          (λ a i l l′. sym (reduce-all m printed H gs w (code .table) a i (fits l)) ∙ met a i (fits l) l′)
-          (subst (λ z. T (inverseRow (suc m) C e (drops (length gs) H) z (getD R b []))) (zero-add b)
-            (inverse-at C e (drops (length gs) H) 0 R (code .inverse) b (subst (λ z. b < z) (sym (code .rank)) h)))
+        (λ a i l l′. sym (reduce-all m printed H gs w (code .table) a i (fits l)) ∙ met a i (fits l) l′)
+        (subst (λ z. T (inverseRow (suc m) C e (drops (length gs) H) z (getD R b []))) (zero-add b)
+        (inverse-at C e (drops (length gs) H) 0 R (code .inverse) b (subst (λ z. b < z) (sym (code .rank)) h)))
       where
         fits : {a : ℕ} → a < length (drops (length gs) H) → a < length H
         fits {a} l = subst (λ z. a < z) (length-drops (length gs) H) l
@@ -185,18 +185,18 @@ module _ (m printed : ℕ) where
   constant C H gs R code w met c k hc hk =
       sym (only (differ m printed gs w c) k hk)
       ∙ sym (⊕-eq (sum (suc m) (differ m printed gs w c)) (sum (suc m) (λ n. differ m printed gs w c n && eqb ((n + (suc m - k)) % suc m) 0))
-          (sym (sum-linear (suc m) .plus (differ m printed gs w c) (λ n. differ m printed gs w c n && eqb ((n + (suc m - k)) % suc m) 0))
-          ∙ ap (sum (suc m)) (fun-ext (λ n. and-not (differ m printed gs w c n) (eqb ((n + (suc m - k)) % suc m) 0)))
-          ∙ left C (λ d. not (eqb d 0)) H gs R code w met c k hc))
+      (sym (sum-linear (suc m) .plus (differ m printed gs w c) (λ n. differ m printed gs w c n && eqb ((n + (suc m - k)) % suc m) 0))
+      ∙ ap (sum (suc m)) (fun-ext (λ n. and-not (differ m printed gs w c n) (eqb ((n + (suc m - k)) % suc m) 0)))
+      ∙ left C (λ d. not (eqb d 0)) H gs R code w met c k hc))
 
   -- and each such word meets every check, where each parity block of a row has an even number of shifts
   even-none : (P : List (List ℕ)) (b : ℕ) (f : ℕ → Bool) → T (even P) → blocks P b (λ c s. f c) ≡ false
   even-none [] b f t = refl
   even-none (S ∷ P) b f t =
       ap₂ (λ x y. x ⊕ y)
-        (ap (over S) (fun-ext (λ s. sym (and-true (f b)))) ∙ into (over S) (over-linear S) (f b) (λ s. true)
-        ∙ ap (λ z. f b && z) (not-true (over S (λ s. true)) (and-l (not (over S (λ s. true))) (even P) t)) ∙ and-false (f b))
-        (even-none P (suc b) f (and-r (not (over S (λ s. true))) (even P) t))
+      (ap (over S) (fun-ext (λ s. sym (and-true (f b)))) ∙ into (over S) (over-linear S) (f b) (λ s. true)
+      ∙ ap (λ z. f b && z) (not-true (over S (λ s. true)) (and-l (not (over S (λ s. true))) (even P) t)) ∙ and-false (f b))
+      (even-none P (suc b) f (and-r (not (over S (λ s. true))) (even P) t))
 
   evens-at : (Ps : List (List (List ℕ))) → T (evens Ps) → (a : ℕ) → T (even (getD Ps a []))
   evens-at [] t a = tt
@@ -210,5 +210,5 @@ module _ (m printed : ℕ) where
   turned C H gs w f t sz ev d r i h =
       reduce-all m printed H gs w t r i h
       ∙ blocks-same (getD (drops (length gs) H) r []) _ (λ c s. f c) (λ c s l. d c ((i + s) % suc m)
-          (subst (λ z. c < z) (sized-at C (drops (length gs) H) sz r (subst (λ z. r < z) (sym (length-drops (length gs) H)) h)) l) (mod-lt (i + s) (zero-lt-suc m)))
+      (subst (λ z. c < z) (sized-at C (drops (length gs) H) sz r (subst (λ z. r < z) (sym (length-drops (length gs) H)) h)) l) (mod-lt (i + s) (zero-lt-suc m)))
       ∙ even-none (getD (drops (length gs) H) r []) 0 f (evens-at (drops (length gs) H) ev r)
