@@ -11,4 +11,5 @@ pub mod Unique
 pub mod Inverse
 pub mod Parity
 pub mod Published
+pub mod Codewords
 pub mod Octets
