@@ -12,4 +12,5 @@ pub mod Inverse
 pub mod Parity
 pub mod Published
 pub mod Codewords
+pub mod Answers
 pub mod Octets
