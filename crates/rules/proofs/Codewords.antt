@@ -189,9 +189,9 @@ module _ (c : Code) (pb : Published c) where
     written-back x h = octets-same (c .wordOctets) (sent c x) (bit word) h ∙ ap (λ z. octets z (bit word)) (sym long) ∙ octets-bit word is-octets
 
     -- a codeword is what the encoder gives for its information octets
-    pub codeword-encoded : codeword c (bit word) ≡ true → information c - c .unsent ≤ 8 * c .informationOctets
+    pub codeword-encoded : codeword c (bit word) ≡ true
         → written c (encoded c (lifted c (bit (take (c .informationOctets) word)))) ≡ word
-    codeword-encoded is room =
+    codeword-encoded is =
         ap (written c) (encoded-same c (lifted c (bit (take (c .informationOctets) word))) (lifted c (bit word)) front)
         ∙ written-back (encoded c (lifted c (bit word))) (λ n h. sym (codeword-bit (bit word) is n h))
       where
@@ -205,7 +205,7 @@ module _ (c : Code) (pb : Published c) where
             go (no g) =
                 let e : n - c .unsent + c .unsent ≡ n = omega (arith, lt-of-not-le g) in
                 ap (lifted c (bit (take (c .informationOctets) word))) (sym e) ∙ lifted-sent-bit c (bit (take (c .informationOctets) word)) (n - c .unsent)
-                ∙ taken (n - c .unsent) (omega (arith, lt-of-not-le g, room)) ∙ sym (lifted-sent-bit c (bit word) (n - c .unsent)) ∙ ap (lifted c (bit word)) e
+                ∙ taken (n - c .unsent) (omega (arith, lt-of-not-le g, pb .room)) ∙ sym (lifted-sent-bit c (bit word) (n - c .unsent)) ∙ ap (lifted c (bit word)) e
 
   -- what the encoder gives is a codeword
   pub encoded-codeword : (y : Word) → codeword c (bit (written c (encoded c (lifted c y)))) ≡ true

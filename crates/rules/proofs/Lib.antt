@@ -13,4 +13,5 @@ pub mod Parity
 pub mod Published
 pub mod Codewords
 pub mod Answers
+pub mod Demands
 pub mod Octets

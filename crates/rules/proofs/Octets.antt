@@ -131,3 +131,9 @@ bit-past [] i h = bit-none i
 bit-past (b ∷ o) i h =
     let e : 8 + (i - 8) ≡ i = omega arith in
     ap (bit (b ∷ o)) (sym e) ∙ next-octet o b (i - 8) ∙ bit-past o (i - 8) (omega arith)
+
+pub octets-lt : (n : ℕ) (x : Word) → Octets (octets n x)
+unfolding octets
+octets-lt zero x i = zero-lt-suc 255
+octets-lt (suc n) x zero = number-lt 8 x
+octets-lt (suc n) x (suc i) = octets-lt n (λ k. x (8 + k)) i

@@ -40,7 +40,8 @@ pub record Published (c : Code) : Type 0 where
   pub after : information c ≤ bits c
   pub before : c .unsent ≤ information c
   pub fits : bits c - c .unsent ≤ 8 * c .wordOctets
-  pub held : 8 * c .informationOctets ≤ 8 * c .wordOctets
+  pub held : c .informationOctets ≤ c .wordOctets
+  pub room : information c - c .unsent ≤ 8 * c .informationOctets
   pub girth : Girth c
   pub own-quiet : (x : Word) → OwnParity c x → broken c x ≡ 0
 
@@ -94,6 +95,7 @@ published1 = record {
   before = lit≤ tt;
   fits = lit≤ tt;
   held = lit≤ tt;
+  room = lit≤ tt;
   girth = tested-girth 16 8 0 15 parity16 generator16 16 8 4 tests1;
   own-quiet = tested-quiet 16 8 0 15 parity16 generator16 16 8 4 tests1;
 }
@@ -106,6 +108,7 @@ published2 = record {
   before = lit≤ tt;
   fits = lit≤ tt;
   held = lit≤ tt;
+  room = lit≤ tt;
   girth = tested-girth 32 16 0 31 parity32 generator32 32 8 4 tests2;
   own-quiet = tested-quiet 32 16 0 31 parity32 generator32 32 8 4 tests2;
 }
@@ -118,6 +121,7 @@ published3 = record {
   before = lit≤ tt;
   fits = lit≤ tt;
   held = lit≤ tt;
+  room = lit≤ tt;
   girth = tested-girth 64 32 0 63 parity64 generator64 64 8 4 tests3;
   own-quiet = tested-quiet 64 32 0 63 parity64 generator64 64 8 4 tests3;
 }
@@ -130,6 +134,7 @@ published4 = record {
   before = lit≤ tt;
   fits = lit≤ tt;
   held = lit≤ tt;
+  room = lit≤ tt;
   girth = tested-girth 1022 895 0 510 parity511 generator511 512 16 2 (nearTests 1022 895 0);
   own-quiet = tested-quiet 1022 895 0 510 parity511 generator511 512 16 2 (nearTests 1022 895 0);
 }
@@ -142,6 +147,7 @@ published5 = record {
   before = lit≤ tt;
   fits = lit≤ tt;
   held = lit≤ tt;
+  room = lit≤ tt;
   girth = tested-girth 1020 892 18 510 parity511 generator511 512 16 2 (nearTests 1020 892 18);
   own-quiet = tested-quiet 1020 892 18 510 parity511 generator511 512 16 2 (nearTests 1020 892 18);
 }

@@ -1,0 +1,134 @@
+-- The demands, over the calls' answers: for every code number, every length and every content.
+use mathlib.Core.Path.{_≡_, refl, sym, ap, ap₂, _∙_, fun-ext, subst}
+use mathlib.Core.Bool.{Bool, true, false, not, _&&_}
+use mathlib.Core.List.{List, [], _∷_}
+use Prim.Native.Nat.{ℕ, zero, suc, _+_, _-_, _*_, _/_, _≤_, _<_, zero-le, suc-le-suc}
+use native.Mathlib.Nat.{le-refl, le-trans, le-of-eq, lt-of-not-le, lt-of-lt-of-le, add-zero, one-mul, le-add-right, div-lt-iff-lt-mul, zero-lt-suc}
+use native.Mathlib.Decide.{decLt}
+use native.Mathlib.Omega.{arith}
+use lib.Dec.{T, eqb, leb, ltb, leb→le, le→leb}
+use lib.IntN.{ℤ, pos}
+use lib.ListN.{length, getD, take, length-take}
+use borrow.Author.Tests.{eq-eqb, ne-eqb, eqb-true, eqb-false, lt-ltb, le-ltb}
+use Rattle.rules.specs.Bits.{Word, bit, octets, count, _⊕_, flipped, if_then_else_}
+use Rattle.rules.specs.Codes.{Code, code, code1, code2, code3, code4, code5, bits, checks, information}
+use Rattle.rules.specs.Checks.{check, broken}
+use Rattle.rules.specs.Encoding.{parityBit, encoded, lifted, sent, codeword}
+use Rattle.rules.specs.Flipping.{Next, quiet, stuck, flip, byExcess, Run, run, ended, after}
+use Rattle.rules.specs.Calls.{offered, written, sixSet, Encoded, encodeAnswer, Checked, checkAnswer, Opened, openAnswer, Corrected, judged, refusedCorrect, ranCorrect, correctAnswer, Stepped, refusedStep, nextStep, stepAnswer}
+use Rattle.rules.specs.Tables.{parity16, parity32, parity64, parity511, generator16, generator32, generator64, generator511}
+use Rattle.rules.proofs.Sums.{⊕-false, and-l, and-r}
+use Rattle.rules.proofs.Counting.{count-none}
+use Rattle.rules.proofs.Octets.{Octets, length-octets, bit-past, octets-lt}
+use Rattle.rules.proofs.Flips.{degreeOf}
+use Rattle.rules.proofs.Runs.{run-within, run-quiet, run-falls, run-enough, run-unchanged, run-ends, End, ends-quiet, ends-stuck, ends-limit, every-run}
+use Rattle.rules.proofs.Choosing.{quiet-next, next-quiet, next-flip, chosen-lt, falls, falls-two, one-mended, first-count, Chosen}
+use Rattle.rules.proofs.Parity.{OwnParity}
+use Rattle.rules.proofs.Published.{Published, met-own1, met-own2, met-own3, near-four, nearInverted, near-inverted, inverted-near}
+use Rattle.rules.proofs.Codewords.{encoded-own, own-encoded, own-codeword, codeword-own, codeword-quiet, codeword-sent, codeword-encoded, encoded-codeword, bit-written, written-back, lifted-unsent, lifted-sent-bit, sent-bit, sent-fill, sent-lifted, lifted-sent, sent-same, broken-same}
+use Rattle.rules.proofs.Answers.{five, published, ranFrom, correct-cases, correct-taken, steppedFrom, step-cases, step-taken, encodedFrom, encode-taken, encode-cases, check-taken, open-taken}
+
+-- ---- demand 2: every encoded word meets every check
+
+pub encoded-meets : (n : ℕ) → T (offered n) → (x : Word) → broken (code n) (encoded (code n) x) ≡ 0
+encoded-meets n t x = published n t .own-quiet (encoded (code n) x) (encoded-own (code n) x)
+
+pub encoded-word-meets : (n : ℕ) (info out : List ℕ) → encodeAnswer n info out .number ≡ 0 → checkAnswer n (encodeAnswer n info out .out) ≡ record { number = 0; broken = 0 }
+encoded-word-meets n info out =
+    encode-cases n info out (λ r. r .number ≡ 0 → checkAnswer n (r .out) ≡ record { number = 0; broken = 0 }) (λ k e. absurd (omega arith)) (λ t li lo six e.
+      let c : Code = code n in
+      let word : List ℕ = written (code n) (encoded (code n) (lifted (code n) (bit info))) in
+      check-taken n word t (length-octets (code n .wordOctets) (sent (code n) (encoded (code n) (lifted (code n) (bit info)))))
+      ∙ ap (λ z. record { number = 0; broken = z }) (codeword-quiet (code n) (published n t) (bit word) (encoded-codeword (code n) (published n t) (bit info))))
+
+-- ---- demand 2: the telecommand codes
+
+abbrev pub telecommanded : ℕ → Bool
+telecommanded n = leb 1 n && leb n 3
+
+three : (P : ℕ → Type 0) → P 1 → P 2 → P 3 → (n : ℕ) → T (telecommanded n) → P n
+three P p1 p2 p3 n t = go n (leb→le 1 n (and-l (leb 1 n) (leb n 3) t)) (leb→le n 3 (and-r (leb 1 n) (leb n 3) t))
+  where
+    go : (n : ℕ) → 1 ≤ n → n ≤ 3 → P n
+    go zero l h = absurd (omega arith)
+    go (suc zero) l h = p1
+    go (suc (suc zero)) l h = p2
+    go (suc (suc (suc zero))) l h = p3
+    go (suc (suc (suc (suc n)))) l h = absurd (omega arith)
+
+-- a word that meets every check has the encoder's parity: it is the encoding of its own information bits
+pub met-own-telecommand : (n : ℕ) → T (telecommanded n) → (x : Word) → broken (code n) x ≡ 0 → OwnParity (code n) x
+unfolding code
+met-own-telecommand = three (λ n. (x : Word) → broken (code n) x ≡ 0 → OwnParity (code n) x) met-own1 met-own2 met-own3
+
+pub met-encoded : (n : ℕ) → T (telecommanded n) → (x : Word) → broken (code n) x ≡ 0 → (k : ℕ) → k < bits (code n) → encoded (code n) x k ≡ x k
+met-encoded n t x e = own-encoded (code n) x (met-own-telecommand n t x e)
+
+-- codes 1 to 4 send every bit, in whole octets
+pub record Whole (c : Code) : Type 0 where
+  pub unsent : c .unsent ≡ 0
+  pub full : bits c ≡ 8 * c .wordOctets
+
+pub four : (P : ℕ → Type 0) → P 1 → P 2 → P 3 → P 4 → (n : ℕ) → T (offered n && not (eqb n 5)) → P n
+four P p1 p2 p3 p4 n t = five (λ n. T (not (eqb n 5)) → P n) (λ u. p1) (λ u. p2) (λ u. p3) (λ u. p4) (λ u. absurd u) n (and-l (offered n) (not (eqb n 5)) t) (and-r (offered n) (not (eqb n 5)) t)
+
+pub whole : (n : ℕ) → T (offered n && not (eqb n 5)) → Whole (code n)
+unfolding code code1 code2 code3 code4 parity16 parity32 parity64 parity511
+whole = four (λ n. Whole (code n)) (record { unsent = refl; full = refl }) (record { unsent = refl; full = refl }) (record { unsent = refl; full = refl }) (record { unsent = refl; full = refl })
+
+module _ (c : Code) (w : Whole c) where
+  pub lifted-whole : (y : Word) → lifted c y ≡ y
+  lifted-whole y = fun-ext (λ n. ap (lifted c y) (sym (ap (λ z. n + z) (w .unsent) ∙ add-zero n)) ∙ lifted-sent-bit c y n)
+
+  pub sent-whole : (x : Word) → ((n : ℕ) → 8 * c .wordOctets ≤ n → x n ≡ false) → sent c x ≡ x
+  sent-whole x past = fun-ext (λ n. go n (decLt n (bits c - c .unsent)))
+    where
+      go : (n : ℕ) → Dec (n < bits c - c .unsent) → sent c x n ≡ x n
+      go n (yes l) = sent-bit c x n l ∙ ap x (ap (λ z. n + z) (w .unsent) ∙ add-zero n)
+      go n (no g) =
+          let l : bits c - c .unsent ≤ n = omega (arith, lt-of-not-le g) in
+          sent-fill c x n l ∙ sym (past n (omega (arith, w .unsent, w .full)))
+
+  past-word : (word : List ℕ) → length word ≡ c .wordOctets → (n : ℕ) → 8 * c .wordOctets ≤ n → bit word n ≡ false
+  past-word word lw n h = bit-past word n (omega (arith, lw))
+
+telecommand-whole : (n : ℕ) → T (telecommanded n) → T (offered n && not (eqb n 5))
+telecommand-whole = three (λ n. T (offered n && not (eqb n 5))) tt tt tt
+
+telecommand-offered : (n : ℕ) → T (telecommanded n) → T (offered n)
+telecommand-offered = three (λ n. T (offered n)) tt tt tt
+
+not-six : (n : ℕ) → T (telecommanded n) → (info : List ℕ) → sixSet n info ≡ false
+not-six = three (λ n. (info : List ℕ) → sixSet n info ≡ false) (λ info. refl) (λ info. refl) (λ info. refl)
+
+-- where unsent bits and filling play no part, meeting every check is being a codeword
+pub met-codeword : (n : ℕ) → T (telecommanded n) → (word : List ℕ) → length word ≡ code n .wordOctets
+    → broken (code n) (lifted (code n) (bit word)) ≡ 0 → codeword (code n) (bit word) ≡ true
+met-codeword n t word lw e =
+    let c : Code = code n in
+    let w : Whole (code n) = whole n (telecommand-whole n t) in
+    let same : sent (code n) (lifted (code n) (bit word)) ≡ bit word =
+        ap (sent (code n)) (lifted-whole (code n) w (bit word)) ∙ sent-whole (code n) w (bit word) (past-word (code n) w word lw) in
+    ap (codeword (code n)) (sym same)
+    ∙ own-codeword (code n) (published n (telecommand-offered n t)) (lifted (code n) (bit word)) (met-own-telecommand n t (lifted (code n) (bit word)) e) (λ k h. lifted-unsent (code n) (bit word) k h)
+
+pub met-is-encoding : (n : ℕ) → T (telecommanded n) → (word out : List ℕ) → Octets word → length word ≡ code n .wordOctets → length out ≡ code n .wordOctets
+    → checkAnswer n word .broken ≡ 0 → encodeAnswer n (take (code n .informationOctets) word) out ≡ record { number = 0; out = word }
+met-is-encoding n t word out oct lw lo e =
+    let off : T (offered n) = telecommand-offered n t in
+    let pb : Published (code n) = published n off in
+    let front : length (take (code n .informationOctets) word) ≡ code n .informationOctets =
+        omega (arith, length-take (code n .informationOctets) word, lw, pb .held) in
+    encode-taken n (take (code n .informationOctets) word) out off front lo (not-six n t (take (code n .informationOctets) word))
+    ∙ ap (λ z. record { number = 0; out = z }) (codeword-encoded (code n) pb word lw oct
+        (met-codeword n t word lw (sym (ap (λ r. r .broken) (check-taken n word off lw)) ∙ e)))
+
+-- ---- demand 2: code 4, where whole parity blocks may be inverted
+
+pub quiet-four : (x : Word) → broken code4 x ≡ 0 → (p : ℕ) → p < 1022 → x (7154 + p) ≡ parityBit code4 x p ⊕ nearInverted 1022 895 0 x (p / 511)
+unfolding code4 parity511 generator511
+quiet-four x e p h = near-inverted 1022 895 0 x e p h
+
+pub four-quiet : (x f : Word) → ((p : ℕ) → p < 1022 → x (7154 + p) ≡ parityBit code4 x p ⊕ f (p / 511)) → broken code4 x ≡ 0
+unfolding code4 parity511 generator511
+four-quiet x f h = inverted-near 1022 895 0 x f h
