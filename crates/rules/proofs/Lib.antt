@@ -14,4 +14,5 @@ pub mod Published
 pub mod Codewords
 pub mod Answers
 pub mod Demands
+pub mod Corrections
 pub mod Octets
