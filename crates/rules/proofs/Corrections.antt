@@ -6,20 +6,20 @@ use Prim.Native.Nat.{ℕ, zero, suc, _+_, _-_, _*_, _≤_, _<_, zero-le}
 use native.Mathlib.Nat.{le-refl, le-trans, le-of-eq, lt-of-not-le, lt-of-lt-of-le, zero-lt-suc}
 use native.Mathlib.Decide.{decLt}
 use native.Mathlib.Omega.{arith}
-use lib.Dec.{T, eqb, leb, ltb}
+use lib.Dec.{T, eqb, leb, ltb, leb→le}
 use lib.IntN.{ℤ, pos}
 use lib.ListN.{length}
-use borrow.Author.Tests.{eq-eqb, ne-eqb, eqb-true, eqb-false, le-ltb}
+use borrow.Author.Tests.{eq-eqb, ne-eqb, eqb-true, eqb-false, lt-ltb, le-ltb}
 use Rattle.rules.specs.Bits.{Word, bit, octets, count, _⊕_, flipped, if_then_else_}
 use Rattle.rules.specs.Codes.{Code, code, code4, code5, bits}
 use Rattle.rules.specs.Checks.{broken}
 use Rattle.rules.specs.Encoding.{lifted, sent, codeword}
-use Rattle.rules.specs.Flipping.{byExcess, Run, run, ended, after}
+use Rattle.rules.specs.Flipping.{Next, flip, byExcess, Run, run, ended, after}
 use Rattle.rules.specs.Calls.{offered, written, Corrected, judged, refusedCorrect, ranCorrect, correctAnswer}
 use Rattle.rules.specs.Tables.{parity511, generator511}
-use Rattle.rules.proofs.Sums.{and-l, and-r, ⊕-comm, ⊕-assoc}
+use Rattle.rules.proofs.Sums.{and-l, and-r, eqb-iff}
 use Rattle.rules.proofs.Counting.{count-none}
-use Rattle.rules.proofs.Octets.{Octets, length-octets, bit-octets}
+use Rattle.rules.proofs.Octets.{Octets, length-octets, bit-octets, bit-past}
 use Rattle.rules.proofs.Flips.{degreeOf}
 use Rattle.rules.proofs.Runs.{run-within, run-quiet, run-falls, run-enough, run-unchanged}
 use Rattle.rules.proofs.Choosing.{quiet-next, falls, falls-two, one-mended, first-count}
@@ -84,10 +84,6 @@ module _ (n : ℕ) (word : List ℕ) (limit : ℕ) (out : List ℕ) where
   unfolding correctAnswer ranCorrect
   limit-unchanged more no6 = by (offered n) (eqb (length word) (code n .wordOctets)) (eqb (length out) (code n .wordOctets)) no6
     where
-      x : Word
-      x = lifted (code n) (bit word)
-      r : ℕ → Run
-      r l = run (byExcess (code n)) l (lifted (code n) (bit word))
       all : (a b d : Bool) → ℕ → Corrected
       all a b d l =
           if not a then refusedCorrect 1 out else if not b then refusedCorrect 2 out else if not d then refusedCorrect 3 out
@@ -100,3 +96,116 @@ module _ (n : ℕ) (word : List ℕ) (limit : ℕ) (out : List ℕ) where
         where
           six : run (byExcess (code n)) limit (lifted (code n) (bit word)) .number ≡ 6 → judged (code n) (run (byExcess (code n)) limit (lifted (code n) (bit word))) ≡ 6
           six e = ap (λ z. if not (eqb z 0) then z else if ltb 0 (count (code n .unsent) (run (byExcess (code n)) limit (lifted (code n) (bit word)) .word)) then 7 else if not (codeword (code n) (sent (code n) (run (byExcess (code n)) limit (lifted (code n) (bit word)) .word))) then 8 else 0) e
+
+-- ---- the near-Earth codes: never more than half
+
+abbrev pub nearEarthed : ℕ → Bool
+nearEarthed n = leb 4 n && leb n 5
+
+two : (P : ℕ → Type 0) → P 4 → P 5 → (n : ℕ) → T (nearEarthed n) → P n
+two P p4 p5 n t = go n (leb→le 4 n (and-l (leb 4 n) (leb n 5) t)) (leb→le n 5 (and-r (leb 4 n) (leb n 5) t))
+  where
+    go : (n : ℕ) → 4 ≤ n → n ≤ 5 → P n
+    go zero l h = absurd (omega arith)
+    go (suc zero) l h = absurd (omega arith)
+    go (suc (suc zero)) l h = absurd (omega arith)
+    go (suc (suc (suc zero))) l h = absurd (omega arith)
+    go (suc (suc (suc (suc zero)))) l h = p4
+    go (suc (suc (suc (suc (suc zero))))) l h = p5
+    go (suc (suc (suc (suc (suc (suc n)))))) l h = absurd (omega arith)
+
+-- every bit has four checks
+pub near-degree : (n : ℕ) → T (nearEarthed n) → (k : ℕ) → k < bits (code n) → degreeOf (code n) k ≡ 4
+unfolding code code4 code5
+near-degree = two (λ n. (k : ℕ) → k < bits (code n) → degreeOf (code n) k ≡ 4) (near-four 1022 895 0) (near-four 1020 892 18)
+
+near-falls : (n : ℕ) → T (nearEarthed n) → T (offered n) → (x : Word) (k : ℕ) (ex : ℤ) → byExcess (code n) x ≡ flip k ex → 2 + broken (code n) (flipped x k) ≤ broken (code n) x
+near-falls n t off = falls-two (code n) (published n off .some) (λ k h. (2, near-degree n t k h))
+
+module _ (n : ℕ) (near : T (nearEarthed n)) (word : List ℕ) (limit : ℕ) (out : List ℕ) where
+  pub flips-within-half : 2 * correctAnswer n word limit out .flips ≤ correctAnswer n word limit out .first
+  unfolding ranCorrect
+  flips-within-half = correct-cases n word limit out (λ r. 2 * r .flips ≤ r .first) zero-le zero-le zero-le (λ t lw lo.
+      omega (arith, run-falls (byExcess (code n)) (broken (code n)) 2 (near-falls n near t) limit (lifted (code n) (bit word))))
+
+  pub half-enough : correctAnswer n word limit out .first ≤ 2 * limit + 1 → correctAnswer n word limit out .number ≡ 6 → ⊥
+  unfolding ranCorrect
+  half-enough =
+      correct-cases n word limit out (λ r. r .first ≤ 2 * limit + 1 → r .number ≡ 6 → ⊥) (λ h e. omega arith) (λ h e. omega arith) (λ h e. omega arith) (λ t lw lo h e.
+        run-enough (byExcess (code n)) (broken (code n)) 2 (near-falls n near t) limit (lifted (code n) (bit word)) (omega arith)
+          (judged-limit (code n) (run (byExcess (code n)) limit (lifted (code n) (bit word))) e))
+
+-- ---- codewords, and codewords with one wrong bit
+
+-- a sent bit that is turned over is a lifted bit that is
+pub lifted-flip : (c : Code) (y : Word) (n : ℕ) → lifted c (flipped y n) ≡ flipped (lifted c y) (n + c .unsent)
+lifted-flip c y n = fun-ext (λ i. go i (decLt i (c .unsent)))
+  where
+    go : (i : ℕ) → Dec (i < c .unsent) → lifted c (flipped y n) i ≡ flipped (lifted c y) (n + c .unsent) i
+    go i (yes l) =
+        lifted-unsent c (flipped y n) i l
+        ∙ sym (ap₂ (λ a b. a ⊕ b) (lifted-unsent c y i l) (ne-eqb i (n + c .unsent) (λ q. omega arith)))
+    go i (no g) =
+        let e : i - c .unsent + c .unsent ≡ i = omega (arith, lt-of-not-le g) in
+        ap (lifted c (flipped y n)) (sym e) ∙ lifted-sent-bit c (flipped y n) (i - c .unsent)
+        ∙ ap₂ (λ a b. a ⊕ b) (sym (lifted-sent-bit c y (i - c .unsent)) ∙ ap (lifted c y) e)
+            (eqb-iff (i - c .unsent) n i (n + c .unsent) (λ q. omega (arith, lt-of-not-le g)) (λ q. omega arith))
+
+-- the octets of a word with bit b turned over
+abbrev pub oneWrong : Code → List ℕ → ℕ → List ℕ
+oneWrong c word b = octets (c .wordOctets) (flipped (bit word) b)
+
+pub bit-one-wrong : (c : Code) (word : List ℕ) (b : ℕ) → length word ≡ c .wordOctets → b < 8 * c .wordOctets → bit (oneWrong c word b) ≡ flipped (bit word) b
+bit-one-wrong c word b lw h = fun-ext (λ i. bit-octets (c .wordOctets) (flipped (bit word) b) i ∙ go i (decLt i (8 * c .wordOctets)))
+  where
+    go : (i : ℕ) → Dec (i < 8 * c .wordOctets) → (ltb i (8 * c .wordOctets) && flipped (bit word) b i) ≡ flipped (bit word) b i
+    go i (yes l) = ap (λ z. z && flipped (bit word) b i) (lt-ltb i (8 * c .wordOctets) l)
+    go i (no g) =
+        ap (λ z. z && flipped (bit word) b i) (le-ltb i (8 * c .wordOctets) (omega (arith, lt-of-not-le g)))
+        ∙ sym (ap₂ (λ a d. a ⊕ d) (bit-past word i (omega (arith, lt-of-not-le g, lw))) (ne-eqb i b (λ q. omega (arith, lt-of-not-le g))))
+
+module _ (n : ℕ) (off : T (offered n)) (word out : List ℕ) (lw : length word ≡ code n .wordOctets) (lo : length out ≡ code n .wordOctets)
+    (oct : Octets word) (is : codeword (code n) (bit word) ≡ true) where
+  met : broken (code n) (lifted (code n) (bit word)) ≡ 0
+  met = codeword-quiet (code n) (published n off) (bit word) is
+
+  -- a run that ends quiet at the codeword is taken, and gives the word
+  done : (r : Run) → r .number ≡ 0 → r .word ≡ lifted (code n) (bit word) → (x : Word)
+      → ranCorrect (code n) x r out ≡ record { number = 0; flips = length (r .flips); first = broken (code n) x; last = 0; out = word }
+  unfolding ranCorrect
+  done r e w x =
+      let c : Code = code n in
+      let zero-is : judged (code n) r ≡ 0 =
+          judged-done (code n) r e (λ k h. ap (λ z. z k) w ∙ lifted-unsent (code n) (bit word) k h)
+            (ap (λ z. codeword (code n) (sent (code n) z)) w
+            ∙ own-codeword (code n) (published n off) (lifted (code n) (bit word)) (codeword-own (code n) (published n off) (bit word) is) (λ k h. lifted-unsent (code n) (bit word) k h)) in
+      ap₂ (λ a b. record { number = a; flips = length (r .flips); first = broken (code n) x; last = b; out = if eqb a 0 then written (code n) (r .word) else out })
+        zero-is (ap (broken (code n)) w ∙ met)
+      ∙ ap (λ z. record { number = 0; flips = length (r .flips); first = broken (code n) x; last = 0; out = z })
+          (ap (written (code n)) w ∙ written-back (code n) (published n off) word lw oct (lifted (code n) (bit word)) (codeword-sent (code n) (published n off) (bit word) is))
+
+  -- a codeword comes back with no flips
+  pub codeword-back : (limit : ℕ) → correctAnswer n word limit out ≡ record { number = 0; flips = 0; first = 0; last = 0; out = word }
+  codeword-back limit =
+      correct-taken n word limit out off lw lo
+      ∙ ap (λ r. ranCorrect (code n) (lifted (code n) (bit word)) r out) (run-quiet (byExcess (code n)) limit (lifted (code n) (bit word)) (quiet-next (code n) (lifted (code n) (bit word)) met))
+      ∙ done (ended 0 (lifted (code n) (bit word))) refl refl (lifted (code n) (bit word))
+      ∙ ap (λ z. record { number = 0; flips = 0; first = z; last = 0; out = word }) met
+
+  -- a codeword with exactly one wrong covered bit comes back mended by exactly one flip, if the limit is at least 1.
+  -- The covered bits are those that the checks are over and that are sent: all of codes 1 to 4, all but the last two of code 5.
+  pub one-back : (limit b : ℕ) → b < bits (code n) - code n .unsent
+      → correctAnswer n (oneWrong (code n) word b) (suc limit) out
+      ≡ record { number = 0; flips = 1; first = degreeOf (code n) (b + code n .unsent); last = 0; out = word }
+  one-back limit b h =
+      let c : Code = code n in
+      let pb : Published (code n) = published n off in
+      let x : Word = lifted (code n) (bit word) in
+      let k-lt : b + code n .unsent < bits (code n) = omega arith in
+      let same : lifted (code n) (bit (oneWrong (code n) word b)) ≡ flipped (lifted (code n) (bit word)) (b + code n .unsent) =
+          ap (lifted (code n)) (bit-one-wrong (code n) word b lw (lt-of-lt-of-le h (pb .fits))) ∙ lifted-flip (code n) (bit word) b in
+      correct-taken n (oneWrong (code n) word b) (suc limit) out off (length-octets (code n .wordOctets) (flipped (bit word) b)) lo
+      ∙ ap (λ y. ranCorrect (code n) y (run (byExcess (code n)) (suc limit) y) out) same
+      ∙ ap (λ r. ranCorrect (code n) (flipped (lifted (code n) (bit word)) (b + code n .unsent)) r out) (one-mended (code n) (pb .girth) (lifted (code n) (bit word)) met (b + code n .unsent) k-lt limit)
+      ∙ done (after (b + code n .unsent) (pos (degreeOf (code n) (b + code n .unsent))) (ended 0 (lifted (code n) (bit word)))) refl refl (flipped (lifted (code n) (bit word)) (b + code n .unsent))
+      ∙ ap (λ z. record { number = 0; flips = 1; first = z; last = 0; out = word }) (first-count (code n) (pb .girth) (lifted (code n) (bit word)) met (b + code n .unsent) k-lt)
