@@ -89,7 +89,7 @@ module _ (c : Code) (w : Whole c) where
           let l : bits c - c .unsent ≤ n = omega (arith, lt-of-not-le g) in
           sent-fill c x n l ∙ sym (past n (omega (arith, w .unsent, w .full)))
 
-  past-word : (word : List ℕ) → length word ≡ c .wordOctets → (n : ℕ) → 8 * c .wordOctets ≤ n → bit word n ≡ false
+  pub past-word : (word : List ℕ) → length word ≡ c .wordOctets → (n : ℕ) → 8 * c .wordOctets ≤ n → bit word n ≡ false
   past-word word lw n h = bit-past word n (omega (arith, lw))
 
 telecommand-whole : (n : ℕ) → T (telecommanded n) → T (offered n && not (eqb n 5))

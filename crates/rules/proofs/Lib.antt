@@ -15,4 +15,5 @@ pub mod Codewords
 pub mod Answers
 pub mod Demands
 pub mod Corrections
+pub mod Steps
 pub mod Octets
