@@ -16,4 +16,5 @@ pub mod Answers
 pub mod Demands
 pub mod Corrections
 pub mod Steps
+pub mod Cases
 pub mod Octets
