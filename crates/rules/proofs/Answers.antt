@@ -69,8 +69,8 @@ module _ (n : ℕ) (word : List ℕ) (limit : ℕ) (out : List ℕ) where
   unfolding correctAnswer
   correct-cases P p1 p2 p3 ran =
       when-not P (offered n) (refusedCorrect 1 out) _ (λ e. p1) (λ t.
-        when-long P word (code n .wordOctets) (refusedCorrect 2 out) _ p2 (λ lw.
-          when-long P out (code n .wordOctets) (refusedCorrect 3 out) ranFrom p3 (λ lo. ran t lw lo)))
+      when-long P word (code n .wordOctets) (refusedCorrect 2 out) _ p2 (λ lw.
+      when-long P out (code n .wordOctets) (refusedCorrect 3 out) ranFrom p3 (λ lo. ran t lw lo)))
 
   pub correct-taken : T (offered n) → length word ≡ code n .wordOctets → length out ≡ code n .wordOctets → correctAnswer n word limit out ≡ ranFrom
   unfolding correctAnswer
@@ -89,8 +89,8 @@ module _ (n : ℕ) (word out : List ℕ) where
   unfolding stepAnswer
   step-cases P p1 p2 p3 ran =
       when-not P (offered n && not (eqb n 5)) (refusedStep 1 out) _ (λ e. p1) (λ t.
-        when-long P word (code n .wordOctets) (refusedStep 2 out) _ p2 (λ lw.
-          when-long P out (code n .wordOctets) (refusedStep 3 out) steppedFrom p3 (λ lo. ran t lw lo)))
+      when-long P word (code n .wordOctets) (refusedStep 2 out) _ p2 (λ lw.
+      when-long P out (code n .wordOctets) (refusedStep 3 out) steppedFrom p3 (λ lo. ran t lw lo)))
 
   pub step-taken : T (offered n && not (eqb n 5)) → length word ≡ code n .wordOctets → length out ≡ code n .wordOctets → stepAnswer n word out ≡ steppedFrom
   unfolding stepAnswer
@@ -119,8 +119,8 @@ module _ (n : ℕ) (information out : List ℕ) where
   unfolding encodeAnswer
   encode-cases P p taken =
       when-not P (offered n) (record { number = 1; out = out }) _ (λ e. p 0) (λ t.
-        when-long P information (code n .informationOctets) (record { number = 2; out = out }) _ (p 1) (λ li.
-          when-long P out (code n .wordOctets) (record { number = 3; out = out }) _ (p 2) (λ lo. go (sixSet n information) refl t li lo)))
+      when-long P information (code n .informationOctets) (record { number = 2; out = out }) _ (p 1) (λ li.
+      when-long P out (code n .wordOctets) (record { number = 3; out = out }) _ (p 2) (λ lo. go (sixSet n information) refl t li lo)))
     where
       go : (b : Bool) → sixSet n information ≡ b → T (offered n) → length information ≡ code n .informationOctets → length out ≡ code n .wordOctets
           → P (if sixSet n information then record { number = 4; out = out } else encodedFrom)

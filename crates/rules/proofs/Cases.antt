@@ -172,8 +172,8 @@ module _ (n : ℕ) (t : T (offered n && not (eqb n 5))) where
   only-breaks b h k =
       ap (λ w. check (code n) (lifted (code n) (bit w)) k) (only-wrong b)
       ∙ ap (λ x. check (code n) x k) (lifted-whole (code n) (whole n t) (bit (oneWrong (code n) (replicate (code n .wordOctets) 0) b))
-          ∙ bit-one-wrong (code n) (replicate (code n .wordOctets) 0) b (length-replicate (code n .wordOctets) 0) (lt-of-lt-of-le h (le-of-eq (whole n t .full)))
-          ∙ ap (λ x. flipped x b) (fun-ext (bit-zeros (code n .wordOctets))))
+      ∙ bit-one-wrong (code n) (replicate (code n .wordOctets) 0) b (length-replicate (code n .wordOctets) 0) (lt-of-lt-of-le h (le-of-eq (whole n t .full)))
+      ∙ ap (λ x. flipped x b) (fun-ext (bit-zeros (code n .wordOctets))))
       ∙ check-flip (code n) none b h k ∙ ap (λ z. z ⊕ covers (code n) k b) (sum-none (bits (code n)) _ (λ j l. and-false (covers (code n) k j)))
 
 -- the checks that cover a bit, computed
@@ -208,7 +208,7 @@ steps3 : Holds (steps 1 (only 16 0) 0 (pos 5))
 unfolding code code1 nextStep
 steps3 out lo =
     let e : stepAnswer 1 (only 16 0) out ≡ nextStep code1 (only 16 0) (lifted code1 (bit (only 16 0))) out (flip 0 (pos 5)) =
-        step-taken 1 (only 16 0) out tt (length-octets 16 (λ n. eqb n 0)) lo ∙ ap (nextStep code1 (only 16 0) (lifted code1 (bit (only 16 0))) out) next1 in
+    step-taken 1 (only 16 0) out tt (length-octets 16 (λ n. eqb n 0)) lo ∙ ap (nextStep code1 (only 16 0) (lifted code1 (bit (only 16 0))) out) next1 in
     (ap (λ r. r .number) e, ap (λ r. r .quiet) e, ap (λ r. r .bit) e, ap (λ r. r .excess) e)
 
 -- code 1: the word of ones meets every check
@@ -217,9 +217,9 @@ unfolding broken code code1 parity16 generator16 octets number
 ones-met =
     ap (broken code1) (lifted-whole code1 (whole 1 tt) (bit (allOnes 16)))
     ∙ count-none 64 (check code1 (bit (allOnes 16))) (λ k h.
-        check-in 16 8 0 15 parity16 generator16 16 8 tt (bit (allOnes 16)) k h
-        ∙ not-true (checkIn 16 (getD parity16 (k / 16) []) (blk 16 (bit (allOnes 16))) (k % 16))
-            (below-at 64 (λ k. not (checkIn 16 (getD parity16 (k / 16) []) (blk 16 (bit (allOnes 16))) (k % 16))) tt k h))
+    check-in 16 8 0 15 parity16 generator16 16 8 tt (bit (allOnes 16)) k h
+    ∙ not-true (checkIn 16 (getD parity16 (k / 16) []) (blk 16 (bit (allOnes 16))) (k % 16))
+    (below-at 64 (λ k. not (checkIn 16 (getD parity16 (k / 16) []) (blk 16 (bit (allOnes 16))) (k % 16))) tt k h))
 
 breaks5 : Holds (breaks 1 (allOnes 16) [])
 unfolding broken code code1 parity16
@@ -270,12 +270,12 @@ block-no-codeword = go (codeword code4 (sent code4 blockBits)) refl
     go false e = e
     go true e =
         absurd (subst T (
-          sym (sent-bit code4 blockBits 7154 (lit< tt))
-          ∙ codeword-bit code4 published4 (sent code4 blockBits) e 7154 (lit< tt)
-          ∙ sent-bit code4 (encoded code4 (lifted code4 (sent code4 blockBits))) 7154 (lit< tt)
-          ∙ encoded-parity code4 (lifted code4 (sent code4 blockBits)) 7154 (lit≤ tt)
-          ∙ parity-same code4 (lifted code4 (sent code4 blockBits)) blockBits (λ n l. lifted-sent code4 blockBits (λ n l. absurd (not-suc-le-zero l)) n (lt-of-lt-of-le l (published4 .after))) 0
-          ∙ block-parity 0) tt)
+        sym (sent-bit code4 blockBits 7154 (lit< tt))
+        ∙ codeword-bit code4 published4 (sent code4 blockBits) e 7154 (lit< tt)
+        ∙ sent-bit code4 (encoded code4 (lifted code4 (sent code4 blockBits))) 7154 (lit< tt)
+        ∙ encoded-parity code4 (lifted code4 (sent code4 blockBits)) 7154 (lit≤ tt)
+        ∙ parity-same code4 (lifted code4 (sent code4 blockBits)) blockBits (λ n l. lifted-sent code4 blockBits (λ n l. absurd (not-suc-le-zero l)) n (lt-of-lt-of-le l (published4 .after))) 0
+        ∙ block-parity 0) tt)
 
 near-long : 1022 ≡ code4 .wordOctets
 unfolding code4
@@ -289,11 +289,11 @@ corrects9 : Holds (corrects 4 (octets 1022 blockBits) 0 8 0 0 0)
 unfolding code ranCorrect
 corrects9 out lo =
     let e : correctAnswer 4 (octets 1022 blockBits) 0 out ≡ ranCorrect code4 blockBits (ended 0 blockBits) out =
-        correct-taken 4 (octets 1022 blockBits) 0 out tt (length-octets 1022 blockBits ∙ near-long) lo
-        ∙ ap (λ x. ranCorrect code4 x (run (byExcess code4) 0 x) out) block-bits
-        ∙ ap (λ r. ranCorrect code4 blockBits r out) (run-quiet (byExcess code4) 0 blockBits (quiet-next code4 blockBits block-met)) in
+    correct-taken 4 (octets 1022 blockBits) 0 out tt (length-octets 1022 blockBits ∙ near-long) lo
+    ∙ ap (λ x. ranCorrect code4 x (run (byExcess code4) 0 x) out) block-bits
+    ∙ ap (λ r. ranCorrect code4 blockBits r out) (run-quiet (byExcess code4) 0 blockBits (quiet-next code4 blockBits block-met)) in
     let eight : judged code4 (ended 0 blockBits) ≡ 8 =
-        ap₂ (λ q s. if q then 7 else if not s then 8 else 0) (le-ltb 0 (count (code4 .unsent) blockBits) near-unsent) block-no-codeword in
+    ap₂ (λ q s. if q then 7 else if not s then 8 else 0) (le-ltb 0 (count (code4 .unsent) blockBits) near-unsent) block-no-codeword in
     (ap (λ r. r .number) e ∙ eight, ap (λ r. r .flips) e, ap (λ r. r .first) e ∙ block-met, ap (λ r. r .last) e ∙ block-met)
 
 -- code 1, only bit 0 set: its five checks are broken, and one flip mends it
@@ -320,8 +320,8 @@ unfolding code code1 ranCorrect
 corrects10 out lo =
     let x : Word = lifted code1 (bit (only 16 0)) in
     let e : correctAnswer 1 (only 16 0) 0 out ≡ ranCorrect code1 (lifted code1 (bit (only 16 0))) (ended 6 (lifted code1 (bit (only 16 0)))) out =
-        correct-taken 1 (only 16 0) 0 out tt (length-octets 16 (λ n. eqb n 0)) lo
-        ∙ ap (λ r. ranCorrect code1 (lifted code1 (bit (only 16 0))) r out) (run-limit (byExcess code1) (lifted code1 (bit (only 16 0))) 0 (pos 5) next1) in
+    correct-taken 1 (only 16 0) 0 out tt (length-octets 16 (λ n. eqb n 0)) lo
+    ∙ ap (λ r. ranCorrect code1 (lifted code1 (bit (only 16 0))) r out) (run-limit (byExcess code1) (lifted code1 (bit (only 16 0))) 0 (pos 5) next1) in
     (ap (λ r. r .number) e, ap (λ r. r .flips) e, ap (λ r. r .first) e ∙ first-five, ap (λ r. r .last) e ∙ first-five)
 
 -- lengths and code numbers
@@ -351,6 +351,37 @@ unstepped17 word out = refl
 
 pub all-starred : All starred
 unfolding starred
-all-starred =
-    (encodes1, (breaks2, (steps3, (breaks4, (breaks5, (opens6, (breaks7, (breaks8, (corrects9, (corrects10, (corrects11,
-    (lengths12, (lengths13, (unoffered14, (unoffered15, (unopened16, (unstepped17, tt)))))))))))))))))
+all-starred = (
+  encodes1,
+  (
+    breaks2,
+    (
+      steps3,
+      (
+        breaks4,
+        (
+          breaks5,
+          (
+            opens6,
+            (
+              breaks7,
+              (
+                breaks8,
+                (
+                  corrects9,
+                  (
+                    corrects10,
+                    (
+                      corrects11,
+                      (lengths12, (lengths13, (unoffered14, (unoffered15, (unopened16, (unstepped17, tt)))))),
+                    ),
+                  ),
+                ),
+              ),
+            ),
+          ),
+        ),
+      ),
+    ),
+  ),
+)

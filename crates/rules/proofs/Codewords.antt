@@ -150,7 +150,7 @@ module _ (c : Code) (pb : Published c) where
   unfolding codeword
   own-codeword x own none =
       agree-all (8 * c .wordOctets) (sent c x) (sent c (encoded c (lifted c (sent c x)))) (λ i l. ap (λ w. w i) (sent-same c x (encoded c (lifted c (sent c x))) (λ n h.
-        sym (own-encoded c x own n h) ∙ ap (λ w. w n) (encoded-same c x (lifted c (sent c x)) (λ k k-lt. sym (lifted-sent c x none k (lt-of-lt-of-le k-lt (pb .after))))))))
+      sym (own-encoded c x own n h) ∙ ap (λ w. w n) (encoded-same c x (lifted c (sent c x)) (λ k k-lt. sym (lifted-sent c x none k (lt-of-lt-of-le k-lt (pb .after))))))))
 
   module _ (y : Word) (is : codeword c y ≡ true) where
     pub codeword-bit : (n : ℕ) → n < 8 * c .wordOctets → y n ≡ sent c (encoded c (lifted c y)) n
@@ -197,6 +197,7 @@ module _ (c : Code) (pb : Published c) where
       where
         taken : (n : ℕ) → n < 8 * c .informationOctets → bit (take (c .informationOctets) word) n ≡ bit word n
         taken n h = ap (λ z. digit 8 z (n % 8)) (getD-take (c .informationOctets) word (n / 8) 0 (omega arith))
+
         front : (n : ℕ) → n < information c → lifted c (bit (take (c .informationOctets) word)) n ≡ lifted c (bit word) n
         front n h = go (decLt n (c .unsent))
           where
@@ -212,4 +213,4 @@ module _ (c : Code) (pb : Published c) where
   encoded-codeword y =
       ap (codeword c) (bit-written (encoded c (lifted c y)))
       ∙ own-codeword (encoded c (lifted c y)) (encoded-own c (lifted c y))
-          (λ n h. encoded-information c (lifted c y) n (lt-of-lt-of-le h (pb .before)) ∙ lifted-unsent c y n h)
+      (λ n h. encoded-information c (lifted c y) n (lt-of-lt-of-le h (pb .before)) ∙ lifted-unsent c y n h)

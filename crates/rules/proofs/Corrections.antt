@@ -39,6 +39,7 @@ module _ (c : Code) (r : Run) where
       spelled p q s f g h =
           sym (ap (λ p. if not p then r .number else if ltb 0 (count (c .unsent) (r .word)) then 7 else if not (codeword c (sent c (r .word))) then 8 else 0) f
           ∙ ap₂ (λ q s. if not p then r .number else if q then 7 else if not s then 8 else 0) g h) ∙ e
+
       go : (p q s : Bool) → eqb (r .number) 0 ≡ p → ltb 0 (count (c .unsent) (r .word)) ≡ q → codeword c (sent c (r .word)) ≡ s → r .number ≡ 6
       go false q s f g h = spelled false q s f g h
       go true true s f g h = let z = spelled true true s f g h in absurd (omega arith)
@@ -76,8 +77,8 @@ module _ (n : ℕ) (word : List ℕ) (limit : ℕ) (out : List ℕ) where
   unfolding ranCorrect
   limit-enough =
       correct-cases n word limit out (λ r. r .first ≤ limit → r .number ≡ 6 → ⊥) (λ h e. omega arith) (λ h e. omega arith) (λ h e. omega arith) (λ t lw lo h e.
-        run-enough (byExcess (code n)) (broken (code n)) 1 (falls (code n) (published n t .some)) limit (lifted (code n) (bit word)) (omega arith)
-          (judged-limit (code n) (run (byExcess (code n)) limit (lifted (code n) (bit word))) e))
+      run-enough (byExcess (code n)) (broken (code n)) 1 (falls (code n) (published n t .some)) limit (lifted (code n) (bit word)) (omega arith)
+      (judged-limit (code n) (run (byExcess (code n)) limit (lifted (code n) (bit word))) e))
 
   -- a larger limit changes nothing once a run ended otherwise than by the limit
   pub limit-unchanged : (more : ℕ) → (correctAnswer n word limit out .number ≡ 6 → ⊥) → correctAnswer n word (limit + more) out ≡ correctAnswer n word limit out
@@ -88,6 +89,7 @@ module _ (n : ℕ) (word : List ℕ) (limit : ℕ) (out : List ℕ) where
       all a b d l =
           if not a then refusedCorrect 1 out else if not b then refusedCorrect 2 out else if not d then refusedCorrect 3 out
           else ranCorrect (code n) (lifted (code n) (bit word)) (run (byExcess (code n)) l (lifted (code n) (bit word))) out
+
       by : (a b d : Bool) → (all a b d limit .number ≡ 6 → ⊥) → all a b d (limit + more) ≡ all a b d limit
       by false b d h = refl
       by true false d h = refl
@@ -132,8 +134,8 @@ module _ (n : ℕ) (near : T (nearEarthed n)) (word : List ℕ) (limit : ℕ) (o
   unfolding ranCorrect
   half-enough =
       correct-cases n word limit out (λ r. r .first ≤ 2 * limit + 1 → r .number ≡ 6 → ⊥) (λ h e. omega arith) (λ h e. omega arith) (λ h e. omega arith) (λ t lw lo h e.
-        run-enough (byExcess (code n)) (broken (code n)) 2 (near-falls n near t) limit (lifted (code n) (bit word)) (omega arith)
-          (judged-limit (code n) (run (byExcess (code n)) limit (lifted (code n) (bit word))) e))
+      run-enough (byExcess (code n)) (broken (code n)) 2 (near-falls n near t) limit (lifted (code n) (bit word)) (omega arith)
+      (judged-limit (code n) (run (byExcess (code n)) limit (lifted (code n) (bit word))) e))
 
 -- ---- codewords, and codewords with one wrong bit
 
@@ -149,7 +151,7 @@ lifted-flip c y n = fun-ext (λ i. go i (decLt i (c .unsent)))
         let e : i - c .unsent + c .unsent ≡ i = omega (arith, lt-of-not-le g) in
         ap (lifted c (flipped y n)) (sym e) ∙ lifted-sent-bit c (flipped y n) (i - c .unsent)
         ∙ ap₂ (λ a b. a ⊕ b) (sym (lifted-sent-bit c y (i - c .unsent)) ∙ ap (lifted c y) e)
-            (eqb-iff (i - c .unsent) n i (n + c .unsent) (λ q. omega (arith, lt-of-not-le g)) (λ q. omega arith))
+        (eqb-iff (i - c .unsent) n i (n + c .unsent) (λ q. omega (arith, lt-of-not-le g)) (λ q. omega arith))
 
 -- the octets of a word with bit b turned over
 abbrev pub oneWrong : Code → List ℕ → ℕ → List ℕ
@@ -176,13 +178,13 @@ module _ (n : ℕ) (off : T (offered n)) (word out : List ℕ) (lw : length word
   done r e w x =
       let c : Code = code n in
       let zero-is : judged (code n) r ≡ 0 =
-          judged-done (code n) r e (λ k h. ap (λ z. z k) w ∙ lifted-unsent (code n) (bit word) k h)
-            (ap (λ z. codeword (code n) (sent (code n) z)) w
-            ∙ own-codeword (code n) (published n off) (lifted (code n) (bit word)) (codeword-own (code n) (published n off) (bit word) is) (λ k h. lifted-unsent (code n) (bit word) k h)) in
+      judged-done (code n) r e (λ k h. ap (λ z. z k) w ∙ lifted-unsent (code n) (bit word) k h)
+      (ap (λ z. codeword (code n) (sent (code n) z)) w
+      ∙ own-codeword (code n) (published n off) (lifted (code n) (bit word)) (codeword-own (code n) (published n off) (bit word) is) (λ k h. lifted-unsent (code n) (bit word) k h)) in
       ap₂ (λ a b. record { number = a; flips = length (r .flips); first = broken (code n) x; last = b; out = if eqb a 0 then written (code n) (r .word) else out })
-        zero-is (ap (broken (code n)) w ∙ met)
+      zero-is (ap (broken (code n)) w ∙ met)
       ∙ ap (λ z. record { number = 0; flips = length (r .flips); first = broken (code n) x; last = 0; out = z })
-          (ap (written (code n)) w ∙ written-back (code n) (published n off) word lw oct (lifted (code n) (bit word)) (codeword-sent (code n) (published n off) (bit word) is))
+      (ap (written (code n)) w ∙ written-back (code n) (published n off) word lw oct (lifted (code n) (bit word)) (codeword-sent (code n) (published n off) (bit word) is))
 
   -- a codeword comes back with no flips
   pub codeword-back : (limit : ℕ) → correctAnswer n word limit out ≡ record { number = 0; flips = 0; first = 0; last = 0; out = word }
@@ -203,7 +205,7 @@ module _ (n : ℕ) (off : T (offered n)) (word out : List ℕ) (lw : length word
       let x : Word = lifted (code n) (bit word) in
       let k-lt : b + code n .unsent < bits (code n) = omega arith in
       let same : lifted (code n) (bit (oneWrong (code n) word b)) ≡ flipped (lifted (code n) (bit word)) (b + code n .unsent) =
-          ap (lifted (code n)) (bit-one-wrong (code n) word b lw (lt-of-lt-of-le h (pb .fits))) ∙ lifted-flip (code n) (bit word) b in
+      ap (lifted (code n)) (bit-one-wrong (code n) word b lw (lt-of-lt-of-le h (pb .fits))) ∙ lifted-flip (code n) (bit word) b in
       correct-taken n (oneWrong (code n) word b) (suc limit) out off (length-octets (code n .wordOctets) (flipped (bit word) b)) lo
       ∙ ap (λ y. ranCorrect (code n) y (run (byExcess (code n)) (suc limit) y) out) same
       ∙ ap (λ r. ranCorrect (code n) (flipped (lifted (code n) (bit word)) (b + code n .unsent)) r out) (one-mended (code n) (pb .girth) (lifted (code n) (bit word)) met (b + code n .unsent) k-lt limit)

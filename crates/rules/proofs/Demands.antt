@@ -36,10 +36,10 @@ encoded-meets n t x = published n t .own-quiet (encoded (code n) x) (encoded-own
 pub encoded-word-meets : (n : ℕ) (info out : List ℕ) → encodeAnswer n info out .number ≡ 0 → checkAnswer n (encodeAnswer n info out .out) ≡ record { number = 0; broken = 0 }
 encoded-word-meets n info out =
     encode-cases n info out (λ r. r .number ≡ 0 → checkAnswer n (r .out) ≡ record { number = 0; broken = 0 }) (λ k e. absurd (omega arith)) (λ t li lo six e.
-      let c : Code = code n in
-      let word : List ℕ = written (code n) (encoded (code n) (lifted (code n) (bit info))) in
-      check-taken n word t (length-octets (code n .wordOctets) (sent (code n) (encoded (code n) (lifted (code n) (bit info)))))
-      ∙ ap (λ z. record { number = 0; broken = z }) (codeword-quiet (code n) (published n t) (bit word) (encoded-codeword (code n) (published n t) (bit info))))
+    let c : Code = code n in
+    let word : List ℕ = written (code n) (encoded (code n) (lifted (code n) (bit info))) in
+    check-taken n word t (length-octets (code n .wordOctets) (sent (code n) (encoded (code n) (lifted (code n) (bit info)))))
+    ∙ ap (λ z. record { number = 0; broken = z }) (codeword-quiet (code n) (published n t) (bit word) (encoded-codeword (code n) (published n t) (bit info))))
 
 -- ---- demand 2: the telecommand codes
 
@@ -108,7 +108,7 @@ met-codeword n t word lw e =
     let c : Code = code n in
     let w : Whole (code n) = whole n (telecommand-whole n t) in
     let same : sent (code n) (lifted (code n) (bit word)) ≡ bit word =
-        ap (sent (code n)) (lifted-whole (code n) w (bit word)) ∙ sent-whole (code n) w (bit word) (past-word (code n) w word lw) in
+    ap (sent (code n)) (lifted-whole (code n) w (bit word)) ∙ sent-whole (code n) w (bit word) (past-word (code n) w word lw) in
     ap (codeword (code n)) (sym same)
     ∙ own-codeword (code n) (published n (telecommand-offered n t)) (lifted (code n) (bit word)) (met-own-telecommand n t (lifted (code n) (bit word)) e) (λ k h. lifted-unsent (code n) (bit word) k h)
 
@@ -118,10 +118,10 @@ met-is-encoding n t word out oct lw lo e =
     let off : T (offered n) = telecommand-offered n t in
     let pb : Published (code n) = published n off in
     let front : length (take (code n .informationOctets) word) ≡ code n .informationOctets =
-        omega (arith, length-take (code n .informationOctets) word, lw, pb .held) in
+    omega (arith, length-take (code n .informationOctets) word, lw, pb .held) in
     encode-taken n (take (code n .informationOctets) word) out off front lo (not-six n t (take (code n .informationOctets) word))
     ∙ ap (λ z. record { number = 0; out = z }) (codeword-encoded (code n) pb word lw oct
-        (met-codeword n t word lw (sym (ap (λ r. r .broken) (check-taken n word off lw)) ∙ e)))
+    (met-codeword n t word lw (sym (ap (λ r. r .broken) (check-taken n word off lw)) ∙ e)))
 
 -- ---- demand 2: code 4, where whole parity blocks may be inverted
 

@@ -39,7 +39,7 @@ module _ (n : ℕ) (t : T (stepped n)) (word : List ℕ) (lw : length word ≡ c
   flip-bits k h =
       ap (λ x. bit (written (code n) (flipped x k))) as-bits ∙ bit-written (code n) pb (flipped (bit word) k)
       ∙ sent-whole (code n) (whole n t) (flipped (bit word) k) (λ i l.
-          ap₂ (λ a b. a ⊕ b) (past-word (code n) (whole n t) word lw i l) (ne-eqb i k (λ e. omega (arith, whole n t .full))))
+      ap₂ (λ a b. a ⊕ b) (past-word (code n) (whole n t) word lw i l) (ne-eqb i k (λ e. omega (arith, whole n t .full))))
 
   bit-lt : (k : ℕ) (ex : ℤ) → byExcess (code n) (lifted (code n) (bit word)) ≡ flip k ex → k < bits (code n)
   bit-lt k ex e = subst (λ z. z < bits (code n)) (sym (next-flip (code n) (lifted (code n) (bit word)) k ex e .bit)) (chosen-lt (code n) (pb .some) (lifted (code n) (bit word)))
@@ -50,10 +50,11 @@ pub step-one : (n : ℕ) (word out : List ℕ) → stepAnswer n word out .number
 unfolding nextStep
 step-one n word out =
     step-cases n word out (λ r. r .number ≡ 0 → r .quiet ≡ false → (r .bit < 8 * length word) × (bit (r .out) ≡ flipped (bit word) (r .bit)))
-      (λ e q. absurd (omega arith)) (λ e q. absurd (omega arith)) (λ e q. absurd (omega arith)) (λ t lw lo. go t lw (byExcess (code n) (lifted (code n) (bit word))) refl)
+    (λ e q. absurd (omega arith)) (λ e q. absurd (omega arith)) (λ e q. absurd (omega arith)) (λ t lw lo. go t lw (byExcess (code n) (lifted (code n) (bit word))) refl)
   where
     x : Word
     x = lifted (code n) (bit word)
+
     go : T (stepped n) → length word ≡ code n .wordOctets → (nx : Next) → byExcess (code n) (lifted (code n) (bit word)) ≡ nx
         → nextStep (code n) word (lifted (code n) (bit word)) out nx .number ≡ 0 → nextStep (code n) word (lifted (code n) (bit word)) out nx .quiet ≡ false
         → (nextStep (code n) word (lifted (code n) (bit word)) out nx .bit < 8 * length word)
@@ -74,15 +75,16 @@ run-steps : (n : ℕ) → T (stepped n) → (limit : ℕ) (x : Word) → (word :
 unfolding steps nextStep
 run-steps n t =
     every-run (byExcess (code n)) (λ limit x r. (word : List ℕ) → length word ≡ code n .wordOctets → Octets word → lifted (code n) (bit word) ≡ x → r .number ≡ 0 → steps n (length (r .flips)) word ≡ written (code n) (r .word))
-      (λ limit x e word lw oct same z. sym (back word lw oct x same))
-      (λ limit x e word lw oct same z. absurd (omega arith))
-      (λ x k ex e word lw oct same z. absurd (omega arith))
-      (λ limit x k ex e r ih word lw oct same z. later k ex x e r ih word lw oct same z)
+    (λ limit x e word lw oct same z. sym (back word lw oct x same))
+    (λ limit x e word lw oct same z. absurd (omega arith))
+    (λ x k ex e word lw oct same z. absurd (omega arith))
+    (λ limit x k ex e r ih word lw oct same z. later k ex x e r ih word lw oct same z)
   where
     back : (word : List ℕ) → length word ≡ code n .wordOctets → Octets word → (x : Word) → lifted (code n) (bit word) ≡ x → written (code n) x ≡ word
     back word lw oct x same =
         written-back (code n) (pb n t word lw) word lw oct x (λ i l. ap (λ z. z i)
-          (ap (sent (code n)) (sym same ∙ as-bits n t word lw) ∙ sent-whole (code n) (whole n t) (bit word) (past-word (code n) (whole n t) word lw)))
+        (ap (sent (code n)) (sym same ∙ as-bits n t word lw) ∙ sent-whole (code n) (whole n t) (bit word) (past-word (code n) (whole n t) word lw)))
+
     later : (k : ℕ) (ex : ℤ) (x : Word) → byExcess (code n) x ≡ flip k ex → (r : Run)
         → ((word : List ℕ) → length word ≡ code n .wordOctets → Octets word → lifted (code n) (bit word) ≡ flipped x k → r .number ≡ 0 → steps n (length (r .flips)) word ≡ written (code n) (r .word))
         → (word : List ℕ) → length word ≡ code n .wordOctets → Octets word → lifted (code n) (bit word) ≡ x → r .number ≡ 0
@@ -91,13 +93,13 @@ run-steps n t =
         let next : byExcess (code n) (lifted (code n) (bit word)) ≡ flip k ex = ap (byExcess (code n)) same ∙ e in
         let w : List ℕ = written (code n) (flipped (lifted (code n) (bit word)) k) in
         let gives : stepAnswer n word word .out ≡ written (code n) (flipped (lifted (code n) (bit word)) k) =
-            ap (λ a. a .out) (step-taken n word word t lw lw) ∙ ap (λ nx. nextStep (code n) word (lifted (code n) (bit word)) word nx .out) next in
+        ap (λ a. a .out) (step-taken n word word t lw lw) ∙ ap (λ nx. nextStep (code n) word (lifted (code n) (bit word)) word nx .out) next in
         ap (steps n (length (r .flips))) gives
         ∙ ih (written (code n) (flipped (lifted (code n) (bit word)) k)) (length-octets (code n .wordOctets) (sent (code n) (flipped (lifted (code n) (bit word)) k)))
-            (octets-lt (code n .wordOctets) (sent (code n) (flipped (lifted (code n) (bit word)) k)))
-            (as-bits n t (written (code n) (flipped (lifted (code n) (bit word)) k)) (length-octets (code n .wordOctets) (sent (code n) (flipped (lifted (code n) (bit word)) k)))
-            ∙ flip-bits n t word lw k (bit-lt n t word lw k ex next) ∙ ap (λ y. flipped y k) (sym (as-bits n t word lw) ∙ same))
-            z
+        (octets-lt (code n .wordOctets) (sent (code n) (flipped (lifted (code n) (bit word)) k)))
+        (as-bits n t (written (code n) (flipped (lifted (code n) (bit word)) k)) (length-octets (code n .wordOctets) (sent (code n) (flipped (lifted (code n) (bit word)) k)))
+        ∙ flip-bits n t word lw k (bit-lt n t word lw k ex next) ∙ ap (λ y. flipped y k) (sym (as-bits n t word lw) ∙ same))
+        z
 
 -- where correct answers 0 for codes 1 to 4, as many steps as flips give correct's word
 pub steps-correct : (n : ℕ) → T (stepped n) → (word : List ℕ) → Octets word → (limit : ℕ) (out : List ℕ) → correctAnswer n word limit out .number ≡ 0
@@ -105,12 +107,13 @@ pub steps-correct : (n : ℕ) → T (stepped n) → (word : List ℕ) → Octets
 unfolding ranCorrect
 steps-correct n t word oct limit out =
     correct-cases n word limit out (λ r. r .number ≡ 0 → steps n (r .flips) word ≡ r .out)
-      (λ e. absurd (omega arith)) (λ e. absurd (omega arith)) (λ e. absurd (omega arith)) (λ off lw lo e.
-        run-steps n t limit (lifted (code n) (bit word)) word lw oct refl (quiet-end e)
-        ∙ sym (ap (λ z. if eqb z 0 then written (code n) (run (byExcess (code n)) limit (lifted (code n) (bit word)) .word) else out) e))
+    (λ e. absurd (omega arith)) (λ e. absurd (omega arith)) (λ e. absurd (omega arith)) (λ off lw lo e.
+    run-steps n t limit (lifted (code n) (bit word)) word lw oct refl (quiet-end e)
+    ∙ sym (ap (λ z. if eqb z 0 then written (code n) (run (byExcess (code n)) limit (lifted (code n) (bit word)) .word) else out) e))
   where
     r : Run
     r = run (byExcess (code n)) limit (lifted (code n) (bit word))
+
     quiet-end : judged (code n) (run (byExcess (code n)) limit (lifted (code n) (bit word))) ≡ 0 → run (byExcess (code n)) limit (lifted (code n) (bit word)) .number ≡ 0
     quiet-end e = go (eqb (run (byExcess (code n)) limit (lifted (code n) (bit word)) .number) 0) refl
       where
@@ -118,5 +121,5 @@ steps-correct n t word oct limit out =
         go true f = eqb-true (run (byExcess (code n)) limit (lifted (code n) (bit word)) .number) 0 f
         go false f =
             sym (ap (λ b. if not b then run (byExcess (code n)) limit (lifted (code n) (bit word)) .number
-              else if ltb 0 (count (code n .unsent) (run (byExcess (code n)) limit (lifted (code n) (bit word)) .word)) then 7
-              else if not (codeword (code n) (sent (code n) (run (byExcess (code n)) limit (lifted (code n) (bit word)) .word))) then 8 else 0) f) ∙ e
+            else if ltb 0 (count (code n .unsent) (run (byExcess (code n)) limit (lifted (code n) (bit word)) .word)) then 7
+            else if not (codeword (code n) (sent (code n) (run (byExcess (code n)) limit (lifted (code n) (bit word)) .word))) then 8 else 0) f) ∙ e
