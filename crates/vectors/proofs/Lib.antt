@@ -1,0 +1,5 @@
+pub mod Places
+pub mod Cells
+pub mod Spans
+pub mod Octets
+pub mod Counts
