@@ -1,15 +1,18 @@
 -- Counts of the bits that are set. Assumes nothing.
 use mathlib.Core.Path.{_≡_, refl, sym, ap, ap₂, _∙_, subst}
 use mathlib.Core.Bool.{Bool, true, false}
+use mathlib.Core.List.{List}
 use Prim.Native.Nat.{ℕ, zero, suc, _+_, _-_, _*_, _/_, _%_, _^_, _≤_, _<_}
 use native.Mathlib.Nat.{pow-suc, div-one, mod-lt, zero-lt-suc, add-zero, add-suc, add-assoc}
 use native.Mathlib.Omega.{arith}
 use lib.Dec.{eqb, lit≤}
 use lib.Arith.{lt-one}
 use lib.Count.{ones, ones-step}
+use lib.ListN.{getD}
 use Rattle.rules.specs.Bits.{Word, digit, tally, count}
-use Rattle.vectors.specs.Vectors.{from}
+use Rattle.vectors.specs.Vectors.{wbit, from}
 use Rattle.vectors.proofs.Places.{place, place-down, tally-of}
+use Rattle.vectors.proofs.Filling.{word-holds}
 
 pub count-same : (n : ℕ) (x y : Word) → ((i : ℕ) → i < n → x i ≡ y i) → count n x ≡ count n y
 unfolding count
@@ -51,3 +54,17 @@ ones-count (suc w) v h =
     end =
         let d : suc w - suc w ≡ 0 = omega arith in
         ap (λ (k : ℕ). tally (place v k)) d ∙ ap (λ (k : ℕ). tally (eqb (k % 2) 1)) (div-one v)
+
+-- one word more
+pub count-word : (ws : List ℕ) (k : ℕ) → getD ws k 0 < 2 ^ 64 → count (64 * (k + 1)) (wbit ws) ≡ count (64 * k) (wbit ws) + ones (getD ws k 0)
+count-word ws k h =
+    let e : 64 * (k + 1) ≡ 64 * k + 64 = omega arith in
+    let v = getD ws k 0 in
+    ap (λ (n : ℕ). count n (wbit ws)) e
+    ∙ count-add (64 * k) 64 (wbit ws)
+    ∙ ap (λ (n : ℕ). count (64 * k) (wbit ws) + n)
+    (sym (ones-count 64 v h ∙ count-same 64 (digit 64 v) (from (64 * k) (wbit ws)) (word-holds ws k)))
+
+pub count-none : (x : Word) → 0 ≡ count 0 x
+unfolding count
+count-none x = refl

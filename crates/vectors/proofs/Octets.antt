@@ -12,9 +12,9 @@ use lib.Pow.{pow-add, pow-mono}
 use lib.ListN.{getD, length}
 use borrow.Author.Tests.{lt-ltb, le-ltb}
 use Rattle.rules.specs.Bits.{Word, digit, bit, tally, number, octets}
-use Rattle.vectors.specs.Vectors.{Holds, upTo, from}
-use Rattle.vectors.proofs.Places.{le-or-lt, place, place-front, place-behind, place-zero, place-cut, place-up, place-below}
-use Rattle.vectors.proofs.Cells.{cell, cell-at, cell-past, same-cells}
+use Rattle.vectors.specs.Vectors.{Holds, upTo, from, joined}
+use Rattle.vectors.proofs.Places.{le-or-lt, place, place-front, place-behind, place-zero, place-cut, place-up, place-down, place-below}
+use Rattle.vectors.proofs.Cells.{cell-at, cell-past, same-cells, joined-below, joined-above}
 use Rattle.vectors.proofs.Spans.{upTo-below, upTo-above}
 
 -- ---- the number written with the first bits of a word
@@ -180,3 +180,36 @@ short-group o at n v e hn g i hi =
 
 pub no-group : (o : List ℕ) (at : ℕ) → length o ≤ at → Holds 0 (from (8 * at) (bit o))
 no-group o at h i hi = place-zero (64 - suc i) ∙ sym (cell-past 8 (lit< tt) o (8 * at + i) (omega arith))
+
+-- ---- octets of a number put into a list
+
+pub put-octet : (v j i : ℕ) → j < 8 → i < 8 → digit 8 (v / 2 ^ (56 - 8 * j) % 256) i ≡ digit 64 v (8 * j + i)
+put-octet v j i hj hi =
+    let e : 56 - 8 * j + (8 - suc i) ≡ 64 - suc (8 * j + i) = omega arith in
+    place-cut (v / 2 ^ (56 - 8 * j)) 8 (8 - suc i) (omega arith) ∙ place-down v (56 - 8 * j) (8 - suc i) ∙ ap (place v) e
+
+-- The bits of v from bit a on, and those of z before.
+abbrev pub after : ℕ → Word → ℕ → Word
+after a z v = joined a z (λ k. digit 64 v (k - a))
+
+pub put-more : (z x y : Word) (a n v : ℕ) → z ≡ joined a x y → n ≤ 64 → Holds v (from a x) → joined (a + n) (after a z v) z ≡ joined (a + n) x y
+put-more z x y a n v e hn hv = fun-ext (λ k. ⊎-elim (behind k) (before k) (le-or-lt (a + n) k))
+  where
+    now : (k : ℕ) → z k ≡ joined a x y k
+    now k = ap (λ (w : Word). w k) e
+
+    behind : (k : ℕ) → a + n ≤ k → joined (a + n) (after a z v) z k ≡ joined (a + n) x y k
+    behind k h =
+        joined-above (a + n) k (after a z v) z h ∙ now k ∙ joined-above a k x y (omega arith) ∙ sym (joined-above (a + n) k x y h)
+
+    inside : (k : ℕ) → k < a + n → after a z v k ≡ x k
+    inside k h =
+        ⊎-elim
+        (λ (l : a ≤ k).
+        let d : a + (k - a) ≡ k = omega arith in
+        joined-above a k z (λ i. digit 64 v (i - a)) l ∙ hv (k - a) (omega arith) ∙ ap x d)
+        (λ (l : k < a). joined-below a k z (λ i. digit 64 v (i - a)) l ∙ now k ∙ joined-below a k x y l)
+        (le-or-lt a k)
+
+    before : (k : ℕ) → k < a + n → joined (a + n) (after a z v) z k ≡ joined (a + n) x y k
+    before k h = joined-below (a + n) k (after a z v) z h ∙ inside k h ∙ sym (joined-below (a + n) k x y h)

@@ -27,6 +27,10 @@ eq-or-not a b = go (ℕ-discrete a b)
     go (yes h) = inl h
     go (no n) = inr n
 
+pub same-test : (a b c d : ℕ) → (a ≡ b → c ≡ d) → (c ≡ d → a ≡ b) → eqb a b ≡ eqb c d
+same-test a b c d to back =
+    ⊎-elim (λ e. eq-eqb a b e ∙ sym (eq-eqb c d (to e))) (λ n. ne-eqb a b n ∙ sym (ne-eqb c d (λ e. n (back e)))) (eq-or-not a b)
+
 -- The digit of a number that counts 2 ^ j.
 abbrev pub place : ℕ → ℕ → Bool
 place v j = eqb (v / 2 ^ j % 2) 1

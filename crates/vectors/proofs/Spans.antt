@@ -4,39 +4,18 @@ use mathlib.Core.Bool.{Bool, true, false, not, _&&_, _||_}
 use mathlib.Core.Logic.{⊎-elim}
 use mathlib.Core.List.{List, [], _∷_}
 use Prim.Native.Nat.{ℕ, zero, suc, _+_, _-_, _*_, _/_, _%_, _^_, _≤_, _<_}
-use native.Mathlib.Nat.{mod-lt}
+use native.Mathlib.Nat.{mod-lt, one-mul}
 use native.Mathlib.Omega.{arith}
-use lib.Dec.{ltb, eqb, lit<}
+use lib.Dec.{leb, ltb, eqb, lit<}
 use lib.Pow.{pow-pos}
 use lib.Bits.{bitXor, bitOr}
 use lib.ListN.{getD, length, set}
-use borrow.Author.Tests.{lt-ltb, le-ltb}
-use Rattle.rules.specs.Bits.{Word, digit, _⊕_}
-use Rattle.vectors.specs.Vectors.{wbit, Holds, upTo, from, later, joined}
-use Rattle.vectors.proofs.Places.{le-or-lt, place, place-or, place-xor, place-up, place-down, place-below, place-above, place-cut}
-use Rattle.vectors.proofs.Cells.{cell-at, cell-past, unread, stored, joined-below}
-
--- ---- words of a list
-
-pub word-at : (ws : List ℕ) (n q i : ℕ) → i < 64 → n ≡ 64 * q + i → wbit ws n ≡ digit 64 (getD ws q 0) i
-unfolding wbit
-word-at ws n q i hi e = ap (wbit ws) e ∙ cell-at 64 (lit< tt) ws q i hi
-
-pub word-holds : (ws : List ℕ) (q : ℕ) → Holds (getD ws q 0) (from (64 * q) (wbit ws))
-word-holds ws q i hi = sym (word-at ws (64 * q + i) q i hi refl)
-
-pub word-past : (ws : List ℕ) (n : ℕ) → 64 * length ws ≤ n → wbit ws n ≡ false
-unfolding wbit
-word-past ws n h = cell-past 64 (lit< tt) ws n h
-
-pub word-unread : (ws : List ℕ) (k : ℕ) (x y : Word) → wbit ws ≡ joined (64 * k) x y → Holds (getD ws k 0) (from (64 * k) y)
-unfolding wbit
-word-unread ws k x y e = unread 64 (lit< tt) ws k x y e
-
-pub word-stored : (ws : List ℕ) (k : ℕ) (x y : Word) → wbit ws ≡ joined (64 * k) x y → (v : ℕ) → k < length ws → Holds v (from (64 * k) x)
-    → wbit (set ws k v) ≡ joined (64 * (k + 1)) x y
-unfolding wbit
-word-stored ws k x y e v hk hv = stored 64 (lit< tt) ws k x y e v hk hv
+use borrow.Author.Tests.{lt-ltb, le-ltb, le-leb, lt-leb, ne-eqb}
+use Rattle.rules.specs.Bits.{Word, digit, flipped, _⊕_}
+use Rattle.vectors.specs.Vectors.{wbit, Holds, upTo, from, later, joined, twice, added}
+use Rattle.vectors.proofs.Places.{le-or-lt, place, place-or, place-xor, place-up, place-down, place-below, place-above, place-cut, place-power, place-zero, same-test}
+use Rattle.vectors.proofs.Cells.{joined-below, joined-above, joined-start, joined-end}
+use Rattle.vectors.proofs.Filling.{word-at, word-holds, word-past, word-stored}
 
 -- ---- tests of bits
 
@@ -158,3 +137,151 @@ upTo-joined m k x y l =
     (λ (h : m ≤ n). upTo-above m n (joined k x y) h ∙ sym (upTo-above m n x h))
     (λ (h : n < m). upTo-below m n (joined k x y) h ∙ joined-below k n x y (omega arith) ∙ sym (upTo-below m n x h))
     (le-or-lt m n))
+
+-- ---- the m bits of a vector twice over, word k
+
+module _ (v : List ℕ) (m k : ℕ) (short : wbit v ≡ upTo m (wbit v)) where
+  abbrev x : Word
+  x = wbit v
+
+  none-from : (n : ℕ) → m ≤ n → x n ≡ false
+  none-from n h = ap (λ (y : Word). y n) short ∙ upTo-above m n x h
+
+  -- before the place where they begin again
+  pub twice-before : (u : ℕ) → u ≡ getD v k 0 → 64 * k + 64 ≤ m → Holds u (from (64 * k) (twice m x))
+  twice-before u e h i hi =
+      ap (λ (z : ℕ). digit 64 z i) e ∙ word-holds v k i hi ∙ sym (joined-below m (64 * k + i) x (λ n. x (n - m)) (omega arith))
+
+  -- behind it
+  pub twice-behind : (u a b q t : ℕ) → a ≡ getD v q 0 → b ≡ getD v (q + 1) 0 → t < 64 → 64 * k ≡ m + (64 * q + t)
+      → Holds u (from t (wbit (a ∷ b ∷ []))) → Holds u (from (64 * k) (twice m x))
+  twice-behind u a b q t ea eb ht e hu i hi =
+      let d : 64 * q + t + i ≡ 64 * k + i - m = omega arith in
+      hu i hi
+      ∙ ap₂ (λ (y z : ℕ). wbit (y ∷ z ∷ []) (t + i)) ea eb
+      ∙ neighbours v q t i ht hi
+      ∙ ap x d
+      ∙ sym (joined-above m (64 * k + i) x (λ n. x (n - m)) (omega arith))
+
+  -- at it: s bits in front, and the first ones after them
+  pub twice-at : (a b s : ℕ) → a ≡ getD v k 0 → b ≡ getD v 0 0 → b < 2 ^ 64 → s < 64 → m ≡ 64 * k + s → Holds (bitOr a (b / 2 ^ s)) (from (64 * k) (twice m x))
+  twice-at a b s ea eb hb hs e i hi =
+      place-or a (b / 2 ^ s) (64 - suc i)
+      ∙ ap₂ _||_ (ap (λ (z : ℕ). digit 64 z i) ea ∙ word-holds v k i hi) (place-down b s (64 - suc i))
+      ∙ ⊎-elim again still (le-or-lt s i)
+    where
+      still : i < s → (x (64 * k + i) || place b (s + (64 - suc i))) ≡ twice m x (64 * k + i)
+      still h =
+          ap (λ (p : Bool). x (64 * k + i) || p) (place-above b 64 (s + (64 - suc i)) hb (omega arith))
+          ∙ or-none (x (64 * k + i))
+          ∙ sym (joined-below m (64 * k + i) x (λ n. x (n - m)) (omega arith))
+
+      again : s ≤ i → (x (64 * k + i) || place b (s + (64 - suc i))) ≡ twice m x (64 * k + i)
+      again h =
+          let j = i - s in
+          let hj : j < 64 = omega arith in
+          let d : s + (64 - suc i) ≡ 64 - suc j = omega arith in
+          let n : 64 * 0 + j ≡ 64 * k + i - m = omega arith in
+          ap₂ _||_ (none-from (64 * k + i) (omega arith)) (ap (place b) d ∙ ap (λ (z : ℕ). digit 64 z j) eb ∙ word-holds v 0 j hj ∙ ap x n)
+          ∙ sym (joined-above m (64 * k + i) x (λ n. x (n - m)) (omega arith))
+
+  pub twice-past : (n : ℕ) → 2 * m ≤ n → twice m x n ≡ false
+  twice-past n h = joined-above m n x (λ i. x (i - m)) (omega arith) ∙ none-from (n - m) (omega arith)
+
+-- ---- bits added
+
+module _ (x y : Word) (a e n : ℕ) where
+  pub added-before : n < a → added x a e y n ≡ x n
+  added-before h = ap (λ (b : Bool). x n ⊕ ((b && ltb n e) && y (n - a))) (lt-leb a n h) ∙ xor-none (x n)
+
+  pub added-after : a ≤ n → e ≤ n → added x a e y n ≡ x n
+  added-after h l = ap₂ (λ (b c : Bool). x n ⊕ ((b && c) && y (n - a))) (le-leb a n h) (le-ltb n e l) ∙ xor-none (x n)
+
+  pub added-inside : a ≤ n → n < e → added x a e y n ≡ x n ⊕ y (n - a)
+  added-inside h l = ap₂ (λ (b c : Bool). x n ⊕ ((b && c) && y (n - a))) (le-leb a n h) (lt-ltb n e l)
+
+pub xor-holds : (u v : ℕ) (x y : Word) → Holds u x → Holds v y → Holds (bitXor u v) (λ i. x i ⊕ y i)
+xor-holds u v x y hu hv i hi = place-xor u v (64 - suc i) ∙ ap₂ _⊕_ (hu i hi) (hv i hi)
+
+-- word at + j, to which a word of y is added
+pub added-word : (u v : ℕ) (x y : Word) (at w j : ℕ) → j < w → Holds u (from (64 * (at + j)) x) → Holds v (from (64 * j) y)
+    → Holds (bitXor u v) (from (64 * (at + j)) (added x (64 * at) (64 * (at + w)) y))
+added-word u v x y at w j hj hu hv i hi =
+    let e : 64 * j + i ≡ 64 * (at + j) + i - 64 * at = omega arith in
+    xor-holds u v (from (64 * (at + j)) x) (from (64 * j) y) hu hv i hi
+    ∙ ap (λ (n : ℕ). x (64 * (at + j) + i) ⊕ y n) e
+    ∙ sym (added-inside x y (64 * at) (64 * (at + w)) (64 * (at + j) + i) (omega arith) (omega arith))
+
+-- ---- one bit turned over
+
+module _ (ws : List ℕ) (n : ℕ) (inside : n < 64 * length ws) where
+  abbrev y : Word
+  y = wbit ws
+
+  other : (k : ℕ) → (k ≡ n → ⊥) → y k ≡ flipped y n k
+  other k d = sym (ap (λ (b : Bool). y k ⊕ b) (ne-eqb k n d) ∙ xor-none (y k))
+
+  power : (i : ℕ) → i < 64 → digit 64 ((1 * 2 ^ (63 - n % 64)) % 2 ^ 64) i ≡ eqb (64 * (n / 64) + i) n
+  power i hi =
+      place-cut (1 * 2 ^ (63 - n % 64)) 64 (64 - suc i) (omega arith)
+      ∙ ap (λ (v : ℕ). place v (64 - suc i)) (one-mul (2 ^ (63 - n % 64)))
+      ∙ place-power (63 - n % 64) (64 - suc i)
+      ∙ same-test (63 - n % 64) (64 - suc i) (64 * (n / 64) + i) n (λ e. omega arith) (λ e. omega arith)
+
+  pub turned-over : wbit (set ws (n / 64) (bitXor (getD ws (n / 64) 0) ((1 * 2 ^ (63 - n % 64)) % 2 ^ 64))) ≡ flipped y n
+  turned-over =
+      let q = n / 64 in
+      let one = (1 * 2 ^ (63 - n % 64)) % 2 ^ 64 in
+      word-stored ws q (flipped y n) y (joined-start (64 * q) (flipped y n) y (λ k h. other k (λ e. omega arith))) (bitXor (getD ws q 0) one)
+      (omega arith)
+      (xor-holds (getD ws q 0) one (from (64 * q) y) (λ i. eqb (64 * q + i) n) (word-holds ws q) power)
+      ∙ joined-end (64 * (q + 1)) (flipped y n) y (λ k h. other k (λ e. omega arith))
+
+-- ---- all bits u places later
+
+-- the words before and at a place give the word at it
+pub later-holds : (a b k u r : ℕ) (x : Word) → 0 < u → u < 64 → Holds a (from (64 * k) (later 64 x)) → Holds b (from (64 * k) x)
+    → Holds r (from (64 - u) (wbit (a ∷ b ∷ []))) → Holds r (from (64 * k) (later u x))
+later-holds a b k u r x pos hu ha hb hr i hi = hr i hi ∙ ⊎-elim second first (le-or-lt u i)
+  where
+    two : List ℕ
+    two = a ∷ b ∷ []
+
+    first : i < u → wbit two (64 - u + i) ≡ later u x (64 * k + i)
+    first h =
+        word-at two (64 - u + i) 0 (64 - u + i) (omega arith) (omega arith)
+        ∙ ha (64 - u + i) (omega arith)
+        ∙ ⊎-elim
+        (λ (l : 1 ≤ k).
+        let e : 64 * k + (64 - u + i) - 64 ≡ 64 * k + i - u = omega arith in
+        later-back 64 (64 * k + (64 - u + i)) x (omega arith) ∙ ap x e ∙ sym (later-back u (64 * k + i) x (omega arith)))
+        (λ (l : k < 1). later-front 64 (64 * k + (64 - u + i)) x (omega arith) ∙ sym (later-front u (64 * k + i) x (omega arith)))
+        (le-or-lt 1 k)
+
+    second : u ≤ i → wbit two (64 - u + i) ≡ later u x (64 * k + i)
+    second h =
+        let e : 64 * k + (i - u) ≡ 64 * k + i - u = omega arith in
+        word-at two (64 - u + i) 1 (i - u) (omega arith) (omega arith)
+        ∙ hb (i - u) (omega arith)
+        ∙ ap x e
+        ∙ sym (later-back u (64 * k + i) x (omega arith))
+
+-- a word is the one before the next
+pub later-next : (v k : ℕ) (x : Word) → Holds v (from (64 * k) x) → Holds v (from (64 * (k + 1)) (later 64 x))
+later-next v k x h i hi =
+    let e : 64 * k + i ≡ 64 * (k + 1) + i - 64 = omega arith in
+    h i hi ∙ ap x e ∙ sym (later-back 64 (64 * (k + 1) + i) x (omega arith))
+
+pub later-first : (x : Word) → Holds 0 (from (64 * 0) (later 64 x))
+later-first x i hi = place-zero (64 - suc i) ∙ sym (later-front 64 (64 * 0 + i) x (omega arith))
+
+pub later-past : (ws : List ℕ) (u : ℕ) → ((n : ℕ) → 64 * length ws ≤ n + u → wbit ws n ≡ false) → (n : ℕ) → 64 * length ws ≤ n → later u (wbit ws) n ≡ false
+later-past ws u none n h =
+    ⊎-elim (λ (l : u ≤ n). later-back u n (wbit ws) l ∙ none (n - u) (omega arith)) (λ (l : n < u). later-front u n (wbit ws) l) (le-or-lt u n)
+
+pub later-none : (u : ℕ) (x : Word) → u ≡ 0 → x ≡ later u x
+later-none u x e =
+    fun-ext
+    (λ n.
+    let d : n ≡ n - u = omega arith in
+    ap x d ∙ sym (later-back u n x (omega arith)))

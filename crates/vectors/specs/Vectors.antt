@@ -3,9 +3,9 @@ use mathlib.Core.Path.{_≡_}
 use mathlib.Core.Bool.{not, _&&_}
 use mathlib.Core.List.{List}
 use Prim.Native.Nat.{ℕ, _+_, _-_, _/_, _%_, _<_}
-use lib.Dec.{ltb}
+use lib.Dec.{leb, ltb}
 use lib.ListN.{getD}
-use Rattle.rules.specs.Bits.{Word, digit, if_then_else_}
+use Rattle.rules.specs.Bits.{Word, digit, _⊕_, if_then_else_}
 
 -- Bit n stands in word n / 64, and bit 0 is the most significant bit of word 0. Past the last word every bit is 0.
 unfoldable pub wbit : List ℕ → Word
@@ -34,3 +34,7 @@ joined m x y n = if ltb n m then x n else y n
 -- The first m bits, and then all from the first on again.
 abbrev pub twice : ℕ → Word → Word
 twice m x = joined m x (λ n. x (n - m))
+
+-- The bits of y, from its first on, added to those of x that stand from bit a to before bit e.
+abbrev pub added : Word → ℕ → ℕ → Word → Word
+added x a e y n = x n ⊕ ((leb a n && ltb n e) && y (n - a))

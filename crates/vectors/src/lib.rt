@@ -1,10 +1,11 @@
 // Vectors of bits in words of 64.
 ghost use mathlib.Core.Path.{_≡_};
 ghost use mathlib.Core.List.{[], _∷_};
-ghost use Prim.Native.Nat.{ℕ, _+_, _*_, _/_, _%_, _^_, _<_, _≤_};
-ghost use lib.ListN.{length};
-ghost use Rattle.rules.specs.Bits.{Word, bit, digit};
-ghost use Rattle.vectors.specs.Vectors.{wbit, Holds, upTo, from, twice};
+ghost use mathlib.Core.Bool.{false};
+ghost use Prim.Native.Nat.{ℕ, _+_, _-_, _*_, _/_, _%_, _^_, _<_, _≤_};
+ghost use lib.ListN.{length, getD};
+ghost use Rattle.rules.specs.Bits.{bit, digit, octets, count, flipped};
+ghost use Rattle.vectors.specs.Vectors.{wbit, Holds, upTo, from, later, joined, twice, added};
 
 // The 64 bits of a and then b from bit t on.
 fn funnel(a: u64, b: u64, t: usize) -> u64
@@ -105,4 +106,143 @@ pub fn cut(y: &[u64], p: usize, m: usize, v: &mut [u64])
         k += 1;
     }
     trim(v, m);
+}
+
+// Word q, or 0 past the last one.
+fn word(y: &[u64], q: usize) -> u64
+    ensures { λ r. ⌜ r ≡ getD (now (y .entry)) q 0 ⌝ }
+{
+    if q < y.len() { y[q] } else { 0 }
+}
+
+// Word k of the m bits of v twice over: before, at, or behind the place where they begin again.
+fn double_word(v: &[u64], m: usize, k: usize) -> u64
+    requires { ⌜ (k < 2 ^ 57) × (wbit (now v) ≡ upTo m (wbit (now v))) ⌝ }
+    ensures { λ r. ⌜ Holds r (from (64 * k) (twice m (wbit (now (v .entry))))) ⌝ }
+{
+    let p = 64 * k;
+    if m <= p {
+        let q = (p - m) / 64;
+        funnel(word(v, q), word(v, q + 1), (p - m) % 64)
+    } else if m - p < 64 {
+        word(v, k) | (word(v, 0) >> (m - p))
+    } else {
+        word(v, k)
+    }
+}
+
+// The m bits of v twice over.
+pub fn double(v: &[u64], m: usize, d: &mut [u64])
+    requires { ⌜ (wbit (now v) ≡ upTo m (wbit (now v))) × (2 * m ≤ 64 * length (now d)) × (length (now d) ≤ 2 ^ 57) ⌝ }
+    ensures { λ r. ⌜ wbit (now (d .exit)) ≡ twice m (wbit (now (v .entry))) ⌝ }
+{
+    let mut k = 0;
+    while k < d.len() {
+        d[k] = double_word(v, m, k);
+        k += 1;
+    }
+}
+
+// Adds the w words of d from bit s on to those of acc from word at on.
+pub fn add_turned(d: &[u64], s: usize, acc: &mut [u64], at: usize, w: usize)
+    requires { ⌜ (at + w ≤ length (now acc)) × (s / 64 + w < length (now d)) ⌝ }
+    ensures { λ r. ⌜ wbit (now (acc .exit)) ≡ added (wbit (now (acc .entry))) (64 * at) (64 * (at + w)) (from s (wbit (now (d .entry)))) ⌝ }
+{
+    let q = s / 64;
+    let t = s % 64;
+    let mut j = 0;
+    while j < w {
+        acc[at + j] ^= span(d, q + j, t);
+        j += 1;
+    }
+}
+
+// How many bits are set.
+pub fn ones(ws: &[u64]) -> usize
+    requires { ⌜ length (now ws) ≤ 2 ^ 57 ⌝ }
+    ensures { λ r. ⌜ r ≡ count (64 * length (now (ws .entry))) (wbit (now (ws .entry))) ⌝ }
+{
+    let mut n: usize = 0;
+    let mut k = 0;
+    while k < ws.len() {
+        n += u64::count_ones(ws[k]) as usize;
+        k += 1;
+    }
+    n
+}
+
+// Turns bit n over.
+pub fn turn_over(ws: &mut [u64], n: usize)
+    requires { ⌜ n < 64 * length (now ws) ⌝ }
+    ensures { λ r. ⌜ wbit (now (ws .exit)) ≡ flipped (wbit (now (ws .entry))) n ⌝ }
+{
+    let q = n / 64;
+    ws[q] ^= 1u64 << (63 - n % 64);
+}
+
+// Whether bit n is set.
+pub fn is_set(ws: &[u64], n: usize) -> bool
+    requires { ⌜ n < 64 * length (now ws) ⌝ }
+    ensures { λ r. ⌜ r ≡ wbit (now (ws .entry)) n ⌝ }
+{
+    (ws[n / 64] >> (63 - n % 64)) % 2 == 1
+}
+
+// Clears every bit.
+pub fn clear(ws: &mut [u64])
+    ensures { λ r. ⌜ wbit (now (ws .exit)) ≡ (λ n. false) ⌝ }
+{
+    let mut k = 0;
+    while k < ws.len() {
+        ws[k] = 0;
+        k += 1;
+    }
+}
+
+// All bits u places later, of which the last u are 0; zeros in front.
+pub fn lift(ws: &mut [u64], u: usize)
+    requires { ⌜ (u < 64) × ((n : ℕ) → 64 * length (now ws) ≤ n + u → wbit (now ws) n ≡ false) ⌝ }
+    ensures { λ r. ⌜ wbit (now (ws .exit)) ≡ later u (wbit (now (ws .entry))) ⌝ }
+{
+    if u > 0 {
+        let mut before: u64 = 0;
+        let mut k = 0;
+        while k < ws.len() {
+            let v = ws[k];
+            ws[k] = funnel(before, v, 64 - u);
+            before = v;
+            k += 1;
+        }
+    }
+}
+
+// Writes the first n octets of v from octet at on.
+fn put(v: u64, n: usize, out: &mut [u8], at: usize)
+    requires { ⌜ (n ≤ 8) × (at + n ≤ length (now out)) ⌝ }
+    ensures { λ r. ⌜ bit (now (out .exit)) ≡ joined (8 * (at + n)) (joined (8 * at) (bit (now (out .entry))) (λ k. digit 64 v (k - 8 * at))) (bit (now (out .entry))) ⌝ }
+{
+    let mut j = 0;
+    while j < n {
+        out[at + j] = ((v >> (56 - 8 * j)) % 256) as u8;
+        j += 1;
+    }
+}
+
+// The octets of the bits from bit u on.
+pub fn store(ws: &[u64], u: usize, out: &mut [u8])
+    requires { ⌜ u / 64 + (length (now out) + 7) / 8 < length (now ws) ⌝ }
+    ensures { λ r. ⌜ now (out .exit) ≡ octets (length (now (out .entry))) (from u (wbit (now (ws .entry)))) ⌝ }
+{
+    let q = u / 64;
+    let t = u % 64;
+    let whole = out.len() / 8;
+    let mut k = 0;
+    while k < whole {
+        put(span(ws, q + k, t), 8, out, 8 * k);
+        k += 1;
+    }
+    let rest = out.len() % 8;
+    if rest > 0 {
+        put(span(ws, q + whole, t), rest, out, 8 * whole);
+    }
 }

@@ -1,14 +1,12 @@
 -- `vectors::cut` meets its contract: after k turns the first k words have the bits, and what is past bit m is cleared at the end. Assumes nothing.
-use mathlib.Core.Path.{_≡_, refl, sym, ap, _∙_}
-use mathlib.Core.Bool.{Bool}
-use Prim.Native.Nat.{ℕ, _-_, _*_, _+_, _≤_}
+use mathlib.Core.Path.{ap, _∙_}
+use Prim.Native.Nat.{_-_, _*_}
 use native.Mathlib.Omega.{arith}
-use lib.ListN.{length, length-set}
+use lib.ListN.{length}
 use borrow.Author.Needs.{needs}
-use Rattle.rules.specs.Bits.{Word}
-use Rattle.vectors.specs.Vectors.{wbit, upTo, from, joined}
-use Rattle.vectors.proofs.Cells.{joined-start}
-use Rattle.vectors.proofs.Spans.{word-stored, upTo-joined}
+use Rattle.vectors.specs.Vectors.{wbit, upTo, from}
+use Rattle.vectors.proofs.Filling.{Filled, filled-start, filled-more}
+use Rattle.vectors.proofs.Spans.{upTo-joined}
 use Rattle.vectors.proofs.cut.Statement.{statement}
 use Rattle.vectors.proofs.cut.Tie as tie
 use Rattle.vectors.proofs.cut.Reads as reads
@@ -17,15 +15,15 @@ use Rattle.vectors.proofs.span.Reads as span-reads
 use Rattle.vectors.proofs.trim.Reads as trim-reads
 
 abbrev Inv-loop : tie.InvT-loop
-Inv-loop y p m v₀ q t k₀ v k = (k ≤ length v₀) × (length v ≡ length v₀) × (wbit v ≡ joined (64 * k) (from p (wbit y)) (wbit v₀))
+Inv-loop y p m v₀ q t k₀ v k = Filled v₀ (from p (wbit y)) v k
 
 abbrev μ-loop : tie.MeasureT-loop
 μ-loop y p m v₀ q t k₀ v k = length v₀ - k
 
 loop-holds : tie.Need-loop-holds Inv-loop μ-loop
-loop-holds c = 
+loop-holds c =
     let a = c .before .before .args in
-    (omega arith, refl, joined-start 0 (from (a .p) (wbit (a .y .now))) (wbit (a .v .now)) (λ n h. absurd (omega arith)))
+    filled-start (a .v .now) (from (a .p) (wbit (a .y .now)))
 
 add-span : tie.Need-add-span Inv-loop μ-loop
 add-span c = omega arith
@@ -49,12 +47,8 @@ loop-again : tie.Need-loop-again Inv-loop μ-loop
 loop-again c =
     let a = c .before .before .before .before .before .args in
     let l = c .before .before .loop in
-    let v = c .span .result in
-    let y = wbit (a .y .now) in (
-      omega arith,
-      length-set (l .v) (l .k) v ∙ l .inv .1,
-      word-stored (l .v) (l .k) (from (a .p) y) (wbit (a .v .now)) (l .inv .2) v (omega arith) (λ i hi. c .span .ensures i hi ∙ ap y (omega arith)),
-    )
+    let y = wbit (a .y .now) in
+    filled-more (a .v .now) (from (a .p) y) (l .v) (l .k) (l .inv) (c .span .result) (omega arith) (λ i hi. c .span .ensures i hi ∙ ap y (omega arith))
 
 trim-requires : tie.Need-trim-requires Inv-loop μ-loop
 trim-requires c κs = tt
@@ -66,8 +60,9 @@ returns : tie.Need-returns Inv-loop μ-loop
 returns c =
     let a = c .before .before .before .before .before .before .before .before .args in
     let l = c .before .before .before .before .before .loop in
-    let x = from (a .p) (wbit (a .y .now)) in
-    c .before .before .trim .ensures ∙ ap (upTo (a .m)) (l .inv .2) ∙ upTo-joined (a .m) (64 * l .k) x (wbit (a .v .now)) (omega arith)
+    c .before .before .trim .ensures
+    ∙ ap (upTo (a .m)) (l .inv .bits)
+    ∙ upTo-joined (a .m) (64 * l .k) (from (a .p) (wbit (a .y .now))) (wbit (a .v .now)) (omega arith)
 
 pub cut-spec : {M : Type 1} → statement M
 cut-spec =

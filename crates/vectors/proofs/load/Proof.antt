@@ -1,13 +1,12 @@
 -- `vectors::load` meets its contract: after k turns the first k words have the octets' bits. Assumes nothing.
-use mathlib.Core.Path.{_≡_, refl, sym, ap, _∙_}
-use Prim.Native.Nat.{_-_, _*_, _≤_}
+use mathlib.Core.Path.{ap, _∙_}
+use Prim.Native.Nat.{_-_, _*_}
 use native.Mathlib.Omega.{arith}
 use lib.Dec.{lit<}
-use lib.ListN.{length, length-set}
+use lib.ListN.{length}
 use Rattle.rules.specs.Bits.{bit}
-use Rattle.vectors.specs.Vectors.{wbit, joined}
-use Rattle.vectors.proofs.Cells.{cell-past, joined-start, joined-end}
-use Rattle.vectors.proofs.Spans.{word-stored, word-past}
+use Rattle.vectors.proofs.Cells.{cell-past}
+use Rattle.vectors.proofs.Filling.{Filled, filled-start, filled-more, filled-all}
 use Rattle.vectors.proofs.load.Statement.{statement}
 use Rattle.vectors.proofs.load.Tie as tie
 use Rattle.vectors.proofs.load.Reads as reads
@@ -15,7 +14,7 @@ use Rattle.vectors.proofs.load.Lts as lts
 use Rattle.vectors.proofs.group.Reads as group-reads
 
 abbrev Inv-loop : tie.InvT-loop
-Inv-loop octets ws₀ k₀ ws k = (k ≤ length ws₀) × (length ws ≡ length ws₀) × (wbit ws ≡ joined (64 * k) (bit octets) (wbit ws₀))
+Inv-loop octets ws₀ k₀ ws k = Filled ws₀ (bit octets) ws k
 
 abbrev μ-loop : tie.MeasureT-loop
 μ-loop octets ws₀ k₀ ws k = length ws₀ - k
@@ -23,7 +22,7 @@ abbrev μ-loop : tie.MeasureT-loop
 loop-holds : tie.Need-loop-holds Inv-loop μ-loop
 loop-holds c =
     let a = c .before .before .args in
-    (omega arith, refl, joined-start 0 (bit (a .octets .now)) (wbit (a .ws .now)) (λ n h. absurd (omega arith)))
+    filled-start (a .ws .now) (bit (a .octets .now))
 
 mul-group : tie.Need-mul-group Inv-loop μ-loop
 mul-group c = omega arith
@@ -47,23 +46,18 @@ loop-again : tie.Need-loop-again Inv-loop μ-loop
 loop-again c =
     let a = c .before .before .before .before .before .args in
     let l = c .before .before .loop in
-    let v = c .group .result in
-    let x = bit (a .octets .now) in (
-      omega arith,
-      length-set (l .ws) (l .k) v ∙ l .inv .1,
-      word-stored (l .ws) (l .k) x (wbit (a .ws .now)) (l .inv .2) v (omega arith) (λ i hi. c .group .ensures i hi ∙ ap x (omega arith)),
-    )
+    let x = bit (a .octets .now) in
+    filled-more (a .ws .now) x (l .ws) (l .k) (l .inv) (c .group .result) (omega arith) (λ i hi. c .group .ensures i hi ∙ ap x (omega arith))
 
 same-length : tie.Need-same-length Inv-loop μ-loop
-same-length c = c .before .loop .inv .1
+same-length c = c .before .loop .inv .long
 
 returns : tie.Need-returns Inv-loop μ-loop
 returns c =
     let a = c .before .before .before .before .args in
     let l = c .before .loop in
-    l .inv .2
-    ∙ joined-end (64 * l .k) (bit (a .octets .now)) (wbit (a .ws .now))
-    (λ n h. word-past (a .ws .now) n (omega arith) ∙ sym (cell-past 8 (lit< tt) (a .octets .now) n (omega arith)))
+    filled-all (a .ws .now) (bit (a .octets .now)) (l .ws) (l .k) (l .inv) (omega arith)
+    (λ n h. cell-past 8 (lit< tt) (a .octets .now) n (omega arith))
 
 pub load-spec : {M : Type 1} → statement M
 load-spec =
