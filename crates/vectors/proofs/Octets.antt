@@ -192,17 +192,16 @@ put-octet v j i hj hi =
 abbrev pub after : ℕ → Word → ℕ → Word
 after a z v = joined a z (λ k. digit 64 v (k - a))
 
-pub put-more : (z x y : Word) (a n v : ℕ) → z ≡ joined a x y → n ≤ 64 → Holds v (from a x) → joined (a + n) (after a z v) z ≡ joined (a + n) x y
-put-more z x y a n v e hn hv = fun-ext (λ k. ⊎-elim (behind k) (before k) (le-or-lt (a + n) k))
+pub put-more : (z x y : Word) (a e v : ℕ) → z ≡ joined a x y → a ≤ e → e ≤ a + 64 → Holds v (from a x) → joined e (after a z v) z ≡ joined e x y
+put-more z x y a e v was ha he hv = fun-ext (λ k. ⊎-elim (behind k) (before k) (le-or-lt e k))
   where
     now : (k : ℕ) → z k ≡ joined a x y k
-    now k = ap (λ (w : Word). w k) e
+    now k = ap (λ (w : Word). w k) was
 
-    behind : (k : ℕ) → a + n ≤ k → joined (a + n) (after a z v) z k ≡ joined (a + n) x y k
-    behind k h =
-        joined-above (a + n) k (after a z v) z h ∙ now k ∙ joined-above a k x y (omega arith) ∙ sym (joined-above (a + n) k x y h)
+    behind : (k : ℕ) → e ≤ k → joined e (after a z v) z k ≡ joined e x y k
+    behind k h = joined-above e k (after a z v) z h ∙ now k ∙ joined-above a k x y (omega arith) ∙ sym (joined-above e k x y h)
 
-    inside : (k : ℕ) → k < a + n → after a z v k ≡ x k
+    inside : (k : ℕ) → k < e → after a z v k ≡ x k
     inside k h =
         ⊎-elim
         (λ (l : a ≤ k).
@@ -211,5 +210,20 @@ put-more z x y a n v e hn hv = fun-ext (λ k. ⊎-elim (behind k) (before k) (le
         (λ (l : k < a). joined-below a k z (λ i. digit 64 v (i - a)) l ∙ now k ∙ joined-below a k x y l)
         (le-or-lt a k)
 
-    before : (k : ℕ) → k < a + n → joined (a + n) (after a z v) z k ≡ joined (a + n) x y k
-    before k h = joined-below (a + n) k (after a z v) z h ∙ inside k h ∙ sym (joined-below (a + n) k x y h)
+    before : (k : ℕ) → k < e → joined e (after a z v) z k ≡ joined e x y k
+    before k h = joined-below e k (after a z v) z h ∙ inside k h ∙ sym (joined-below e k x y h)
+
+-- A list of octets that is written to its end.
+pub written : (o₀ o : List ℕ) (x : Word) (e : ℕ) → length o ≡ length o₀ → ((i : ℕ) → getD o i 0 < 2 ^ 8) → e ≡ 8 * length o₀ → bit o ≡ joined e x (bit o₀)
+    → o ≡ octets (length o₀) x
+written o₀ o x e long small all b = octets-of o (length o₀) x long small (b ∙ ap (λ (n : ℕ). joined n x (bit o₀)) all ∙ fun-ext cut)
+  where
+    m : ℕ
+    m = 8 * length o₀
+
+    cut : (k : ℕ) → joined m x (bit o₀) k ≡ upTo m x k
+    cut k =
+        ⊎-elim
+        (λ (h : m ≤ k). joined-above m k x (bit o₀) h ∙ cell-past 8 (lit< tt) o₀ k h ∙ sym (upTo-above m k x h))
+        (λ (h : k < m). joined-below m k x (bit o₀) h ∙ sym (upTo-below m k x h))
+        (le-or-lt m k)

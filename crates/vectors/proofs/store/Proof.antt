@@ -1,3 +1,13 @@
+-- `vectors::store` meets its contract: after k turns the first 8 k octets stand there, and the last few follow. Assumes nothing.
+use mathlib.Core.Path.{_≡_, refl, sym, ap, _∙_}
+use Prim.Native.Nat.{ℕ, _+_, _-_, _*_, _/_, _%_, _^_, _≤_, _<_}
+use native.Mathlib.Omega.{arith}
+use lib.ListN.{length, getD}
+use borrow.Author.Needs.{needs}
+use Rattle.rules.specs.Bits.{bit}
+use Rattle.vectors.specs.Vectors.{wbit, from, joined}
+use Rattle.vectors.proofs.Cells.{joined-start}
+use Rattle.vectors.proofs.Octets.{put-more, written}
 use Rattle.vectors.proofs.store.Statement.{statement}
 use Rattle.vectors.proofs.store.Tie as tie
 use Rattle.vectors.proofs.store.Reads as reads
@@ -6,74 +16,94 @@ use Rattle.vectors.proofs.put.Reads as put-reads
 use Rattle.vectors.proofs.span.Reads as span-reads
 
 abbrev Inv-loop : tie.InvT-loop
-Inv-loop ws u out₀ q t whole k₀ out k = ?
+Inv-loop ws u out₀ q t whole k₀ out k =
+    (k ≤ length out₀ / 8)
+    × (length out ≡ length out₀)
+    × (bit out ≡ joined (8 * (8 * k)) (from u (wbit ws)) (bit out₀))
+    × ((i : ℕ) → getD out i 0 < 2 ^ 8)
 
 abbrev μ-loop : tie.MeasureT-loop
-μ-loop ws u out₀ q t whole k₀ out k = ?
+μ-loop ws u out₀ q t whole k₀ out k = length out₀ / 8 - k
 
--- src/lib.rt:240:5
 loop-holds : tie.Need-loop-holds Inv-loop μ-loop
-loop-holds c = ?
+loop-holds c =
+    let a = c .before .before .args in
+    (omega arith, refl, joined-start 0 (from (a .u) (wbit (a .ws .now))) (bit (a .out .now)) (λ n h. absurd (omega arith)), λ i. c .slice-known .given i .fits)
 
--- src/lib.rt:241:22
 add-span : tie.Need-add-span Inv-loop μ-loop
-add-span c = ?
+add-span c = omega arith
 
--- src/lib.rt:241:13
 span-requires : tie.Need-span-requires Inv-loop μ-loop
-span-requires c κs = ?
+span-requires c κs = omega arith
 
--- src/lib.rt:241:41
 mul-put : tie.Need-mul-put Inv-loop μ-loop
-mul-put c = ?
+mul-put c = omega arith
 
--- src/lib.rt:241:9
 put-requires : tie.Need-put-requires Inv-loop μ-loop
-put-requires c κs = ?
+put-requires c κs = omega arith
 
--- src/lib.rt:242:9
 add-k : tie.Need-add-k Inv-loop μ-loop
-add-k c = ?
+add-k c = omega arith
 
--- src/lib.rt:240:5
 loop-less : tie.Need-loop-less Inv-loop μ-loop
-loop-less c = ?
+loop-less c = omega arith
 
--- src/lib.rt:240:5
 loop-again : tie.Need-loop-again Inv-loop μ-loop
-loop-again c = ?
+loop-again c =
+    let a = c .before .before .before .before .before .before .before .before .before .args in
+    let l = c .before .before .before .before .before .before .loop in
+    let x = from (a .u) (wbit (a .ws .now)) in
+    let p = c .before .before .put in
+    let s = c .before .before .before .before .span in
+    let e : 8 * (8 * l .k + 8) ≡ 8 * (8 * (l .k + 1)) = omega arith in (
+      omega arith,
+      search needs,
+      p .ensures
+      ∙ put-more (bit (l .out)) x (bit (a .out .now)) (8 * (8 * l .k)) (8 * (8 * l .k + 8)) (s .result) (l .inv .2) (omega arith) (omega arith)
+      (λ i hi. s .ensures i hi ∙ ap (wbit (a .ws .now)) (omega arith))
+      ∙ ap (λ (n : ℕ). joined n x (bit (a .out .now))) e,
+      λ i. c .slice-known2 .given i .fits,
+    )
 
--- src/lib.rt:246:22
 add-span-2 : tie.Need-add-span-2 Inv-loop μ-loop
-add-span-2 c = ?
+add-span-2 c = omega arith
 
--- src/lib.rt:246:13
 span-requires-2 : tie.Need-span-requires-2 Inv-loop μ-loop
-span-requires-2 c κs = ?
+span-requires-2 c κs = omega arith
 
--- src/lib.rt:246:48
 mul-put-2 : tie.Need-mul-put-2 Inv-loop μ-loop
-mul-put-2 c = ?
+mul-put-2 c = omega arith
 
--- src/lib.rt:246:9
 put-requires-2 : tie.Need-put-requires-2 Inv-loop μ-loop
-put-requires-2 c κs = ?
+put-requires-2 c κs = omega arith
 
--- src/lib.rt:232:1
 same-length : tie.Need-same-length Inv-loop μ-loop
-same-length c = ?
+same-length c = search needs
 
--- src/lib.rt:232:1
 returns : tie.Need-returns Inv-loop μ-loop
-returns c = ?
+returns c =
+    let a = c .before .before .before .before .before .before .before .before .before .before .args in
+    let l = c .before .before .before .before .before .before .before .loop in
+    let x = from (a .u) (wbit (a .ws .now)) in
+    let p = c .before .before .put2 in
+    let s = c .before .before .before .before .span2 in
+    let k = length (a .out .now) / 8 in
+    let r = length (l .out) % 8 in
+    let e : l .k ≡ k = omega arith in
+    written (a .out .now) (p .last .1 .1 .0) x (8 * (8 * k + r)) (search needs) (λ i. c .slice-known3 .given i .fits) (omega arith)
+    (p .ensures
+    ∙ put-more (bit (l .out)) x (bit (a .out .now)) (8 * (8 * k)) (8 * (8 * k + r)) (s .result)
+    (l .inv .2 ∙ ap (λ (n : ℕ). joined (8 * (8 * n)) x (bit (a .out .now))) e) (omega arith) (omega arith)
+    (λ i hi. s .ensures i hi ∙ ap (wbit (a .ws .now)) (omega arith)))
 
--- src/lib.rt:232:1
 same-length-2 : tie.Need-same-length-2 Inv-loop μ-loop
-same-length-2 c = ?
+same-length-2 c = c .before .before .loop .inv .1
 
--- src/lib.rt:232:1
 returns-2 : tie.Need-returns-2 Inv-loop μ-loop
-returns-2 c = ?
+returns-2 c =
+    let a = c .before .before .before .before .before .args in
+    let l = c .before .before .loop in
+    written (a .out .now) (l .out) (from (a .u) (wbit (a .ws .now))) (8 * (8 * l .k)) (l .inv .1) (l .inv .3) (omega arith) (l .inv .2)
 
 pub store-spec : {M : Type 1} → statement M
 store-spec =
