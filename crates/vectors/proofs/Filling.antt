@@ -2,14 +2,14 @@
 use mathlib.Core.Path.{_≡_, refl, sym, ap, _∙_}
 use mathlib.Core.Bool.{false}
 use mathlib.Core.List.{List}
-use Prim.Native.Nat.{ℕ, suc, _+_, _-_, _*_, _/_, _%_, _≤_, _<_}
+use Prim.Native.Nat.{ℕ, suc, _+_, _-_, _*_, _/_, _%_, _^_, _≤_, _<_}
 use native.Mathlib.Omega.{arith}
 use lib.Dec.{lit<}
 use lib.ListN.{getD, length, set, length-set}
 use Rattle.rules.specs.Bits.{Word, digit}
 use Rattle.vectors.specs.Vectors.{wbit, Holds, from, joined}
 use Rattle.vectors.proofs.Places.{place}
-use Rattle.vectors.proofs.Cells.{cell-at, cell-past, unread, stored, joined-start, joined-end}
+use Rattle.vectors.proofs.Cells.{cell-at, cell-past, unread, stored, same-cells, joined-start, joined-end}
 
 pub word-at : (ws : List ℕ) (n q i : ℕ) → i < 64 → n ≡ 64 * q + i → wbit ws n ≡ digit 64 (getD ws q 0) i
 unfolding wbit
@@ -36,6 +36,11 @@ pub word-stored : (ws : List ℕ) (k : ℕ) (x y : Word) → wbit ws ≡ joined 
     → wbit (set ws k v) ≡ joined (64 * (k + 1)) x y
 unfolding wbit
 word-stored ws k x y e v hk hv = stored 64 (lit< tt) ws k x y e v hk hv
+
+-- Vectors of one length are known by their bits.
+pub same-words : (xs ys : List ℕ) → length xs ≡ length ys → ((k : ℕ) → getD xs k 0 < 2 ^ 64) → ((k : ℕ) → getD ys k 0 < 2 ^ 64) → wbit xs ≡ wbit ys → xs ≡ ys
+unfolding wbit
+same-words xs ys long hx hy e = same-cells 64 (lit< tt) xs ys long hx hy e
 
 -- The words before word k have the bits of x, and the others are as they were.
 pub record Filled (ws₀ : List ℕ) (x : Word) (ws : List ℕ) (k : ℕ) : Type 0 where
