@@ -4,7 +4,8 @@ use mathlib.Core.Bool.{Bool, false, not, _&&_, _||_}
 use mathlib.Core.Logic.{⊎-elim}
 use mathlib.Core.List.{List, [], _∷_}
 use Prim.Native.Nat.{ℕ, suc, _+_, _-_, _*_, _/_, _%_, _^_, _≤_, _<_}
-use native.Mathlib.Nat.{mod-lt, one-mul}
+use native.Mathlib.Nat.{mod-lt, mod-eq-of-lt, one-mul, add-comm}
+use lib.Arith.{digits-mod}
 use native.Mathlib.Omega.{arith}
 use lib.Dec.{ltb, eqb}
 use lib.Pow.{pow-pos}
@@ -190,6 +191,19 @@ module _ (v : List ℕ) (m k : ℕ) (short : wbit v ≡ upTo m (wbit v)) where
 
   pub twice-past : (n : ℕ) → 2 * m ≤ n → twice m x n ≡ false
   twice-past n h = joined-above m n x (λ i. x (i - m)) (omega arith) ∙ none-from (n - m) (omega arith)
+
+-- m bits twice over, read from bit s on, are the m bits turned by s
+pub twice-turned : (m s n : ℕ) (x : Word) → s < m → n < m → twice m x (s + n) ≡ x ((n + s) % m)
+twice-turned m s n x hs hn = ⊎-elim again still (le-or-lt m (s + n))
+  where
+    still : s + n < m → twice m x (s + n) ≡ x ((n + s) % m)
+    still h = joined-below m (s + n) x (λ i. x (i - m)) h ∙ ap x (sym (mod-eq-of-lt h) ∙ ap (λ (k : ℕ). k % m) (add-comm s n))
+
+    again : m ≤ s + n → twice m x (s + n) ≡ x ((n + s) % m)
+    again h =
+        let e : n + s ≡ 1 * m + (s + n - m) = omega arith in
+        let l : s + n - m < m = omega arith in
+        joined-above m (s + n) x (λ i. x (i - m)) h ∙ ap x (sym (ap (λ (k : ℕ). k % m) e ∙ digits-mod 1 l))
 
 -- ---- bits added
 
