@@ -318,7 +318,6 @@ first-five =
 corrects10 : Holds (corrects 1 (only 16 0) 0 6 0 5 5)
 unfolding code code1 ranCorrect
 corrects10 out lo =
-    let x : Word = lifted code1 (bit (only 16 0)) in
     let e : correctAnswer 1 (only 16 0) 0 out ≡ ranCorrect code1 (lifted code1 (bit (only 16 0))) (ended 6 (lifted code1 (bit (only 16 0)))) out =
     correct-taken 1 (only 16 0) 0 out tt (length-octets 16 (λ n. eqb n 0)) lo
     ∙ ap (λ r. ranCorrect code1 (lifted code1 (bit (only 16 0))) r out) (run-limit (byExcess code1) (lifted code1 (bit (only 16 0))) 0 (pos 5) next1) in

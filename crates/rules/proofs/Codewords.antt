@@ -159,7 +159,6 @@ module _ (c : Code) (pb : Published c) where
 
     pub codeword-own : OwnParity c (lifted c y)
     codeword-own p h =
-        let n : ℕ = information c + p in
         let e : information c + p - c .unsent + c .unsent ≡ information c + p = omega (arith, pb .before) in
         let l : information c + p - c .unsent < bits c - c .unsent = omega (arith, pb .before, pb .after) in
         let d : information c + p - information c ≡ p = omega arith in

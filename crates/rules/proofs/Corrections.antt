@@ -176,7 +176,6 @@ module _ (n : ℕ) (off : T (offered n)) (word out : List ℕ) (lw : length word
       → ranCorrect (code n) x r out ≡ record { number = 0; flips = length (r .flips); first = broken (code n) x; last = 0; out = word }
   unfolding ranCorrect
   done r e w x =
-      let c : Code = code n in
       let zero-is : judged (code n) r ≡ 0 =
       judged-done (code n) r e (λ k h. ap (λ z. z k) w ∙ lifted-unsent (code n) (bit word) k h)
       (ap (λ z. codeword (code n) (sent (code n) z)) w
@@ -200,9 +199,7 @@ module _ (n : ℕ) (off : T (offered n)) (word out : List ℕ) (lw : length word
       → correctAnswer n (oneWrong (code n) word b) (suc limit) out
       ≡ record { number = 0; flips = 1; first = degreeOf (code n) (b + code n .unsent); last = 0; out = word }
   one-back limit b h =
-      let c : Code = code n in
       let pb : Published (code n) = published n off in
-      let x : Word = lifted (code n) (bit word) in
       let k-lt : b + code n .unsent < bits (code n) = omega arith in
       let same : lifted (code n) (bit (oneWrong (code n) word b)) ≡ flipped (lifted (code n) (bit word)) (b + code n .unsent) =
       ap (lifted (code n)) (bit-one-wrong (code n) word b lw (lt-of-lt-of-le h (pb .fits))) ∙ lifted-flip (code n) (bit word) b in

@@ -36,7 +36,6 @@ encoded-meets n t x = published n t .own-quiet (encoded (code n) x) (encoded-own
 pub encoded-word-meets : (n : ℕ) (info out : List ℕ) → encodeAnswer n info out .number ≡ 0 → checkAnswer n (encodeAnswer n info out .out) ≡ record { number = 0; broken = 0 }
 encoded-word-meets n info out =
     encode-cases n info out (λ r. r .number ≡ 0 → checkAnswer n (r .out) ≡ record { number = 0; broken = 0 }) (λ k e. absurd (omega arith)) (λ t li lo six e.
-    let c : Code = code n in
     let word : List ℕ = written (code n) (encoded (code n) (lifted (code n) (bit info))) in
     check-taken n word t (length-octets (code n .wordOctets) (sent (code n) (encoded (code n) (lifted (code n) (bit info)))))
     ∙ ap (λ z. record { number = 0; broken = z }) (codeword-quiet (code n) (published n t) (bit word) (encoded-codeword (code n) (published n t) (bit info))))
@@ -105,7 +104,6 @@ not-six = three (λ n. (info : List ℕ) → sixSet n info ≡ false) (λ info. 
 pub met-codeword : (n : ℕ) → T (telecommanded n) → (word : List ℕ) → length word ≡ code n .wordOctets
     → broken (code n) (lifted (code n) (bit word)) ≡ 0 → codeword (code n) (bit word) ≡ true
 met-codeword n t word lw e =
-    let c : Code = code n in
     let w : Whole (code n) = whole n (telecommand-whole n t) in
     let same : sent (code n) (lifted (code n) (bit word)) ≡ bit word =
     ap (sent (code n)) (lifted-whole (code n) w (bit word)) ∙ sent-whole (code n) w (bit word) (past-word (code n) w word lw) in

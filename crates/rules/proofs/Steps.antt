@@ -91,7 +91,6 @@ run-steps n t =
         → steps n (length (r .flips)) (stepAnswer n word word .out) ≡ written (code n) (r .word)
     later k ex x e r ih word lw oct same z =
         let next : byExcess (code n) (lifted (code n) (bit word)) ≡ flip k ex = ap (byExcess (code n)) same ∙ e in
-        let w : List ℕ = written (code n) (flipped (lifted (code n) (bit word)) k) in
         let gives : stepAnswer n word word .out ≡ written (code n) (flipped (lifted (code n) (bit word)) k) =
         ap (λ a. a .out) (step-taken n word word t lw lw) ∙ ap (λ nx. nextStep (code n) word (lifted (code n) (bit word)) word nx .out) next in
         ap (steps n (length (r .flips))) gives
