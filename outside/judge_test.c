@@ -251,8 +251,11 @@ static void other_cases(void)
 
     begin("code 4, octet 894");
     memset(out, 0x5A, sizeof out);
-    info[894] = 0x01;
-    EXPECT(judge_encode(4, info, 895, out, 1022) == 4);
+    for (unsigned octet = 1; octet < 256; octet++) {
+        info[894] = (uint8_t)octet;
+        if (octet % 64 != 0)
+            EXPECT(judge_encode(4, info, 895, out, 1022) == 4);
+    }
     EXPECT(all_are(out, 0x5A, sizeof out));
     info[894] = 0x40;
     EXPECT(judge_encode(4, info, 895, out, 1022) == 0);
@@ -419,6 +422,50 @@ static void wrong_bits(void)
     end();
 }
 
+/* The bit of greatest excess and lowest number, found in another way: a flip lowers the count by the bit's excess. */
+static void choice(uint8_t code, uint8_t *word)
+{
+    size_t len = word_octets[code];
+    int before = (int)judge_check(code, word, len).broken, greatest = 0;
+    unsigned best = 0;
+    for (unsigned bit = 0; bit < covered_bits[code]; bit++) {
+        flip(word, bit);
+        int excess = before - (int)judge_check(code, word, len).broken;
+        flip(word, bit);
+        if (excess > greatest) {
+            greatest = excess;
+            best = bit;
+        }
+    }
+    uint8_t out[MOST_OCTETS];
+    memset(out, 0x5A, sizeof out);
+    struct judge_stepped s = judge_step(code, word, len, out, len);
+    EXPECT(s.quiet == (before == 0));
+    EXPECT(s.number == (before > 0 && greatest == 0 ? 5 : 0));
+    EXPECT(s.bit == best && s.excess == greatest);
+    if (greatest > 0)
+        flip(word, best);
+    if (s.number == 0)
+        EXPECT(memcmp(word, out, len) == 0);
+    else
+        EXPECT(all_are(out, 0x5A, sizeof out));
+}
+
+static void choices(void)
+{
+    begin("step takes the lowest bit of greatest excess");
+    for (uint8_t code = 1; code <= 4; code++) {
+        uint8_t info[MOST_OCTETS], word[MOST_OCTETS];
+        for (unsigned turn = code <= 3 ? 200 : 4; turn > 0; turn--) {
+            draw_codeword(code, info, word);
+            for (unsigned k = code <= 3 ? below(12) : 2 + 10 * turn; k > 0; k--)
+                flip(word, below(covered_bits[code]));
+            choice(code, word);
+        }
+    }
+    end();
+}
+
 /* Quiet words of codes 4 and 5 that are no codewords: a parity block inverted. */
 static void inverted_blocks(void)
 {
@@ -513,6 +560,7 @@ int main(void)
     rows();
     encoded_words();
     wrong_bits();
+    choices();
     inverted_blocks();
     random_words();
     printf("%lu passed, %lu failed\n", passed, failed);
