@@ -263,23 +263,23 @@ static void send_word(const struct code *c, const unsigned char *x, uint8_t *oct
             octets[(n - c->unsent) / 8] |= (uint8_t)(0x80 >> (n - c->unsent) % 8);
 }
 
-/* Parity: for each information bit that is 1, the row of its block, each part shifted right circularly by the bit's
- * place in the block. */
+/* sum[k + j mod size] += row[k]: the row shifted right circularly by j, added modulo 2. */
+static void add_shifted(unsigned char *restrict sum, const unsigned char *restrict row, size_t size, size_t j)
+{
+    for (size_t k = 0; k < size - j; k++)
+        sum[k + j] ^= row[k];
+    for (size_t k = size - j; k < size; k++)
+        sum[k + j - size] ^= row[k];
+}
+
+/* Parity: for each information bit that is 1, the row of its block, each part shifted by the bit's place in the block. */
 static void add_parity(const struct code *c, const unsigned char *x, unsigned char *parity)
 {
     unsigned parts = c->blocks - c->info_blocks;
     memset(parity, 0, parts * c->size);
-    for (unsigned n = 0; n < c->info_bits; n++) {
-        if (!x[n])
-            continue;
-        unsigned block = n / c->size, j = n % c->size;
-        for (unsigned part = 0; part < parts; part++) {
-            const unsigned char *row = c->row[block * parts + part];
-            unsigned char *sum = parity + part * c->size;
-            for (unsigned k = 0; k < c->size; k++)
-                sum[k + j < c->size ? k + j : k + j - c->size] ^= row[k];
-        }
-    }
+    for (unsigned n = 0; n < c->info_bits; n++)
+        for (unsigned part = 0; x[n] && part < parts; part++)
+            add_shifted(parity + part * c->size, c->row[n / c->size * parts + part], c->size, n % c->size);
 }
 
 static bool parity_is_the_encoders(const struct code *c, const unsigned char *x)
