@@ -175,9 +175,10 @@ static void flip(uint8_t *octets, unsigned bit)
     octets[bit / 8] ^= (uint8_t)(0x80 >> bit % 8);
 }
 
-/* How often each number was answered, for the summaries. */
+/* How often each number was answered, and the greatest values, for the summaries. */
 struct tally {
     unsigned long compared, numbers[256];
+    int64_t greatest[3];
 };
 
 static unsigned long compared_in_all;
@@ -248,6 +249,9 @@ static void compare(const struct question *q, struct tally *tally)
         fail(what, q, &judge, &library, before + out_at, judge_room + out_at, library_room + out_at);
     tally->compared++;
     tally->numbers[judge.number]++;
+    for (unsigned k = 0; k < 3; k++)
+        if (judge.value[k] > tally->greatest[k])
+            tally->greatest[k] = judge.value[k];
     compared_in_all++;
 }
 
@@ -359,15 +363,41 @@ static void walk(uint8_t code, uint8_t *word)
         memcpy(word, now, len);
 }
 
+/* For each code a word with many broken checks, so that counts and flips come near their bounds: found by keeping any
+ * flip that breaks no fewer checks than it mends. A codeword can be added to it without a change to the checks. */
+static uint8_t loud[6][LONGEST];
+
+static void find_loud(uint8_t code)
+{
+    uint8_t *word = loud[code];
+    uint32_t most = 0;
+    for (unsigned tries = 30000; tries > 0; tries--) {
+        unsigned bit = below(covered_bits[code]);
+        flip(word, bit);
+        uint32_t broken = judge_check(code, word, word_octets[code]).broken;
+        if (broken >= most)
+            most = broken;
+        else
+            flip(word, bit);
+    }
+}
+
 /* A word to check, open, correct or step, and how many of its bits were made wrong. */
 static unsigned draw_word(uint8_t code, uint8_t *word)
 {
     unsigned bits = covered_bits[code], wrong = 0;
-    switch (below(18)) {
+    switch (below(20)) {
     case 0:
     case 1:
         draw_octets(word, word_octets[code]);
         return below(41);
+    case 18:
+    case 19:
+        draw_codeword(code, word);
+        for (size_t i = 0; i < word_octets[code]; i++)
+            word[i] ^= loud[code][i];
+        wrong = below(2) ? 0 : below(41);
+        break;
     case 16:
     case 17:
         if (below(2)) {
@@ -472,6 +502,8 @@ static void compare_drawn(enum call call, uint8_t code, struct tally *tally)
             input[894] ^= (uint8_t)(below(2) ? 1u << below(6) : below(64));
     } else if (call == OPEN && below(2)) {
         draw_codeword(code, input);
+        if (code == 5 && below(4) == 0)
+            input[1019] ^= (uint8_t)(1 + below(3));
     } else {
         unsigned wrong = draw_word(code, input);
         if (call == CORRECT)
@@ -515,12 +547,14 @@ static void compare_numbers(enum call call, struct tally *tally)
     }
 }
 
-static void print_tally(const char *name, const struct tally *tally)
+static void print_tally(enum call call, const char *codes, const struct tally *tally)
 {
-    printf("%s: %lu compared, numbers", name, tally->compared);
+    printf("%s, %s: %lu compared; numbers", call_names[call], codes, tally->compared);
     for (unsigned number = 0; number < 256; number++)
         if (tally->numbers[number] > 0)
             printf(" %u: %lu", number, tally->numbers[number]);
+    for (unsigned k = 0; k < 3 && value_names[call][k] != NULL; k++)
+        printf("%s %s %" PRId64, k == 0 ? "; greatest" : ",", value_names[call][k], tally->greatest[k]);
     printf("\n");
 }
 
@@ -569,8 +603,11 @@ int main(int argc, char **argv)
 #else
     printf("seed %" PRIu64 "\n", seed);
 #endif
+    for (uint8_t code = 1; code <= 5; code++) {
+        begin(CALLS, code);
+        find_loud(code);
+    }
     for (enum call call = ENCODE; call < CALLS; call++) {
-        char name[64];
         for (uint8_t code = 1; code <= 5; code++) {
             struct tally tally = {0};
             unsigned long of = code <= 3 ? telecommand : near_earth;
@@ -580,14 +617,13 @@ int main(int argc, char **argv)
                 compare_drawn(call, code, &tally);
                 progress(call, code, done, of);
             }
-            snprintf(name, sizeof name, "%s, code %u", call_names[call], code);
-            print_tally(name, &tally);
+            char codes[] = {'c', 'o', 'd', 'e', ' ', (char)('0' + code), '\0'};
+            print_tally(call, codes, &tally);
         }
         struct tally tally = {0};
         begin(call, 0);
         compare_numbers(call, &tally);
-        snprintf(name, sizeof name, "%s, codes 0 to 255", call_names[call]);
-        print_tally(name, &tally);
+        print_tally(call, "codes 0 to 255", &tally);
     }
     printf("seed %" PRIu64 ": %lu answers compared, no difference\n", seed, compared_in_all);
     return EXIT_SUCCESS;

@@ -272,7 +272,7 @@ static void add_shifted(unsigned char *restrict sum, const unsigned char *restri
         sum[k + j - size] ^= row[k];
 }
 
-/* Parity: for each information bit that is 1, the row of its block, each part shifted by the bit's place in the block. */
+/* Parity: for each information bit that is 1, the row of its block, each part shifted by the bit's place in it. */
 static void add_parity(const struct code *c, const unsigned char *x, unsigned char *parity)
 {
     unsigned parts = c->blocks - c->info_blocks;
