@@ -1,0 +1,86 @@
+/* Pandoricchia: encoding, checking, opening and correcting words of five CCSDS LDPC codes.
+ *
+ *     code  name          word octets  information octets  checks
+ *     1     (128,64)               16                   8      64
+ *     2     (256,128)              32                  16     128
+ *     3     (512,256)              64                  32     256
+ *     4     (8176,7154)          1022                 895    1022
+ *     5     (8160,7136)          1020                 892    1022
+ *
+ * Bits are numbered from 0; bit 0 is the most significant bit of octet 0. A word is the information bits, then the
+ * parity; code 5 has two zero bits after it. Of code 4's information the last six bits of octet 894 must be 0.
+ *
+ * Octets are handed over as a pointer and their number. What a call reads must not overlap what it writes. Every call
+ * answers for every code number and every length.
+ */
+#ifndef PANDORICCHIA_H
+#define PANDORICCHIA_H
+
+#include <stdbool.h>
+#include <stddef.h>
+#include <stdint.h>
+
+#ifdef __cplusplus
+extern "C" {
+#endif
+
+/* The number that each call returns. The lowest that applies is given, except that 5 to 8 come in the order of the run.
+ * A call that returns any other number than PANDORICCHIA_DONE is refused and has written nothing. */
+enum pandoricchia_number {
+    PANDORICCHIA_DONE = 0,           /* done; the output, if there is one, is written whole */
+    PANDORICCHIA_CODE = 1,           /* the code is not offered by this call */
+    PANDORICCHIA_INPUT_LENGTH = 2,   /* the input's length differs from the table above */
+    PANDORICCHIA_OUTPUT_LENGTH = 3,  /* encode, correct, step: the output's length differs */
+    PANDORICCHIA_LAST_SIX = 4,       /* encode, code 4: one of the six last bits is set */
+    PANDORICCHIA_STUCK = 5,          /* correct, step: checks are broken, and no bit has an excess above 0 */
+    PANDORICCHIA_LIMIT = 6,          /* correct: the limit is reached */
+    PANDORICCHIA_UNSENT = 7,         /* correct, code 5: an unsent bit became 1 */
+    PANDORICCHIA_PARITY = 8,         /* correct, codes 4 and 5: quiet, but the parity is not the encoder's */
+    PANDORICCHIA_NO_CODEWORD = 9     /* open: the word is not a codeword */
+};
+
+/* Encode: information in, word out. Returns 0 to 4. */
+uint8_t pandoricchia_encode(uint8_t code, const uint8_t *info, size_t info_len, uint8_t *word, size_t word_len);
+
+typedef struct pandoricchia_checked {
+    uint8_t number;   /* 0 to 2 */
+    uint32_t broken;  /* how many checks are broken; 0 where the call is refused */
+} pandoricchia_checked;
+
+/* Check: counts the broken checks; for code 5 with the unsent bits 0 and the last two bits unread. A word without a
+ * broken check is a codeword in codes 1 to 3, but need not be one in codes 4 and 5. */
+pandoricchia_checked pandoricchia_check(uint8_t code, const uint8_t *word, size_t len);
+
+/* Open, codes 1, 2, 3 and 5: for a codeword, how many of its leading octets are its information; 0 where the call is
+ * refused. Nothing is copied. The number, 0 to 2 or 9, is always written. */
+size_t pandoricchia_open(uint8_t code, const uint8_t *word, size_t len, uint8_t *number);
+
+typedef struct pandoricchia_corrected {
+    uint8_t number;  /* 0 to 3 or 5 to 8 */
+    uint32_t flips;  /* how many flips the run made: never more than the limit, nor than first */
+    uint32_t first;  /* broken checks of the word as received */
+    uint32_t last;   /* broken checks at the end of the run */
+} pandoricchia_corrected;
+
+/* Correct: flips the bit of greatest excess, which is the number of its broken checks less that of its met ones, and of
+ * several the lowest bit; again and again, until no check is broken (quiet), or no bit has an excess above 0, or limit
+ * flips are made. On 0 out is a codeword. Refusals 1 to 3 return all other values as 0, refusals 5 to 8 the flips made
+ * and the true counts. */
+pandoricchia_corrected pandoricchia_correct(uint8_t code, const uint8_t *word, size_t len, uint16_t limit,
+                                            uint8_t *out, size_t out_len);
+
+typedef struct pandoricchia_stepped {
+    uint8_t number;  /* 0 to 3 or 5 */
+    bool quiet;      /* no check is broken, and out is a copy of the word */
+    uint32_t bit;    /* the bit that was flipped; 0 where the step is quiet or refused */
+    int8_t excess;   /* its excess, 1 to 5; 0 where the step is quiet or refused */
+} pandoricchia_stepped;
+
+/* Step, codes 1 to 4: one flip of correct's run. */
+pandoricchia_stepped pandoricchia_step(uint8_t code, const uint8_t *word, size_t len, uint8_t *out, size_t out_len);
+
+#ifdef __cplusplus
+}
+#endif
+
+#endif

@@ -1,0 +1,41 @@
+/* The five codes once more, written from the documents alone, one bit at a time: a second opinion on the library. */
+#ifndef JUDGE_H
+#define JUDGE_H
+
+#include <stdbool.h>
+#include <stddef.h>
+#include <stdint.h>
+
+struct judge_checked {
+    uint8_t number;
+    uint32_t broken;
+};
+
+struct judge_corrected {
+    uint8_t number;
+    uint32_t flips, first, last;
+};
+
+struct judge_stepped {
+    uint8_t number;
+    bool quiet;
+    uint32_t bit;
+    int8_t excess;
+};
+
+uint8_t judge_encode(uint8_t code, const uint8_t *info, size_t info_len, uint8_t *word, size_t word_len);
+
+struct judge_checked judge_check(uint8_t code, const uint8_t *word, size_t len);
+
+/* How many leading octets are lent back. The number is always written. */
+size_t judge_open(uint8_t code, const uint8_t *word, size_t len, uint8_t *number);
+
+struct judge_corrected judge_correct(uint8_t code, const uint8_t *word, size_t len, uint16_t limit, uint8_t *out,
+                                     size_t out_len);
+
+struct judge_stepped judge_step(uint8_t code, const uint8_t *word, size_t len, uint8_t *out, size_t out_len);
+
+/* For tests: whether one check is broken. The code is 1 to 5 and the word has its length. */
+bool judge_broken(uint8_t code, const uint8_t *word, uint32_t check);
+
+#endif

@@ -1,0 +1,568 @@
+/* Runs the judge on document 01's cases and on what the document promises of every word.
+ *
+ *     cc -std=c11 -Wall -Wextra -O2 -o target/judge_test outside/judge_test.c outside/judge.c && target/judge_test
+ */
+#include "judge.h"
+
+#include <stdio.h>
+#include <stdlib.h>
+#include <string.h>
+
+enum { MOST_OCTETS = 1022 };
+
+static const size_t word_octets[] = {0, 16, 32, 64, 1022, 1020};
+static const size_t info_octets[] = {0, 8, 16, 32, 895, 892};
+static const unsigned covered_bits[] = {0, 128, 256, 512, 8176, 8158};
+static const unsigned info_bits[] = {0, 64, 128, 256, 7154, 7136};
+static const unsigned checks[] = {0, 64, 128, 256, 1022, 1022};
+
+static unsigned long passed, failed;
+
+/* A group of tests has a line; a failed test says where it stands. */
+static const char *group;
+static unsigned long group_passed, group_failed;
+
+static void begin(const char *name)
+{
+    group = name;
+    group_passed = group_failed = 0;
+}
+
+static void end(void)
+{
+    printf("%s: %lu passed, %lu failed\n", group, group_passed, group_failed);
+    passed += group_passed;
+    failed += group_failed;
+}
+
+static void expect_at(bool holds, const char *what, int line)
+{
+    if (holds) {
+        group_passed++;
+        return;
+    }
+    if (group_failed++ < 5)
+        printf("%s: line %d: not so: %s\n", group, line, what);
+}
+
+#define EXPECT(holds) expect_at((holds), #holds, __LINE__)
+
+static uint64_t state = 0x2545F4914F6CDD1D;
+
+static uint64_t draw(void)
+{
+    state ^= state << 13;
+    state ^= state >> 7;
+    state ^= state << 17;
+    return state;
+}
+
+static unsigned below(unsigned n)
+{
+    return (unsigned)((draw() >> 16) % n);
+}
+
+static void draw_octets(uint8_t *octets, size_t len)
+{
+    for (size_t i = 0; i < len; i++)
+        octets[i] = (uint8_t)(draw() >> 24);
+}
+
+static void flip(uint8_t *octets, unsigned bit)
+{
+    octets[bit / 8] ^= (uint8_t)(0x80 >> bit % 8);
+}
+
+static bool bit_of(const uint8_t *octets, unsigned bit)
+{
+    return octets[bit / 8] >> (7 - bit % 8) & 1;
+}
+
+static bool all_are(const uint8_t *octets, uint8_t value, size_t len)
+{
+    for (size_t i = 0; i < len; i++)
+        if (octets[i] != value)
+            return false;
+    return true;
+}
+
+/* Information that the encoder takes. */
+static void draw_info(uint8_t code, uint8_t *info)
+{
+    draw_octets(info, info_octets[code]);
+    if (code == 4)
+        info[894] &= 0xC0;
+}
+
+static void draw_codeword(uint8_t code, uint8_t *info, uint8_t *word)
+{
+    draw_info(code, info);
+    if (judge_encode(code, info, info_octets[code], word, word_octets[code]) != 0)
+        abort();
+}
+
+static struct judge_corrected correct(uint8_t code, const uint8_t *word, uint16_t limit, uint8_t *out)
+{
+    return judge_correct(code, word, word_octets[code], limit, out, word_octets[code]);
+}
+
+static bool are(struct judge_corrected a, uint8_t number, uint32_t flips, uint32_t first, uint32_t last)
+{
+    return a.number == number && a.flips == flips && a.first == first && a.last == last;
+}
+
+/* Exactly these checks are broken, and check counts them. */
+static bool broken_are(uint8_t code, const uint8_t *word, const unsigned *list, unsigned count)
+{
+    struct judge_checked counted = judge_check(code, word, word_octets[code]);
+    if (counted.number != 0 || counted.broken != count)
+        return false;
+    for (unsigned check = 0, at = 0; check < checks[code]; check++) {
+        bool listed = at < count && list[at] == check;
+        if (judge_broken(code, word, check) != listed)
+            return false;
+        at += listed;
+    }
+    return true;
+}
+
+static void starred_cases(void)
+{
+    uint8_t info[MOST_OCTETS] = {0}, word[MOST_OCTETS] = {0}, out[MOST_OCTETS + 1], number = 99;
+
+    begin("code 1, information 80 then zeros");
+    info[0] = 0x80;
+    EXPECT(judge_encode(1, info, 8, word, 16) == 0);
+    EXPECT(memcmp(word, "\x80\0\0\0\0\0\0\0\x0E\x69\x16\x6B\xEF\x4C\x0B\xC2", 16) == 0);
+    end();
+
+    begin("code 1, only bit 0 set");
+    memset(word, 0, sizeof word);
+    word[0] = 0x80;
+    EXPECT(broken_are(1, word, (unsigned[]){0, 9, 26, 44, 48}, 5));
+    struct judge_stepped s = judge_step(1, word, 16, out, 16);
+    EXPECT(s.number == 0 && !s.quiet && s.bit == 0 && s.excess == 5);
+    EXPECT(all_are(out, 0, 16));
+    memset(out, 0x5A, sizeof out);
+    EXPECT(are(correct(1, word, 0, out), 6, 0, 5, 5));
+    EXPECT(all_are(out, 0x5A, 16));
+    EXPECT(are(correct(1, word, 1, out), 0, 1, 5, 0));
+    EXPECT(all_are(out, 0, 16));
+    end();
+
+    begin("code 1, only bit 127 set");
+    memset(word, 0, sizeof word);
+    word[15] = 0x01;
+    EXPECT(broken_are(1, word, (unsigned[]){15, 24, 44}, 3));
+    end();
+
+    begin("code 1, all-one word");
+    memset(word, 0xFF, sizeof word);
+    EXPECT(broken_are(1, word, NULL, 0));
+    EXPECT(judge_open(1, word, 16, &number) == 8 && number == 0);
+    end();
+
+    begin("code 4, only bit 0 set");
+    memset(word, 0, sizeof word);
+    word[0] = 0x80;
+    EXPECT(broken_are(4, word, (unsigned[]){0, 335, 551, 923}, 4));
+    end();
+
+    begin("code 4, bits 7154 to 7664 set");
+    memset(word, 0, sizeof word);
+    for (unsigned bit = 7154; bit <= 7664; bit++)
+        flip(word, bit);
+    EXPECT(broken_are(4, word, NULL, 0));
+    memset(out, 0x5A, sizeof out);
+    EXPECT(are(correct(4, word, 65535, out), 8, 0, 0, 0));
+    EXPECT(are(correct(4, word, 0, out), 8, 0, 0, 0));
+    EXPECT(all_are(out, 0x5A, sizeof out));
+    end();
+
+    begin("lengths and codes refused");
+    memset(word, 0, sizeof word);
+    word[0] = 0x80;
+    memset(out, 0x5A, sizeof out);
+    EXPECT(are(judge_correct(1, word, 15, 9, out, 16), 2, 0, 0, 0));
+    EXPECT(are(judge_correct(1, word, 16, 9, out, 17), 3, 0, 0, 0));
+    for (uint8_t code = 0; code <= 6; code += 6) {
+        EXPECT(judge_encode(code, info, 8, out, 16) == 1);
+        struct judge_checked c = judge_check(code, word, 16);
+        EXPECT(c.number == 1 && c.broken == 0);
+        EXPECT(judge_open(code, word, 16, &number) == 0 && number == 1);
+        EXPECT(are(judge_correct(code, word, 16, 9, out, 16), 1, 0, 0, 0));
+        s = judge_step(code, word, 16, out, 16);
+        EXPECT(s.number == 1 && !s.quiet && s.bit == 0 && s.excess == 0);
+    }
+    EXPECT(judge_open(4, word, 1022, &number) == 0 && number == 1);
+    s = judge_step(5, word, 1020, out, 1020);
+    EXPECT(s.number == 1 && !s.quiet && s.bit == 0 && s.excess == 0);
+    EXPECT(all_are(out, 0x5A, sizeof out));
+    end();
+}
+
+/* The columns of the parity bits of codes 1 to 3, as the judge's own checks show them, turned into a way to any given
+ * broken checks: solution[i] is a word whose broken checks are check i alone. Gives the rank. */
+static unsigned solve(uint8_t code, uint8_t (*solution)[64])
+{
+    unsigned m = checks[code];
+    uint8_t(*column)[32] = calloc(m, sizeof *column);
+    for (unsigned k = 0; k < m; k++) {
+        memset(solution[k], 0, 64);
+        flip(solution[k], info_bits[code] + k);
+        for (unsigned check = 0; check < m; check++)
+            if (judge_broken(code, solution[k], check))
+                flip(column[k], check);
+    }
+    unsigned rank = 0;
+    for (unsigned check = 0; check < m; check++) {
+        unsigned pivot = rank;
+        while (pivot < m && !bit_of(column[pivot], check))
+            pivot++;
+        if (pivot == m)
+            continue;
+        for (unsigned i = 0; i < 64; i++) {
+            uint8_t kept = solution[rank][i];
+            solution[rank][i] = solution[pivot][i];
+            solution[pivot][i] = kept;
+        }
+        for (unsigned i = 0; i < 32; i++) {
+            uint8_t kept = column[rank][i];
+            column[rank][i] = column[pivot][i];
+            column[pivot][i] = kept;
+        }
+        for (unsigned k = 0; k < m; k++) {
+            if (k == rank || !bit_of(column[k], check))
+                continue;
+            for (unsigned i = 0; i < 64; i++)
+                solution[k][i] ^= solution[rank][i];
+            for (unsigned i = 0; i < 32; i++)
+                column[k][i] ^= column[rank][i];
+        }
+        rank++;
+    }
+    free(column);
+    return rank;
+}
+
+static void other_cases(void)
+{
+    uint8_t info[MOST_OCTETS] = {0}, word[MOST_OCTETS] = {0}, out[MOST_OCTETS] = {0};
+
+    begin("code 4, octet 894");
+    memset(out, 0x5A, sizeof out);
+    for (unsigned octet = 1; octet < 256; octet++) {
+        info[894] = (uint8_t)octet;
+        if (octet % 64 != 0)
+            EXPECT(judge_encode(4, info, 895, out, 1022) == 4);
+    }
+    EXPECT(all_are(out, 0x5A, sizeof out));
+    info[894] = 0x40;
+    EXPECT(judge_encode(4, info, 895, out, 1022) == 0);
+    EXPECT(judge_check(4, out, 1022).broken == 0);
+    EXPECT(all_are(out, 0, 894) && (out[894] & 0xC0) == 0x40);
+    end();
+
+    begin("code 5, an unsent bit becomes 1");
+    memset(info, 0, sizeof info);
+    info[0] = 0x80;
+    EXPECT(judge_encode(4, info, 895, word, 1022) == 0);
+    uint8_t sent[MOST_OCTETS] = {0};
+    for (unsigned bit = 18; bit < 8176; bit++)
+        if (bit_of(word, bit))
+            flip(sent, bit - 18);
+    memset(out, 0x5A, sizeof out);
+    EXPECT(are(correct(5, sent, 1, out), 7, 1, 4, 0));
+    EXPECT(all_are(out, 0x5A, sizeof out));
+    end();
+
+    begin("codes 1 to 3, exactly one broken check");
+    for (uint8_t code = 1; code <= 3; code++) {
+        uint8_t(*solution)[64] = calloc(checks[code], sizeof *solution);
+        /* Full rank: a quiet word has the encoder's parity, so refusal 8 is not needed here. */
+        EXPECT(solve(code, solution) == checks[code]);
+        for (unsigned check = 0; check < checks[code]; check++) {
+            draw_codeword(code, info, word);
+            for (unsigned i = 0; i < word_octets[code]; i++)
+                word[i] ^= solution[check][i];
+            EXPECT(broken_are(code, word, &check, 1));
+            memset(out, 0x5A, sizeof out);
+            EXPECT(are(correct(code, word, (uint16_t)below(65536), out), 5, 0, 1, 1));
+            struct judge_stepped s = judge_step(code, word, word_octets[code], out, word_octets[code]);
+            EXPECT(s.number == 5 && !s.quiet && s.bit == 0 && s.excess == 0);
+            EXPECT(all_are(out, 0x5A, sizeof out));
+        }
+        free(solution);
+    }
+    end();
+
+    /* Input 01 00 0A: code 1, limit 10. */
+    begin("the two lines of the bench program");
+    memset(word, 0, sizeof word);
+    word[0] = 0x80;
+    EXPECT(are(correct(1, word, 10, out), 0, 1, 5, 0));
+    word[0] = 0;
+    EXPECT(are(correct(1, word, 10, out), 0, 0, 0, 0));
+    end();
+}
+
+/* The row of an information bit is the row of its block's first bit, each part shifted right circularly. */
+static void rows(void)
+{
+    static const unsigned size[] = {0, 16, 32, 64, 511};
+    begin("every row is its block's first row, shifted");
+    for (uint8_t code = 1; code <= 4; code++) {
+        unsigned m = size[code];
+        uint8_t first[MOST_OCTETS] = {0}, word[MOST_OCTETS];
+        for (unsigned bit = 0; bit < info_bits[code]; bit++) {
+            uint8_t info[MOST_OCTETS] = {0}, row[MOST_OCTETS] = {0};
+            flip(info, bit);
+            EXPECT(judge_encode(code, info, info_octets[code], word, word_octets[code]) == 0);
+            if (bit % m == 0)
+                memcpy(first, word, sizeof first);
+            flip(row, bit);
+            for (unsigned at = info_bits[code]; at < covered_bits[code]; at++) {
+                unsigned place = (at - info_bits[code]) % m;
+                if (bit_of(first, at))
+                    flip(row, at - place + (place + bit % m) % m);
+            }
+            EXPECT(memcmp(row, word, word_octets[code]) == 0);
+        }
+    }
+    end();
+}
+
+static void encoded_words(void)
+{
+    begin("encoded words are quiet, opened and taken");
+    for (uint8_t code = 1; code <= 5; code++) {
+        uint8_t info[MOST_OCTETS], word[MOST_OCTETS], out[MOST_OCTETS], number = 99;
+        for (unsigned turn = code <= 3 ? 1000 : 60; turn > 0; turn--) {
+            draw_codeword(code, info, word);
+            for (unsigned bit = 0; bit < info_bits[code]; bit++)
+                if (bit_of(info, bit) != bit_of(word, bit))
+                    EXPECT(false);
+            struct judge_checked c = judge_check(code, word, word_octets[code]);
+            EXPECT(c.number == 0 && c.broken == 0);
+            if (code != 4) {
+                EXPECT(judge_open(code, word, word_octets[code], &number) == info_octets[code] && number == 0);
+                EXPECT(memcmp(info, word, info_octets[code]) == 0);
+            }
+            memset(out, 0x5A, sizeof out);
+            EXPECT(are(correct(code, word, (uint16_t)below(3), out), 0, 0, 0, 0));
+            EXPECT(memcmp(out, word, word_octets[code]) == 0);
+            if (code != 5) {
+                memset(out, 0x5A, sizeof out);
+                struct judge_stepped s = judge_step(code, word, word_octets[code], out, word_octets[code]);
+                EXPECT(s.number == 0 && s.quiet && s.bit == 0 && s.excess == 0);
+                EXPECT(memcmp(out, word, word_octets[code]) == 0);
+            }
+        }
+    }
+    end();
+}
+
+static unsigned degree(uint8_t code, unsigned bit)
+{
+    return code >= 4 ? 4 : bit < info_bits[code] ? 5 : 3;
+}
+
+/* A codeword with one wrong bit: one flip, that bit, and the codeword comes back. */
+static void one_wrong_bit(uint8_t code, unsigned bit)
+{
+    uint8_t info[MOST_OCTETS], word[MOST_OCTETS], wrong[MOST_OCTETS], out[MOST_OCTETS], number = 99;
+    draw_codeword(code, info, word);
+    memcpy(wrong, word, sizeof wrong);
+    flip(wrong, bit);
+    memset(out, 0x5A, sizeof out);
+    uint16_t limit = below(2) ? 1 : (uint16_t)(1 + below(65535));
+    EXPECT(are(correct(code, wrong, limit, out), 0, 1, degree(code, bit), 0));
+    EXPECT(memcmp(out, word, word_octets[code]) == 0);
+    EXPECT(are(correct(code, wrong, 0, out), 6, 0, degree(code, bit), degree(code, bit)));
+    if (code != 4)
+        EXPECT(judge_open(code, wrong, word_octets[code], &number) == 0 && number == 9);
+    if (code != 5) {
+        memset(out, 0x5A, sizeof out);
+        struct judge_stepped s = judge_step(code, wrong, word_octets[code], out, word_octets[code]);
+        EXPECT(s.number == 0 && !s.quiet && s.bit == bit && s.excess == (int)degree(code, bit));
+        EXPECT(memcmp(out, word, word_octets[code]) == 0);
+    }
+}
+
+static void wrong_bits(void)
+{
+    begin("one wrong bit, codes 1 to 3, every bit");
+    for (uint8_t code = 1; code <= 3; code++)
+        for (unsigned bit = 0; bit < covered_bits[code]; bit++)
+            one_wrong_bit(code, bit);
+    end();
+
+    begin("one wrong bit, codes 4 and 5, some bits");
+    for (uint8_t code = 4; code <= 5; code++) {
+        const unsigned ends[] = {0, 1, 510, 511, info_bits[code] - 1, info_bits[code], covered_bits[code] - 1};
+        for (unsigned k = 0; k < sizeof ends / sizeof ends[0]; k++)
+            one_wrong_bit(code, ends[k]);
+        for (unsigned turn = 0; turn < 100; turn++)
+            one_wrong_bit(code, below(covered_bits[code]));
+    }
+    end();
+
+    begin("code 5, the last two bits");
+    for (unsigned turn = 0; turn < 30; turn++) {
+        uint8_t info[MOST_OCTETS], word[MOST_OCTETS], wrong[MOST_OCTETS], out[MOST_OCTETS], number = 99;
+        draw_codeword(5, info, word);
+        EXPECT((word[1019] & 3) == 0);
+        memcpy(wrong, word, sizeof wrong);
+        wrong[1019] |= (uint8_t)(1 + turn % 3);
+        EXPECT(judge_check(5, wrong, 1020).broken == 0);
+        EXPECT(judge_open(5, wrong, 1020, &number) == 0 && number == 9);
+        EXPECT(are(correct(5, wrong, 0, out), 0, 0, 0, 0));
+        EXPECT(memcmp(out, word, 1020) == 0);
+    }
+    end();
+}
+
+/* The bit of greatest excess and lowest number, found in another way: a flip lowers the count by the bit's excess. */
+static void choice(uint8_t code, uint8_t *word)
+{
+    size_t len = word_octets[code];
+    int before = (int)judge_check(code, word, len).broken, greatest = 0;
+    unsigned best = 0;
+    for (unsigned bit = 0; bit < covered_bits[code]; bit++) {
+        flip(word, bit);
+        int excess = before - (int)judge_check(code, word, len).broken;
+        flip(word, bit);
+        if (excess > greatest) {
+            greatest = excess;
+            best = bit;
+        }
+    }
+    uint8_t out[MOST_OCTETS];
+    memset(out, 0x5A, sizeof out);
+    struct judge_stepped s = judge_step(code, word, len, out, len);
+    EXPECT(s.quiet == (before == 0));
+    EXPECT(s.number == (before > 0 && greatest == 0 ? 5 : 0));
+    EXPECT(s.bit == best && s.excess == greatest);
+    if (greatest > 0)
+        flip(word, best);
+    if (s.number == 0)
+        EXPECT(memcmp(word, out, len) == 0);
+    else
+        EXPECT(all_are(out, 0x5A, sizeof out));
+}
+
+static void choices(void)
+{
+    begin("step takes the lowest bit of greatest excess");
+    for (uint8_t code = 1; code <= 4; code++) {
+        uint8_t info[MOST_OCTETS], word[MOST_OCTETS];
+        for (unsigned turn = code <= 3 ? 200 : 4; turn > 0; turn--) {
+            draw_codeword(code, info, word);
+            for (unsigned k = code <= 3 ? below(12) : 2 + 10 * turn; k > 0; k--)
+                flip(word, below(covered_bits[code]));
+            choice(code, word);
+        }
+    }
+    end();
+}
+
+/* Quiet words of codes 4 and 5 that are no codewords: a parity block inverted. */
+static void inverted_blocks(void)
+{
+    begin("codes 4 and 5, parity blocks inverted");
+    for (uint8_t code = 4; code <= 5; code++) {
+        for (unsigned turn = 0; turn < 12; turn++) {
+            uint8_t info[MOST_OCTETS], word[MOST_OCTETS], out[MOST_OCTETS], number = 99;
+            draw_codeword(code, info, word);
+            for (unsigned k = 0; k < 1022; k++)
+                if ((turn % 3 + 1) >> k / 511 & 1)
+                    flip(word, info_bits[code] + k);
+            EXPECT(judge_check(code, word, word_octets[code]).broken == 0);
+            memset(out, 0x5A, sizeof out);
+            EXPECT(are(correct(code, word, 65535, out), 8, 0, 0, 0));
+            flip(word, below(covered_bits[code]));
+            EXPECT(are(correct(code, word, 1, out), 8, 1, 4, 0));
+            EXPECT(all_are(out, 0x5A, sizeof out));
+            if (code == 5)
+                EXPECT(judge_open(5, word, 1020, &number) == 0 && number == 9);
+        }
+    }
+    end();
+}
+
+/* Whatever the word: flips within the limit and the first count, each flip mending at least one check more than it
+ * breaks, two where every bit lies in an even number of checks; true counts; and the flips that step makes. */
+static void bounds(uint8_t code, const uint8_t *word, uint16_t limit)
+{
+    size_t len = word_octets[code];
+    unsigned least = code <= 3 ? 1 : 2;
+    uint8_t out[MOST_OCTETS], now[MOST_OCTETS], next[MOST_OCTETS];
+    memset(out, 0x5A, sizeof out);
+    struct judge_corrected a = correct(code, word, limit, out);
+    EXPECT(a.flips <= limit);
+    EXPECT(a.last + least * a.flips <= a.first);
+    EXPECT(a.first == judge_check(code, word, len).broken);
+    EXPECT(a.number == 0 || (a.number >= 5 && a.number <= 8));
+    EXPECT((a.last == 0) == (a.number == 0 || a.number == 7 || a.number == 8));
+    EXPECT(a.number != 6 || a.flips == limit);
+    EXPECT(a.number != 7 || code == 5);
+    EXPECT(a.number != 8 || code >= 4);
+    if (a.number == 0)
+        EXPECT(judge_check(code, out, len).broken == 0);
+    else
+        EXPECT(all_are(out, 0x5A, sizeof out));
+    if (a.number == 0 && code != 4) {
+        uint8_t number = 99;
+        EXPECT(judge_open(code, out, len, &number) == info_octets[code] && number == 0);
+    }
+    if (code == 5)
+        return;
+    memcpy(now, word, len);
+    uint32_t left = a.first;
+    for (uint32_t k = 0; k < a.flips; k++) {
+        struct judge_stepped s = judge_step(code, now, len, next, len);
+        EXPECT(s.number == 0 && !s.quiet && s.excess >= (int)least);
+        flip(now, s.bit);
+        EXPECT(memcmp(now, next, len) == 0);
+        left -= (uint32_t)s.excess;
+    }
+    EXPECT(left == a.last);
+    EXPECT(a.number != 0 || memcmp(now, out, len) == 0);
+    memset(next, 0x5A, sizeof next);
+    struct judge_stepped s = judge_step(code, now, len, next, len);
+    EXPECT(s.quiet == (a.last == 0));
+    EXPECT((s.number == 5) == (a.number == 5));
+}
+
+static void random_words(void)
+{
+    begin("the run's bounds on random words");
+    for (uint8_t code = 1; code <= 5; code++) {
+        uint8_t info[MOST_OCTETS], word[MOST_OCTETS];
+        for (unsigned turn = code <= 3 ? 1000 : 60; turn > 0; turn--) {
+            if (turn % 3 == 0) {
+                draw_octets(word, word_octets[code]);
+            } else {
+                draw_codeword(code, info, word);
+                for (unsigned k = below(code <= 3 ? 12 : 41); k > 0; k--)
+                    flip(word, below(covered_bits[code]));
+            }
+            bounds(code, word, (uint16_t)(turn % 2 ? 65535 : below(8)));
+        }
+    }
+    end();
+}
+
+int main(void)
+{
+    starred_cases();
+    other_cases();
+    rows();
+    encoded_words();
+    wrong_bits();
+    choices();
+    inverted_blocks();
+    random_words();
+    printf("%lu passed, %lu failed\n", passed, failed);
+    return failed == 0 ? EXIT_SUCCESS : EXIT_FAILURE;
+}
