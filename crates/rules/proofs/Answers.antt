@@ -18,6 +18,12 @@ use Rattle.rules.proofs.Published.{Published, published1, published2, p
 
 -- ---- code numbers
 
+pub first-offered : T (offered 1)
+first-offered = tt
+
+pub last-offered : T (offered 5)
+last-offered = tt
+
 pub five : (P : ℕ → Type 0) → P 1 → P 2 → P 3 → P 4 → P 5 → (n : ℕ) → T (offered n) → P n
 five P p1 p2 p3 p4 p5 n t = go n (leb→le 1 n (and-l (leb 1 n) (leb n 5) t)) (leb→le n 5 (and-r (leb 1 n) (leb n 5) t))
   where

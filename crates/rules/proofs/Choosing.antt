@@ -13,8 +13,13 @@ use Rattle.rules.specs.Codes.{Code, bits, checks}
 use Rattle.rules.specs.Checks.{covers, check, broken, excess}
 use Rattle.rules.specs.Flipping.{Next, quiet, stuck, flip, greatest, flipAbove, byExcess, run, ended, after}
 use Rattle.rules.proofs.Counting.{count-same, count-none, none-counted}
-use Rattle.rules.proofs.Flips.{brokenOf, metOf, degreeOf, broken-met, excess-is, excess-order, check-flip, broken-flip, sub-order, greatest-lt, greatest-is, flip-back}
+use Rattle.rules.proofs.Flips.{brokenOf, metOf, degreeOf, broken-met, excess-is, excess-order, check-flip, broken-flip, sub-order, flip-back}
+use Rattle.rules.proofs.Greatest.{greatest-has, greatest-is}
 use Rattle.rules.proofs.Runs.{run-quiet, run-flip}
+
+-- excess 0 is not flipped, so that a run ends
+pub zero-stuck : (n : ℕ) → flipAbove n (pos 0) ≡ stuck
+zero-stuck n = refl
 
 module _ (c : Code) (x : Word) where
   -- the choice
@@ -74,11 +79,7 @@ module _ (c : Code) (x : Word) where
 
 module _ (c : Code) (some : 0 < bits c) where
   pub chosen-lt : (x : Word) → chosen c x < bits c
-  chosen-lt x = go (bits c) refl
-    where
-      go : (n : ℕ) → bits c ≡ n → greatest (bits c) (excess c x) < bits c
-      go zero e = absurd (omega arith)
-      go (suc n) e = subst (λ z. greatest z (excess c x) < z) (sym e) (greatest-lt n (excess c x))
+  chosen-lt x = greatest-has (bits c) (excess c x) some .under
 
   -- a flip of the run takes the bit's excess, at least 1, from the broken checks
   pub falls : (x : Word) (n : ℕ) (ex : ℤ) → byExcess c x ≡ flip n ex → 1 + broken c (flipped x n) ≤ broken c x
@@ -127,15 +128,11 @@ module _ (c : Code) (girth : Girth c) (x : Word) (met : broken c x ≡ 0) (n₀ 
   none-met = omega (arith, broken-met c (flipped x n₀) n₀, own)
 
   -- its excess is above that of every other bit
-  above-others : (n : ℕ) → n < bits c → (n ≡ n₀ → ⊥)
-      → (ltZ (excess c (flipped x n₀) n) (excess c (flipped x n₀) n₀) ≡ true) × (ltZ (excess c (flipped x n₀) n₀) (excess c (flipped x n₀) n) ≡ false)
+  above-others : (n : ℕ) → n < bits c → (n ≡ n₀ → ⊥) → ltZ (excess c (flipped x n₀) n) (excess c (flipped x n₀) n₀) ≡ true
   above-others n h d =
-      let one : brokenOf c (flipped x n₀) n ≤ 1 = le-trans (le-of-eq (broken-shared n)) (girth .few n n₀ h h₀ d) in (
-        excess-order c (flipped x n₀) n n₀
-            ∙ lt-ltb (brokenOf c (flipped x n₀) n + metOf c (flipped x n₀) n₀) (brokenOf c (flipped x n₀) n₀ + metOf c (flipped x n₀) n) (omega (arith, one, own, none-met, girth .many n₀ h₀)),
-        excess-order c (flipped x n₀) n₀ n
-            ∙ le-ltb (brokenOf c (flipped x n₀) n₀ + metOf c (flipped x n₀) n) (brokenOf c (flipped x n₀) n + metOf c (flipped x n₀) n₀) (omega (arith, one, own, none-met, girth .many n₀ h₀)),
-      )
+      let one : brokenOf c (flipped x n₀) n ≤ 1 = le-trans (le-of-eq (broken-shared n)) (girth .few n n₀ h h₀ d) in
+      excess-order c (flipped x n₀) n n₀
+      ∙ lt-ltb (brokenOf c (flipped x n₀) n + metOf c (flipped x n₀) n₀) (brokenOf c (flipped x n₀) n₀ + metOf c (flipped x n₀) n) (omega (arith, one, own, none-met, girth .many n₀ h₀))
 
   excess-own : excess c (flipped x n₀) n₀ ≡ pos (degreeOf c n₀)
   excess-own = excess-is c (flipped x n₀) n₀ ∙ ap₂ subℕ own none-met ∙ whole (degreeOf c n₀)

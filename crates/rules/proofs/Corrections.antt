@@ -30,6 +30,10 @@ use Rattle.rules.proofs.Answers.{five, published, ranFrom, correct-case
 -- ---- the number that a run is judged by
 
 module _ (c : Code) (r : Run) where
+  -- a quiet end whose sent bits are no codeword is refused
+  pub judged-parity : r .number ≡ 0 → count (c .unsent) (r .word) ≡ 0 → codeword c (sent c (r .word)) ≡ false → judged c r ≡ 8
+  judged-parity e none unlike = rw (e, none, unlike)
+
   -- refusal 6 is the run's own
   pub judged-limit : judged c r ≡ 6 → r .number ≡ 6
   judged-limit e = go (eqb (r .number) 0) (ltb 0 (count (c .unsent) (r .word))) (codeword c (sent c (r .word))) refl refl refl

@@ -13,7 +13,6 @@ use borrow.Author.Tests.{lt-ltb, le-ltb}
 use Rattle.rules.specs.Bits.{Word, _⊕_, sum, count, flipped, if_then_else_}
 use Rattle.rules.specs.Codes.{Code, bits, checks}
 use Rattle.rules.specs.Checks.{covers, check, broken, excess}
-use Rattle.rules.specs.Flipping.{greater, greatest}
 use Rattle.rules.proofs.Sums.{and-⊕, ⊕-assoc, ⊕-comm, ⊕-self, ⊕-false, sum-linear, pick}
 use Rattle.rules.proofs.Counting.{count-same, count-xor, count-split}
 
@@ -92,40 +91,6 @@ sub-order a b a′ b′ = go (ltb a b) (ltb a′ b′) refl refl
 
     go : (s t : Bool) → ltb a b ≡ s → ltb a′ b′ ≡ t → ltZ (subℕ a b) (subℕ a′ b′) ≡ ltb (a + b′) (a′ + b)
     go s t e f = ap₂ (λ s t. ltZ (mathlib.Core.Bool.cond s (negsuc (b - suc a)) (pos (a - b))) (mathlib.Core.Bool.cond t (negsuc (b′ - suc a′)) (pos (a′ - b′)))) e f ∙ cases s t e f
-
--- ---- the greatest
-
-greater-lt : (b : Bool) (n e : ℕ) → e < suc n → (if b then n else e) < suc n
-greater-lt true n e h = le-refl (suc n)
-greater-lt false n e h = h
-
-pub greatest-lt : (n : ℕ) (f : ℕ → ℤ) → greatest (suc n) f < suc n
-unfolding greatest
-greatest-lt zero f = greater-lt (ltZ (f 0) (f 0)) 0 0 (le-refl 1)
-greatest-lt (suc n) f = greater-lt (ltZ (f (greatest (suc n) f)) (f (suc n))) (suc n) (greatest (suc n) f) (le-step (greatest-lt n f))
-
--- a bit that is above every other is the greatest
-pub greatest-is : (n : ℕ) (f : ℕ → ℤ) (k : ℕ) → k < n → ((i : ℕ) → i < n → (i ≡ k → ⊥) → (ltZ (f i) (f k) ≡ true) × (ltZ (f k) (f i) ≡ false)) → greatest n f ≡ k
-unfolding greatest
-greatest-is zero f k h up = absurd (not-suc-le-zero h)
-greatest-is (suc n) f k h up = go (ℕ-discrete n k) (greatest-is n f k)
-  where
-    go : Dec (n ≡ k) → (k < n → ((i : ℕ) → i < n → (i ≡ k → ⊥) → (ltZ (f i) (f k) ≡ true) × (ltZ (f k) (f i) ≡ false)) → greatest n f ≡ k) → greater f (greatest n f) n ≡ k
-    go (yes e) ih = last n e h up
-      where
-        last : (n : ℕ) → n ≡ k → k < suc n → ((i : ℕ) → i < suc n → (i ≡ k → ⊥) → (ltZ (f i) (f k) ≡ true) × (ltZ (f k) (f i) ≡ false)) → greater f (greatest n f) n ≡ k
-        last zero e h up = either (ltZ (f 0) (f 0))
-          where
-            either : (b : Bool) → (if b then 0 else 0) ≡ k
-            either true = e
-            either false = e
-        last (suc n) e h up =
-            ap (λ b. if b then suc n else greatest (suc n) f)
-            (ap (λ z. ltZ (f (greatest (suc n) f)) (f z)) e ∙ up (greatest (suc n) f) (le-step (greatest-lt n f)) (λ q. omega (arith, greatest-lt n f)) .0)
-            ∙ e
-    go (no d) ih =
-        let below : greatest n f ≡ k = ih (omega arith) (λ i l. up i (le-step l)) in
-        ap (λ z. greater f z n) below ∙ ap (λ b. if b then n else k) (up n (le-refl (suc n)) d .1)
 
 -- one bit's excess is below another's
 pub excess-order : (c : Code) (x : Word) (n n′ : ℕ) → ltZ (excess c x n) (excess c x n′) ≡ ltb (brokenOf c x n + metOf c x n′) (brokenOf c x n′ + metOf c x n)

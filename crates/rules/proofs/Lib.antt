@@ -2,6 +2,7 @@ pub mod Sums
 pub mod Cyclic
 pub mod Counting
 pub mod Blocks
+pub mod Greatest
 pub mod Flips
 pub mod Runs
 pub mod Choosing
