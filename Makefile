@@ -1,0 +1,4 @@
+# `make test` is the gate.
+.PHONY: test
+test:
+	.ci/run
