@@ -1,0 +1,278 @@
+// The parity tables as nested constants, rows of blocks of shift pairs, and how they are lent to the engine.
+ghost use mathlib.Core.Path.{_≡_};
+ghost use Prim.Native.Nat.{_≤_};
+ghost use lib.ListN.{length};
+ghost use Rattle.tables.specs.Flat.{flat8, flat16, places16, places32, places64, places511, Lends};
+use layout::Shape;
+
+// No entry: a number that is no shift of any table.
+const NONE: u16 = 65535;
+
+// Table 2-4 of document 001, M = 16.
+const PARITY16: [[[u16; 2]; 8]; 4] = [
+    [
+        [0, 7],
+        [2, NONE],
+        [14, NONE],
+        [6, NONE],
+        [NONE, NONE],
+        [0, NONE],
+        [13, NONE],
+        [0, NONE],
+    ],
+    [
+        [6, NONE],
+        [0, 15],
+        [0, NONE],
+        [1, NONE],
+        [0, NONE],
+        [NONE, NONE],
+        [0, NONE],
+        [7, NONE],
+    ],
+    [
+        [4, NONE],
+        [1, NONE],
+        [0, 15],
+        [14, NONE],
+        [11, NONE],
+        [0, NONE],
+        [NONE, NONE],
+        [3, NONE],
+    ],
+    [
+        [0, NONE],
+        [1, NONE],
+        [9, NONE],
+        [0, 13],
+        [14, NONE],
+        [1, NONE],
+        [0, NONE],
+        [NONE, NONE],
+    ],
+];
+
+// Table 2-5 of document 001, M = 32.
+const PARITY32: [[[u16; 2]; 8]; 4] = [
+    [
+        [0, 31],
+        [15, NONE],
+        [25, NONE],
+        [0, NONE],
+        [NONE, NONE],
+        [20, NONE],
+        [12, NONE],
+        [0, NONE],
+    ],
+    [
+        [28, NONE],
+        [0, 30],
+        [29, NONE],
+        [24, NONE],
+        [0, NONE],
+        [NONE, NONE],
+        [1, NONE],
+        [20, NONE],
+    ],
+    [
+        [8, NONE],
+        [0, NONE],
+        [0, 28],
+        [1, NONE],
+        [29, NONE],
+        [0, NONE],
+        [NONE, NONE],
+        [21, NONE],
+    ],
+    [
+        [18, NONE],
+        [30, NONE],
+        [0, NONE],
+        [0, 30],
+        [25, NONE],
+        [26, NONE],
+        [0, NONE],
+        [NONE, NONE],
+    ],
+];
+
+// Table 2-6 of document 001, M = 64.
+const PARITY64: [[[u16; 2]; 8]; 4] = [
+    [
+        [0, 63],
+        [30, NONE],
+        [50, NONE],
+        [25, NONE],
+        [NONE, NONE],
+        [43, NONE],
+        [62, NONE],
+        [0, NONE],
+    ],
+    [
+        [56, NONE],
+        [0, 61],
+        [50, NONE],
+        [23, NONE],
+        [0, NONE],
+        [NONE, NONE],
+        [37, NONE],
+        [26, NONE],
+    ],
+    [
+        [16, NONE],
+        [0, NONE],
+        [0, 55],
+        [27, NONE],
+        [56, NONE],
+        [0, NONE],
+        [NONE, NONE],
+        [43, NONE],
+    ],
+    [
+        [35, NONE],
+        [56, NONE],
+        [62, NONE],
+        [0, 11],
+        [58, NONE],
+        [3, NONE],
+        [0, NONE],
+        [NONE, NONE],
+    ],
+];
+
+// Table 1 of document 000, M = 511.
+const PARITY511: [[[u16; 2]; 16]; 2] = [
+    [
+        [0, 176],
+        [12, 239],
+        [0, 352],
+        [24, 431],
+        [0, 392],
+        [151, 409],
+        [0, 351],
+        [9, 359],
+        [0, 307],
+        [53, 329],
+        [0, 207],
+        [18, 281],
+        [0, 399],
+        [202, 457],
+        [0, 247],
+        [36, 261],
+    ],
+    [
+        [99, 471],
+        [130, 473],
+        [198, 435],
+        [260, 478],
+        [215, 420],
+        [282, 481],
+        [48, 396],
+        [193, 445],
+        [273, 430],
+        [302, 451],
+        [96, 379],
+        [191, 386],
+        [244, 467],
+        [364, 470],
+        [51, 382],
+        [192, 414],
+    ],
+];
+
+// Four rows of eight blocks, one place after another.
+fn flatten8(h: &[[[u16; 2]; 8]; 4], t: &mut [u16])
+    requires { ⌜ length (now t) ≡ 64 ⌝ }
+    ensures { λ _. ⌜ now (t .exit) ≡ flat8 (now (h .entry)) ⌝ }
+{
+    let mut i: usize = 0;
+    while i < 64 {
+        t[i] = h[i / 16][i / 2 % 8][i % 2];
+        i += 1;
+    }
+}
+
+// Two rows of 16 blocks, one place after another.
+fn flatten16(h: &[[[u16; 2]; 16]; 2], t: &mut [u16])
+    requires { ⌜ length (now t) ≡ 64 ⌝ }
+    ensures { λ _. ⌜ now (t .exit) ≡ flat16 (now (h .entry)) ⌝ }
+{
+    let mut i: usize = 0;
+    while i < 64 {
+        t[i] = h[i / 32][i / 2 % 16][i % 2];
+        i += 1;
+    }
+}
+
+fn lend16(t: &mut [u16])
+    requires { ⌜ length (now t) ≡ 64 ⌝ }
+    ensures { λ _. ⌜ now (t .exit) ≡ flat8 places16 ⌝ }
+{
+    let h = PARITY16;
+    flatten8(&h, t);
+}
+
+fn lend32(t: &mut [u16])
+    requires { ⌜ length (now t) ≡ 64 ⌝ }
+    ensures { λ _. ⌜ now (t .exit) ≡ flat8 places32 ⌝ }
+{
+    let h = PARITY32;
+    flatten8(&h, t);
+}
+
+fn lend64(t: &mut [u16])
+    requires { ⌜ length (now t) ≡ 64 ⌝ }
+    ensures { λ _. ⌜ now (t .exit) ≡ flat8 places64 ⌝ }
+{
+    let h = PARITY64;
+    flatten8(&h, t);
+}
+
+fn lend511(t: &mut [u16])
+    requires { ⌜ length (now t) ≡ 64 ⌝ }
+    ensures { λ _. ⌜ now (t .exit) ≡ flat16 places511 ⌝ }
+{
+    let h = PARITY511;
+    flatten16(&h, t);
+}
+
+// The parity table of a code, lent: its places into t, and its shape.
+pub fn lend(code: u8, t: &mut [u16]) -> Shape
+    requires { ⌜ (1 ≤ code) × (code ≤ 5) × (length (now t) ≡ 64) ⌝ }
+    ensures { λ r. ⌜ Lends code (now (t .exit)) r ⌝ }
+{
+    if code == 1 {
+        lend16(t);
+        return Shape {
+            size: 16,
+            words: 1,
+            blocks: 8,
+            rows: 4,
+        };
+    }
+    if code == 2 {
+        lend32(t);
+        return Shape {
+            size: 32,
+            words: 1,
+            blocks: 8,
+            rows: 4,
+        };
+    }
+    if code == 3 {
+        lend64(t);
+        return Shape {
+            size: 64,
+            words: 1,
+            blocks: 8,
+            rows: 4,
+        };
+    }
+    lend511(t);
+    Shape {
+        size: 511,
+        words: 8,
+        blocks: 16,
+        rows: 2,
+    }
+}
