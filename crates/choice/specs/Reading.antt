@@ -1,18 +1,15 @@
 -- Where the checks of a block's bits are read.
 use mathlib.Core.Path.{_≡_}
-use mathlib.Core.Bool.{Bool}
 use mathlib.Core.List.{List}
 use Prim.Native.Nat.{ℕ, _+_, _-_, _*_, _%_, _≤_, _<_}
-use lib.ListN.{length, getD}
-use Rattle.rules.specs.Bits.{Word, count, tally}
-use Rattle.rules.specs.Codes.{Code}
-use Rattle.rules.specs.Checks.{check}
+use lib.Dec.{ltb}
+use lib.ListN.{getD, set}
+use Rattle.rules.specs.Bits.{Word, count, tally, if_then_else_}
 use Rattle.rules.proofs.Blocks.{countOf}
-use Rattle.vectors.specs.Vectors.{wbit}
 use Rattle.layout.specs.declared.Shape.{Shape}
 use Rattle.layout.specs.Lent.{total, shiftsOf}
 
--- Each row of the syndrome stands twice over in 1024 bits of its own.
+-- Each row of the syndrome s stands twice over in 1024 bits of d that are its own.
 abbrev pub Twice : Shape → Word → Word → Type 0
 Twice sh s d = (r n : ℕ) → r < sh .rows → n < 2 * sh .size → d (1024 * r + n) ≡ s (64 * (r * sh .words) + n % sh .size)
 
@@ -20,7 +17,20 @@ Twice sh s d = (r n : ℕ) → r < sh .rows → n < 2 * sh .size → d (1024 * r
 abbrev pub hits : Word → List ℕ → ℕ → ℕ → ℕ
 hits d starts n k = count n (λ e. d (getD starts e 0 + k))
 
--- The first n starts are those of block b: an entry s of row r starts M - s places into the row. Whatever is counted of the entries is counted so.
-pub record Starts (h : List ℕ) (sh : Shape) (b : ℕ) (starts : List ℕ) (n : ℕ) : Type 0 where
-  pub near : (e : ℕ) → e < n → getD starts e 0 ≤ 3072 + sh .size
-  pub each : (g : Word) → count n (λ e. g (getD starts e 0)) ≡ total (sh .rows) (λ r. countOf (shiftsOf sh h r b) (λ s. g (1024 * r + (sh .size - s))))
+-- After n starts, one more is written where s is an entry, and none where it is not.
+pub record Noted (s m row : ℕ) (starts : List ℕ) (n : ℕ) (starts′ : List ℕ) (n′ : ℕ) : Type 0 where
+  pub many : n′ ≡ n + tally (ltb s m)
+  pub new : starts′ ≡ (if ltb s m then set starts n (row + (m - s)) else starts)
+
+-- The first n starts: none is past `end`, and whatever is asked of each, f says how often it holds.
+pub record Listed (starts : List ℕ) (n end : ℕ) (f : Word → ℕ) : Type 0 where
+  pub near : (e : ℕ) → e < n → getD starts e 0 ≤ end
+  pub each : (g : Word) → count n (λ e. g (getD starts e 0)) ≡ f g
+
+-- What is asked of the entries of block b in the first rows: an entry s of row r starts M - s places into that row.
+abbrev pub asked : List ℕ → Shape → ℕ → ℕ → Word → ℕ
+asked h sh b rows g = total rows (λ r. countOf (shiftsOf sh h r b) (λ s. g (1024 * r + (sh .size - s))))
+
+-- The starts of block b are its entries.
+abbrev pub Starts : List ℕ → Shape → ℕ → List ℕ → ℕ → Type 0
+Starts h sh b starts n = Listed starts n (3072 + sh .size) (asked h sh b (sh .rows))

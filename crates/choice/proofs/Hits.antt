@@ -1,0 +1,36 @@
+-- Counting one more, and what is read once more.
+-- Assumes nothing.
+use mathlib.Core.Path.{_≡_, refl, sym, ap, ap₂, _∙_}
+use mathlib.Core.List.{List}
+use Prim.Native.Nat.{ℕ, zero, suc, _+_, _*_, _≤_, _<_}
+use native.Mathlib.Nat.{mul-le-mul-right}
+use native.Mathlib.Numerals.{add-one}
+use native.Mathlib.Omega.{arith}
+use lib.ListN.{getD}
+use Rattle.rules.specs.Bits.{Word, digit, count, tally}
+use Rattle.rules.proofs.Counting.{count-le}
+use Rattle.planes.specs.declared.Planes.{Planes}
+use Rattle.planes.specs.Counts.{value}
+use Rattle.choice.specs.Reading.{hits}
+
+pub count-more : (n : ℕ) (x : Word) → count (n + 1) x ≡ count n x + tally (x n)
+unfolding count
+count-more n x = ap (λ k. count k x) (add-one n)
+
+pub count-none : (x : Word) → 0 ≡ count 0 x
+unfolding count
+count-none x = refl
+
+-- A row more is within all rows.
+pub within : (r n w : ℕ) → r < n → r * w + w ≤ n * w
+within r n w l = omega (arith, mul-le-mul-right {m = suc r} {n = n} w l, ap (λ k. k * w) (sym (add-one r)))
+
+-- Bit i of the window of start e is added to count i.
+pub hit-more : (d : Word) (starts : List ℕ) (e at : ℕ) (p q : Planes) (seen i : ℕ) → e < 7 → value p i ≡ hits d starts e (at + i)
+    → digit 64 seen i ≡ d (getD starts e 0 + at + i) → (value p i < 7 → value q i ≡ value p i + tally (digit 64 seen i)) → value q i ≡ hits d starts (e + 1) (at + i)
+hit-more d starts e at p q seen i few was sees adds =
+    let bit : ℕ → _ = λ j. d (getD starts j 0 + (at + i)) in
+    let same : getD starts e 0 + at + i ≡ getD starts e 0 + (at + i) = omega arith in
+    adds (omega (arith, count-le e bit))
+    ∙ ap₂ _+_ was (ap tally (sees ∙ ap d same))
+    ∙ sym (count-more e bit)
