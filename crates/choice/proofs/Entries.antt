@@ -8,9 +8,9 @@ use native.Mathlib.Nat.{add-zero}
 use native.Mathlib.Numerals.{add-one}
 use native.Mathlib.Decide.{ℕ-discrete}
 use native.Mathlib.Omega.{arith}
-use borrow.Author.Tests.{ltb-true}
+use borrow.Author.Tests.{lt-ltb, le-ltb}
 use lib.Dec.{ltb}
-use lib.ListN.{getD, length, set}
+use lib.ListN.{getD, length, set, length-set}
 use lib.Seq.{getD-set-same, getD-set-other}
 use Rattle.rules.specs.Bits.{Word, count, tally, if_then_else_}
 use Rattle.rules.proofs.Blocks.{countOf}
@@ -25,6 +25,21 @@ pub any-default : (l : List ℕ) (i a b : ℕ) → i < length l → getD l i a �
 any-default [] i a b h = absurd (omega arith)
 any-default (x ∷ l) zero a b h = refl
 any-default (x ∷ l) (suc i) a b h = any-default l i a b (omega arith)
+
+-- A start is written where s is an entry, and none where it is not.
+module _ (s s′ m row : ℕ) (l : List ℕ) (n : ℕ) (same : s ≡ s′) where
+  pub noted : s′ < m → Noted s m row l n (set l n (row + (m - s′))) (n + 1)
+  noted h =
+      let t = lt-ltb s m (omega arith) in
+      record { long = length-set l n (row + (m - s′)); many = ap (λ b. n + tally b) (sym t); new = ap (λ k. set l n (row + (m - k))) (sym same) ∙ ap (λ b. if b then set l n (row + (m - s)) else l) (sym t) }
+
+  pub unnoted : m ≤ s′ → Noted s m row l n l n
+  unnoted h =
+      let t = le-ltb s m (omega arith) in
+      record { long = refl; many = sym (add-zero n) ∙ ap (λ b. n + tally b) (sym t); new = ap (λ b. if b then set l n (row + (m - s)) else l) (sym t) }
+
+pub noted-le : {s m row : ℕ} {l l′ : List ℕ} {n n′ : ℕ} → Noted s m row l n l′ n′ → n′ ≤ n + 1
+noted-le {s} {m} w = omega (arith, w .many, tally-le (ltb s m))
 
 kept-count : (m s : ℕ) (rest : List ℕ) (f : Word) → countOf (kept m s rest) f ≡ countOf (kept m s []) f + countOf rest f
 kept-count m s rest f = go (ltb s m)
@@ -77,13 +92,13 @@ listed-none l end h sh b = record { near = λ e h. absurd (omega arith); each = 
 
 -- The two places of a block make a row.
 module _ (h : List ℕ) (sh : Shape) (b r : ℕ) (l l′ l″ : List ℕ) (n n′ n″ end : ℕ) where
-  pub listed-row : n + 1 < length l → length l′ ≡ length l → 1024 * r + sh .size ≤ end → Noted (getD h (placeOf sh r b) (sh .size)) (sh .size) (1024 * r) l n l′ n′
+  pub listed-row : n + 1 < length l → 1024 * r + sh .size ≤ end → Noted (getD h (placeOf sh r b) (sh .size)) (sh .size) (1024 * r) l n l′ n′
       → Noted (getD h (placeOf sh r b + 1) (sh .size)) (sh .size) (1024 * r) l′ n′ l″ n″ → Listed l n end (asked h sh b r) → Listed l″ n″ end (asked h sh b (r + 1))
-  listed-row room long fits one two was =
+  listed-row room fits one two was =
       let m = sh .size in
       let s = getD h (placeOf sh r b) m in
       let s′ = getD h (placeOf sh r b + 1) m in
-      let all = listed-more l′ l″ n′ n″ s′ m (1024 * r) end _ (omega (arith, one .many, tally-le (ltb s m))) fits two
+      let all = listed-more l′ l″ n′ n″ s′ m (1024 * r) end _ (omega (arith, one .long, one .many, tally-le (ltb s m))) fits two
       (listed-more l l′ n n′ s m (1024 * r) end (asked h sh b r) (omega arith) fits one was) in
       record {
         near = all .near;

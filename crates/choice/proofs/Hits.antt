@@ -1,8 +1,8 @@
 -- Counting one more, and what is read once more.
 -- Assumes nothing.
-use mathlib.Core.Path.{_≡_, refl, sym, ap, ap₂, _∙_}
+use mathlib.Core.Path.{_≡_, refl, sym, ap, ap₂, _∙_, subst}
 use mathlib.Core.List.{List}
-use Prim.Native.Nat.{ℕ, zero, suc, _+_, _*_, _≤_, _<_}
+use Prim.Native.Nat.{ℕ, zero, suc, _+_, _-_, _*_, _≤_, _<_}
 use native.Mathlib.Nat.{mul-le-mul-right}
 use native.Mathlib.Numerals.{add-one}
 use native.Mathlib.Omega.{arith}
@@ -11,7 +11,10 @@ use Rattle.rules.specs.Bits.{Word, digit, count, tally}
 use Rattle.rules.proofs.Counting.{count-le}
 use Rattle.planes.specs.declared.Planes.{Planes}
 use Rattle.planes.specs.Counts.{value}
-use Rattle.choice.specs.Reading.{hits}
+use Rattle.planes.specs.declared.Best.{Best}
+use Rattle.planes.specs.Ranges.{Top, greaterOf}
+use Rattle.planes.proofs.Ranges.{Running, running-more, top-most}
+use Rattle.choice.specs.Reading.{hits, Scored}
 
 pub count-more : (n : ℕ) (x : Word) → count (n + 1) x ≡ count n x + tally (x n)
 unfolding count
@@ -34,3 +37,15 @@ hit-more d starts e at p q seen i few was sees adds =
     adds (omega (arith, count-le e bit))
     ∙ ap₂ _+_ was (ap tally (sees ∙ ap d same))
     ∙ sym (count-more e bit)
+
+-- The greatest of v counts, as a score, against the best so far.
+module _ (g : ℕ → ℕ) (first at v : ℕ) (d : Word) (starts : List ℕ) (n : ℕ) (scored : Scored g first (at + v) d starts n) where
+  pub part-best : (p : Planes) (top count : ℕ) (best : Best) → ((i : ℕ) → i < v → value p i ≡ hits d starts n (at + i)) → Top (value p) 0 v top count
+      → Running g (first + at) best → Running g (first + at + v) (greaterOf best (2 * count + (8 - n)) (first + at + top))
+  part-best p top count best counts t was =
+      running-more (2 * count + (8 - n)) (first + at + top) was (top-most (value p) g (first + at) v top count (8 - n) scores t)
+    where
+      scores : (i : ℕ) → i < v → g (first + at + i) ≡ 2 * value p i + (8 - n)
+      scores i hi =
+          let same : first + at + i ≡ first + (at + i) = omega arith in
+          ap g same ∙ scored .is (at + i) (omega arith) ∙ ap (λ k. 2 * k + (8 - n)) (sym (counts i hi))

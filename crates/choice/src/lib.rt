@@ -12,7 +12,7 @@ ghost use Rattle.planes.specs.Counts.{value};
 ghost use Rattle.planes.specs.Ranges.{Top};
 ghost use Rattle.planes.proofs.Ranges.{Running};
 ghost use Rattle.layout.specs.Lent.{Fit, Lent, laid, score};
-ghost use Rattle.choice.specs.Reading.{Twice, hits, Noted, Starts};
+ghost use Rattle.choice.specs.Reading.{Twice, Placed, hits, Scored, Noted, Starts};
 use layout::Shape;
 use planes::Best;
 use planes::Planes;
@@ -48,7 +48,7 @@ fn next(left: usize) -> usize
 // The best so far, and the best of the v bits of a block from bit `at` on; the block's first bit is `first`.
 fn best_part(d: &[u64], starts: &[usize], n: usize, first: usize, at: usize, v: usize, best: Best) -> Best
     requires { ⌜ (1 ≤ v) × (v ≤ 64) × (n ≤ 8) × (n ≤ length (now starts)) × (length (now d) < 2 ^ 32) × (first < 2 ^ 32) × (at < 2 ^ 32) × ((e : ℕ) → e < n → 64 + (getD (now starts) e 0 + at) < 64 * length (now d)) ⌝ }
-    ensures { λ r. ⌜ ((g : ℕ → ℕ) → n ≤ 7 → ((k : ℕ) → k < v → g (first + at + k) ≡ 2 * hits (wbit (now (d .entry))) (now (starts .entry)) n (at + k) + (8 - n)) → Running g (first + at) best → Running g (first + at + v) r) ⌝ }
+    ensures { λ r. ⌜ ((g : ℕ → ℕ) → Scored g first (at + v) (wbit (now (d .entry))) (now (starts .entry)) n → Running g (first + at) best → Running g (first + at + v) r) ⌝ }
 {
     let peak = most(counted(d, starts, n, at), v);
     better(best, 2 * peak.count + (8 - n) as u32, first + at + peak.at)
@@ -57,7 +57,7 @@ fn best_part(d: &[u64], starts: &[usize], n: usize, first: usize, at: usize, v: 
 // The best so far, and the best of a block of m bits from bit `first` on.
 fn best_block(d: &[u64], starts: &[usize], n: usize, m: usize, first: usize, best: Best) -> Best
     requires { ⌜ (n ≤ 8) × (n ≤ length (now starts)) × (length (now d) < 2 ^ 32) × (first < 2 ^ 31) × (m < 2 ^ 31) × ((e : ℕ) → e < n → 64 + (getD (now starts) e 0 + m) ≤ 64 * length (now d)) ⌝ }
-    ensures { λ r. ⌜ ((g : ℕ → ℕ) → n ≤ 7 → ((k : ℕ) → k < m → g (first + k) ≡ 2 * hits (wbit (now (d .entry))) (now (starts .entry)) n k + (8 - n)) → Running g first best → Running g (first + m) r) ⌝ }
+    ensures { λ r. ⌜ ((g : ℕ → ℕ) → Scored g first m (wbit (now (d .entry))) (now (starts .entry)) n → Running g first best → Running g (first + m) r) ⌝ }
 {
     let mut b = best;
     let mut at = 0;
@@ -132,6 +132,16 @@ fn row(s: &[u64], at: usize, words: usize, m: usize, v: &mut [u64])
     trim(v, m);
 }
 
+// The m bits of a row that begins with word `at`, twice over from word `to` of d on.
+fn double_row(s: &[u64], at: usize, words: usize, m: usize, v: &mut [u64], d: &mut [u64], to: usize)
+    requires { ⌜ (at + words ≤ length (now s)) × (words ≤ length (now v)) × (1 ≤ m) × (m ≤ 64 * words) × (to + 2 * words ≤ length (now d)) × (length (now d) < 2 ^ 32) ⌝ }
+    ensures { λ r. ⌜ Placed (wbit (now (s .entry))) (64 * at) m (wbit (now (d .entry))) (64 * to) (wbit (now (d .exit))) ⌝ }
+{
+    row(s, at, words, m, v);
+    let end = to + 2 * words;
+    double(v, m, &mut d[to..end]);
+}
+
 // Every row of the syndrome twice over.
 fn double_rows(s: &[u64], sh: Shape, v: &mut [u64], d: &mut [u64])
     requires { ⌜ (1 ≤ sh .size) × (sh .size ≤ 64 * sh .words) × (sh .words ≤ 8) × (sh .rows ≤ 4) × (sh .rows * sh .words ≤ 16) × (length (now s) ≡ 16) × (length (now v) ≡ 8) × (length (now d) ≡ 65) ⌝ }
@@ -141,10 +151,7 @@ fn double_rows(s: &[u64], sh: Shape, v: &mut [u64], d: &mut [u64])
     let m = sh.size;
     let mut r = 0;
     while r < sh.rows {
-        row(s, r * words, words, m, v);
-        let from = 16 * r;
-        let to = from + 2 * words;
-        double(v, m, &mut d[from..to]);
+        double_row(s, r * words, words, m, v, d, 16 * r);
         r += 1;
     }
 }

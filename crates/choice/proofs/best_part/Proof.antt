@@ -1,4 +1,11 @@
+-- `choice::best_part` meets its contract: the greatest count as a score. Assumes nothing.
+use mathlib.Core.Path.{sym, subst}
+use Prim.Native.Nat.{_+_}
+use native.Mathlib.Omega.{arith}
 use borrow.Author.Needs.{needs}
+use Rattle.vectors.specs.Vectors.{wbit}
+use Rattle.planes.proofs.Ranges.{Running, count-le}
+use Rattle.choice.proofs.Hits.{part-best}
 use Rattle.choice.proofs.best_part.Statement.{statement}
 use Rattle.choice.proofs.best_part.Tie as tie
 use Rattle.choice.proofs.best_part.Reads as reads
@@ -17,7 +24,7 @@ most-requires c κs = search needs
 
 -- src/lib.rt:54:18
 mul-better : tie.Need-mul-better
-mul-better c = ?
+mul-better c = omega (arith, count-le (c .before .before .counted .result) (c .before .most .ensures))
 
 -- src/lib.rt:54:36
 sub-better : tie.Need-sub-better
@@ -29,7 +36,7 @@ cast-better c = search needs
 
 -- src/lib.rt:54:18
 add-better : tie.Need-add-better
-add-better c = ?
+add-better c = omega (arith, count-le (c .before .before .counted .result) (c .before .most .ensures))
 
 -- src/lib.rt:54:51
 add-better-2 : tie.Need-add-better-2
@@ -45,7 +52,13 @@ better-requires c κs = search needs
 
 -- src/lib.rt:49:1
 returns : tie.Need-returns
-returns c = ?
+returns c g scored was =
+    let a = c .before .before .before .before .before .before .before .args in
+    let p = c .before .before .before .before .counted in
+    let k = c .before .before .before .most in
+    subst (Running g (a .first + a .at + a .v)) (sym (c .better .ensures))
+    (part-best g (a .first) (a .at) (a .v) (wbit (a .d .now)) (a .starts .now) (a .n) scored (p .result) (k .result .at) (k .result .count) (a .best)
+    (λ i hi. p .ensures (scored .few) i (omega arith)) (k .ensures) was)
 
 pub best-part-spec : {M : Type 1} → statement M
 best-part-spec =

@@ -1,0 +1,67 @@
+use borrow.Author.Needs.{needs}
+use Rattle.choice.proofs.double_row.Statement.{statement}
+use Rattle.choice.proofs.double_row.Tie as tie
+use Rattle.choice.proofs.double_row.Reads as reads
+use Rattle.choice.proofs.double_row.Lts as lts
+use Rattle.choice.proofs.row.Reads as row-reads
+use Rattle.vectors.proofs.double.Reads as double-reads
+
+-- src/lib.rt:140:5
+row-requires : tie.Need-row-requires
+row-requires c κs = search needs
+
+-- src/lib.rt:141:20
+mul-end : tie.Need-mul-end
+mul-end c = search needs
+
+-- src/lib.rt:141:15
+add-end : tie.Need-add-end
+add-end c = search needs
+
+-- src/lib.rt:142:18
+mul-double : tie.Need-mul-double
+mul-double c = search needs
+
+-- src/lib.rt:142:18
+sub-double : tie.Need-sub-double
+sub-double c = search needs
+
+-- src/lib.rt:142:18
+part-double-start : tie.Need-part-double-start
+part-double-start c = search needs
+
+-- src/lib.rt:142:18
+part-double-end : tie.Need-part-double-end
+part-double-end c = search needs
+
+-- src/lib.rt:142:5
+double-requires : tie.Need-double-requires
+double-requires c κs = ?
+
+-- src/lib.rt:136:1
+same-length : tie.Need-same-length
+same-length c = search needs
+
+-- src/lib.rt:136:1
+same-length-2 : tie.Need-same-length-2
+same-length-2 c = search needs
+
+-- src/lib.rt:136:1
+returns : tie.Need-returns
+returns c = ?
+
+pub double-row-spec : {M : Type 1} → statement M
+double-row-spec =
+    tie.close
+    (tie.spec
+    row-requires
+    mul-end
+    add-end
+    mul-double
+    sub-double
+    part-double-start
+    part-double-end
+    double-requires
+    same-length
+    same-length-2
+    returns)
