@@ -1,3 +1,4 @@
 pub mod Hits
 pub mod Entries
+pub mod Doubled
 pub mod Turned

@@ -16,7 +16,7 @@ use Rattle.rules.proofs.Blocks.{countOf}
 use Rattle.rules.proofs.Flips.{brokenOf, degreeOf}
 use Rattle.layout.specs.declared.Shape.{Shape}
 use Rattle.layout.specs.Lent.{kept, entries, total, placeOf, shiftsOf, Fit, Lent, laid, score}
-use Rattle.choice.specs.Reading.{Twice, hits, Listed, asked, Starts}
+use Rattle.choice.specs.Reading.{Twice, hits, Scored, Starts}
 
 -- ---- sums over rows and over entries
 
@@ -61,7 +61,7 @@ laid-at c sh x r i hr hi fits =
     left : 64 * (r * sh .words) + i - 64 * sh .words * r ≡ i
     left = omega arith
 
-module _ (c : Code) (h : List ℕ) (sh : Shape) (lent : Lent c h sh) (x d : Word) (fits : sh .size ≤ 64 * sh .words) (two : Twice sh (laid c sh x) d) where
+module _ (c : Code) (h : List ℕ) (sh : Shape) (lent : Lent c h sh) (x d : Word) (fits : sh .size ≤ 64 * sh .words) (two : Twice sh (sh .rows) (laid c sh x) d) where
   -- k places after the start of an entry s of row r stands the check of bit k.
   turned : (r s k : ℕ) → r < sh .rows → s < sh .size → k < sh .size → d (1024 * r + (sh .size - s) + k) ≡ check c x (r * sh .size + (k + (sh .size - s)) % sh .size)
   turned r s k hr hs hk =
@@ -74,7 +74,7 @@ module _ (c : Code) (h : List ℕ) (sh : Shape) (lent : Lent c h sh) (x d : Word
     all : n ≡ total (sh .rows) (λ r. length (shiftsOf sh h r b))
     all = sym (count-all n) ∙ are .each (λ p. true) ∙ total-same (sh .rows) _ _ (λ r hr. list-all (shiftsOf sh h r b))
 
-    pub few : n ≤ 7
+    few : n ≤ 7
     few = omega (arith, all, lent .few b hb)
 
     hits-broken : (k : ℕ) → k < sh .size → hits d starts n k ≡ brokenOf c x (b * sh .size + k)
@@ -83,6 +83,9 @@ module _ (c : Code) (h : List ℕ) (sh : Shape) (lent : Lent c h sh) (x d : Word
         ∙ total-same (sh .rows) _ _ (λ r hr. entries-same (sh .size) h (placeOf sh r b) _ _ (λ s hs. turned r s k hr hs hk))
         ∙ sym (lent .broken-by x b k hb hk)
 
-    pub hits-score : (k : ℕ) → k < sh .size → score c x (b * sh .size + k) ≡ 2 * hits d starts n k + (8 - n)
+    hits-score : (k : ℕ) → k < sh .size → score c x (b * sh .size + k) ≡ 2 * hits d starts n k + (8 - n)
     unfolding score
     hits-score k hk = omega (arith, hits-broken k hk, lent .degree-by b k hb hk, all, few)
+
+    pub block-scored : Scored (score c x) (b * sh .size) (sh .size) d starts n
+    block-scored = record { few = few; is = hits-score }

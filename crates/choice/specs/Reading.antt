@@ -9,9 +9,9 @@ use Rattle.rules.proofs.Blocks.{countOf}
 use Rattle.layout.specs.declared.Shape.{Shape}
 use Rattle.layout.specs.Lent.{total, shiftsOf}
 
--- Each row of the syndrome s stands twice over in 1024 bits of d that are its own.
-abbrev pub Twice : Shape → Word → Word → Type 0
-Twice sh s d = (r n : ℕ) → r < sh .rows → n < 2 * sh .size → d (1024 * r + n) ≡ s (64 * (r * sh .words) + n % sh .size)
+-- Each of the first rows of the syndrome s stands twice over in 1024 bits of d that are its own.
+abbrev pub Twice : Shape → ℕ → Word → Word → Type 0
+Twice sh rows s d = (r n : ℕ) → r < rows → n < 2 * sh .size → d (1024 * r + n) ≡ s (64 * (r * sh .words) + n % sh .size)
 
 -- The m bits of s from bit `from` on stand twice over in d′ from bit `to` on; what stood in d before that is still there.
 pub record Placed (s : Word) (from m : ℕ) (d : Word) (to : ℕ) (d′ : Word) : Type 0 where

@@ -103,7 +103,7 @@ fn gather(h: &[u16], sh: Shape, b: usize, starts: &mut [usize]) -> usize
 // The best bit of all blocks.
 fn best_of(d: &[u64], h: &[u16], sh: Shape, starts: &mut [usize]) -> Best
     requires { ⌜ Fit (now h) sh × (length (now d) ≡ 65) × (length (now starts) ≡ 8) ⌝ }
-    ensures { λ r. ⌜ ((c : Code) → Lent c (now (h .entry)) sh → (x : Word) → Twice sh (laid c sh x) (wbit (now (d .entry))) → Running (score c x) (sh .blocks * sh .size) r) ⌝ }
+    ensures { λ r. ⌜ ((c : Code) → Lent c (now (h .entry)) sh → (x : Word) → Twice sh (sh .rows) (laid c sh x) (wbit (now (d .entry))) → Running (score c x) (sh .blocks * sh .size) r) ⌝ }
 {
     let m = sh.size;
     let mut best = Best {
@@ -145,7 +145,7 @@ fn double_row(s: &[u64], at: usize, words: usize, m: usize, v: &mut [u64], d: &m
 // Every row of the syndrome twice over.
 fn double_rows(s: &[u64], sh: Shape, v: &mut [u64], d: &mut [u64])
     requires { ⌜ (1 ≤ sh .size) × (sh .size ≤ 64 * sh .words) × (sh .words ≤ 8) × (sh .rows ≤ 4) × (sh .rows * sh .words ≤ 16) × (length (now s) ≡ 16) × (length (now v) ≡ 8) × (length (now d) ≡ 65) ⌝ }
-    ensures { λ r. ⌜ Twice sh (wbit (now (s .entry))) (wbit (now (d .exit))) ⌝ }
+    ensures { λ r. ⌜ Twice sh (sh .rows) (wbit (now (s .entry))) (wbit (now (d .exit))) ⌝ }
 {
     let words = sh.words;
     let m = sh.size;

@@ -1,4 +1,12 @@
+-- `choice::double_row` meets its contract: a part of d is the row twice over. Assumes nothing.
+use mathlib.Core.Path.{_≡_, sym, ap, _∙_, subst}
+use mathlib.Core.List.{List}
+use Prim.Native.Nat.{ℕ, _+_, _-_, _*_}
+use native.Mathlib.Omega.{arith}
 use borrow.Author.Needs.{needs}
+use lib.ListN.{length, drop, length-take, length-drop}
+use Rattle.vectors.specs.Vectors.{wbit, upTo, from, twice}
+use Rattle.choice.proofs.Doubled.{upTo-again, placed}
 use Rattle.choice.proofs.double_row.Statement.{statement}
 use Rattle.choice.proofs.double_row.Tie as tie
 use Rattle.choice.proofs.double_row.Reads as reads
@@ -36,7 +44,10 @@ part-double-end c = search needs
 
 -- src/lib.rt:142:5
 double-requires : tie.Need-double-requires
-double-requires c κs = ?
+double-requires c κs =
+    let a = c .before .before .before .before .before .before .before .before .before .args in
+    let clean = upTo-again (a .m) (from (64 * a .at) (wbit (a .s .now))) _ (c .before .before .before .before .row .ensures) in
+    (clean, simp (length-take, length-drop) (omega arith), simp (length-take, length-drop) (omega arith))
 
 -- src/lib.rt:136:1
 same-length : tie.Need-same-length
@@ -48,7 +59,11 @@ same-length-2 c = search needs
 
 -- src/lib.rt:136:1
 returns : tie.Need-returns
-returns c = ?
+returns c =
+    let a = c .before .before .before .before .before .before .before .before .before .before .before .before .args in
+    let row = c .before .before .before .before .before .before .before .row .ensures in
+    let twofold = c .before .before .double .ensures in
+    placed (a .d .now) _ _ (a .to) (omega arith) (wbit (a .s .now)) (64 * a .at) (a .m) (omega (arith, c .before .d .given, length-take (a .to + 2 * a .words - a .to) (drop (a .to) (a .d .now)), length-drop (a .to) (a .d .now))) (twofold ∙ ap (twice (a .m)) row)
 
 pub double-row-spec : {M : Type 1} → statement M
 double-row-spec =
