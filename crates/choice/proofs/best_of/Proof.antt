@@ -32,7 +32,7 @@ loop-holds : tie.Need-loop-holds Inv-loop μ-loop
 loop-holds c =
     let s = c .before .before .before in
     let zero : 0 ≡ 0 * s .args .sh .size = omega arith in
-    (omega arith, s .pre .2, λ k lent x two. subst (λ n. Running (score k x) n _) zero (running-none (score k x)))
+    (omega arith, s .pre .2, λ k lent x two. subst (λ n. Running (score k x) n (record { score = 0; bit = 0 })) zero (running-none (score k x)))
 
 -- src/lib.rt:115:13
 gather-requires : tie.Need-gather-requires Inv-loop μ-loop
@@ -40,11 +40,19 @@ gather-requires c κs = (c .before .before .before .before .before .before .befo
 
 -- src/lib.rt:116:44
 mul-best-block : tie.Need-mul-best-block Inv-loop μ-loop
-mul-best-block c = ?
+mul-best-block c =
+    let s = c .before .before .before .before .before .before .before .before .before .before .before in
+    let w = within (c .before .before .before .before .before .before .before .loop .b) (s .args .sh .blocks) (s .args .sh .size) (omega arith) in
+    omega (arith, s .pre .0 .bits)
 
 -- src/lib.rt:116:9
 best-block-requires : tie.Need-best-block-requires Inv-loop μ-loop
-best-block-requires c κs = ?
+best-block-requires c κs =
+    let s = c .before .before .before .before .before .before .before .before .before .before .before in
+    let fit = s .pre .0 in
+    let w = within (c .before .before .before .before .before .before .before .loop .b) (s .args .sh .blocks) (s .args .sh .size) (omega arith) in
+    let g = c .before .before .before .gather .ensures in
+    (g .0, omega arith, omega arith, omega arith, omega arith, λ e h. omega (arith, g .1 .near e h))
 
 -- src/lib.rt:117:9
 add-b : tie.Need-add-b Inv-loop μ-loop
@@ -56,7 +64,20 @@ loop-less c = omega arith
 
 -- src/lib.rt:114:5
 loop-again : tie.Need-loop-again Inv-loop μ-loop
-loop-again c = ?
+loop-again c =
+    let s = c .before .before .before .before .before .before .before .before .before .before .before .before in
+    let a = s .args in
+    let l = c .before .before .before .before .before .before .before .before .loop in
+    let g = c .before .before .before .before .gather in (
+      omega arith,
+      omega arith,
+      λ k lent x two.
+          let next : l .b * a .sh .size + a .sh .size ≡ (l .b + 1) * a .sh .size = omega arith in
+          subst (λ n. Running (score k x) n (c .best-block .result)) next
+          (c .best-block .ensures (score k x)
+          (block-scored k (a .h .now) (a .sh) lent x (wbit (a .d .now)) (s .pre .0 .held) two (l .b) (omega arith) _ (g .result) (g .ensures .1))
+          (l .inv .2 k lent x two)),
+    )
 
 -- src/lib.rt:104:1
 same-length : tie.Need-same-length Inv-loop μ-loop
@@ -64,7 +85,11 @@ same-length c = search needs
 
 -- src/lib.rt:104:1
 returns : tie.Need-returns Inv-loop μ-loop
-returns c = ?
+returns c k lent x two =
+    let a = c .before .before .before .before .before .before .args in
+    let l = c .before .before .loop in
+    let all : l .b ≡ a .sh .blocks = omega arith in
+    subst (λ n. Running (score k x) (n * a .sh .size) (l .best)) all (l .inv .2 k lent x two)
 
 pub best-of-spec : {M : Type 1} → statement M
 best-of-spec =
