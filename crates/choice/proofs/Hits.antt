@@ -3,7 +3,9 @@
 use mathlib.Core.Path.{_≡_, refl, sym, ap, ap₂, _∙_, subst}
 use mathlib.Core.List.{List}
 use Prim.Native.Nat.{ℕ, zero, suc, _+_, _-_, _*_, _≤_, _<_}
-use native.Mathlib.Nat.{mul-le-mul-right}
+use mathlib.Core.Logic.{⊎-elim}
+use native.Mathlib.Nat.{mul-le-mul-right, lt-of-not-le}
+use native.Mathlib.Decide.{decLt}
 use native.Mathlib.Numerals.{add-one}
 use native.Mathlib.Omega.{arith}
 use lib.ListN.{getD}
@@ -14,6 +16,7 @@ use Rattle.planes.specs.Counts.{value}
 use Rattle.planes.specs.declared.Best.{Best}
 use Rattle.planes.specs.Ranges.{Top, greaterOf}
 use Rattle.planes.proofs.Ranges.{Running, running-more, top-most}
+use Rattle.vectors.proofs.Places.{le-or-lt}
 use Rattle.choice.specs.Reading.{hits, Scored}
 
 pub count-more : (n : ℕ) (x : Word) → count (n + 1) x ≡ count n x + tally (x n)
@@ -49,3 +52,32 @@ module _ (g : ℕ → ℕ) (first at v : ℕ) (d : Word) (starts : List ℕ) (n 
       scores i hi =
           let same : first + at + i ≡ first + (at + i) = omega arith in
           ap g same ∙ scored .is (at + i) (omega arith) ∙ ap (λ k. 2 * k + (8 - n)) (sym (counts i hi))
+
+-- A best whose score no bit of the block can pass is still the best after the block.
+module _ (g : ℕ → ℕ) (first at m : ℕ) (d : Word) (starts : List ℕ) (n : ℕ) (scored : Scored g first m d starts n) (within-block : at ≤ m) where
+  pub full-best : (best : Best) → 8 + n ≤ best .score → Running g (first + at) best → Running g (first + m) best
+  full-best best full was = record {
+    none = λ e. was .none (omega arith);
+    best = λ l.
+        let t = was .best some in
+        record {
+          above = t .above;
+          under = omega (arith, t .under);
+          is = t .is;
+          most = λ i a u. ⊎-elim (λ (h : first + at ≤ i). late i h u) (λ (h : i < first + at). t .most i a h) (le-or-lt (first + at) i);
+          first = t .first;
+        };
+  }
+    where
+      some : 0 < first + at
+      some = go (decLt 0 (first + at))
+        where
+          go : Dec (0 < first + at) → 0 < first + at
+          go (yes l) = l
+          go (no u) = absurd (omega (arith, ap (λ (b : Best). b .score) (was .none (omega (arith, lt-of-not-le u)))))
+
+      late : (i : ℕ) → first + at ≤ i → i < first + m → g i ≤ best .score
+      late i h u =
+          let k = i - first in
+          let e : i ≡ first + k = omega arith in
+          omega (arith, ap g e, scored .is k (omega arith), count-le n (λ j. d (getD starts j 0 + k)), scored .few)

@@ -54,14 +54,18 @@ fn best_part(d: &[u64], starts: &[usize], n: usize, first: usize, at: usize, v: 
     better(best, 2 * peak.count + (8 - n) as u32, first + at + peak.at)
 }
 
-// The best so far, and the best of a block of m bits from bit `first` on.
+// The best so far, and the best of a block of m bits from bit `first` on. Where all n checks are broken, no later bit of the block is better.
 fn best_block(d: &[u64], starts: &[usize], n: usize, m: usize, first: usize, best: Best) -> Best
     requires { ⌜ (n ≤ 8) × (n ≤ length (now starts)) × (length (now d) < 2 ^ 32) × (first < 2 ^ 31) × (m < 2 ^ 31) × ((e : ℕ) → e < n → 64 + (getD (now starts) e 0 + m) ≤ 64 * length (now d)) ⌝ }
     ensures { λ r. ⌜ ((g : ℕ → ℕ) → Scored g first m (wbit (now (d .entry))) (now (starts .entry)) n → Running g first best → Running g (first + m) r) ⌝ }
 {
+    let full = 8 + n as u32;
     let mut b = best;
     let mut at = 0;
     while at < m {
+        if full <= b.score {
+            return b;
+        }
         let v = next(m - at);
         b = best_part(d, starts, n, first, at, v, b);
         at += v;

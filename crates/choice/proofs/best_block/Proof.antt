@@ -1,10 +1,11 @@
 -- `choice::best_block` meets its contract: the best so far after each part of the block. Assumes nothing.
-use mathlib.Core.Path.{_≡_, sym, ap, subst}
+use mathlib.Core.Path.{_≡_, subst}
 use Prim.Native.Nat.{ℕ, _+_, _-_, _≤_}
 use native.Mathlib.Omega.{arith}
 use Rattle.vectors.specs.Vectors.{wbit}
 use Rattle.planes.proofs.Ranges.{Running}
 use Rattle.choice.specs.Reading.{Scored}
+use Rattle.choice.proofs.Hits.{full-best}
 use Rattle.choice.proofs.best_block.Statement.{statement}
 use Rattle.choice.proofs.best_block.Tie as tie
 use Rattle.choice.proofs.best_block.Reads as reads
@@ -13,53 +14,66 @@ use Rattle.choice.proofs.best_part.Reads as best-part-reads
 use Rattle.choice.proofs.next.Reads as next-reads
 
 abbrev Inv-loop : tie.InvT-loop
-Inv-loop d starts n m first b₀ at₀ b at =
+Inv-loop d starts n m first full b₀ at₀ b at =
     (at ≤ m) × ((g : ℕ → ℕ) → Scored g first m (wbit d) starts n → Running g first b₀ → Running g (first + at) b)
 
 abbrev μ-loop : tie.MeasureT-loop
-μ-loop d starts n m first b₀ at₀ b at = m - at
+μ-loop d starts n m first full b₀ at₀ b at = m - at
 
--- src/lib.rt:64:5
+-- src/lib.rt:62:20
+cast-full : tie.Need-cast-full Inv-loop μ-loop
+cast-full c = omega arith
+
+-- src/lib.rt:62:16
+add-full : tie.Need-add-full Inv-loop μ-loop
+add-full c = omega arith
+
+-- src/lib.rt:65:5
 loop-holds : tie.Need-loop-holds Inv-loop μ-loop
 loop-holds c = (omega arith, λ g scored was. subst (λ k. Running g k (c .before .before .args .best)) (omega arith) was)
 
--- src/lib.rt:65:22
+-- src/lib.rt:67:13
+returns : tie.Need-returns Inv-loop μ-loop
+returns c g scored was =
+    let a = c .before .before .before .before .before .before .args in
+    let l = c .before .before .before .loop in
+    full-best g (a .first) (l .at) (a .m) (wbit (a .d .now)) (a .starts .now) (a .n) scored (omega arith) (l .b) (omega arith) (l .inv .1 g scored was)
+
+-- src/lib.rt:69:22
 sub-next : tie.Need-sub-next Inv-loop μ-loop
 sub-next c = omega arith
 
--- src/lib.rt:65:13
+-- src/lib.rt:69:13
 next-requires : tie.Need-next-requires Inv-loop μ-loop
 next-requires c κs = tt
 
--- src/lib.rt:66:9
+-- src/lib.rt:70:9
 best-part-requires : tie.Need-best-part-requires Inv-loop μ-loop
 best-part-requires c κs =
-    let s = c .before .before .before .before .before in
+    let s = c .before .before .before .before .before .before .before in
     let n = c .next .ensures in
     (n .2 (omega arith), n .0, s .pre .0, s .pre .1, s .pre .2, omega arith, omega arith, λ e h. omega (arith, s .pre .5 e h))
 
--- src/lib.rt:67:9
+-- src/lib.rt:71:9
 add-at : tie.Need-add-at Inv-loop μ-loop
 add-at c = omega arith
 
--- src/lib.rt:64:5
+-- src/lib.rt:65:5
 loop-less : tie.Need-loop-less Inv-loop μ-loop
 loop-less c = omega (arith, c .before .next .ensures .2 (omega arith))
 
--- src/lib.rt:64:5
+-- src/lib.rt:65:5
 loop-again : tie.Need-loop-again Inv-loop μ-loop
 loop-again c =
-    let a = c .before .before .before .before .before .before .args in
-    let l = c .before .before .before .loop in
-    let v = c .before .next .result in (
+    let l = c .before .before .before .before .before .loop in (
       omega arith,
       λ g scored was. subst (λ k. Running g k (c .best-part .result)) (omega arith)
           (c .best-part .ensures g (record { few = scored .few; is = λ k h. scored .is k (omega arith) }) (l .inv .1 g scored was)),
     )
 
 -- src/lib.rt:58:1
-returns : tie.Need-returns Inv-loop μ-loop
-returns c g scored was =
+returns-2 : tie.Need-returns-2 Inv-loop μ-loop
+returns-2 c g scored was =
     let a = c .before .before .before .before .args in
     let l = c .before .loop in
     let all : l .at ≡ a .m = omega arith in
@@ -71,11 +85,14 @@ best-block-spec =
     (tie.spec
     Inv-loop
     μ-loop
+    cast-full
+    add-full
     loop-holds
+    returns
     sub-next
     next-requires
     best-part-requires
     add-at
     loop-less
     loop-again
-    returns)
+    returns-2)
