@@ -12,7 +12,7 @@ use lib.Dec.{ltb}
 use lib.ListN.{getD, length, take, List·getD-append}
 use lib.Seq.{length-take-le, getD-append-add, getD-take}
 use Rattle.rules.specs.Bits.{Word, digit}
-use Rattle.vectors.specs.Vectors.{wbit, upTo, from, joined, twice}
+use Rattle.vectors.specs.Vectors.{wbit, upTo, from, twice}
 use Rattle.vectors.proofs.Places.{le-or-lt}
 use Rattle.vectors.proofs.Cells.{joined-below, joined-above}
 use Rattle.vectors.proofs.Spans.{upTo-below}

@@ -16,7 +16,7 @@ use Rattle.rules.specs.Bits.{Word, count, tally, if_then_else_}
 use Rattle.rules.proofs.Blocks.{countOf}
 use Rattle.rules.proofs.Counting.{count-same, tally-le}
 use Rattle.layout.specs.declared.Shape.{Shape}
-use Rattle.layout.specs.Lent.{kept, entries, total, placeOf, shiftsOf}
+use Rattle.layout.specs.Lent.{kept, total, placeOf, shiftsOf}
 use Rattle.choice.specs.Reading.{Noted, Listed, asked}
 use Rattle.choice.proofs.Hits.{count-more}
 

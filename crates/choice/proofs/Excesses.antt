@@ -9,18 +9,18 @@ use native.Mathlib.Decide.{decLt}
 use native.Mathlib.Omega.{arith}
 use borrow.Author.Tests.{lt-ltb, le-ltb}
 use lib.Dec.{ltb}
-use lib.IntN.{ℤ, pos, negsuc, subℕ}
+use lib.IntN.{pos, negsuc, subℕ}
 use lib.Signed.{ltZ}
 use Rattle.rules.specs.Bits.{Word, if_then_else_}
 use Rattle.rules.specs.Codes.{Code, bits}
 use Rattle.rules.specs.Checks.{broken, excess}
-use Rattle.rules.specs.Flipping.{Next, flip, stuck, greatest, byExcess}
+use Rattle.rules.specs.Flipping.{flip, stuck, greatest, byExcess}
 use Rattle.rules.proofs.Flips.{brokenOf, metOf, degreeOf, broken-met, excess-is}
 use Rattle.rules.proofs.Choosing.{flip-next, stuck-next}
 use Rattle.planes.specs.Ranges.{Top}
 use Rattle.planes.proofs.Choice.{top-greatest, top-excess, top-above}
 use Rattle.layout.specs.declared.Shape.{Shape}
-use Rattle.layout.specs.Lent.{Lent, total, shiftsOf, score}
+use Rattle.layout.specs.Lent.{Lent, score}
 
 -- A difference does not change where both numbers grow alike.
 same-difference : (a b a′ b′ : ℕ) → a + b′ ≡ a′ + b → subℕ a b ≡ subℕ a′ b′

@@ -1,6 +1,6 @@
 -- What the doubled rows have at the starts of a block: the checks of its bits.
 -- Assumes nothing.
-use mathlib.Core.Path.{_≡_, refl, sym, ap, ap₂, _∙_, subst}
+use mathlib.Core.Path.{_≡_, refl, sym, ap, ap₂, _∙_}
 use mathlib.Core.Bool.{Bool, true, false, _&&_}
 use mathlib.Core.List.{List, [], _∷_}
 use Prim.Native.Nat.{ℕ, zero, suc, _+_, _-_, _*_, _/_, _%_, _≤_, _<_}
@@ -13,9 +13,9 @@ use Rattle.rules.specs.Bits.{Word, count, tally, if_then_else_}
 use Rattle.rules.specs.Codes.{Code}
 use Rattle.rules.specs.Checks.{check}
 use Rattle.rules.proofs.Blocks.{countOf}
-use Rattle.rules.proofs.Flips.{brokenOf, degreeOf}
+use Rattle.rules.proofs.Flips.{brokenOf}
 use Rattle.layout.specs.declared.Shape.{Shape}
-use Rattle.layout.specs.Lent.{kept, entries, total, placeOf, shiftsOf, Fit, Lent, laid, score}
+use Rattle.layout.specs.Lent.{kept, entries, total, placeOf, shiftsOf, Lent, laid, score}
 use Rattle.choice.specs.Reading.{Twice, hits, Scored, Starts}
 
 -- ---- sums over rows and over entries

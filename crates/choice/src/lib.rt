@@ -1,12 +1,9 @@
 // The bit of greatest excess, 64 bits of the word at a time.
 ghost use mathlib.Core.Path.{_≡_};
-ghost use mathlib.Core.Bool.{Bool};
-ghost use Prim.Native.Nat.{ℕ, _+_, _-_, _*_, _/_, _%_, _^_, _<_, _≤_};
-ghost use lib.Dec.{ltb};
+ghost use Prim.Native.Nat.{ℕ, _+_, _-_, _*_, _^_, _<_, _≤_};
 ghost use lib.ListN.{length, getD, set};
-ghost use Rattle.rules.specs.Bits.{Word, tally, if_then_else_};
+ghost use Rattle.rules.specs.Bits.{Word, if_then_else_};
 ghost use Rattle.rules.specs.Codes.{Code, bits};
-ghost use Rattle.rules.specs.Checks.{check};
 ghost use Rattle.vectors.specs.Vectors.{wbit, upTo, from};
 ghost use Rattle.planes.specs.Counts.{value};
 ghost use Rattle.planes.specs.Ranges.{Top};
@@ -46,7 +43,15 @@ fn next(left: usize) -> usize
 }
 
 // The best so far, and the best of the v bits of a block from bit `at` on; the block's first bit is `first`.
-fn best_part(d: &[u64], starts: &[usize], n: usize, first: usize, at: usize, v: usize, best: Best) -> Best
+fn best_part(
+    d: &[u64],
+    starts: &[usize],
+    n: usize,
+    first: usize,
+    at: usize,
+    v: usize,
+    best: Best,
+) -> Best
     requires { ⌜ (1 ≤ v) × (v ≤ 64) × (n ≤ 8) × (n ≤ length (now starts)) × (length (now d) < 2 ^ 32) × (first < 2 ^ 32) × (at < 2 ^ 32) × ((e : ℕ) → e < n → 64 + (getD (now starts) e 0 + at) < 64 * length (now d)) ⌝ }
     ensures { λ r. ⌜ ((g : ℕ → ℕ) → Scored g first (at + v) (wbit (now (d .entry))) (now (starts .entry)) n → Running g (first + at) best → Running g (first + at + v) r) ⌝ }
 {
@@ -94,7 +99,7 @@ fn gather(h: &[u16], sh: Shape, b: usize, starts: &mut [usize]) -> usize
 {
     let m = sh.size;
     let mut n = 0;
-    let mut r = 0;
+    let mut r: usize = 0;
     while r < sh.rows {
         let at = 2 * (r * sh.blocks + b);
         n = note(h, at, m, 1024 * r, starts, n);
@@ -110,10 +115,7 @@ fn best_of(d: &[u64], h: &[u16], sh: Shape, starts: &mut [usize]) -> Best
     ensures { λ r. ⌜ ((c : Code) → Lent c (now (h .entry)) sh → (x : Word) → Twice sh (sh .rows) (laid c sh x) (wbit (now (d .entry))) → Running (score c x) (sh .blocks * sh .size) r) ⌝ }
 {
     let m = sh.size;
-    let mut best = Best {
-        score: 0,
-        bit: 0,
-    };
+    let mut best = Best { score: 0, bit: 0 };
     let mut b = 0;
     while b < sh.blocks {
         let n = gather(h, sh, b, starts);

@@ -8,10 +8,6 @@ use Rattle.choice.specs.Reading.{Scored}
 use Rattle.choice.proofs.Hits.{full-best}
 use Rattle.choice.proofs.best_block.Statement.{statement}
 use Rattle.choice.proofs.best_block.Tie as tie
-use Rattle.choice.proofs.best_block.Reads as reads
-use Rattle.choice.proofs.best_block.Lts as lts
-use Rattle.choice.proofs.best_part.Reads as best-part-reads
-use Rattle.choice.proofs.next.Reads as next-reads
 
 abbrev Inv-loop : tie.InvT-loop
 Inv-loop d starts n m first full b₀ at₀ b at =
@@ -20,49 +16,39 @@ Inv-loop d starts n m first full b₀ at₀ b at =
 abbrev μ-loop : tie.MeasureT-loop
 μ-loop d starts n m first full b₀ at₀ b at = m - at
 
--- src/lib.rt:62:20
 cast-full : tie.Need-cast-full Inv-loop μ-loop
 cast-full c = omega arith
 
--- src/lib.rt:62:16
 add-full : tie.Need-add-full Inv-loop μ-loop
 add-full c = omega arith
 
--- src/lib.rt:65:5
 loop-holds : tie.Need-loop-holds Inv-loop μ-loop
 loop-holds c = (omega arith, λ g scored was. subst (λ k. Running g k (c .before .before .args .best)) (omega arith) was)
 
--- src/lib.rt:67:13
 returns : tie.Need-returns Inv-loop μ-loop
 returns c g scored was =
     let a = c .before .before .before .before .before .before .args in
     let l = c .before .before .before .loop in
     full-best g (a .first) (l .at) (a .m) (wbit (a .d .now)) (a .starts .now) (a .n) scored (omega arith) (l .b) (omega arith) (l .inv .1 g scored was)
 
--- src/lib.rt:69:22
 sub-next : tie.Need-sub-next Inv-loop μ-loop
 sub-next c = omega arith
 
--- src/lib.rt:69:13
 next-requires : tie.Need-next-requires Inv-loop μ-loop
 next-requires c κs = tt
 
--- src/lib.rt:70:9
 best-part-requires : tie.Need-best-part-requires Inv-loop μ-loop
 best-part-requires c κs =
     let s = c .before .before .before .before .before .before .before in
     let n = c .next .ensures in
     (n .2 (omega arith), n .0, s .pre .0, s .pre .1, s .pre .2, omega arith, omega arith, λ e h. omega (arith, s .pre .5 e h))
 
--- src/lib.rt:71:9
 add-at : tie.Need-add-at Inv-loop μ-loop
 add-at c = omega arith
 
--- src/lib.rt:65:5
 loop-less : tie.Need-loop-less Inv-loop μ-loop
 loop-less c = omega (arith, c .before .next .ensures .2 (omega arith))
 
--- src/lib.rt:65:5
 loop-again : tie.Need-loop-again Inv-loop μ-loop
 loop-again c =
     let l = c .before .before .before .before .before .loop in (
@@ -71,7 +57,6 @@ loop-again c =
           (c .best-part .ensures g (record { few = scored .few; is = λ k h. scored .is k (omega arith) }) (l .inv .1 g scored was)),
     )
 
--- src/lib.rt:58:1
 returns-2 : tie.Need-returns-2 Inv-loop μ-loop
 returns-2 c g scored was =
     let a = c .before .before .before .before .args in

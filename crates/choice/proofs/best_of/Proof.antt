@@ -1,6 +1,6 @@
 -- `choice::best_of` meets its contract: the best so far after each block. Assumes nothing.
-use mathlib.Core.Path.{_≡_, sym, ap, _∙_, subst}
-use Prim.Native.Nat.{ℕ, _+_, _-_, _*_, _≤_}
+use mathlib.Core.Path.{_≡_, subst}
+use Prim.Native.Nat.{_+_, _-_, _*_, _≤_}
 use native.Mathlib.Omega.{arith}
 use borrow.Author.Needs.{needs}
 use lib.ListN.{length}
@@ -14,10 +14,6 @@ use Rattle.choice.proofs.Hits.{within}
 use Rattle.choice.proofs.Turned.{block-scored}
 use Rattle.choice.proofs.best_of.Statement.{statement}
 use Rattle.choice.proofs.best_of.Tie as tie
-use Rattle.choice.proofs.best_of.Reads as reads
-use Rattle.choice.proofs.best_of.Lts as lts
-use Rattle.choice.proofs.best_block.Reads as best-block-reads
-use Rattle.choice.proofs.gather.Reads as gather-reads
 
 abbrev Inv-loop : tie.InvT-loop
 Inv-loop d h sh starts₀ m best₀ b₀ starts best b =
@@ -27,25 +23,21 @@ Inv-loop d h sh starts₀ m best₀ b₀ starts best b =
 abbrev μ-loop : tie.MeasureT-loop
 μ-loop d h sh starts₀ m best₀ b₀ starts best b = sh .blocks - b
 
--- src/lib.rt:114:5
 loop-holds : tie.Need-loop-holds Inv-loop μ-loop
 loop-holds c =
     let s = c .before .before .before in
     let zero : 0 ≡ 0 * s .args .sh .size = omega arith in
     (omega arith, s .pre .2, λ k lent x two. subst (λ n. Running (score k x) n (record { score = 0; bit = 0 })) zero (running-none (score k x)))
 
--- src/lib.rt:115:13
 gather-requires : tie.Need-gather-requires Inv-loop μ-loop
 gather-requires c κs = (c .before .before .before .before .before .before .before .pre .0, omega arith, omega arith)
 
--- src/lib.rt:116:44
 mul-best-block : tie.Need-mul-best-block Inv-loop μ-loop
 mul-best-block c =
     let s = c .before .before .before .before .before .before .before .before .before .before .before in
     let w = within (c .before .before .before .before .before .before .before .loop .b) (s .args .sh .blocks) (s .args .sh .size) (omega arith) in
     omega (arith, s .pre .0 .bits)
 
--- src/lib.rt:116:9
 best-block-requires : tie.Need-best-block-requires Inv-loop μ-loop
 best-block-requires c κs =
     let s = c .before .before .before .before .before .before .before .before .before .before .before in
@@ -54,15 +46,12 @@ best-block-requires c κs =
     let g = c .before .before .before .gather .ensures in
     (g .0, omega arith, omega arith, omega arith, omega arith, λ e h. omega (arith, g .1 .near e h))
 
--- src/lib.rt:117:9
 add-b : tie.Need-add-b Inv-loop μ-loop
 add-b c = omega arith
 
--- src/lib.rt:114:5
 loop-less : tie.Need-loop-less Inv-loop μ-loop
 loop-less c = omega arith
 
--- src/lib.rt:114:5
 loop-again : tie.Need-loop-again Inv-loop μ-loop
 loop-again c =
     let s = c .before .before .before .before .before .before .before .before .before .before .before .before in
@@ -79,11 +68,9 @@ loop-again c =
           (l .inv .2 k lent x two)),
     )
 
--- src/lib.rt:104:1
 same-length : tie.Need-same-length Inv-loop μ-loop
 same-length c = search needs
 
--- src/lib.rt:104:1
 returns : tie.Need-returns Inv-loop μ-loop
 returns c k lent x two =
     let a = c .before .before .before .before .before .before .args in

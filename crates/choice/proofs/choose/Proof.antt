@@ -1,41 +1,30 @@
 -- `choice::choose` meets its contract: the best of all blocks is the best of the word. Assumes nothing.
-use mathlib.Core.Path.{_≡_, refl, sym, ap, _∙_}
+use mathlib.Core.Path.{refl, sym, ap, _∙_}
 use Prim.Native.Nat.{_+_, _*_, _%_}
 use native.Mathlib.Nat.{mul-pos}
 use borrow.Author.Needs.{needs}
 use Rattle.planes.proofs.Ranges.{top-ends}
 use Rattle.choice.proofs.choose.Statement.{statement}
 use Rattle.choice.proofs.choose.Tie as tie
-use Rattle.choice.proofs.choose.Reads as reads
-use Rattle.choice.proofs.choose.Lts as lts
-use Rattle.choice.proofs.best_of.Reads as best-of-reads
-use Rattle.choice.proofs.double_rows.Reads as double-rows-reads
 
--- src/lib.rt:167:24
 slice-aggregate-double-rows : tie.Need-slice-aggregate-double-rows
 slice-aggregate-double-rows c = search needs
 
--- src/lib.rt:167:32
 slice-aggregate-double-rows-2 : tie.Need-slice-aggregate-double-rows-2
 slice-aggregate-double-rows-2 c = search needs
 
--- src/lib.rt:167:5
 double-rows-requires : tie.Need-double-rows-requires
 double-rows-requires c κs = search needs
 
--- src/lib.rt:168:13
 slice-aggregate-best-of : tie.Need-slice-aggregate-best-of
 slice-aggregate-best-of c = search needs
 
--- src/lib.rt:168:24
 slice-aggregate-best-of-2 : tie.Need-slice-aggregate-best-of-2
 slice-aggregate-best-of-2 c = search needs
 
--- src/lib.rt:168:5
 best-of-requires : tie.Need-best-of-requires
 best-of-requires c κs = search needs
 
--- src/lib.rt:160:1
 returns : tie.Need-returns
 returns c k lent x held =
     let s = c .before .before .before .before .before .before .before .before .before .before .before in

@@ -1,19 +1,13 @@
 -- `choice::counted` meets its contract: after e turns the planes count what the first e starts have. Assumes nothing.
-use mathlib.Core.Path.{_≡_, sym, ap, _∙_}
+use mathlib.Core.Path.{_≡_, ap, _∙_}
 use Prim.Native.Nat.{ℕ, _+_, _-_, _≤_, _<_}
 use native.Mathlib.Omega.{arith}
-use lib.ListN.{getD}
 use Rattle.vectors.specs.Vectors.{wbit}
 use Rattle.planes.specs.Counts.{value}
 use Rattle.choice.specs.Reading.{hits}
 use Rattle.choice.proofs.Hits.{count-none, hit-more}
 use Rattle.choice.proofs.counted.Statement.{statement}
 use Rattle.choice.proofs.counted.Tie as tie
-use Rattle.choice.proofs.counted.Reads as reads
-use Rattle.choice.proofs.counted.Lts as lts
-use Rattle.planes.proofs.add.Reads as add-reads
-use Rattle.planes.proofs.none.Reads as none-reads
-use Rattle.vectors.proofs.window.Reads as window-reads
 
 abbrev Inv-loop : tie.InvT-loop
 Inv-loop d starts n at p₀ e₀ p e = (e ≤ n) × (n ≤ 7 → (i : ℕ) → i < 64 → value p i ≡ hits (wbit d) starts e (at + i))

@@ -1,63 +1,47 @@
 -- `choice::double_row` meets its contract: a part of d is the row twice over. Assumes nothing.
-use mathlib.Core.Path.{_≡_, sym, ap, _∙_, subst}
-use mathlib.Core.List.{List}
-use Prim.Native.Nat.{ℕ, _+_, _-_, _*_}
+use mathlib.Core.Path.{ap, _∙_}
+use Prim.Native.Nat.{_+_, _-_, _*_}
 use native.Mathlib.Omega.{arith}
 use borrow.Author.Needs.{needs}
-use lib.ListN.{length, drop, length-take, length-drop}
-use Rattle.vectors.specs.Vectors.{wbit, upTo, from, twice}
+use lib.ListN.{drop, length-take, length-drop}
+use Rattle.vectors.specs.Vectors.{wbit, from, twice}
 use Rattle.choice.proofs.Doubled.{upTo-again, placed}
 use Rattle.choice.proofs.double_row.Statement.{statement}
 use Rattle.choice.proofs.double_row.Tie as tie
-use Rattle.choice.proofs.double_row.Reads as reads
-use Rattle.choice.proofs.double_row.Lts as lts
-use Rattle.choice.proofs.row.Reads as row-reads
-use Rattle.vectors.proofs.double.Reads as double-reads
 
--- src/lib.rt:140:5
 row-requires : tie.Need-row-requires
 row-requires c κs = search needs
 
--- src/lib.rt:141:20
 mul-end : tie.Need-mul-end
 mul-end c = search needs
 
--- src/lib.rt:141:15
 add-end : tie.Need-add-end
 add-end c = search needs
 
--- src/lib.rt:142:18
 mul-double : tie.Need-mul-double
 mul-double c = search needs
 
--- src/lib.rt:142:18
 sub-double : tie.Need-sub-double
 sub-double c = search needs
 
--- src/lib.rt:142:18
 part-double-start : tie.Need-part-double-start
 part-double-start c = search needs
 
--- src/lib.rt:142:18
 part-double-end : tie.Need-part-double-end
 part-double-end c = search needs
 
--- src/lib.rt:142:5
 double-requires : tie.Need-double-requires
 double-requires c κs =
     let a = c .before .before .before .before .before .before .before .before .before .args in
     let clean = upTo-again (a .m) (from (64 * a .at) (wbit (a .s .now))) _ (c .before .before .before .before .row .ensures) in
     (clean, simp (length-take, length-drop) (omega arith), simp (length-take, length-drop) (omega arith))
 
--- src/lib.rt:136:1
 same-length : tie.Need-same-length
 same-length c = search needs
 
--- src/lib.rt:136:1
 same-length-2 : tie.Need-same-length-2
 same-length-2 c = search needs
 
--- src/lib.rt:136:1
 returns : tie.Need-returns
 returns c =
     let a = c .before .before .before .before .before .before .before .before .before .before .before .before .args in

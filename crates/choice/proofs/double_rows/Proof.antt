@@ -1,6 +1,6 @@
 -- `choice::double_rows` meets its contract: after r turns the first r rows stand twice over. Assumes nothing.
-use mathlib.Core.Path.{_≡_, sym, ap, _∙_, subst}
-use Prim.Native.Nat.{ℕ, _+_, _-_, _*_, _≤_}
+use mathlib.Core.Path.{_≡_}
+use Prim.Native.Nat.{_-_, _≤_}
 use native.Mathlib.Omega.{arith}
 use borrow.Author.Needs.{needs}
 use lib.ListN.{length}
@@ -10,9 +10,6 @@ use Rattle.choice.proofs.Hits.{within}
 use Rattle.choice.proofs.Doubled.{twice-more}
 use Rattle.choice.proofs.double_rows.Statement.{statement}
 use Rattle.choice.proofs.double_rows.Tie as tie
-use Rattle.choice.proofs.double_rows.Reads as reads
-use Rattle.choice.proofs.double_rows.Lts as lts
-use Rattle.choice.proofs.double_row.Reads as double-row-reads
 
 abbrev Inv-loop : tie.InvT-loop
 Inv-loop s sh v₀ d₀ words m r₀ v d r = (r ≤ sh .rows) × (length v ≡ 8) × (length d ≡ 65) × Twice sh r (wbit s) (wbit d)
@@ -20,19 +17,15 @@ Inv-loop s sh v₀ d₀ words m r₀ v d r = (r ≤ sh .rows) × (length v ≡ 8
 abbrev μ-loop : tie.MeasureT-loop
 μ-loop s sh v₀ d₀ words m r₀ v d r = sh .rows - r
 
--- src/lib.rt:153:5
 loop-holds : tie.Need-loop-holds Inv-loop μ-loop
 loop-holds c = (omega arith, omega arith, omega arith, λ q n hq. absurd (omega arith))
 
--- src/lib.rt:154:23
 mul-double-row : tie.Need-mul-double-row Inv-loop μ-loop
 mul-double-row c = omega (arith, within (c .before .before .loop .r) (c .before .before .before .before .before .before .args .sh .rows) (c .before .before .before .before .before .before .args .sh .words) (omega arith))
 
--- src/lib.rt:154:50
 mul-double-row-2 : tie.Need-mul-double-row-2 Inv-loop μ-loop
 mul-double-row-2 c = omega arith
 
--- src/lib.rt:154:9
 double-row-requires : tie.Need-double-row-requires Inv-loop μ-loop
 double-row-requires c κs =
     let s = c .before .before .before .before .before .before .before .before in
@@ -40,15 +33,12 @@ double-row-requires c κs =
     let w = within (l .r) (s .args .sh .rows) (s .args .sh .words) (omega arith) in
     (omega arith, omega arith, omega arith, omega arith, omega arith, omega arith)
 
--- src/lib.rt:155:9
 add-r : tie.Need-add-r Inv-loop μ-loop
 add-r c = omega arith
 
--- src/lib.rt:153:5
 loop-less : tie.Need-loop-less Inv-loop μ-loop
 loop-less c = omega arith
 
--- src/lib.rt:153:5
 loop-again : tie.Need-loop-again Inv-loop μ-loop
 loop-again c =
     let s = c .before .before .before .before .before .before .before .before .before .before .before .before .before in
@@ -61,15 +51,12 @@ loop-again c =
       twice-more (a .sh) (wbit (a .s .now)) (wbit (l .d)) _ (l .r) (omega arith) (l .inv .3) (c .before .before .before .before .double-row .ensures),
     )
 
--- src/lib.rt:146:1
 same-length : tie.Need-same-length Inv-loop μ-loop
 same-length c = search needs
 
--- src/lib.rt:146:1
 same-length-2 : tie.Need-same-length-2 Inv-loop μ-loop
 same-length-2 c = search needs
 
--- src/lib.rt:146:1
 returns : tie.Need-returns Inv-loop μ-loop
 returns c r n hr = c .before .before .loop .inv .3 r n (omega arith)
 

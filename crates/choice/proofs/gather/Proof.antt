@@ -1,6 +1,6 @@
 -- `choice::gather` meets its contract: after r turns the starts are those of the first r rows. Assumes nothing.
-use mathlib.Core.Path.{_≡_, sym, ap, _∙_, subst}
-use Prim.Native.Nat.{ℕ, _+_, _-_, _*_, _≤_}
+use mathlib.Core.Path.{_≡_, _∙_, subst}
+use Prim.Native.Nat.{_+_, _-_, _*_, _≤_}
 use native.Mathlib.Omega.{arith}
 use borrow.Author.Needs.{needs}
 use lib.ListN.{length}
@@ -9,9 +9,6 @@ use Rattle.choice.proofs.Hits.{within}
 use Rattle.choice.proofs.Entries.{noted-le, listed-none, listed-row}
 use Rattle.choice.proofs.gather.Statement.{statement}
 use Rattle.choice.proofs.gather.Tie as tie
-use Rattle.choice.proofs.gather.Reads as reads
-use Rattle.choice.proofs.gather.Lts as lts
-use Rattle.choice.proofs.note.Reads as note-reads
 
 abbrev Inv-loop : tie.InvT-loop
 Inv-loop h sh b starts₀ m n₀ r₀ starts n r = (r ≤ sh .rows) × (n ≤ 2 * r) × (length starts ≡ 8) × Listed starts n (3072 + sh .size) (asked h sh b r)
@@ -19,54 +16,42 @@ Inv-loop h sh b starts₀ m n₀ r₀ starts n r = (r ≤ sh .rows) × (n ≤ 2 
 abbrev μ-loop : tie.MeasureT-loop
 μ-loop h sh b starts₀ m n₀ r₀ starts n r = sh .rows - r
 
--- src/lib.rt:94:5
 loop-holds : tie.Need-loop-holds Inv-loop μ-loop
 loop-holds c =
     let s = c .before .before in
     let a = s .args in
     (omega arith, omega arith, s .pre .2, listed-none (a .starts .now) (3072 + a .sh .size) (a .h .now) (a .sh) (a .b))
 
--- src/lib.rt:95:23
 mul-at : tie.Need-mul-at Inv-loop μ-loop
 mul-at c = omega (arith, within (c .before .before .before .loop .r) (c .before .before .before .before .before .before .args .sh .rows) (c .before .before .before .before .before .before .args .sh .blocks) (omega arith))
 
--- src/lib.rt:95:23
 add-at : tie.Need-add-at Inv-loop μ-loop
 add-at c = omega (arith, within (c .before .before .before .loop .r) (c .before .before .before .before .before .before .args .sh .rows) (c .before .before .before .before .before .before .args .sh .blocks) (omega arith))
 
--- src/lib.rt:95:18
 mul-at-2 : tie.Need-mul-at-2 Inv-loop μ-loop
 mul-at-2 c = omega (arith, within (c .before .before .before .loop .r) (c .before .before .before .before .before .before .args .sh .rows) (c .before .before .before .before .before .before .args .sh .blocks) (omega arith))
 
--- src/lib.rt:96:28
 mul-note : tie.Need-mul-note Inv-loop μ-loop
 mul-note c = omega arith
 
--- src/lib.rt:96:9
 note-requires : tie.Need-note-requires Inv-loop μ-loop
 note-requires c κs = (omega (arith, within (c .before .before .before .before .loop .r) (c .before .before .before .before .before .before .before .args .sh .rows) (c .before .before .before .before .before .before .before .args .sh .blocks) (omega arith)), omega arith, omega arith, omega arith)
 
--- src/lib.rt:97:21
 add-note : tie.Need-add-note Inv-loop μ-loop
 add-note c = omega (arith, within (c .before .before .before .before .before .before .before .loop .r) (c .before .before .before .before .before .before .before .before .before .before .args .sh .rows) (c .before .before .before .before .before .before .before .before .before .before .args .sh .blocks) (omega arith))
 
--- src/lib.rt:97:32
 mul-note-2 : tie.Need-mul-note-2 Inv-loop μ-loop
 mul-note-2 c = omega arith
 
--- src/lib.rt:97:9
 note-requires-2 : tie.Need-note-requires-2 Inv-loop μ-loop
 note-requires-2 c κs = (omega (arith, within (c .before .before .before .before .before .before .before .before .loop .r) (c .before .before .before .before .before .before .before .before .before .before .before .args .sh .rows) (c .before .before .before .before .before .before .before .before .before .before .before .args .sh .blocks) (omega arith)), omega (arith, noted-le (c .before .before .before .note .ensures), c .before .before .before .note .ensures .long), omega arith, omega arith)
 
--- src/lib.rt:98:9
 add-r : tie.Need-add-r Inv-loop μ-loop
 add-r c = omega arith
 
--- src/lib.rt:94:5
 loop-less : tie.Need-loop-less Inv-loop μ-loop
 loop-less c = omega arith
 
--- src/lib.rt:94:5
 loop-again : tie.Need-loop-again Inv-loop μ-loop
 loop-again c =
     let s = c .before .before .before .before .before .before .before .before .before .before .before .before .before .before in
@@ -81,11 +66,9 @@ loop-again c =
       listed-row (a .h .now) (a .sh) (a .b) (l .r) (l .starts) _ _ (l .n) (one .result) (two .result) (3072 + a .sh .size) (omega arith) (omega arith) (one .ensures) (two .ensures) (l .inv .3),
     )
 
--- src/lib.rt:87:1
 same-length : tie.Need-same-length Inv-loop μ-loop
 same-length c = search needs
 
--- src/lib.rt:87:1
 returns : tie.Need-returns Inv-loop μ-loop
 returns c =
     let a = c .before .before .before .before .before .args in
