@@ -1,0 +1,71 @@
+-- The rows of the syndrome, each twice over at a place of its own.
+-- Assumes nothing.
+use mathlib.Core.Path.{_≡_, refl, sym, ap, ap₂, _∙_, fun-ext}
+use mathlib.Core.Bool.{Bool, true, false, _&&_}
+use mathlib.Core.Logic.{⊎-elim}
+use mathlib.Core.List.{List, _++_}
+use Prim.Native.Nat.{ℕ, _+_, _-_, _*_, _/_, _%_, _≤_, _<_}
+use native.Mathlib.Nat.{mod-eq-of-lt, mod-eq-sub-mod}
+use native.Mathlib.Decide.{ℕ-discrete}
+use native.Mathlib.Omega.{arith}
+use lib.Dec.{ltb}
+use lib.ListN.{getD, length, take, List·getD-append}
+use lib.Seq.{length-take-le, getD-append-add, getD-take}
+use Rattle.rules.specs.Bits.{Word, digit}
+use Rattle.vectors.specs.Vectors.{wbit, upTo, from, twice}
+use Rattle.vectors.proofs.Places.{le-or-lt}
+use Rattle.vectors.proofs.Cells.{joined-below, joined-above}
+use Rattle.vectors.proofs.Spans.{upTo-below}
+use Rattle.layout.specs.declared.Shape.{Shape}
+use Rattle.choice.specs.Reading.{Twice, Placed}
+
+-- The first m bits, and then all from the first on again: bit n is bit n modulo m.
+twice-mod : (m : ℕ) (x : Word) (n : ℕ) → n < 2 * m → twice m (upTo m x) n ≡ x (n % m)
+twice-mod m x n h = ⊎-elim
+    (λ (l : m ≤ n). joined-above m n (upTo m x) (λ k. upTo m x (k - m)) l ∙ upTo-below m (n - m) x (omega arith)
+    ∙ ap x (sym (mod-eq-sub-mod l ∙ mod-eq-of-lt (under l))))
+    (λ (l : n < m). joined-below m n (upTo m x) (λ k. upTo m x (k - m)) l ∙ upTo-below m n x l ∙ ap x (sym (mod-eq-of-lt l)))
+    (le-or-lt m n)
+  where
+    under : m ≤ n → n - m < m
+    under l = omega arith
+
+pub upTo-again : (m : ℕ) (x y : Word) → y ≡ upTo m x → y ≡ upTo m y
+upTo-again m x y e = e ∙ fun-ext (λ n. go (ltb n m) (x n)) ∙ ap (upTo m) (sym e)
+  where
+    go : (a b : Bool) → (a && b) ≡ (a && (a && b))
+    go true b = refl
+    go false b = refl
+
+-- A part of d from word `to` on is p.
+module _ (d p rest : List ℕ) (to : ℕ) (inside : to ≤ length d) where
+  before-part : (n : ℕ) → n < 64 * to → wbit (take to d ++ (p ++ rest)) n ≡ wbit d n
+  unfolding wbit
+  before-part n h =
+      ap (λ k. digit 64 k (n % 64))
+      (List·getD-append (take to d) (p ++ rest) 0 (n / 64) (omega (arith, length-take-le to d inside)) ∙ getD-take to d (n / 64) 0 (omega arith))
+
+  in-part : (n : ℕ) → n < 64 * length p → wbit (take to d ++ (p ++ rest)) (64 * to + n) ≡ wbit p n
+  unfolding wbit
+  in-part n h =
+      let q : (64 * to + n) / 64 ≡ length (take to d) + n / 64 = omega (arith, length-take-le to d inside) in
+      let r : (64 * to + n) % 64 ≡ n % 64 = omega arith in
+      ap₂ (λ q r. digit 64 (getD (take to d ++ (p ++ rest)) q 0) r) q r
+      ∙ ap (λ k. digit 64 k (n % 64)) (getD-append-add (take to d) (p ++ rest) (n / 64) 0 ∙ List·getD-append p rest 0 (n / 64) (omega arith))
+
+  pub placed : (s : Word) (start m : ℕ) → 2 * m ≤ 64 * length p → wbit p ≡ twice m (upTo m (from start s))
+      → Placed s start m (wbit d) (64 * to) (wbit (take to d ++ (p ++ rest)))
+  placed s start m fits e = record {
+    before = before-part;
+    here = λ n h. in-part n (omega arith) ∙ ap (λ x. x n) e ∙ twice-mod m (from start s) n h;
+  }
+
+-- A row more.
+pub twice-more : (sh : Shape) (s d d′ : Word) (r : ℕ) → 2 * sh .size ≤ 1024 → Twice sh r s d → Placed s (64 * (r * sh .words)) (sh .size) d (64 * (16 * r)) d′ → Twice sh (r + 1) s d′
+twice-more sh s d d′ r fits was new q n hq hn = go (ℕ-discrete q r)
+  where
+    go : Dec (q ≡ r) → d′ (1024 * q + n) ≡ s (64 * (q * sh .words) + n % sh .size)
+    go (yes e) =
+        let at : 1024 * q + n ≡ 64 * (16 * r) + n = omega arith in
+        ap d′ at ∙ new .here n hn ∙ ap (λ k. s (64 * (k * sh .words) + n % sh .size)) (sym e)
+    go (no u) = new .before (1024 * q + n) (omega arith) ∙ was q n (omega arith) hn

@@ -1,0 +1,108 @@
+-- The starts of a block, one place of the table after the other.
+-- Assumes nothing.
+use mathlib.Core.Path.{_≡_, refl, sym, ap, ap₂, _∙_, subst}
+use mathlib.Core.Bool.{Bool, true, false}
+use mathlib.Core.List.{List, [], _∷_}
+use Prim.Native.Nat.{ℕ, zero, suc, _+_, _-_, _*_, _≤_, _<_}
+use native.Mathlib.Nat.{add-zero}
+use native.Mathlib.Numerals.{add-one}
+use native.Mathlib.Decide.{ℕ-discrete}
+use native.Mathlib.Omega.{arith}
+use borrow.Author.Tests.{lt-ltb, le-ltb}
+use lib.Dec.{ltb}
+use lib.ListN.{getD, length, set, length-set}
+use lib.Seq.{getD-set-same, getD-set-other}
+use Rattle.rules.specs.Bits.{Word, count, tally, if_then_else_}
+use Rattle.rules.proofs.Blocks.{countOf}
+use Rattle.rules.proofs.Counting.{count-same, tally-le}
+use Rattle.layout.specs.declared.Shape.{Shape}
+use Rattle.layout.specs.Lent.{kept, total, placeOf, shiftsOf}
+use Rattle.choice.specs.Reading.{Noted, Listed, asked}
+use Rattle.choice.proofs.Hits.{count-more}
+
+-- Inside a list its default does not matter.
+pub any-default : (l : List ℕ) (i a b : ℕ) → i < length l → getD l i a ≡ getD l i b
+any-default [] i a b h = absurd (omega arith)
+any-default (x ∷ l) zero a b h = refl
+any-default (x ∷ l) (suc i) a b h = any-default l i a b (omega arith)
+
+-- A start is written where s is an entry, and none where it is not.
+module _ (s s′ m row : ℕ) (l : List ℕ) (n : ℕ) (same : s ≡ s′) where
+  pub noted : s′ < m → Noted s m row l n (set l n (row + (m - s′))) (n + 1)
+  noted h =
+      let t = lt-ltb s m (omega arith) in
+      record { long = length-set l n (row + (m - s′)); many = ap (λ b. n + tally b) (sym t); new = ap (λ k. set l n (row + (m - k))) (sym same) ∙ ap (λ b. if b then set l n (row + (m - s)) else l) (sym t) }
+
+  pub unnoted : m ≤ s′ → Noted s m row l n l n
+  unnoted h =
+      let t = le-ltb s m (omega arith) in
+      record { long = refl; many = sym (add-zero n) ∙ ap (λ b. n + tally b) (sym t); new = ap (λ b. if b then set l n (row + (m - s)) else l) (sym t) }
+
+pub noted-le : {s m row : ℕ} {l l′ : List ℕ} {n n′ : ℕ} → Noted s m row l n l′ n′ → n′ ≤ n + 1
+noted-le {s} {m} w = omega (arith, w .many, tally-le (ltb s m))
+
+kept-count : (m s : ℕ) (rest : List ℕ) (f : Word) → countOf (kept m s rest) f ≡ countOf (kept m s []) f + countOf rest f
+kept-count m s rest f = go (ltb s m)
+  where
+    go : (t : Bool) → countOf (if t then s ∷ rest else rest) f ≡ countOf (if t then s ∷ [] else []) f + countOf rest f
+    go true = omega arith
+    go false = omega arith
+
+moved : {l l′ : List ℕ} {n n′ end : ℕ} {f : Word → ℕ} → n′ ≡ n → l′ ≡ l → Listed l n end f → Listed l′ n′ end f
+moved {l} {l′} {n} {n′} {end} {f} e q w = subst (λ k. Listed k n′ end f) (sym q) (subst (λ k. Listed l k end f) (sym e) w)
+
+-- A start more.
+module _ (l l′ : List ℕ) (n n′ s m row end : ℕ) (f : Word → ℕ) where
+  pub listed-more : n < length l → row + m ≤ end → Noted s m row l n l′ n′ → Listed l n end f → Listed l′ n′ end (λ g. f g + countOf (kept m s []) (λ k. g (row + (m - k))))
+  listed-more room fits noted was = go (ltb s m) (noted .many) (noted .new)
+    where
+      v : ℕ
+      v = row + (m - s)
+
+      other : (e : ℕ) → e < n → getD (set l n v) e 0 ≡ getD l e 0
+      other e h = getD-set-other l n e v 0 (λ q. omega arith)
+
+      here : getD (set l n v) n 0 ≡ v
+      here = getD-set-same l n v 0 room
+
+      one : Listed (set l n v) (n + 1) end (λ g. f g + (tally (g v) + 0))
+      one = record {
+        near = λ e h. pick e h (ℕ-discrete e n);
+        each = λ g.
+            count-more n (λ e. g (getD (set l n v) e 0))
+            ∙ ap₂ _+_ (count-same n _ _ (λ e h. ap g (other e h)) ∙ was .each g) (ap (λ k. tally (g k)) here ∙ sym (add-zero (tally (g v))));
+      }
+        where
+          pick : (e : ℕ) → e < n + 1 → Dec (e ≡ n) → getD (set l n v) e 0 ≤ end
+          pick e h (yes q) = omega (arith, ap (λ k. getD (set l n v) k 0) q, here)
+          pick e h (no d) = omega (arith, other e (omega arith), was .near e (omega arith))
+
+      go : (t : Bool) → n′ ≡ n + tally t → l′ ≡ (if t then set l n v else l)
+          → Listed l′ n′ end (λ g. f g + countOf (if t then s ∷ [] else []) (λ k. g (row + (m - k))))
+      go true e q = moved e q one
+      go false e q = moved (e ∙ add-zero n) q (record { near = was .near; each = λ g. was .each g ∙ sym (add-zero (f g)) })
+
+pub total-more : (n : ℕ) (f : ℕ → ℕ) → total (n + 1) f ≡ total n f + f n
+unfolding total
+total-more n f = ap (λ k. total k f) (add-one n)
+
+pub listed-none : (l : List ℕ) (end : ℕ) (h : List ℕ) (sh : Shape) (b : ℕ) → Listed l 0 end (asked h sh b 0)
+unfolding count total
+listed-none l end h sh b = record { near = λ e h. absurd (omega arith); each = λ g. refl }
+
+-- The two places of a block make a row.
+module _ (h : List ℕ) (sh : Shape) (b r : ℕ) (l l′ l″ : List ℕ) (n n′ n″ end : ℕ) where
+  pub listed-row : n + 1 < length l → 1024 * r + sh .size ≤ end → Noted (getD h (placeOf sh r b) (sh .size)) (sh .size) (1024 * r) l n l′ n′
+      → Noted (getD h (placeOf sh r b + 1) (sh .size)) (sh .size) (1024 * r) l′ n′ l″ n″ → Listed l n end (asked h sh b r) → Listed l″ n″ end (asked h sh b (r + 1))
+  listed-row room fits one two was =
+      let m = sh .size in
+      let s = getD h (placeOf sh r b) m in
+      let s′ = getD h (placeOf sh r b + 1) m in
+      let all = listed-more l′ l″ n′ n″ s′ m (1024 * r) end _ (omega (arith, one .long, one .many, tally-le (ltb s m))) fits two
+      (listed-more l l′ n n′ s m (1024 * r) end (asked h sh b r) (omega arith) fits one was) in
+      record {
+        near = all .near;
+        each = λ g.
+            let ask : Word = λ k. g (1024 * r + (m - k)) in
+            omega (arith, all .each g, kept-count m s (kept m s′ []) ask, total-more r (λ q. countOf (shiftsOf sh h q b) (λ k. g (1024 * q + (m - k)))));
+      }

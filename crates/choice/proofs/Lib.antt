@@ -1,0 +1,5 @@
+pub mod Hits
+pub mod Entries
+pub mod Doubled
+pub mod Turned
+pub mod Excesses

@@ -1,0 +1,91 @@
+-- What the doubled rows have at the starts of a block: the checks of its bits.
+-- Assumes nothing.
+use mathlib.Core.Path.{_≡_, refl, sym, ap, ap₂, _∙_}
+use mathlib.Core.Bool.{Bool, true, false, _&&_}
+use mathlib.Core.List.{List, [], _∷_}
+use Prim.Native.Nat.{ℕ, zero, suc, _+_, _-_, _*_, _/_, _%_, _≤_, _<_}
+use native.Mathlib.Nat.{mod-lt, div-eq-of-lt-le, mod-def}
+use native.Mathlib.Omega.{arith}
+use borrow.Author.Tests.{ltb-true, lt-ltb}
+use lib.Dec.{ltb}
+use lib.ListN.{getD, length}
+use Rattle.rules.specs.Bits.{Word, count, tally, if_then_else_}
+use Rattle.rules.specs.Codes.{Code}
+use Rattle.rules.specs.Checks.{check}
+use Rattle.rules.proofs.Blocks.{countOf}
+use Rattle.rules.proofs.Flips.{brokenOf}
+use Rattle.layout.specs.declared.Shape.{Shape}
+use Rattle.layout.specs.Lent.{kept, entries, total, placeOf, shiftsOf, Lent, laid, score}
+use Rattle.choice.specs.Reading.{Twice, hits, Scored, Starts}
+
+-- ---- sums over rows and over entries
+
+pub total-same : (n : ℕ) (f g : ℕ → ℕ) → ((r : ℕ) → r < n → f r ≡ g r) → total n f ≡ total n g
+unfolding total
+total-same zero f g e = refl
+total-same (suc n) f g e = ap₂ _+_ (total-same n f g (λ r h. e r (omega arith))) (e n (omega arith))
+
+-- Every entry is below M.
+kept-same : (m s : ℕ) (rest : List ℕ) (f g : Word) → ((k : ℕ) → k < m → f k ≡ g k) → countOf rest f ≡ countOf rest g → countOf (kept m s rest) f ≡ countOf (kept m s rest) g
+kept-same m s rest f g e w = go (ltb s m) refl
+  where
+    go : (t : Bool) → ltb s m ≡ t → countOf (if t then s ∷ rest else rest) f ≡ countOf (if t then s ∷ rest else rest) g
+    go true q = ap₂ _+_ (ap tally (e s (ltb-true s m q))) w
+    go false q = w
+
+entries-same : (m : ℕ) (h : List ℕ) (at : ℕ) (f g : Word) → ((k : ℕ) → k < m → f k ≡ g k) → countOf (entries m h at) f ≡ countOf (entries m h at) g
+entries-same m h at f g e = kept-same m (getD h at m) _ f g e (kept-same m (getD h (at + 1) m) [] f g e refl)
+
+count-all : (n : ℕ) → count n (λ e. true) ≡ n
+unfolding count
+count-all zero = refl
+count-all (suc n) = omega (arith, count-all n)
+
+list-all : (s : List ℕ) → countOf s (λ e. true) ≡ length s
+list-all [] = refl
+list-all (x ∷ s) = omega (arith, list-all s)
+
+-- ---- a check as it is held
+
+laid-at : (c : Code) (sh : Shape) (x : Word) (r i : ℕ) → r < sh .rows → i < sh .size → sh .size ≤ 64 * sh .words
+    → laid c sh x (64 * (r * sh .words) + i) ≡ check c x (r * sh .size + i)
+unfolding laid
+laid-at c sh x r i hr hi fits =
+    let wide = 64 * sh .words in
+    let n = 64 * (r * sh .words) + i in
+    let whole : n / wide ≡ r = div-eq-of-lt-le wide (omega arith) (omega arith) in
+    let rest : n % wide ≡ i = mod-def n wide ∙ ap (λ q. n - wide * q) whole ∙ left in
+    ap₂ (λ q j. ltb q (sh .rows) && (ltb j (sh .size) && check c x (q * sh .size + j))) whole rest
+    ∙ ap₂ (λ s t. s && (t && check c x (r * sh .size + i))) (lt-ltb r (sh .rows) hr) (lt-ltb i (sh .size) hi)
+  where
+    left : 64 * (r * sh .words) + i - 64 * sh .words * r ≡ i
+    left = omega arith
+
+module _ (c : Code) (h : List ℕ) (sh : Shape) (lent : Lent c h sh) (x d : Word) (fits : sh .size ≤ 64 * sh .words) (two : Twice sh (sh .rows) (laid c sh x) d) where
+  -- k places after the start of an entry s of row r stands the check of bit k.
+  turned : (r s k : ℕ) → r < sh .rows → s < sh .size → k < sh .size → d (1024 * r + (sh .size - s) + k) ≡ check c x (r * sh .size + (k + (sh .size - s)) % sh .size)
+  turned r s k hr hs hk =
+      let m = sh .size in
+      let n = k + (m - s) in
+      let e : 1024 * r + (m - s) + k ≡ 1024 * r + n = omega arith in
+      ap d e ∙ two r n hr (omega arith) ∙ laid-at c sh x r (n % m) hr (mod-lt n (omega arith)) fits
+
+  module _ (b : ℕ) (hb : b < sh .blocks) (starts : List ℕ) (n : ℕ) (are : Starts h sh b starts n) where
+    all : n ≡ total (sh .rows) (λ r. length (shiftsOf sh h r b))
+    all = sym (count-all n) ∙ are .each (λ p. true) ∙ total-same (sh .rows) _ _ (λ r hr. list-all (shiftsOf sh h r b))
+
+    few : n ≤ 7
+    few = omega (arith, all, lent .few b hb)
+
+    hits-broken : (k : ℕ) → k < sh .size → hits d starts n k ≡ brokenOf c x (b * sh .size + k)
+    hits-broken k hk =
+        are .each (λ p. d (p + k))
+        ∙ total-same (sh .rows) _ _ (λ r hr. entries-same (sh .size) h (placeOf sh r b) _ _ (λ s hs. turned r s k hr hs hk))
+        ∙ sym (lent .broken-by x b k hb hk)
+
+    hits-score : (k : ℕ) → k < sh .size → score c x (b * sh .size + k) ≡ 2 * hits d starts n k + (8 - n)
+    unfolding score
+    hits-score k hk = omega (arith, hits-broken k hk, lent .degree-by b k hb hk, all, few)
+
+    pub block-scored : Scored (score c x) (b * sh .size) (sh .size) d starts n
+    block-scored = record { few = few; is = hits-score }

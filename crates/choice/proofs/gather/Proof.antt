@@ -1,0 +1,98 @@
+-- `choice::gather` meets its contract: after r turns the starts are those of the first r rows. Assumes nothing.
+use mathlib.Core.Path.{_≡_, _∙_, subst}
+use Prim.Native.Nat.{_+_, _-_, _*_, _≤_}
+use native.Mathlib.Omega.{arith}
+use borrow.Author.Needs.{needs}
+use lib.ListN.{length}
+use Rattle.choice.specs.Reading.{Listed, asked}
+use Rattle.choice.proofs.Hits.{within}
+use Rattle.choice.proofs.Entries.{noted-le, listed-none, listed-row}
+use Rattle.choice.proofs.gather.Statement.{statement}
+use Rattle.choice.proofs.gather.Tie as tie
+
+abbrev Inv-loop : tie.InvT-loop
+Inv-loop h sh b starts₀ m n₀ r₀ starts n r = (r ≤ sh .rows) × (n ≤ 2 * r) × (length starts ≡ 8) × Listed starts n (3072 + sh .size) (asked h sh b r)
+
+abbrev μ-loop : tie.MeasureT-loop
+μ-loop h sh b starts₀ m n₀ r₀ starts n r = sh .rows - r
+
+loop-holds : tie.Need-loop-holds Inv-loop μ-loop
+loop-holds c =
+    let s = c .before .before in
+    let a = s .args in
+    (omega arith, omega arith, s .pre .2, listed-none (a .starts .now) (3072 + a .sh .size) (a .h .now) (a .sh) (a .b))
+
+mul-at : tie.Need-mul-at Inv-loop μ-loop
+mul-at c = omega (arith, within (c .before .before .before .loop .r) (c .before .before .before .before .before .before .args .sh .rows) (c .before .before .before .before .before .before .args .sh .blocks) (omega arith))
+
+add-at : tie.Need-add-at Inv-loop μ-loop
+add-at c = omega (arith, within (c .before .before .before .loop .r) (c .before .before .before .before .before .before .args .sh .rows) (c .before .before .before .before .before .before .args .sh .blocks) (omega arith))
+
+mul-at-2 : tie.Need-mul-at-2 Inv-loop μ-loop
+mul-at-2 c = omega (arith, within (c .before .before .before .loop .r) (c .before .before .before .before .before .before .args .sh .rows) (c .before .before .before .before .before .before .args .sh .blocks) (omega arith))
+
+mul-note : tie.Need-mul-note Inv-loop μ-loop
+mul-note c = omega arith
+
+note-requires : tie.Need-note-requires Inv-loop μ-loop
+note-requires c κs = (omega (arith, within (c .before .before .before .before .loop .r) (c .before .before .before .before .before .before .before .args .sh .rows) (c .before .before .before .before .before .before .before .args .sh .blocks) (omega arith)), omega arith, omega arith, omega arith)
+
+add-note : tie.Need-add-note Inv-loop μ-loop
+add-note c = omega (arith, within (c .before .before .before .before .before .before .before .loop .r) (c .before .before .before .before .before .before .before .before .before .before .args .sh .rows) (c .before .before .before .before .before .before .before .before .before .before .args .sh .blocks) (omega arith))
+
+mul-note-2 : tie.Need-mul-note-2 Inv-loop μ-loop
+mul-note-2 c = omega arith
+
+note-requires-2 : tie.Need-note-requires-2 Inv-loop μ-loop
+note-requires-2 c κs = (omega (arith, within (c .before .before .before .before .before .before .before .before .loop .r) (c .before .before .before .before .before .before .before .before .before .before .before .args .sh .rows) (c .before .before .before .before .before .before .before .before .before .before .before .args .sh .blocks) (omega arith)), omega (arith, noted-le (c .before .before .before .note .ensures), c .before .before .before .note .ensures .long), omega arith, omega arith)
+
+add-r : tie.Need-add-r Inv-loop μ-loop
+add-r c = omega arith
+
+loop-less : tie.Need-loop-less Inv-loop μ-loop
+loop-less c = omega arith
+
+loop-again : tie.Need-loop-again Inv-loop μ-loop
+loop-again c =
+    let s = c .before .before .before .before .before .before .before .before .before .before .before .before .before .before in
+    let a = s .args in
+    let rows = s .pre .0 .rows in
+    let l = c .before .before .before .before .before .before .before .before .before .before .before .loop in
+    let one = c .before .before .before .before .before .before .note in
+    let two = c .before .before .note2 in (
+      omega arith,
+      omega (arith, noted-le (one .ensures), noted-le (two .ensures)),
+      two .ensures .long ∙ one .ensures .long ∙ l .inv .2,
+      listed-row (a .h .now) (a .sh) (a .b) (l .r) (l .starts) _ _ (l .n) (one .result) (two .result) (3072 + a .sh .size) (omega arith) (omega arith) (one .ensures) (two .ensures) (l .inv .3),
+    )
+
+same-length : tie.Need-same-length Inv-loop μ-loop
+same-length c = search needs
+
+returns : tie.Need-returns Inv-loop μ-loop
+returns c =
+    let a = c .before .before .before .before .before .args in
+    let l = c .before .before .loop in
+    let all : l .r ≡ a .sh .rows = omega arith in
+    (omega arith, subst (λ k. Listed (l .starts) (l .n) (3072 + a .sh .size) (asked (a .h .now) (a .sh) (a .b) k)) all (l .inv .3))
+
+pub gather-spec : {M : Type 1} → statement M
+gather-spec =
+    tie.close
+    (tie.spec
+    Inv-loop
+    μ-loop
+    loop-holds
+    mul-at
+    add-at
+    mul-at-2
+    mul-note
+    note-requires
+    add-note
+    mul-note-2
+    note-requires-2
+    add-r
+    loop-less
+    loop-again
+    same-length
+    returns)

@@ -1,0 +1,175 @@
+// The bit of greatest excess, 64 bits of the word at a time.
+ghost use mathlib.Core.Path.{_≡_};
+ghost use Prim.Native.Nat.{ℕ, _+_, _-_, _*_, _^_, _<_, _≤_};
+ghost use lib.ListN.{length, getD, set};
+ghost use Rattle.rules.specs.Bits.{Word, if_then_else_};
+ghost use Rattle.rules.specs.Codes.{Code, bits};
+ghost use Rattle.vectors.specs.Vectors.{wbit, upTo, from};
+ghost use Rattle.planes.specs.Counts.{value};
+ghost use Rattle.planes.specs.Ranges.{Top};
+ghost use Rattle.planes.proofs.Ranges.{Running};
+ghost use Rattle.layout.specs.Lent.{Fit, Lent, laid, score};
+ghost use Rattle.choice.specs.Reading.{Twice, Placed, hits, Scored, Noted, Starts};
+use layout::Shape;
+use planes::Best;
+use planes::Planes;
+use planes::add;
+use planes::better;
+use planes::most;
+use planes::none;
+use vectors::double;
+use vectors::trim;
+use vectors::window;
+
+// Of each of 64 bits, how many of the n starts have theirs set.
+fn counted(d: &[u64], starts: &[usize], n: usize, at: usize) -> Planes
+    requires { ⌜ (n ≤ length (now starts)) × (length (now d) < 2 ^ 32) × ((e : ℕ) → e < n → 64 + (getD (now starts) e 0 + at) < 64 * length (now d)) ⌝ }
+    ensures { λ r. ⌜ (n ≤ 7 → (i : ℕ) → i < 64 → value r i ≡ hits (wbit (now (d .entry))) (now (starts .entry)) n (at + i)) ⌝ }
+{
+    let mut p = none();
+    let mut e = 0;
+    while e < n {
+        p = add(p, window(d, starts[e] + at));
+        e += 1;
+    }
+    p
+}
+
+// The less of 64 and what is left.
+fn next(left: usize) -> usize
+    ensures { λ r. ⌜ (r ≤ 64) × (r ≤ left) × (1 ≤ left → 1 ≤ r) ⌝ }
+{
+    if left < 64 { left } else { 64 }
+}
+
+// The best so far, and the best of the v bits of a block from bit `at` on; the block's first bit is `first`.
+fn best_part(
+    d: &[u64],
+    starts: &[usize],
+    n: usize,
+    first: usize,
+    at: usize,
+    v: usize,
+    best: Best,
+) -> Best
+    requires { ⌜ (1 ≤ v) × (v ≤ 64) × (n ≤ 8) × (n ≤ length (now starts)) × (length (now d) < 2 ^ 32) × (first < 2 ^ 32) × (at < 2 ^ 32) × ((e : ℕ) → e < n → 64 + (getD (now starts) e 0 + at) < 64 * length (now d)) ⌝ }
+    ensures { λ r. ⌜ ((g : ℕ → ℕ) → Scored g first (at + v) (wbit (now (d .entry))) (now (starts .entry)) n → Running g (first + at) best → Running g (first + at + v) r) ⌝ }
+{
+    let peak = most(counted(d, starts, n, at), v);
+    better(best, 2 * peak.count + (8 - n) as u32, first + at + peak.at)
+}
+
+// The best so far, and the best of a block of m bits from bit `first` on. Where all n checks are broken, no later bit of the block is better.
+fn best_block(d: &[u64], starts: &[usize], n: usize, m: usize, first: usize, best: Best) -> Best
+    requires { ⌜ (n ≤ 8) × (n ≤ length (now starts)) × (length (now d) < 2 ^ 32) × (first < 2 ^ 31) × (m < 2 ^ 31) × ((e : ℕ) → e < n → 64 + (getD (now starts) e 0 + m) ≤ 64 * length (now d)) ⌝ }
+    ensures { λ r. ⌜ ((g : ℕ → ℕ) → Scored g first m (wbit (now (d .entry))) (now (starts .entry)) n → Running g first best → Running g (first + m) r) ⌝ }
+{
+    let full = 8 + n as u32;
+    let mut b = best;
+    let mut at = 0;
+    while at < m {
+        if full <= b.score {
+            return b;
+        }
+        let v = next(m - at);
+        b = best_part(d, starts, n, first, at, v, b);
+        at += v;
+    }
+    b
+}
+
+// Writes one start more, if place `at` of h has an entry, and says how many there are then.
+fn note(h: &[u16], at: usize, m: usize, row: usize, starts: &mut [usize], n: usize) -> usize
+    requires { ⌜ (at < length (now h)) × (n < length (now starts)) × (m < 2 ^ 32) × (row < 2 ^ 32) ⌝ }
+    ensures { λ r. ⌜ Noted (getD (now (h .entry)) at m) m row (now (starts .entry)) n (now (starts .exit)) r ⌝ }
+{
+    let s = h[at] as usize;
+    if s < m {
+        starts[n] = row + (m - s);
+        n + 1
+    } else {
+        n
+    }
+}
+
+// The starts of block b, and how many they are.
+fn gather(h: &[u16], sh: Shape, b: usize, starts: &mut [usize]) -> usize
+    requires { ⌜ Fit (now h) sh × (b < sh .blocks) × (length (now starts) ≡ 8) ⌝ }
+    ensures { λ r. ⌜ (r ≤ 8) × Starts (now (h .entry)) sh b (now (starts .exit)) r ⌝ }
+{
+    let m = sh.size;
+    let mut n = 0;
+    let mut r: usize = 0;
+    while r < sh.rows {
+        let at = 2 * (r * sh.blocks + b);
+        n = note(h, at, m, 1024 * r, starts, n);
+        n = note(h, at + 1, m, 1024 * r, starts, n);
+        r += 1;
+    }
+    n
+}
+
+// The best bit of all blocks.
+fn best_of(d: &[u64], h: &[u16], sh: Shape, starts: &mut [usize]) -> Best
+    requires { ⌜ Fit (now h) sh × (length (now d) ≡ 65) × (length (now starts) ≡ 8) ⌝ }
+    ensures { λ r. ⌜ ((c : Code) → Lent c (now (h .entry)) sh → (x : Word) → Twice sh (sh .rows) (laid c sh x) (wbit (now (d .entry))) → Running (score c x) (sh .blocks * sh .size) r) ⌝ }
+{
+    let m = sh.size;
+    let mut best = Best { score: 0, bit: 0 };
+    let mut b = 0;
+    while b < sh.blocks {
+        let n = gather(h, sh, b, starts);
+        best = best_block(d, starts, n, m, b * m, best);
+        b += 1;
+    }
+    best
+}
+
+// The m bits of a row that begins with word `at`.
+fn row(s: &[u64], at: usize, words: usize, m: usize, v: &mut [u64])
+    requires { ⌜ (at + words ≤ length (now s)) × (words ≤ length (now v)) × (m ≤ 64 * words) ⌝ }
+    ensures { λ r. ⌜ wbit (now (v .exit)) ≡ upTo m (from (64 * at) (wbit (now (s .entry)))) ⌝ }
+{
+    let mut k = 0;
+    while k < words {
+        v[k] = s[at + k];
+        k += 1;
+    }
+    trim(v, m);
+}
+
+// The m bits of a row that begins with word `at`, twice over from word `to` of d on.
+fn double_row(s: &[u64], at: usize, words: usize, m: usize, v: &mut [u64], d: &mut [u64], to: usize)
+    requires { ⌜ (at + words ≤ length (now s)) × (words ≤ length (now v)) × (1 ≤ m) × (m ≤ 64 * words) × (to + 2 * words ≤ length (now d)) × (length (now d) < 2 ^ 32) ⌝ }
+    ensures { λ r. ⌜ Placed (wbit (now (s .entry))) (64 * at) m (wbit (now (d .entry))) (64 * to) (wbit (now (d .exit))) ⌝ }
+{
+    row(s, at, words, m, v);
+    let end = to + 2 * words;
+    double(v, m, &mut d[to..end]);
+}
+
+// Every row of the syndrome twice over.
+fn double_rows(s: &[u64], sh: Shape, v: &mut [u64], d: &mut [u64])
+    requires { ⌜ (1 ≤ sh .size) × (sh .size ≤ 64 * sh .words) × (sh .words ≤ 8) × (sh .rows ≤ 4) × (sh .rows * sh .words ≤ 16) × (length (now s) ≡ 16) × (length (now v) ≡ 8) × (length (now d) ≡ 65) ⌝ }
+    ensures { λ r. ⌜ Twice sh (sh .rows) (wbit (now (s .entry))) (wbit (now (d .exit))) ⌝ }
+{
+    let words = sh.words;
+    let m = sh.size;
+    let mut r = 0;
+    while r < sh.rows {
+        double_row(s, r * words, words, m, v, d, 16 * r);
+        r += 1;
+    }
+}
+
+// The bit of the greatest score, the lowest number of several.
+pub fn choose(s: &[u64], h: &[u16], sh: Shape) -> Best
+    requires { ⌜ Fit (now h) sh × (length (now s) ≡ 16) × (1 ≤ sh .blocks) ⌝ }
+    ensures { λ r. ⌜ ((c : Code) → Lent c (now (h .entry)) sh → (x : Word) → wbit (now (s .entry)) ≡ laid c sh x → Top (score c x) 0 (bits c) (r .bit) (r .score)) ⌝ }
+{
+    let mut v: [u64; 8] = [0; 8];
+    let mut d: [u64; 65] = [0; 65];
+    let mut starts: [usize; 8] = [0; 8];
+    double_rows(s, sh, &mut v, &mut d);
+    best_of(&d, h, sh, &mut starts)
+}
