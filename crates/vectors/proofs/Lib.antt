@@ -1,0 +1,6 @@
+pub mod Places
+pub mod Cells
+pub mod Filling
+pub mod Spans
+pub mod Octets
+pub mod Counts

@@ -1,0 +1,229 @@
+-- Octets of words and words of octets. Assumes nothing.
+use mathlib.Core.Path.{_≡_, refl, sym, ap, _∙_, subst, fun-ext}
+use mathlib.Core.Bool.{Bool, true, false, _&&_}
+use mathlib.Core.Logic.{⊎-elim}
+use mathlib.Core.List.{List, [], _∷_}
+use Prim.Native.Nat.{ℕ, zero, suc, _+_, _-_, _*_, _/_, _%_, _^_, _≤_, _<_}
+use native.Mathlib.Nat.{pow-suc, div-one, lt-of-lt-of-le}
+use native.Mathlib.Omega.{arith}
+use lib.Dec.{ltb, eqb, lit<}
+use lib.Arith.{digits-lt}
+use lib.Pow.{pow-add, pow-mono}
+use lib.ListN.{getD, length}
+use borrow.Author.Tests.{lt-ltb, le-ltb}
+use Rattle.rules.specs.Bits.{Word, digit, bit, tally, number, octets}
+use Rattle.vectors.specs.Vectors.{Holds, upTo, from, joined}
+use Rattle.vectors.proofs.Places.{le-or-lt, place, place-front, place-behind, place-zero, place-cut, place-up, place-down, place-below}
+use Rattle.vectors.proofs.Cells.{cell-at, cell-past, same-cells, joined-below, joined-above}
+use Rattle.vectors.proofs.Spans.{upTo-below, upTo-above}
+
+-- ---- the number written with the first bits of a word
+
+tally-lt : (b : Bool) → tally b < 2
+tally-lt true = lit< tt
+tally-lt false = lit< tt
+
+tally-place : (b : Bool) → eqb (tally b % 2) 1 ≡ b
+tally-place true = refl
+tally-place false = refl
+
+pub number-lt : (w : ℕ) (x : Word) → number w x < 2 ^ w
+unfolding number
+number-lt zero x = lit< tt
+number-lt (suc w) x = omega (arith, number-lt w x, tally-lt (x w), pow-suc 2 w)
+
+pub number-digit : (w : ℕ) (x : Word) (i : ℕ) → i < w → digit w (number w x) i ≡ x i
+unfolding number
+number-digit zero x i h = absurd (omega arith)
+number-digit (suc w) x i h = ⊎-elim last (λ l. before l (number-digit w x i l)) (le-or-lt w i)
+  where
+    n : ℕ
+    n = number w x
+
+    b : ℕ
+    b = tally (x w)
+
+    two : 2 * n + b ≡ n * 2 ^ 1 + b
+    two = omega arith
+
+    before : i < w → digit w n i ≡ x i → digit (suc w) (2 * n + b) i ≡ x i
+    before l known =
+        let e : suc w - suc i ≡ 1 + (w - suc i) = omega arith in
+        ap (λ (k : ℕ). place k (suc w - suc i)) two
+        ∙ ap (place (n * 2 ^ 1 + b)) e
+        ∙ place-front n b 1 (tally-lt (x w)) (w - suc i)
+        ∙ known
+
+    last : w ≤ i → digit (suc w) (2 * n + b) i ≡ x i
+    last l =
+        let e : suc w - suc i ≡ 0 = omega arith in
+        let same : w ≡ i = omega arith in
+        let odd : (2 * n + b) % 2 ≡ b % 2 = omega arith in
+        ap (place (2 * n + b)) e
+        ∙ ap (λ (k : ℕ). eqb (k % 2) 1) (div-one (2 * n + b))
+        ∙ ap (λ (k : ℕ). eqb k 1) odd
+        ∙ tally-place (x w)
+        ∙ ap x same
+
+-- ---- octets
+
+pub length-octets : (n : ℕ) (x : Word) → length (octets n x) ≡ n
+unfolding octets
+length-octets zero x = refl
+length-octets (suc n) x = ap suc (length-octets n (λ k. x (8 + k)))
+
+pub octet-lt : (n : ℕ) (x : Word) (i : ℕ) → getD (octets n x) i 0 < 2 ^ 8
+unfolding octets
+octet-lt zero x i = lit< tt
+octet-lt (suc n) x zero = number-lt 8 x
+octet-lt (suc n) x (suc i) = octet-lt n (λ k. x (8 + k)) i
+
+-- The octets of a word have its bits.
+pub bit-octets : (n : ℕ) (x : Word) → bit (octets n x) ≡ upTo (8 * n) x
+unfolding octets
+bit-octets zero x = fun-ext (λ k. place-zero (8 - suc (k % 8)) ∙ sym (upTo-above (8 * 0) k x (omega arith)))
+bit-octets (suc n) x = fun-ext (λ k. ⊎-elim (behind (bit-octets n rest) k) (front k) (le-or-lt 8 k))
+  where
+    rest : Word
+    rest k = x (8 + k)
+
+    all : List ℕ
+    all = number 8 x ∷ octets n rest
+
+    front : (k : ℕ) → k < 8 → bit all k ≡ upTo (8 * suc n) x k
+    front k h =
+        let q : k / 8 ≡ 0 = omega arith in
+        let r : k % 8 ≡ k = omega arith in
+        ap (λ (i : ℕ). digit 8 (getD all i 0) (k % 8)) q
+        ∙ ap (digit 8 (number 8 x)) r
+        ∙ number-digit 8 x k h
+        ∙ sym (upTo-below (8 * suc n) k x (omega arith))
+
+    behind : bit (octets n rest) ≡ upTo (8 * n) rest → (k : ℕ) → 8 ≤ k → bit all k ≡ upTo (8 * suc n) x k
+    behind known k h =
+        let d = k - 8 in
+        let e : k ≡ 8 + d = omega arith in
+        let q : k / 8 ≡ suc (d / 8) = omega arith in
+        let r : k % 8 ≡ d % 8 = omega arith in
+        ap (λ (i : ℕ). digit 8 (getD all i 0) (k % 8)) q
+        ∙ ap (digit 8 (getD (octets n rest) (d / 8) 0)) r
+        ∙ ap (λ (y : Word). y d) known
+        ∙ ⊎-elim
+        (λ (l : 8 * n ≤ d). upTo-above (8 * n) d rest l ∙ sym (upTo-above (8 * suc n) k x (omega arith)))
+        (λ (l : d < 8 * n). upTo-below (8 * n) d rest l ∙ ap x (sym e) ∙ sym (upTo-below (8 * suc n) k x (omega arith)))
+        (le-or-lt (8 * n) d)
+
+-- A list of octets is known by its length and its bits.
+pub octets-of : (o : List ℕ) (n : ℕ) (x : Word) → length o ≡ n → ((i : ℕ) → getD o i 0 < 2 ^ 8) → bit o ≡ upTo (8 * n) x → o ≡ octets n x
+octets-of o n x e h b =
+    same-cells 8 (lit< tt) o (octets n x) (e ∙ sym (length-octets n x)) h (octet-lt n x) (b ∙ sym (bit-octets n x))
+
+pub bits-upTo : (o : List ℕ) → bit o ≡ upTo (8 * length o) (bit o)
+bits-upTo o =
+    fun-ext
+    (λ k.
+    ⊎-elim
+    (λ (h : 8 * length o ≤ k). cell-past 8 (lit< tt) o k h ∙ sym (upTo-above (8 * length o) k (bit o) h))
+    (λ (h : k < 8 * length o). sym (upTo-below (8 * length o) k (bit o) h))
+    (le-or-lt (8 * length o) k))
+
+pub octets-bit : (o : List ℕ) → ((i : ℕ) → getD o i 0 < 2 ^ 8) → octets (length o) (bit o) ≡ o
+octets-bit o h = sym (octets-of o (length o) (bit o) refl h (bits-upTo o))
+
+-- ---- octets gathered into a number
+
+pub fits : (m k v : ℕ) → v < 2 ^ m → m ≤ k → v < 2 ^ k
+fits m k v h l = lt-of-lt-of-le h (pow-mono l)
+
+-- The number of the first n octets from octet `at` on.
+abbrev pub Gathered : List ℕ → ℕ → ℕ → ℕ → Type 0
+Gathered o at n v = (v < 2 ^ (8 * n)) × ((i : ℕ) → i < 8 * n → digit (8 * n) v i ≡ bit o (8 * at + i))
+
+pub octet-more : (o : List ℕ) (at n v : ℕ) → getD o (at + n) 0 < 2 ^ 8 → Gathered o at n v → Gathered o at (n + 1) (v * 256 + getD o (at + n) 0)
+octet-more o at n v hb g =
+    (subst (λ (k : ℕ). v * 256 + b < k) (sym (pow-add 2 (8 * n) 8) ∙ ap (λ (k : ℕ). 2 ^ k) wide) (digits-lt (g .0) hb),
+    λ i hi. ⊎-elim (behind i hi) (front i) (le-or-lt (8 * n) i))
+  where
+    b : ℕ
+    b = getD o (at + n) 0
+
+    wide : 8 * n + 8 ≡ 8 * (n + 1)
+    wide = omega arith
+
+    front : (i : ℕ) → i < 8 * n → digit (8 * (n + 1)) (v * 256 + b) i ≡ bit o (8 * at + i)
+    front i h =
+        let e : 8 * (n + 1) - suc i ≡ 8 + (8 * n - suc i) = omega arith in
+        ap (place (v * 2 ^ 8 + b)) e ∙ place-front v b 8 hb (8 * n - suc i) ∙ g .1 i h
+
+    behind : (i : ℕ) → i < 8 * (n + 1) → 8 * n ≤ i → digit (8 * (n + 1)) (v * 256 + b) i ≡ bit o (8 * at + i)
+    behind i hi h =
+        let j = i - 8 * n in
+        let hj : j < 8 = omega arith in
+        let e : 8 * (n + 1) - suc i ≡ 8 - suc j = omega arith in
+        let k : 8 * at + i ≡ 8 * (at + n) + j = omega arith in
+        ap (place (v * 2 ^ 8 + b)) e
+        ∙ place-behind v b 8 hb (8 - suc j) (omega arith)
+        ∙ sym (ap (bit o) k ∙ cell-at 8 (lit< tt) o (at + n) j hj)
+
+-- The last octets stand in front, and zeros follow.
+pub short-group : (o : List ℕ) (at n v : ℕ) → at + n ≡ length o → n ≤ 8 → Gathered o at n v
+    → Holds ((v * 2 ^ (64 - 8 * n)) % 2 ^ 64) (from (8 * at) (bit o))
+short-group o at n v e hn g i hi =
+    place-cut (v * 2 ^ (64 - 8 * n)) 64 (64 - suc i) (omega arith)
+    ∙ ⊎-elim
+    (λ (h : 8 * n ≤ i).
+    place-below v (64 - 8 * n) (64 - suc i) (omega arith) ∙ sym (cell-past 8 (lit< tt) o (8 * at + i) (omega arith)))
+    (λ (h : i < 8 * n).
+    let d : 64 - suc i ≡ 64 - 8 * n + (8 * n - suc i) = omega arith in
+    ap (place (v * 2 ^ (64 - 8 * n))) d ∙ place-up v (64 - 8 * n) (8 * n - suc i) ∙ g .1 i h)
+    (le-or-lt (8 * n) i)
+
+pub no-group : (o : List ℕ) (at : ℕ) → length o ≤ at → Holds 0 (from (8 * at) (bit o))
+no-group o at h i hi = place-zero (64 - suc i) ∙ sym (cell-past 8 (lit< tt) o (8 * at + i) (omega arith))
+
+-- ---- octets of a number put into a list
+
+pub put-octet : (v j i : ℕ) → j < 8 → i < 8 → digit 8 (v / 2 ^ (56 - 8 * j) % 256) i ≡ digit 64 v (8 * j + i)
+put-octet v j i hj hi =
+    let e : 56 - 8 * j + (8 - suc i) ≡ 64 - suc (8 * j + i) = omega arith in
+    place-cut (v / 2 ^ (56 - 8 * j)) 8 (8 - suc i) (omega arith) ∙ place-down v (56 - 8 * j) (8 - suc i) ∙ ap (place v) e
+
+-- The bits of v from bit a on, and those of z before.
+abbrev pub after : ℕ → Word → ℕ → Word
+after a z v = joined a z (λ k. digit 64 v (k - a))
+
+pub put-more : (z x y : Word) (a e v : ℕ) → z ≡ joined a x y → a ≤ e → e ≤ a + 64 → Holds v (from a x) → joined e (after a z v) z ≡ joined e x y
+put-more z x y a e v was ha he hv = fun-ext (λ k. ⊎-elim (behind k) (before k) (le-or-lt e k))
+  where
+    now : (k : ℕ) → z k ≡ joined a x y k
+    now k = ap (λ (w : Word). w k) was
+
+    behind : (k : ℕ) → e ≤ k → joined e (after a z v) z k ≡ joined e x y k
+    behind k h = joined-above e k (after a z v) z h ∙ now k ∙ joined-above a k x y (omega arith) ∙ sym (joined-above e k x y h)
+
+    inside : (k : ℕ) → k < e → after a z v k ≡ x k
+    inside k h =
+        ⊎-elim
+        (λ (l : a ≤ k).
+        let d : a + (k - a) ≡ k = omega arith in
+        joined-above a k z (λ i. digit 64 v (i - a)) l ∙ hv (k - a) (omega arith) ∙ ap x d)
+        (λ (l : k < a). joined-below a k z (λ i. digit 64 v (i - a)) l ∙ now k ∙ joined-below a k x y l)
+        (le-or-lt a k)
+
+    before : (k : ℕ) → k < e → joined e (after a z v) z k ≡ joined e x y k
+    before k h = joined-below e k (after a z v) z h ∙ inside k h ∙ sym (joined-below e k x y h)
+
+-- A list of octets that is written to its end.
+pub written : (o₀ o : List ℕ) (x : Word) (e : ℕ) → length o ≡ length o₀ → ((i : ℕ) → getD o i 0 < 2 ^ 8) → e ≡ 8 * length o₀ → bit o ≡ joined e x (bit o₀)
+    → o ≡ octets (length o₀) x
+written o₀ o x e long small all b = octets-of o (length o₀) x long small (b ∙ ap (λ (n : ℕ). joined n x (bit o₀)) all ∙ fun-ext cut)
+  where
+    m : ℕ
+    m = 8 * length o₀
+
+    cut : (k : ℕ) → joined m x (bit o₀) k ≡ upTo m x k
+    cut k =
+        ⊎-elim
+        (λ (h : m ≤ k). joined-above m k x (bit o₀) h ∙ cell-past 8 (lit< tt) o₀ k h ∙ sym (upTo-above m k x h))
+        (λ (h : k < m). joined-below m k x (bit o₀) h ∙ sym (upTo-below m k x h))
+        (le-or-lt m k)

@@ -1,0 +1,103 @@
+-- `vectors::add_turned` meets its contract: the words before word at + j have their sums. Assumes nothing.
+use mathlib.Core.Path.{sym, ap, ap₂, subst, _∙_}
+use Prim.Native.Nat.{ℕ, _+_, _-_, _*_, _≤_}
+use native.Mathlib.Omega.{arith}
+use lib.ListN.{length, getD, set}
+use lib.Bits.{bitXor}
+use Rattle.rules.specs.Bits.{_⊕_}
+use Rattle.vectors.specs.Vectors.{wbit, from, added}
+use Rattle.vectors.proofs.Filling.{Filled, filled-from, filled-next, filled-more, filled-to}
+use Rattle.vectors.proofs.Spans.{added-before, added-after, added-word}
+use Rattle.vectors.proofs.add_turned.Statement.{statement}
+use Rattle.vectors.proofs.add_turned.Tie as tie
+use Rattle.vectors.proofs.add_turned.Reads as reads
+use Rattle.vectors.proofs.add_turned.Lts as lts
+use Rattle.vectors.proofs.span.Reads as span-reads
+
+abbrev Inv-loop : tie.InvT-loop
+Inv-loop d s acc₀ at w q t j₀ acc j = (j ≤ w) × Filled acc₀ (added (wbit acc₀) (64 * at) (64 * (at + w)) (from s (wbit d))) acc (at + j)
+
+abbrev μ-loop : tie.MeasureT-loop
+μ-loop d s acc₀ at w q t j₀ acc j = w - j
+
+loop-holds : tie.Need-loop-holds Inv-loop μ-loop
+loop-holds c =
+    let a = c .before .before .args in
+    let y = wbit (a .acc .now) in
+    let z = from (a .s) (wbit (a .d .now)) in (
+      omega arith,
+      filled-from (a .acc .now) (added y (64 * a .at) (64 * (a .at + a .w)) z) (a .at + 0)
+      (λ n h. sym (added-before y z (64 * a .at) (64 * (a .at + a .w)) n (omega arith))),
+    )
+
+add-span : tie.Need-add-span Inv-loop μ-loop
+add-span c = omega arith
+
+span-requires : tie.Need-span-requires Inv-loop μ-loop
+span-requires c κs = omega arith
+
+add-acc : tie.Need-add-acc Inv-loop μ-loop
+add-acc c = omega arith
+
+mul-acc : tie.Need-mul-acc Inv-loop μ-loop
+mul-acc c = omega arith
+
+slice-read-acc : tie.Need-slice-read-acc Inv-loop μ-loop
+slice-read-acc c = omega arith
+
+slice-write-acc : tie.Need-slice-write-acc Inv-loop μ-loop
+slice-write-acc c = omega arith
+
+add-j : tie.Need-add-j Inv-loop μ-loop
+add-j c = omega arith
+
+loop-less : tie.Need-loop-less Inv-loop μ-loop
+loop-less c = omega arith
+
+loop-again : tie.Need-loop-again Inv-loop μ-loop
+loop-again c =
+    let a = c .before .before .before .before .before .before .args in
+    let l = c .before .before .before .loop in
+    let y = wbit (a .acc .now) in
+    let z = from (a .s) (wbit (a .d .now)) in
+    let x = added y (64 * a .at) (64 * (a .at + a .w)) z in
+    let k = a .at + l .j in
+    let v = bitXor (getD (l .acc) k 0) (c .before .span .result) in
+    let f = l .inv .1 in (
+      omega arith,
+      subst (λ (n : ℕ). Filled (a .acc .now) x (set (l .acc) k v) n) (omega arith)
+      (filled-more (a .acc .now) x (l .acc) k f v (omega (arith, f .long))
+      (added-word (getD (l .acc) k 0) (c .before .span .result) y z (a .at) (a .w) (l .j) (omega arith) (filled-next (a .acc .now) x (l .acc) k f)
+      (λ i hi. c .before .span .ensures i hi ∙ ap (wbit (a .d .now)) (omega arith)))),
+    )
+
+same-length : tie.Need-same-length Inv-loop μ-loop
+same-length c = c .before .loop .inv .1 .long
+
+returns : tie.Need-returns Inv-loop μ-loop
+returns c =
+    let a = c .before .before .before .before .args in
+    let l = c .before .loop in
+    let y = wbit (a .acc .now) in
+    let z = from (a .s) (wbit (a .d .now)) in
+    filled-to (a .acc .now) (added y (64 * a .at) (64 * (a .at + a .w)) z) (l .acc) (a .at + l .j) (l .inv .1)
+    (λ n h. sym (added-after y z (64 * a .at) (64 * (a .at + a .w)) n (omega arith) (omega arith)))
+
+pub add-turned-spec : {M : Type 1} → statement M
+add-turned-spec =
+    tie.close
+    (tie.spec
+    Inv-loop
+    μ-loop
+    loop-holds
+    add-span
+    span-requires
+    add-acc
+    mul-acc
+    slice-read-acc
+    slice-write-acc
+    add-j
+    loop-less
+    loop-again
+    same-length
+    returns)

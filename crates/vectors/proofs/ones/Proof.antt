@@ -1,0 +1,77 @@
+-- `vectors::ones` meets its contract: n counts the bits of the first k words. Assumes nothing.
+use mathlib.Core.Path.{_≡_, refl, sym, ap, _∙_}
+use Prim.Native.Nat.{ℕ, _+_, _-_, _*_, _≤_}
+use native.Mathlib.Omega.{arith}
+use lib.Count.{ones-le}
+use lib.ListN.{length, getD}
+use Rattle.rules.specs.Bits.{count}
+use Rattle.vectors.specs.Vectors.{wbit}
+use Rattle.vectors.proofs.Counts.{count-le, count-word, count-none}
+use Rattle.vectors.proofs.ones.Statement.{statement}
+use Rattle.vectors.proofs.ones.Tie as tie
+use Rattle.vectors.proofs.ones.Reads as reads
+use Rattle.vectors.proofs.ones.Lts as lts
+
+abbrev Inv-loop : tie.InvT-loop
+Inv-loop ws n₀ k₀ n k = (k ≤ length ws) × (n ≡ count (64 * k) (wbit ws))
+
+abbrev μ-loop : tie.MeasureT-loop
+μ-loop ws n₀ k₀ n k = length ws - k
+
+loop-holds : tie.Need-loop-holds Inv-loop μ-loop
+loop-holds c = (omega arith, count-none (wbit (c .args .ws .now)))
+
+mul-n : tie.Need-mul-n Inv-loop μ-loop
+mul-n c = omega arith
+
+shared-slice-read-n : tie.Need-shared-slice-read-n Inv-loop μ-loop
+shared-slice-read-n c = omega arith
+
+cast-n : tie.Need-cast-n Inv-loop μ-loop
+cast-n c =
+    let v = getD (c .before .before .before .args .ws .now) (c .before .before .loop .k) 0 in
+    omega (arith, ones-le 64 v (c .shared-slice-known .given (c .before .before .loop .k) .fits))
+
+add-n : tie.Need-add-n Inv-loop μ-loop
+add-n c =
+    let a = c .before .before .before .args in
+    let l = c .before .before .loop in
+    omega
+    (arith,
+    ones-le 64 (getD (a .ws .now) (l .k) 0) (c .shared-slice-known .given (l .k) .fits),
+    count-le (64 * l .k) (wbit (a .ws .now)))
+
+add-k : tie.Need-add-k Inv-loop μ-loop
+add-k c = omega arith
+
+loop-less : tie.Need-loop-less Inv-loop μ-loop
+loop-less c = omega arith
+
+loop-again : tie.Need-loop-again Inv-loop μ-loop
+loop-again c =
+    let a = c .before .before .before .args in
+    let l = c .before .before .loop in
+    (omega arith, omega (arith, count-word (a .ws .now) (l .k) (c .shared-slice-known .given (l .k) .fits)))
+
+returns : tie.Need-returns Inv-loop μ-loop
+returns c =
+    let a = c .before .before .args in
+    let l = c .before .loop in
+    let e : l .k ≡ length (a .ws .now) = omega arith in
+    l .inv .1 ∙ ap (λ (k : ℕ). count (64 * k) (wbit (a .ws .now))) e
+
+pub ones-spec : {M : Type 1} → statement M
+ones-spec =
+    tie.close
+    (tie.spec
+    Inv-loop
+    μ-loop
+    loop-holds
+    mul-n
+    shared-slice-read-n
+    cast-n
+    add-n
+    add-k
+    loop-less
+    loop-again
+    returns)

@@ -1,0 +1,129 @@
+-- `vectors::store` meets its contract: after k turns the first 8 k octets stand there, and the last few follow. Assumes nothing.
+use mathlib.Core.Path.{_≡_, refl, sym, ap, _∙_}
+use Prim.Native.Nat.{ℕ, _+_, _-_, _*_, _/_, _%_, _^_, _≤_, _<_}
+use native.Mathlib.Omega.{arith}
+use lib.ListN.{length, getD}
+use borrow.Author.Needs.{needs}
+use Rattle.rules.specs.Bits.{bit}
+use Rattle.vectors.specs.Vectors.{wbit, from, joined}
+use Rattle.vectors.proofs.Cells.{joined-start}
+use Rattle.vectors.proofs.Octets.{put-more, written}
+use Rattle.vectors.proofs.store.Statement.{statement}
+use Rattle.vectors.proofs.store.Tie as tie
+use Rattle.vectors.proofs.store.Reads as reads
+use Rattle.vectors.proofs.store.Lts as lts
+use Rattle.vectors.proofs.put.Reads as put-reads
+use Rattle.vectors.proofs.span.Reads as span-reads
+
+abbrev Inv-loop : tie.InvT-loop
+Inv-loop ws u out₀ q t whole k₀ out k =
+    (k ≤ length out₀ / 8)
+    × (length out ≡ length out₀)
+    × (bit out ≡ joined (8 * (8 * k)) (from u (wbit ws)) (bit out₀))
+    × ((i : ℕ) → getD out i 0 < 2 ^ 8)
+
+abbrev μ-loop : tie.MeasureT-loop
+μ-loop ws u out₀ q t whole k₀ out k = length out₀ / 8 - k
+
+loop-holds : tie.Need-loop-holds Inv-loop μ-loop
+loop-holds c =
+    let a = c .before .before .args in
+    (omega arith, refl, joined-start 0 (from (a .u) (wbit (a .ws .now))) (bit (a .out .now)) (λ n h. absurd (omega arith)), λ i. c .slice-known .given i .fits)
+
+add-span : tie.Need-add-span Inv-loop μ-loop
+add-span c = omega arith
+
+span-requires : tie.Need-span-requires Inv-loop μ-loop
+span-requires c κs = omega arith
+
+mul-put : tie.Need-mul-put Inv-loop μ-loop
+mul-put c = omega arith
+
+put-requires : tie.Need-put-requires Inv-loop μ-loop
+put-requires c κs = omega arith
+
+add-k : tie.Need-add-k Inv-loop μ-loop
+add-k c = omega arith
+
+loop-less : tie.Need-loop-less Inv-loop μ-loop
+loop-less c = omega arith
+
+loop-again : tie.Need-loop-again Inv-loop μ-loop
+loop-again c =
+    let a = c .before .before .before .before .before .before .before .before .before .args in
+    let l = c .before .before .before .before .before .before .loop in
+    let x = from (a .u) (wbit (a .ws .now)) in
+    let p = c .before .before .put in
+    let s = c .before .before .before .before .span in
+    let e : 8 * (8 * l .k + 8) ≡ 8 * (8 * (l .k + 1)) = omega arith in (
+      omega arith,
+      search needs,
+      p .ensures
+      ∙ put-more (bit (l .out)) x (bit (a .out .now)) (8 * (8 * l .k)) (8 * (8 * l .k + 8)) (s .result) (l .inv .2) (omega arith) (omega arith)
+      (λ i hi. s .ensures i hi ∙ ap (wbit (a .ws .now)) (omega arith))
+      ∙ ap (λ (n : ℕ). joined n x (bit (a .out .now))) e,
+      λ i. c .slice-known2 .given i .fits,
+    )
+
+add-span-2 : tie.Need-add-span-2 Inv-loop μ-loop
+add-span-2 c = omega arith
+
+span-requires-2 : tie.Need-span-requires-2 Inv-loop μ-loop
+span-requires-2 c κs = omega arith
+
+mul-put-2 : tie.Need-mul-put-2 Inv-loop μ-loop
+mul-put-2 c = omega arith
+
+put-requires-2 : tie.Need-put-requires-2 Inv-loop μ-loop
+put-requires-2 c κs = omega arith
+
+same-length : tie.Need-same-length Inv-loop μ-loop
+same-length c = search needs
+
+returns : tie.Need-returns Inv-loop μ-loop
+returns c =
+    let a = c .before .before .before .before .before .before .before .before .before .before .args in
+    let l = c .before .before .before .before .before .before .before .loop in
+    let x = from (a .u) (wbit (a .ws .now)) in
+    let p = c .before .before .put2 in
+    let s = c .before .before .before .before .span2 in
+    let k = length (a .out .now) / 8 in
+    let r = length (l .out) % 8 in
+    let e : l .k ≡ k = omega arith in
+    written (a .out .now) (p .last .1 .1 .0) x (8 * (8 * k + r)) (search needs) (λ i. c .slice-known3 .given i .fits) (omega arith)
+    (p .ensures
+    ∙ put-more (bit (l .out)) x (bit (a .out .now)) (8 * (8 * k)) (8 * (8 * k + r)) (s .result)
+    (l .inv .2 ∙ ap (λ (n : ℕ). joined (8 * (8 * n)) x (bit (a .out .now))) e) (omega arith) (omega arith)
+    (λ i hi. s .ensures i hi ∙ ap (wbit (a .ws .now)) (omega arith)))
+
+same-length-2 : tie.Need-same-length-2 Inv-loop μ-loop
+same-length-2 c = c .before .before .loop .inv .1
+
+returns-2 : tie.Need-returns-2 Inv-loop μ-loop
+returns-2 c =
+    let a = c .before .before .before .before .before .args in
+    let l = c .before .before .loop in
+    written (a .out .now) (l .out) (from (a .u) (wbit (a .ws .now))) (8 * (8 * l .k)) (l .inv .1) (l .inv .3) (omega arith) (l .inv .2)
+
+pub store-spec : {M : Type 1} → statement M
+store-spec =
+    tie.close
+    (tie.spec
+    Inv-loop
+    μ-loop
+    loop-holds
+    add-span
+    span-requires
+    mul-put
+    put-requires
+    add-k
+    loop-less
+    loop-again
+    add-span-2
+    span-requires-2
+    mul-put-2
+    put-requires-2
+    same-length
+    returns
+    same-length-2
+    returns-2)

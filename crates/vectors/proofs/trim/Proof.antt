@@ -1,0 +1,86 @@
+-- `vectors::trim` meets its contract: the first word may keep some bits, and each later one keeps none. Assumes nothing.
+use mathlib.Core.Path.{_≡_, sym}
+use Prim.Native.Nat.{_-_, _*_, _/_, _≤_}
+use native.Mathlib.Omega.{arith}
+use lib.ListN.{length, getD}
+use Rattle.vectors.specs.Vectors.{wbit, upTo}
+use Rattle.vectors.proofs.Filling.{Filled, filled-from, filled-next, filled-more, filled-all}
+use Rattle.vectors.proofs.Spans.{upTo-below, upTo-past, front-upTo}
+use Rattle.vectors.proofs.trim.Statement.{statement}
+use Rattle.vectors.proofs.trim.Tie as tie
+use Rattle.vectors.proofs.trim.Reads as reads
+use Rattle.vectors.proofs.trim.Lts as lts
+use Rattle.vectors.proofs.front.Reads as front-reads
+
+abbrev Inv-loop : tie.InvT-loop
+Inv-loop ws₀ n k₀ t₀ ws k t = (n / 64 ≤ k) × (t ≡ n - 64 * k) × Filled ws₀ (upTo n (wbit ws₀)) ws k
+
+abbrev μ-loop : tie.MeasureT-loop
+μ-loop ws₀ n k₀ t₀ ws k t = length ws₀ - k
+
+loop-holds : tie.Need-loop-holds Inv-loop μ-loop
+loop-holds c =
+    let a = c .before .args in
+    let y = wbit (a .ws .now) in
+    (omega arith, omega arith, filled-from (a .ws .now) (upTo (a .n) y) (a .n / 64) (λ i h. sym (upTo-below (a .n) i y (omega arith))))
+
+mul-front : tie.Need-mul-front Inv-loop μ-loop
+mul-front c = omega arith
+
+slice-read-front : tie.Need-slice-read-front Inv-loop μ-loop
+slice-read-front c = omega arith
+
+front-requires : tie.Need-front-requires Inv-loop μ-loop
+front-requires c κs = omega arith
+
+mul-ws : tie.Need-mul-ws Inv-loop μ-loop
+mul-ws c = omega arith
+
+slice-write-ws : tie.Need-slice-write-ws Inv-loop μ-loop
+slice-write-ws c = omega arith
+
+add-k : tie.Need-add-k Inv-loop μ-loop
+add-k c = omega arith
+
+loop-less : tie.Need-loop-less Inv-loop μ-loop
+loop-less c = omega arith
+
+loop-again : tie.Need-loop-again Inv-loop μ-loop
+loop-again c =
+    let a = c .before .before .before .before .before .args in
+    let l = c .before .before .before .loop in
+    let y = wbit (a .ws .now) in
+    let x = upTo (a .n) y in
+    let v = c .front .result in (
+      omega arith,
+      omega arith,
+      filled-more (a .ws .now) x (l .ws) (l .k) (l .inv .2) v (omega arith)
+      (front-upTo v (getD (l .ws) (l .k) 0) (l .k) (a .n) (l .t) y (c .front .ensures) (filled-next (a .ws .now) x (l .ws) (l .k) (l .inv .2)) (l .inv .1)),
+    )
+
+same-length : tie.Need-same-length Inv-loop μ-loop
+same-length c = c .before .loop .inv .2 .long
+
+returns : tie.Need-returns Inv-loop μ-loop
+returns c =
+    let a = c .before .before .before .args in
+    let l = c .before .loop in
+    filled-all (a .ws .now) (upTo (a .n) (wbit (a .ws .now))) (l .ws) (l .k) (l .inv .2) (omega arith) (λ i h. upTo-past (a .ws .now) (a .n) i h)
+
+pub trim-spec : {M : Type 1} → statement M
+trim-spec =
+    tie.close
+    (tie.spec
+    Inv-loop
+    μ-loop
+    loop-holds
+    mul-front
+    slice-read-front
+    front-requires
+    mul-ws
+    slice-write-ws
+    add-k
+    loop-less
+    loop-again
+    same-length
+    returns)

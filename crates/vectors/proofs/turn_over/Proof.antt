@@ -1,0 +1,32 @@
+-- `vectors::turn_over` meets its contract. Assumes nothing.
+use borrow.Author.Needs.{needs}
+use Rattle.vectors.proofs.Spans.{turned-over}
+use Rattle.vectors.proofs.turn_over.Statement.{statement}
+use Rattle.vectors.proofs.turn_over.Tie as tie
+use Rattle.vectors.proofs.turn_over.Reads as reads
+use Rattle.vectors.proofs.turn_over.Lts as lts
+
+sub-ws : tie.Need-sub-ws
+sub-ws c = search needs
+
+shl-ws : tie.Need-shl-ws
+shl-ws c = search needs
+
+mul-ws : tie.Need-mul-ws
+mul-ws c = search needs
+
+slice-read-ws : tie.Need-slice-read-ws
+slice-read-ws c = search needs
+
+slice-write-ws : tie.Need-slice-write-ws
+slice-write-ws c = search needs
+
+same-length : tie.Need-same-length
+same-length c = search needs
+
+returns : tie.Need-returns
+returns c = turned-over (c .before .args .ws .now) (c .before .args .n) (c .before .pre)
+
+pub turn-over-spec : {M : Type 1} → statement M
+turn-over-spec =
+    tie.close (tie.spec sub-ws shl-ws mul-ws slice-read-ws slice-write-ws same-length returns)

@@ -1,0 +1,248 @@
+// Vectors of bits in words of 64.
+ghost use mathlib.Core.Path.{_≡_};
+ghost use mathlib.Core.List.{[], _∷_};
+ghost use mathlib.Core.Bool.{false};
+ghost use Prim.Native.Nat.{ℕ, _+_, _-_, _*_, _/_, _%_, _^_, _<_, _≤_};
+ghost use lib.ListN.{length, getD};
+ghost use Rattle.rules.specs.Bits.{bit, digit, octets, count, flipped};
+ghost use Rattle.vectors.specs.Vectors.{wbit, Holds, upTo, from, later, joined, twice, added};
+
+// The 64 bits of a and then b from bit t on.
+fn funnel(a: u64, b: u64, t: usize) -> u64
+    requires { ⌜ t < 64 ⌝ }
+    ensures { λ r. ⌜ Holds r (from t (wbit (a ∷ b ∷ []))) ⌝ }
+{
+    (a << t) | ((b >> 1) >> (63 - t))
+}
+
+// The 64 bits from bit t of word q on.
+fn span(y: &[u64], q: usize, t: usize) -> u64
+    requires { ⌜ (q + 1 < length (now y)) × (t < 64) ⌝ }
+    ensures { λ r. ⌜ Holds r (from (64 * q + t) (wbit (now (y .entry)))) ⌝ }
+{
+    funnel(y[q], y[q + 1], t)
+}
+
+// The 64 bits from bit p on.
+pub fn window(y: &[u64], p: usize) -> u64
+    requires { ⌜ p / 64 + 1 < length (now y) ⌝ }
+    ensures { λ r. ⌜ Holds r (from p (wbit (now (y .entry)))) ⌝ }
+{
+    span(y, p / 64, p % 64)
+}
+
+// The number of the first n octets from octet at on.
+fn gathered(octets: &[u8], at: usize, n: usize) -> u64
+    requires { ⌜ (n ≤ 8) × (at + n ≤ length (now octets)) ⌝ }
+    ensures { λ r. ⌜ (r < 2 ^ (8 * n)) × ((i : ℕ) → i < 8 * n → digit (8 * n) r i ≡ bit (now (octets .entry)) (8 * at + i)) ⌝ }
+{
+    let mut number: u64 = 0;
+    let mut j = 0;
+    while j < n {
+        number = number * 256 + octets[at + j] as u64;
+        j += 1;
+    }
+    number
+}
+
+// The 64 bits from octet at on; past the last octet every bit is 0.
+fn group(octets: &[u8], at: usize) -> u64
+    requires { ⌜ at < 2 ^ 63 ⌝ }
+    ensures { λ r. ⌜ Holds r (from (8 * at) (bit (now (octets .entry)))) ⌝ }
+{
+    if at + 8 <= octets.len() {
+        gathered(octets, at, 8)
+    } else if at < octets.len() {
+        let n = octets.len() - at;
+        gathered(octets, at, n) << (64 - 8 * n)
+    } else {
+        0
+    }
+}
+
+// The octets as a vector; the words after them become 0.
+pub fn load(octets: &[u8], ws: &mut [u64])
+    requires { ⌜ length (now octets) ≤ 8 * length (now ws) ⌝ }
+    ensures { λ r. ⌜ wbit (now (ws .exit)) ≡ bit (now (octets .entry)) ⌝ }
+{
+    let mut k = 0;
+    while k < ws.len() {
+        ws[k] = group(octets, 8 * k);
+        k += 1;
+    }
+}
+
+// The first t bits of v.
+fn front(v: u64, t: usize) -> u64
+    requires { ⌜ t < 64 ⌝ }
+    ensures { λ r. ⌜ Holds r (upTo t (digit 64 v)) ⌝ }
+{
+    v ^ ((v << t) >> t)
+}
+
+// Clears the bits from bit n on.
+pub fn trim(ws: &mut [u64], n: usize)
+    ensures { λ r. ⌜ wbit (now (ws .exit)) ≡ upTo n (wbit (now (ws .entry))) ⌝ }
+{
+    let mut k = n / 64;
+    let mut t = n % 64;
+    while k < ws.len() {
+        ws[k] = front(ws[k], t);
+        t = 0;
+        k += 1;
+    }
+}
+
+// The m bits from bit p on.
+pub fn cut(y: &[u64], p: usize, m: usize, v: &mut [u64])
+    requires { ⌜ (m ≤ 64 * length (now v)) × (p / 64 + length (now v) < length (now y)) ⌝ }
+    ensures { λ r. ⌜ wbit (now (v .exit)) ≡ upTo m (from p (wbit (now (y .entry)))) ⌝ }
+{
+    let q = p / 64;
+    let t = p % 64;
+    let mut k = 0;
+    while k < v.len() {
+        v[k] = span(y, q + k, t);
+        k += 1;
+    }
+    trim(v, m);
+}
+
+// Word q, or 0 past the last one.
+fn word(y: &[u64], q: usize) -> u64
+    ensures { λ r. ⌜ r ≡ getD (now (y .entry)) q 0 ⌝ }
+{
+    if q < y.len() { y[q] } else { 0 }
+}
+
+// Word k of the m bits of v twice over: before, at, or behind the place where they begin again.
+fn double_word(v: &[u64], m: usize, k: usize) -> u64
+    requires { ⌜ (k < 2 ^ 57) × (wbit (now v) ≡ upTo m (wbit (now v))) ⌝ }
+    ensures { λ r. ⌜ Holds r (from (64 * k) (twice m (wbit (now (v .entry))))) ⌝ }
+{
+    let p = 64 * k;
+    if m <= p {
+        let q = (p - m) / 64;
+        funnel(word(v, q), word(v, q + 1), (p - m) % 64)
+    } else if m - p < 64 {
+        word(v, k) | (word(v, 0) >> (m - p))
+    } else {
+        word(v, k)
+    }
+}
+
+// The m bits of v twice over.
+pub fn double(v: &[u64], m: usize, d: &mut [u64])
+    requires { ⌜ (wbit (now v) ≡ upTo m (wbit (now v))) × (2 * m ≤ 64 * length (now d)) × (length (now d) ≤ 2 ^ 57) ⌝ }
+    ensures { λ r. ⌜ wbit (now (d .exit)) ≡ twice m (wbit (now (v .entry))) ⌝ }
+{
+    let mut k = 0;
+    while k < d.len() {
+        d[k] = double_word(v, m, k);
+        k += 1;
+    }
+}
+
+// Adds the w words of d from bit s on to those of acc from word at on.
+pub fn add_turned(d: &[u64], s: usize, acc: &mut [u64], at: usize, w: usize)
+    requires { ⌜ (at + w ≤ length (now acc)) × (s / 64 + w < length (now d)) ⌝ }
+    ensures { λ r. ⌜ wbit (now (acc .exit)) ≡ added (wbit (now (acc .entry))) (64 * at) (64 * (at + w)) (from s (wbit (now (d .entry)))) ⌝ }
+{
+    let q = s / 64;
+    let t = s % 64;
+    let mut j = 0;
+    while j < w {
+        acc[at + j] ^= span(d, q + j, t);
+        j += 1;
+    }
+}
+
+// How many bits are set.
+pub fn ones(ws: &[u64]) -> usize
+    requires { ⌜ length (now ws) ≤ 2 ^ 57 ⌝ }
+    ensures { λ r. ⌜ r ≡ count (64 * length (now (ws .entry))) (wbit (now (ws .entry))) ⌝ }
+{
+    let mut n: usize = 0;
+    let mut k = 0;
+    while k < ws.len() {
+        n += u64::count_ones(ws[k]) as usize;
+        k += 1;
+    }
+    n
+}
+
+// Turns bit n over.
+pub fn turn_over(ws: &mut [u64], n: usize)
+    requires { ⌜ n < 64 * length (now ws) ⌝ }
+    ensures { λ r. ⌜ wbit (now (ws .exit)) ≡ flipped (wbit (now (ws .entry))) n ⌝ }
+{
+    let q = n / 64;
+    ws[q] ^= 1u64 << (63 - n % 64);
+}
+
+// Whether bit n is set.
+pub fn is_set(ws: &[u64], n: usize) -> bool
+    requires { ⌜ n < 64 * length (now ws) ⌝ }
+    ensures { λ r. ⌜ r ≡ wbit (now (ws .entry)) n ⌝ }
+{
+    (ws[n / 64] >> (63 - n % 64)) % 2 == 1
+}
+
+// Clears every bit.
+pub fn clear(ws: &mut [u64])
+    ensures { λ r. ⌜ wbit (now (ws .exit)) ≡ (λ n. false) ⌝ }
+{
+    let mut k = 0;
+    while k < ws.len() {
+        ws[k] = 0;
+        k += 1;
+    }
+}
+
+// All bits u places later, of which the last u are 0; zeros in front.
+pub fn lift(ws: &mut [u64], u: usize)
+    requires { ⌜ (u < 64) × ((n : ℕ) → 64 * length (now ws) ≤ n + u → wbit (now ws) n ≡ false) ⌝ }
+    ensures { λ r. ⌜ wbit (now (ws .exit)) ≡ later u (wbit (now (ws .entry))) ⌝ }
+{
+    if u > 0 {
+        let mut before: u64 = 0;
+        let mut k = 0;
+        while k < ws.len() {
+            let v = ws[k];
+            ws[k] = funnel(before, v, 64 - u);
+            before = v;
+            k += 1;
+        }
+    }
+}
+
+// Writes the first n octets of v from octet at on.
+fn put(v: u64, n: usize, out: &mut [u8], at: usize)
+    requires { ⌜ (n ≤ 8) × (at + n ≤ length (now out)) ⌝ }
+    ensures { λ r. ⌜ bit (now (out .exit)) ≡ joined (8 * (at + n)) (joined (8 * at) (bit (now (out .entry))) (λ k. digit 64 v (k - 8 * at))) (bit (now (out .entry))) ⌝ }
+{
+    let mut j = 0;
+    while j < n {
+        out[at + j] = ((v >> (56 - 8 * j)) % 256) as u8;
+        j += 1;
+    }
+}
+
+// The octets of the bits from bit u on.
+pub fn store(ws: &[u64], u: usize, out: &mut [u8])
+    requires { ⌜ u / 64 + (length (now out) + 7) / 8 < length (now ws) ⌝ }
+    ensures { λ r. ⌜ now (out .exit) ≡ octets (length (now (out .entry))) (from u (wbit (now (ws .entry)))) ⌝ }
+{
+    let q = u / 64;
+    let t = u % 64;
+    let whole = out.len() / 8;
+    let mut k = 0;
+    while k < whole {
+        put(span(ws, q + k, t), 8, out, 8 * k);
+        k += 1;
+    }
+    let rest = out.len() % 8;
+    if rest > 0 {
+        put(span(ws, q + whole, t), rest, out, 8 * whole);
+    }
+}
