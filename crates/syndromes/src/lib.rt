@@ -5,13 +5,31 @@ ghost use mathlib.Core.Path.{_≡_};
 ghost use mathlib.Core.Bool.{false};
 ghost use mathlib.Core.List.{List};
 ghost use Prim.Native.Nat.{ℕ, _+_, _-_, _*_, _/_, _%_, _<_, _≤_};
-ghost use lib.ListN.{length};
+ghost use lib.ListN.{length, getD};
 ghost use Rattle.rules.specs.Bits.{Word, flipped};
 ghost use Rattle.rules.specs.Codes.{Code};
 ghost use Rattle.rules.specs.Checks.{broken};
 ghost use Rattle.vectors.specs.Vectors.{wbit, added, twice, upTo, from};
-ghost use Rattle.layout.specs.Lent.{Fit, Lent, laid};
+ghost use Rattle.layout.specs.Lent.{Fit, Lent, placeOf, laid};
 ghost use Rattle.syndromes.specs.Rows.{plus, rowed, within, wide, entry, spread, doubled, turned, summed, covering};
+
+// What stands at the two places of a block.
+struct Places {
+    first: usize,
+    second: usize,
+}
+
+// The two places of block b of row r.
+fn read_places(h: &[u16], sh: Shape, b: usize, r: usize) -> Places
+    requires { ⌜ Fit (now h) sh × (b < sh .blocks) × (r < sh .rows) ⌝ }
+    ensures { λ p. ⌜ (p .first ≡ getD (now (h .entry)) (placeOf sh r b) (sh .size)) × (p .second ≡ getD (now (h .entry)) (placeOf sh r b + 1) (sh .size)) ⌝ }
+{
+    let at = 2 * (r * sh.blocks + b);
+    Places {
+        first: h[at] as usize,
+        second: h[at + 1] as usize,
+    }
+}
 
 // Adds a doubled block to row r, turned by s; a number that is M or more is no shift.
 fn add_entry(d: &[u64], s: usize, sh: Shape, acc: &mut [u64], r: usize)
@@ -28,9 +46,9 @@ fn add_row(d: &[u64], h: &[u16], sh: Shape, b: usize, acc: &mut [u64], r: usize)
     requires { ⌜ Fit (now h) sh × (2 * sh .words ≤ length (now d)) × (b < sh .blocks) × (r < sh .rows) × (length (now acc) ≡ 16) ⌝ }
     ensures { λ q. ⌜ wbit (now (acc .exit)) ≡ added (wbit (now (acc .entry))) (wide sh * r) (wide sh * (r + 1)) (spread sh (now (h .entry)) b (turned (wbit (now (d .entry)))) r) ⌝ }
 {
-    let at = 2 * (r * sh.blocks + b);
-    add_entry(d, h[at] as usize, sh, acc, r);
-    add_entry(d, h[at + 1] as usize, sh, acc, r);
+    let p = read_places(h, sh, b, r);
+    add_entry(d, p.first, sh, acc, r);
+    add_entry(d, p.second, sh, acc, r);
 }
 
 // Adds block b, doubled, to every row.
@@ -123,9 +141,9 @@ fn flip_row(s: &mut [u64], h: &[u16], sh: Shape, b: usize, k: usize, r: usize)
     requires { ⌜ Fit (now h) sh × (b < sh .blocks) × (k < sh .size) × (r < sh .rows) × (length (now s) ≡ 16) ⌝ }
     ensures { λ q. ⌜ wbit (now (s .exit)) ≡ added (wbit (now (s .entry))) (wide sh * r) (wide sh * (r + 1)) (spread sh (now (h .entry)) b (covering (sh .size) k) r) ⌝ }
 {
-    let at = 2 * (r * sh.blocks + b);
-    flip_entry(s, h[at] as usize, sh, k, r);
-    flip_entry(s, h[at + 1] as usize, sh, k, r);
+    let p = read_places(h, sh, b, r);
+    flip_entry(s, p.first, sh, k, r);
+    flip_entry(s, p.second, sh, k, r);
 }
 
 // Turns the checks over that cover bit k of block b.

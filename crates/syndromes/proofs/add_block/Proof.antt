@@ -1,3 +1,14 @@
+-- `syndromes::add_block` meets its contract: after r turns the first r rows have it. Assumes nothing.
+use mathlib.Core.Path.{_≡_, refl, ap, _∙_}
+use Prim.Native.Nat.{ℕ, _+_, _-_, _*_, _≤_}
+use native.Mathlib.Omega.{arith}
+use lib.ListN.{length}
+use borrow.Author.Needs.{needs}
+use Rattle.rules.specs.Bits.{Word}
+use Rattle.vectors.specs.Vectors.{wbit, added}
+use Rattle.syndromes.specs.Rows.{plus, rowed, wide, spread, turned, covering}
+use Rattle.syndromes.proofs.Rowwise.{rowed-none, rowed-more}
+use Rattle.syndromes.proofs.Laid.{wide-some}
 use Rattle.syndromes.proofs.add_block.Statement.{statement}
 use Rattle.syndromes.proofs.add_block.Tie as tie
 use Rattle.syndromes.proofs.add_block.Reads as reads
@@ -5,38 +16,50 @@ use Rattle.syndromes.proofs.add_block.Lts as lts
 use Rattle.syndromes.proofs.add_row.Reads as add-row-reads
 
 abbrev Inv-loop : tie.InvT-loop
-Inv-loop d h sh b acc₀ r₀ acc r = ?
+Inv-loop d h sh b acc₀ r₀ acc r = (r ≤ sh .rows) × (length acc ≡ 16) × (wbit acc ≡ plus (wbit acc₀) (rowed (wide sh) r (spread sh h b (turned (wbit d)))))
 
 abbrev μ-loop : tie.MeasureT-loop
-μ-loop d h sh b acc₀ r₀ acc r = ?
+μ-loop d h sh b acc₀ r₀ acc r = sh .rows - r
 
--- src/lib.rt:42:5
 loop-holds : tie.Need-loop-holds Inv-loop μ-loop
-loop-holds c = ?
+loop-holds c =
+    let a = c .before .before .before .args in
+    let pre = c .before .before .before .pre in
+    let some = wide-some (a .h .now) (a .sh) (pre .0) in
+    (omega arith, pre .3, rowed-none (wide (a .sh)) some (wbit (a .acc .now)) (spread (a .sh) (a .h .now) (a .b) (turned (wbit (a .d .now)))))
 
--- src/lib.rt:43:9
 add-row-requires : tie.Need-add-row-requires Inv-loop μ-loop
-add-row-requires c κs = ?
+add-row-requires c κs = search needs
 
--- src/lib.rt:44:9
 add-r : tie.Need-add-r Inv-loop μ-loop
-add-r c = ?
+add-r c = search needs
 
--- src/lib.rt:42:5
 loop-less : tie.Need-loop-less Inv-loop μ-loop
-loop-less c = ?
+loop-less c = omega arith
 
--- src/lib.rt:42:5
 loop-again : tie.Need-loop-again Inv-loop μ-loop
-loop-again c = ?
+loop-again c =
+    let a = c .before .before .before .before .before .before .before .before .before .before .args in
+    let l = c .before .before .before .before .before .before .loop in
+    let w = wide (a .sh) in
+    let f = spread (a .sh) (a .h .now) (a .b) (turned (wbit (a .d .now))) in
+    let some = wide-some (a .h .now) (a .sh) (c .before .before .before .before .before .before .before .before .before .before .pre .0) in (
+      omega arith,
+      search needs,
+      c .before .before .add-row .ensures
+      ∙ ap (λ (x : Word). added x (w * l .r) (w * (l .r + 1)) (f (l .r))) (l .inv .2)
+      ∙ rowed-more w some (wbit (a .acc .now)) (l .r) f,
+    )
 
--- src/lib.rt:37:1
 same-length : tie.Need-same-length Inv-loop μ-loop
-same-length c = ?
+same-length c = search needs
 
--- src/lib.rt:37:1
 returns : tie.Need-returns Inv-loop μ-loop
-returns c = ?
+returns c =
+    let a = c .before .before .before .before .before .before .args in
+    let l = c .before .before .loop in
+    let all : l .r ≡ a .sh .rows = omega arith in
+    l .inv .2 ∙ ap (λ (k : ℕ). plus (wbit (a .acc .now)) (rowed (wide (a .sh)) k (spread (a .sh) (a .h .now) (a .b) (turned (wbit (a .d .now)))))) all
 
 pub add-block-spec : {M : Type 1} → statement M
 add-block-spec =

@@ -1,81 +1,50 @@
+-- `syndromes::add_row` meets its contract: both places of the block are added, one after the other. Assumes nothing.
+use mathlib.Core.Path.{ap, _∙_}
+use Prim.Native.Nat.{ℕ, _+_, _*_}
+use native.Mathlib.Omega.{arith}
 use borrow.Author.Needs.{needs}
+use Rattle.rules.specs.Bits.{Word}
+use Rattle.vectors.specs.Vectors.{wbit, added}
+use Rattle.syndromes.specs.Rows.{wide, entry, turned, covering}
+use Rattle.syndromes.proofs.Bounds.{row-room}
+use Rattle.syndromes.proofs.Shifts.{added-places}
 use Rattle.syndromes.proofs.add_row.Statement.{statement}
 use Rattle.syndromes.proofs.add_row.Tie as tie
 use Rattle.syndromes.proofs.add_row.Reads as reads
 use Rattle.syndromes.proofs.add_row.Lts as lts
+use Rattle.syndromes.proofs.read_places.Reads as read-places-reads
 use Rattle.syndromes.proofs.add_entry.Reads as add-entry-reads
 
--- src/lib.rt:31:19
-mul-at : tie.Need-mul-at
-mul-at c = ?
+read-places-requires : tie.Need-read-places-requires
+read-places-requires c κs = search needs
 
--- src/lib.rt:31:19
-add-at : tie.Need-add-at
-add-at c = ?
-
--- src/lib.rt:31:14
-mul-at-2 : tie.Need-mul-at-2
-mul-at-2 c = ?
-
--- src/lib.rt:32:18
-mul-add-entry : tie.Need-mul-add-entry
-mul-add-entry c = ?
-
--- src/lib.rt:32:18
-shared-slice-read-add-entry : tie.Need-shared-slice-read-add-entry
-shared-slice-read-add-entry c = ?
-
--- src/lib.rt:32:18
-cast-add-entry : tie.Need-cast-add-entry
-cast-add-entry c = ?
-
--- src/lib.rt:32:5
 add-entry-requires : tie.Need-add-entry-requires
-add-entry-requires c κs = ?
+add-entry-requires c κs =
+    let a = c .before .before .before .before .before .args in
+    let room = row-room (a .h .now) (a .sh) (c .before .before .before .before .before .pre .0) (a .r) (c .before .before .before .before .before .pre .3) in
+    search needs
 
--- src/lib.rt:33:20
-add-add-entry : tie.Need-add-add-entry
-add-add-entry c = ?
-
--- src/lib.rt:33:18
-mul-add-entry-2 : tie.Need-mul-add-entry-2
-mul-add-entry-2 c = ?
-
--- src/lib.rt:33:18
-shared-slice-read-add-entry-2 : tie.Need-shared-slice-read-add-entry-2
-shared-slice-read-add-entry-2 c = ?
-
--- src/lib.rt:33:18
-cast-add-entry-2 : tie.Need-cast-add-entry-2
-cast-add-entry-2 c = ?
-
--- src/lib.rt:33:5
 add-entry-requires-2 : tie.Need-add-entry-requires-2
-add-entry-requires-2 c κs = ?
+add-entry-requires-2 c κs =
+    let a = c .before .before .before .before .before .before .before .before .before .args in
+    let room = row-room (a .h .now) (a .sh) (c .before .before .before .before .before .before .before .before .before .pre .0) (a .r) (c .before .before .before .before .before .before .before .before .before .pre .3) in
+    search needs
 
--- src/lib.rt:27:1
 same-length : tie.Need-same-length
 same-length c = search needs
 
--- src/lib.rt:27:1
 returns : tie.Need-returns
-returns c = ?
+returns c =
+    let a = c .before .before .before .before .before .before .before .before .before .before .before .before .args in
+    let p = c .before .before .before .before .before .before .before .before .read-places in
+    let g = turned (wbit (a .d .now)) in
+    let from = wide (a .sh) * a .r in
+    let to = wide (a .sh) * (a .r + 1) in
+    c .before .before .add-entry2 .ensures
+    ∙ ap (λ (x : Word). added x from to (entry (a .sh .size) g (p .result .second))) (c .before .before .before .before .before .before .add-entry .ensures)
+    ∙ added-places (a .sh) (a .h .now) (a .b) (a .r) g (wbit (a .acc .now)) from to (p .result .first) (p .result .second) (p .ensures .0) (p .ensures .1)
 
 pub add-row-spec : {M : Type 1} → statement M
 add-row-spec =
     tie.close
-    (tie.spec
-    mul-at
-    add-at
-    mul-at-2
-    mul-add-entry
-    shared-slice-read-add-entry
-    cast-add-entry
-    add-entry-requires
-    add-add-entry
-    mul-add-entry-2
-    shared-slice-read-add-entry-2
-    cast-add-entry-2
-    add-entry-requires-2
-    same-length
-    returns)
+    (tie.spec read-places-requires add-entry-requires add-entry-requires-2 same-length returns)

@@ -1,81 +1,50 @@
+-- `syndromes::flip_row` meets its contract: both places of the block, one after the other. Assumes nothing.
+use mathlib.Core.Path.{ap, _∙_}
+use Prim.Native.Nat.{ℕ, _+_, _*_}
+use native.Mathlib.Omega.{arith}
 use borrow.Author.Needs.{needs}
+use Rattle.rules.specs.Bits.{Word}
+use Rattle.vectors.specs.Vectors.{wbit, added}
+use Rattle.syndromes.specs.Rows.{wide, entry, turned, covering}
+use Rattle.syndromes.proofs.Bounds.{row-room}
+use Rattle.syndromes.proofs.Shifts.{added-places}
 use Rattle.syndromes.proofs.flip_row.Statement.{statement}
 use Rattle.syndromes.proofs.flip_row.Tie as tie
 use Rattle.syndromes.proofs.flip_row.Reads as reads
 use Rattle.syndromes.proofs.flip_row.Lts as lts
+use Rattle.syndromes.proofs.read_places.Reads as read-places-reads
 use Rattle.syndromes.proofs.flip_entry.Reads as flip-entry-reads
 
--- src/lib.rt:126:19
-mul-at : tie.Need-mul-at
-mul-at c = ?
+read-places-requires : tie.Need-read-places-requires
+read-places-requires c κs = search needs
 
--- src/lib.rt:126:19
-add-at : tie.Need-add-at
-add-at c = ?
-
--- src/lib.rt:126:14
-mul-at-2 : tie.Need-mul-at-2
-mul-at-2 c = ?
-
--- src/lib.rt:127:19
-mul-flip-entry : tie.Need-mul-flip-entry
-mul-flip-entry c = ?
-
--- src/lib.rt:127:19
-shared-slice-read-flip-entry : tie.Need-shared-slice-read-flip-entry
-shared-slice-read-flip-entry c = ?
-
--- src/lib.rt:127:19
-cast-flip-entry : tie.Need-cast-flip-entry
-cast-flip-entry c = ?
-
--- src/lib.rt:127:5
 flip-entry-requires : tie.Need-flip-entry-requires
-flip-entry-requires c κs = ?
+flip-entry-requires c κs =
+    let a = c .before .before .before .before .args in
+    let room = row-room (a .h .now) (a .sh) (c .before .before .before .before .pre .0) (a .r) (c .before .before .before .before .pre .3) in
+    search needs
 
--- src/lib.rt:128:21
-add-flip-entry : tie.Need-add-flip-entry
-add-flip-entry c = ?
-
--- src/lib.rt:128:19
-mul-flip-entry-2 : tie.Need-mul-flip-entry-2
-mul-flip-entry-2 c = ?
-
--- src/lib.rt:128:19
-shared-slice-read-flip-entry-2 : tie.Need-shared-slice-read-flip-entry-2
-shared-slice-read-flip-entry-2 c = ?
-
--- src/lib.rt:128:19
-cast-flip-entry-2 : tie.Need-cast-flip-entry-2
-cast-flip-entry-2 c = ?
-
--- src/lib.rt:128:5
 flip-entry-requires-2 : tie.Need-flip-entry-requires-2
-flip-entry-requires-2 c κs = ?
+flip-entry-requires-2 c κs =
+    let a = c .before .before .before .before .before .before .before .before .args in
+    let room = row-room (a .h .now) (a .sh) (c .before .before .before .before .before .before .before .before .pre .0) (a .r) (c .before .before .before .before .before .before .before .before .pre .3) in
+    search needs
 
--- src/lib.rt:122:1
 same-length : tie.Need-same-length
 same-length c = search needs
 
--- src/lib.rt:122:1
 returns : tie.Need-returns
-returns c = ?
+returns c =
+    let a = c .before .before .before .before .before .before .before .before .before .before .before .args in
+    let p = c .before .before .before .before .before .before .before .before .read-places in
+    let g = covering (a .sh .size) (a .k) in
+    let from = wide (a .sh) * a .r in
+    let to = wide (a .sh) * (a .r + 1) in
+    c .before .before .flip-entry2 .ensures
+    ∙ ap (λ (x : Word). added x from to (entry (a .sh .size) g (p .result .second))) (c .before .before .before .before .before .before .flip-entry .ensures)
+    ∙ added-places (a .sh) (a .h .now) (a .b) (a .r) g (wbit (a .s .now)) from to (p .result .first) (p .result .second) (p .ensures .0) (p .ensures .1)
 
 pub flip-row-spec : {M : Type 1} → statement M
 flip-row-spec =
     tie.close
-    (tie.spec
-    mul-at
-    add-at
-    mul-at-2
-    mul-flip-entry
-    shared-slice-read-flip-entry
-    cast-flip-entry
-    flip-entry-requires
-    add-flip-entry
-    mul-flip-entry-2
-    shared-slice-read-flip-entry-2
-    cast-flip-entry-2
-    flip-entry-requires-2
-    same-length
-    returns)
+    (tie.spec read-places-requires flip-entry-requires flip-entry-requires-2 same-length returns)
