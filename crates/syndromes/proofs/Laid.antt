@@ -1,28 +1,28 @@
 -- The syndrome as it is held: how it is made, counted, and changed by a flip. Assumes nothing.
-use mathlib.Core.Path.{_≡_, refl, sym, ap, ap₂, _∙_, fun-ext, subst}
+use mathlib.Core.Path.{_≡_, refl, sym, ap, ap₂, _∙_, fun-ext}
 use mathlib.Core.Bool.{Bool, true, false, _&&_, and-false}
 use mathlib.Core.Logic.{⊎-elim}
 use mathlib.Core.List.{List}
 use Prim.Native.Nat.{ℕ, zero, suc, _+_, _-_, _*_, _/_, _%_, _≤_, _<_}
-use native.Mathlib.Nat.{mod-lt, mul-comm, zero-mul, suc-mul, div-add-mod', add-zero}
+use native.Mathlib.Nat.{mod-lt, mul-comm, zero-mul, suc-mul, add-zero}
 use native.Mathlib.Numerals.{add-one}
 use native.Mathlib.Omega.{arith}
-use lib.Dec.{ltb, eqb}
-use lib.ListN.{length, getD}
+use lib.Dec.{ltb}
 use lib.Arith.{digits-div, digits-mod}
-use borrow.Author.Tests.{lt-ltb, le-ltb, ne-eqb}
+use borrow.Author.Tests.{ne-eqb}
 use Rattle.rules.specs.Bits.{Word, _⊕_, sum, count, flipped}
-use Rattle.rules.specs.Codes.{Code, checks}
+use Rattle.rules.specs.Codes.{Code}
 use Rattle.rules.specs.Checks.{check, broken}
 use Rattle.rules.specs.Identity.{over}
-use Rattle.rules.proofs.Sums.{⊕-false, over-linear, sum-same}
+use Rattle.rules.proofs.Sums.{over-linear, sum-same}
 use Rattle.rules.proofs.Counting.{count-same, count-none, count-add}
-use Rattle.vectors.specs.Vectors.{upTo, from}
+use Rattle.vectors.specs.Vectors.{upTo}
 use Rattle.vectors.proofs.Places.{le-or-lt}
 use Rattle.vectors.proofs.Spans.{upTo-below, upTo-above}
-use Rattle.layout.specs.Lent.{Fit, Lent, laid, entries, shiftsOf, placeOf}
+use Rattle.layout.specs.Lent.{Fit, Lent, laid, shiftsOf, placeOf}
 use Rattle.layout.specs.declared.Shape.{Shape}
 use Rattle.syndromes.specs.Rows.{plus, rowed, wide, spread, doubled, turned, summed, covering}
+use Rattle.syndromes.proofs.Bounds.{wide-some}
 use Rattle.syndromes.proofs.Rowwise.{row-below, rowed-inside, rowed-past, rowed-plus, rowed-same}
 use Rattle.syndromes.proofs.Shifts.{over-same, turned-is}
 
@@ -35,8 +35,8 @@ unfolding laid rowed
 laid-rows c sh x = refl
 
 module _ (h : List ℕ) (sh : Shape) (fit : Fit h sh) where
-  pub wide-some : 0 < wide sh
-  wide-some = omega (arith, fit .some, fit .held)
+  some : 0 < wide sh
+  some = wide-some h sh fit
 
   pub summed-none : (x : Word) → (λ n. false) ≡ rowed (wide sh) (sh .rows) (summed sh h x 0)
   unfolding rowed sum
@@ -48,14 +48,14 @@ module _ (h : List ℕ) (sh : Shape) (fit : Fit h sh) where
       ≡ rowed (wide sh) (sh .rows) (summed sh h x (k + 1))
   unfolding sum
   summed-more x k =
-      rowed-plus (wide sh) wide-some (sh .rows) (summed sh h x k) (spread sh h k (turned (doubled (sh .size) x k)))
+      rowed-plus (wide sh) some (sh .rows) (summed sh h x k) (spread sh h k (turned (doubled (sh .size) x k)))
       ∙ ap (λ (n : ℕ). rowed (wide sh) (sh .rows) (summed sh h x n)) (sym (add-one k))
 
   module _ (c : Code) (lent : Lent c h sh) where
     -- all blocks, and only the first M bits of each row
     pub laid-summed : (x : Word) → rowed (wide sh) (sh .rows) (λ r. upTo (sh .size) (summed sh h x (sh .blocks) r)) ≡ laid c sh x
     laid-summed x =
-        rowed-same (wide sh) wide-some (sh .rows) (λ r. upTo (sh .size) (summed sh h x (sh .blocks) r)) (λ r. upTo (sh .size) (checkOf c sh x r)) same
+        rowed-same (wide sh) some (sh .rows) (λ r. upTo (sh .size) (summed sh h x (sh .blocks) r)) (λ r. upTo (sh .size) (checkOf c sh x r)) same
         ∙ sym (laid-rows c sh x)
       where
         block : (r i b : ℕ) → i < sh .size → spread sh h b (turned (doubled (sh .size) x b)) r i ≡ over (shiftsOf sh h r b) (λ s. x (b * sh .size + (i + s) % sh .size))
@@ -77,8 +77,8 @@ module _ (h : List ℕ) (sh : Shape) (fit : Fit h sh) where
         → plus (laid c sh x) (rowed (wide sh) (sh .rows) (spread sh h b (covering (sh .size) k))) ≡ laid c sh (flipped x (b * sh .size + k))
     laid-flipped x b k hb hk =
         ap (λ (z : Word). plus z (rowed (wide sh) (sh .rows) g)) (laid-rows c sh x)
-        ∙ rowed-plus (wide sh) wide-some (sh .rows) (λ r. upTo (sh .size) (checkOf c sh x r)) g
-        ∙ rowed-same (wide sh) wide-some (sh .rows) (λ r. plus (upTo (sh .size) (checkOf c sh x r)) (g r)) (λ r. upTo (sh .size) (checkOf c sh y r)) same
+        ∙ rowed-plus (wide sh) some (sh .rows) (λ r. upTo (sh .size) (checkOf c sh x r)) g
+        ∙ rowed-same (wide sh) some (sh .rows) (λ r. plus (upTo (sh .size) (checkOf c sh x r)) (g r)) (λ r. upTo (sh .size) (checkOf c sh y r)) same
         ∙ sym (laid-rows c sh y)
       where
         y : Word

@@ -1,22 +1,20 @@
 -- Words in rows, row by row. Assumes nothing.
-use mathlib.Core.Path.{_≡_, refl, sym, ap, ap₂, _∙_, fun-ext, subst}
-use mathlib.Core.Bool.{Bool, true, false, not, _&&_, _||_, and-false, and-true}
+use mathlib.Core.Path.{_≡_, sym, ap, ap₂, _∙_, fun-ext, subst}
+use mathlib.Core.Bool.{Bool, false, _&&_}
 use mathlib.Core.Logic.{⊎-elim}
-use mathlib.Core.List.{List, [], _∷_}
-use Prim.Native.Nat.{ℕ, zero, suc, _+_, _-_, _*_, _/_, _%_, _≤_, _<_}
-use native.Mathlib.Nat.{mod-lt, mul-comm, div-add-mod', div-lt-iff-lt-mul, mod-eq-of-lt, mod-eq-sub-mod, le-of-lt}
-use native.Mathlib.Numerals.{add-one}
+use mathlib.Core.List.{List}
+use Prim.Native.Nat.{ℕ, _+_, _-_, _*_, _/_, _%_, _≤_, _<_}
+use native.Mathlib.Nat.{mod-lt, mul-comm, div-add-mod', div-lt-iff-lt-mul, le-of-lt}
 use native.Mathlib.Omega.{arith}
-use lib.Dec.{ltb, leb, eqb}
-use lib.Arith.{digits-div, digits-mod}
+use lib.Dec.{ltb, leb}
+use lib.ListN.{length}
 use borrow.Author.Tests.{lt-ltb, le-ltb}
-use Rattle.rules.specs.Bits.{Word, _⊕_, sum}
-use Rattle.rules.specs.Identity.{over}
+use Rattle.rules.specs.Bits.{Word, _⊕_}
 use Rattle.rules.proofs.Sums.{⊕-false, ⊕-assoc, and-⊕}
-use Rattle.vectors.specs.Vectors.{added, upTo, from, joined, twice}
+use Rattle.vectors.specs.Vectors.{wbit, added}
 use Rattle.vectors.proofs.Places.{le-or-lt, eq-or-not}
-use Rattle.vectors.proofs.Spans.{added-before, added-after, added-inside, upTo-below, upTo-above}
-use Rattle.syndromes.specs.Rows.{plus, rowed, within}
+use Rattle.vectors.proofs.Spans.{added-before, added-after, added-inside}
+use Rattle.syndromes.specs.Rows.{plus, rowed}
 
 pub added-twice : (x : Word) (a e : ℕ) (y z : Word) → added (added x a e y) a e z ≡ added x a e (plus y z)
 added-twice x a e y z =
@@ -90,3 +88,26 @@ module _ (w : ℕ) (some : 0 < w) where
       (λ n.
       ⊎-elim (λ h. rowed-past k f n h ∙ sym (rowed-past k g n h))
       (λ h. rowed-inside k f n h ∙ e (n / w) (n % w) h (mod-lt n some) ∙ sym (rowed-inside k g n h)) (le-or-lt k (n / w)))
+
+-- A loop over the rows: f was added to the first r of them.
+pub record Reached (w rows : ℕ) (f : ℕ → Word) (x : Word) (ws : List ℕ) (r : ℕ) : Type 0 where
+  pub far : r ≤ rows
+  pub long : length ws ≡ 16
+  pub bits : wbit ws ≡ plus x (rowed w r f)
+
+module _ (w rows : ℕ) (some : 0 < w) (f : ℕ → Word) where
+  pub reached-none : (ws : List ℕ) → length ws ≡ 16 → Reached w rows f (wbit ws) ws 0
+  reached-none ws long = record { far = omega arith; long = long; bits = rowed-none w some (wbit ws) f }
+
+  module _ (x : Word) (ws : List ℕ) (r : ℕ) (so-far : Reached w rows f x ws r) where
+    pub reached-more : (next : List ℕ) → r < rows → length next ≡ 16 → wbit next ≡ added (wbit ws) (w * r) (w * (r + 1)) (f r) → Reached w rows f x next (r + 1)
+    reached-more next h long e = record {
+      far = omega arith;
+      long = long;
+      bits = e ∙ ap (λ (y : Word). added y (w * r) (w * (r + 1)) (f r)) (so-far .bits) ∙ rowed-more w some x r f;
+    }
+
+    pub reached-all : rows ≤ r → wbit ws ≡ plus x (rowed w rows f)
+    reached-all h =
+        let all : r ≡ rows = omega (arith, so-far .far) in
+        so-far .bits ∙ ap (λ (k : ℕ). plus x (rowed w k f)) all

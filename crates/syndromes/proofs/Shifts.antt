@@ -1,25 +1,24 @@
 -- What the shifts of a block add to a row. Assumes nothing.
-use mathlib.Core.Path.{_≡_, refl, sym, ap, ap₂, _∙_, fun-ext, subst}
-use mathlib.Core.Bool.{Bool, true, false, not, _&&_, _||_, and-false, and-true}
+use mathlib.Core.Path.{_≡_, refl, sym, ap, ap₂, _∙_, fun-ext}
+use mathlib.Core.Bool.{Bool, true, false, _&&_, and-false}
 use mathlib.Core.Logic.{⊎-elim}
 use mathlib.Core.List.{List, [], _∷_}
-use Prim.Native.Nat.{ℕ, zero, suc, _+_, _-_, _*_, _/_, _%_, _≤_, _<_}
+use Prim.Native.Nat.{ℕ, zero, suc, _+_, _-_, _*_, _%_, _≤_, _<_}
 use native.Mathlib.Nat.{mod-eq-of-lt, mod-eq-sub-mod, not-suc-le-zero, le-of-suc-le-suc}
-use native.Mathlib.Numerals.{add-one}
 use native.Mathlib.Omega.{arith}
 use lib.Dec.{ltb, leb, eqb}
 use lib.ListN.{length, getD}
-use borrow.Author.Tests.{lt-ltb, le-ltb, eq-eqb, ne-eqb}
+use borrow.Author.Tests.{lt-ltb, le-ltb, ne-eqb}
 use Rattle.rules.specs.Bits.{Word, _⊕_, flipped, if_then_else_}
 use Rattle.rules.specs.Identity.{over}
-use Rattle.rules.proofs.Sums.{⊕-false, ⊕-assoc, and-⊕}
-use Rattle.vectors.specs.Vectors.{added, upTo, from, joined, twice}
-use Rattle.vectors.proofs.Places.{le-or-lt, eq-or-not, same-test}
+use Rattle.rules.proofs.Sums.{⊕-false}
+use Rattle.vectors.specs.Vectors.{added, upTo, from, twice}
+use Rattle.vectors.proofs.Places.{le-or-lt, same-test}
 use Rattle.vectors.proofs.Cells.{joined-below, joined-above}
-use Rattle.vectors.proofs.Spans.{added-before, added-after, added-inside, upTo-below, upTo-above}
-use Rattle.layout.specs.Lent.{kept, entries, shiftsOf, placeOf}
+use Rattle.vectors.proofs.Spans.{added-before, added-after, added-inside, upTo-below}
+use Rattle.layout.specs.Lent.{kept, entries, placeOf}
 use Rattle.layout.specs.declared.Shape.{Shape}
-use Rattle.syndromes.specs.Rows.{plus, rowed, within, entry, spread, doubled, turned, covering}
+use Rattle.syndromes.specs.Rows.{entry, spread, doubled, turned}
 use Rattle.syndromes.proofs.Rowwise.{added-twice}
 
 module _ (M : ℕ) (g : ℕ → Word) (s : ℕ) where
@@ -64,11 +63,14 @@ over-same M h at f g e = over-entries M h at f ∙ ap₂ _⊕_ (one (getD h at M
         (le-or-lt M s)
 
 -- both places of a block, one after the other
-pub added-places : (sh : Shape) (h : List ℕ) (b r : ℕ) (g : ℕ → Word) (x : Word) (a e s t : ℕ)
+pub added-places : (sh : Shape) (h : List ℕ) (b r : ℕ) (g : ℕ → Word) (a e s t : ℕ) (x y z : Word)
     → s ≡ getD h (placeOf sh r b) (sh .size) → t ≡ getD h (placeOf sh r b + 1) (sh .size)
-    → added (added x a e (entry (sh .size) g s)) a e (entry (sh .size) g t) ≡ added x a e (spread sh h b g r)
-added-places sh h b r g x a e s t es et =
-    added-twice x a e (entry (sh .size) g s) (entry (sh .size) g t)
+    → y ≡ added x a e (entry (sh .size) g s) → z ≡ added y a e (entry (sh .size) g t)
+    → z ≡ added x a e (spread sh h b g r)
+added-places sh h b r g a e s t x y z es et first second =
+    second
+    ∙ ap (λ (v : Word). added v a e (entry (sh .size) g t)) first
+    ∙ added-twice x a e (entry (sh .size) g s) (entry (sh .size) g t)
     ∙ ap (added x a e)
     (fun-ext
     (λ i.

@@ -11,13 +11,13 @@ use lib.ListN.{length, getD, set}
 use lib.Arith.{digits-div, digits-mod}
 use borrow.Author.Tests.{lt-ltb, le-ltb}
 use Rattle.rules.specs.Bits.{Word, digit}
-use Rattle.vectors.specs.Vectors.{wbit, Holds, upTo, from}
+use Rattle.vectors.specs.Vectors.{wbit, Holds, upTo}
 use Rattle.vectors.proofs.Places.{le-or-lt, eq-or-not}
 use Rattle.vectors.proofs.Cells.{joined-start, joined-end}
 use Rattle.vectors.proofs.Filling.{word-holds, word-stored}
 use Rattle.vectors.proofs.Spans.{upTo-below, upTo-above}
 use Rattle.syndromes.specs.Rows.{rowed, within}
-use Rattle.syndromes.proofs.Rowwise.{in-row, row-below, row-from, rowed-inside, rowed-past}
+use Rattle.syndromes.proofs.Rowwise.{in-row, row-below, rowed-inside, rowed-past}
 
 or-true : (p : Bool) → (p || true) ≡ true
 or-true true = refl

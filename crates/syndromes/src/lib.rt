@@ -1,6 +1,5 @@
 // The syndrome of a word, row after row, for whatever table is lent.
 use layout::Shape;
-
 ghost use mathlib.Core.Path.{_≡_};
 ghost use mathlib.Core.Bool.{false};
 ghost use mathlib.Core.List.{List};
@@ -9,7 +8,7 @@ ghost use lib.ListN.{length, getD};
 ghost use Rattle.rules.specs.Bits.{Word, flipped};
 ghost use Rattle.rules.specs.Codes.{Code};
 ghost use Rattle.rules.specs.Checks.{broken};
-ghost use Rattle.vectors.specs.Vectors.{wbit, added, twice, upTo, from};
+ghost use Rattle.vectors.specs.Vectors.{wbit, added};
 ghost use Rattle.layout.specs.Lent.{Fit, Lent, placeOf, laid};
 ghost use Rattle.syndromes.specs.Rows.{plus, rowed, within, wide, entry, spread, doubled, turned, summed, covering};
 

@@ -1,21 +1,16 @@
 -- `syndromes::add_blocks` meets its contract: after b turns the rows have the first b blocks. Assumes nothing.
-use mathlib.Core.Path.{_≡_, refl, ap, ap₂, _∙_}
-use Prim.Native.Nat.{ℕ, _+_, _-_, _*_, _≤_}
+use mathlib.Core.Path.{_≡_, ap, ap₂, _∙_}
+use Prim.Native.Nat.{ℕ, _-_, _*_, _≤_}
 use native.Mathlib.Omega.{arith}
 use lib.ListN.{length}
 use borrow.Author.Needs.{needs}
 use Rattle.rules.specs.Bits.{Word}
-use Rattle.vectors.specs.Vectors.{wbit, upTo, from, twice}
-use Rattle.syndromes.specs.Rows.{plus, rowed, wide, spread, doubled, turned, summed}
+use Rattle.vectors.specs.Vectors.{wbit, from, twice}
+use Rattle.syndromes.specs.Rows.{plus, rowed, wide, spread, turned, summed}
 use Rattle.syndromes.proofs.Bounds.{block-room}
 use Rattle.syndromes.proofs.Laid.{summed-none, summed-more, upTo-again}
 use Rattle.syndromes.proofs.add_blocks.Statement.{statement}
 use Rattle.syndromes.proofs.add_blocks.Tie as tie
-use Rattle.syndromes.proofs.add_blocks.Reads as reads
-use Rattle.syndromes.proofs.add_blocks.Lts as lts
-use Rattle.vectors.proofs.cut.Reads as cut-reads
-use Rattle.vectors.proofs.double.Reads as double-reads
-use Rattle.syndromes.proofs.add_block.Reads as add-block-reads
 
 abbrev Inv-loop : tie.InvT-loop
 Inv-loop y h sh part₀ d₀ acc₀ b₀ part d acc b =
@@ -71,8 +66,8 @@ loop-again c =
       search needs,
       search needs,
       c .before .before .add-block .ensures
-      ∙ ap₂ (λ (x d : Word). plus x (rowed (wide sh) (sh .rows) (spread sh h (l .b) (turned d)))) (l .inv .4) (c .before .before .before .before .before .before .before .double .ensures ∙ ap (twice (sh .size)) (c .before .before .before .before .before .before .before .before .before .before .before .before .cut .ensures))
-      ∙ summed-more h sh (c .before .before .before .before .before .before .before .before .before .before .before .before .before .before .before .before .before .before .before .before .before .before .before .pre .0) (wbit (a .y .now)) (l .b),
+          ∙ ap₂ (λ (x d : Word). plus x (rowed (wide sh) (sh .rows) (spread sh h (l .b) (turned d)))) (l .inv .4) (c .before .before .before .before .before .before .before .double .ensures ∙ ap (twice (sh .size)) (c .before .before .before .before .before .before .before .before .before .before .before .before .cut .ensures))
+          ∙ summed-more h sh (c .before .before .before .before .before .before .before .before .before .before .before .before .before .before .before .before .before .before .before .before .before .before .before .pre .0) (wbit (a .y .now)) (l .b),
     )
 
 same-length : tie.Need-same-length Inv-loop μ-loop

@@ -1,5 +1,5 @@
 -- `syndromes::add_entry` meets its contract. Assumes nothing.
-use mathlib.Core.Path.{_≡_, ap, ap₂, _∙_, sym}
+use mathlib.Core.Path.{_≡_, ap, ap₂, _∙_}
 use Prim.Native.Nat.{ℕ, _+_, _*_, _≤_, _<_}
 use native.Mathlib.Omega.{arith}
 use borrow.Author.Needs.{needs}
@@ -8,9 +8,6 @@ use Rattle.syndromes.specs.Rows.{wide, turned}
 use Rattle.syndromes.proofs.Shifts.{entry-is, entry-none}
 use Rattle.syndromes.proofs.add_entry.Statement.{statement}
 use Rattle.syndromes.proofs.add_entry.Tie as tie
-use Rattle.syndromes.proofs.add_entry.Reads as reads
-use Rattle.syndromes.proofs.add_entry.Lts as lts
-use Rattle.vectors.proofs.add_turned.Reads as add-turned-reads
 
 mul-add-turned : tie.Need-mul-add-turned
 mul-add-turned c = search needs

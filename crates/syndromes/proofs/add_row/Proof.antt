@@ -1,19 +1,12 @@
 -- `syndromes::add_row` meets its contract: both places of the block are added, one after the other. Assumes nothing.
-use mathlib.Core.Path.{ap, _∙_}
-use Prim.Native.Nat.{ℕ, _+_, _*_}
-use native.Mathlib.Omega.{arith}
+use Prim.Native.Nat.{_+_, _*_}
 use borrow.Author.Needs.{needs}
-use Rattle.rules.specs.Bits.{Word}
-use Rattle.vectors.specs.Vectors.{wbit, added}
-use Rattle.syndromes.specs.Rows.{wide, entry, turned, covering}
+use Rattle.vectors.specs.Vectors.{wbit}
+use Rattle.syndromes.specs.Rows.{wide, turned}
 use Rattle.syndromes.proofs.Bounds.{row-room}
 use Rattle.syndromes.proofs.Shifts.{added-places}
 use Rattle.syndromes.proofs.add_row.Statement.{statement}
 use Rattle.syndromes.proofs.add_row.Tie as tie
-use Rattle.syndromes.proofs.add_row.Reads as reads
-use Rattle.syndromes.proofs.add_row.Lts as lts
-use Rattle.syndromes.proofs.read_places.Reads as read-places-reads
-use Rattle.syndromes.proofs.add_entry.Reads as add-entry-reads
 
 read-places-requires : tie.Need-read-places-requires
 read-places-requires c κs = search needs
@@ -36,13 +29,11 @@ same-length c = search needs
 returns : tie.Need-returns
 returns c =
     let a = c .before .before .before .before .before .before .before .before .before .before .before .before .args in
+    let w = wide (a .sh) in
     let p = c .before .before .before .before .before .before .before .before .read-places in
-    let g = turned (wbit (a .d .now)) in
-    let from = wide (a .sh) * a .r in
-    let to = wide (a .sh) * (a .r + 1) in
-    c .before .before .add-entry2 .ensures
-    ∙ ap (λ (x : Word). added x from to (entry (a .sh .size) g (p .result .second))) (c .before .before .before .before .before .before .add-entry .ensures)
-    ∙ added-places (a .sh) (a .h .now) (a .b) (a .r) g (wbit (a .acc .now)) from to (p .result .first) (p .result .second) (p .ensures .0) (p .ensures .1)
+    let one = c .before .before .before .before .before .before .add-entry in
+    let two = c .before .before .add-entry2 in
+    added-places (a .sh) (a .h .now) (a .b) (a .r) (turned (wbit (a .d .now))) (w * a .r) (w * (a .r + 1)) (p .result .first) (p .result .second) (wbit (a .acc .now)) _ _ (p .ensures .0) (p .ensures .1) (one .ensures) (two .ensures)
 
 pub add-row-spec : {M : Type 1} → statement M
 add-row-spec =

@@ -8,9 +8,6 @@ use Rattle.syndromes.proofs.Laid.{laid-count}
 use borrow.Author.Needs.{needs}
 use Rattle.syndromes.proofs.broken.Statement.{statement}
 use Rattle.syndromes.proofs.broken.Tie as tie
-use Rattle.syndromes.proofs.broken.Reads as reads
-use Rattle.syndromes.proofs.broken.Lts as lts
-use Rattle.vectors.proofs.ones.Reads as ones-reads
 
 ones-requires : tie.Need-ones-requires
 ones-requires c κs = search needs

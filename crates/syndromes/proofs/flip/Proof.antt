@@ -9,10 +9,6 @@ use Rattle.syndromes.proofs.Laid.{laid-flipped}
 use borrow.Author.Needs.{needs}
 use Rattle.syndromes.proofs.flip.Statement.{statement}
 use Rattle.syndromes.proofs.flip.Tie as tie
-use Rattle.syndromes.proofs.flip.Reads as reads
-use Rattle.syndromes.proofs.flip.Lts as lts
-use Rattle.syndromes.proofs.flip_checks.Reads as flip-checks-reads
-use Rattle.vectors.proofs.turn_over.Reads as turn-over-reads
 
 turn-over-requires : tie.Need-turn-over-requires
 turn-over-requires c κs = search needs
@@ -44,10 +40,10 @@ returns c =
     let g = rowed (wide (a .sh)) (a .sh .rows) (spread (a .sh) h (a .n / M) (covering M (a .n % M))) in (
       c .before .before .before .before .before .before .before .before .turn-over .ensures,
       λ code lent x e.
-      c .before .before .flip-checks .ensures
-      ∙ ap (λ (z : Word). plus z g) e
-      ∙ laid-flipped h (a .sh) (pre .0) code lent x (a .n / M) (a .n % M) (div-lt-iff-lt-mul (pre .0 .some) .1 (pre .3)) (mod-lt (a .n) (pre .0 .some))
-      ∙ ap (λ (n : ℕ). laid code (a .sh) (flipped x n)) (div-add-mod' (a .n) M),
+          c .before .before .flip-checks .ensures
+          ∙ ap (λ (z : Word). plus z g) e
+          ∙ laid-flipped h (a .sh) (pre .0) code lent x (a .n / M) (a .n % M) (div-lt-iff-lt-mul (pre .0 .some) .1 (pre .3)) (mod-lt (a .n) (pre .0 .some))
+          ∙ ap (λ (n : ℕ). laid code (a .sh) (flipped x n)) (div-add-mod' (a .n) M),
     )
 
 pub flip-spec : {M : Type 1} → statement M

@@ -11,9 +11,6 @@ use Rattle.syndromes.proofs.Shifts.{entry-is, entry-none, once-around, 
 use borrow.Author.Needs.{needs}
 use Rattle.syndromes.proofs.flip_entry.Statement.{statement}
 use Rattle.syndromes.proofs.flip_entry.Tie as tie
-use Rattle.syndromes.proofs.flip_entry.Reads as reads
-use Rattle.syndromes.proofs.flip_entry.Lts as lts
-use Rattle.vectors.proofs.turn_over.Reads as turn-over-reads
 
 sub-i : tie.Need-sub-i
 sub-i c = search needs

@@ -1,19 +1,12 @@
 -- `syndromes::flip_row` meets its contract: both places of the block, one after the other. Assumes nothing.
-use mathlib.Core.Path.{ap, _∙_}
-use Prim.Native.Nat.{ℕ, _+_, _*_}
-use native.Mathlib.Omega.{arith}
+use Prim.Native.Nat.{_+_, _*_}
 use borrow.Author.Needs.{needs}
-use Rattle.rules.specs.Bits.{Word}
-use Rattle.vectors.specs.Vectors.{wbit, added}
-use Rattle.syndromes.specs.Rows.{wide, entry, turned, covering}
+use Rattle.vectors.specs.Vectors.{wbit}
+use Rattle.syndromes.specs.Rows.{wide, covering}
 use Rattle.syndromes.proofs.Bounds.{row-room}
 use Rattle.syndromes.proofs.Shifts.{added-places}
 use Rattle.syndromes.proofs.flip_row.Statement.{statement}
 use Rattle.syndromes.proofs.flip_row.Tie as tie
-use Rattle.syndromes.proofs.flip_row.Reads as reads
-use Rattle.syndromes.proofs.flip_row.Lts as lts
-use Rattle.syndromes.proofs.read_places.Reads as read-places-reads
-use Rattle.syndromes.proofs.flip_entry.Reads as flip-entry-reads
 
 read-places-requires : tie.Need-read-places-requires
 read-places-requires c κs = search needs
@@ -36,13 +29,11 @@ same-length c = search needs
 returns : tie.Need-returns
 returns c =
     let a = c .before .before .before .before .before .before .before .before .before .before .before .args in
+    let w = wide (a .sh) in
     let p = c .before .before .before .before .before .before .before .before .read-places in
-    let g = covering (a .sh .size) (a .k) in
-    let from = wide (a .sh) * a .r in
-    let to = wide (a .sh) * (a .r + 1) in
-    c .before .before .flip-entry2 .ensures
-    ∙ ap (λ (x : Word). added x from to (entry (a .sh .size) g (p .result .second))) (c .before .before .before .before .before .before .flip-entry .ensures)
-    ∙ added-places (a .sh) (a .h .now) (a .b) (a .r) g (wbit (a .s .now)) from to (p .result .first) (p .result .second) (p .ensures .0) (p .ensures .1)
+    let one = c .before .before .before .before .before .before .flip-entry in
+    let two = c .before .before .flip-entry2 in
+    added-places (a .sh) (a .h .now) (a .b) (a .r) (covering (a .sh .size) (a .k)) (w * a .r) (w * (a .r + 1)) (p .result .first) (p .result .second) (wbit (a .s .now)) _ _ (p .ensures .0) (p .ensures .1) (one .ensures) (two .ensures)
 
 pub flip-row-spec : {M : Type 1} → statement M
 flip-row-spec =

@@ -5,17 +5,12 @@ use native.Mathlib.Omega.{arith}
 use lib.ListN.{replicate}
 use Rattle.vectors.specs.Vectors.{wbit}
 use Rattle.syndromes.specs.Rows.{within, wide, summed}
-use Rattle.syndromes.proofs.Bounds.{length-front}
+use Rattle.syndromes.proofs.Bounds.{length-front, wide-some}
 use Rattle.syndromes.proofs.Trimming.{within-rowed}
-use Rattle.syndromes.proofs.Laid.{wide-some, laid-summed}
+use Rattle.syndromes.proofs.Laid.{laid-summed}
 use borrow.Author.Needs.{needs}
 use Rattle.syndromes.proofs.syndrome.Statement.{statement}
 use Rattle.syndromes.proofs.syndrome.Tie as tie
-use Rattle.syndromes.proofs.syndrome.Reads as reads
-use Rattle.syndromes.proofs.syndrome.Lts as lts
-use Rattle.syndromes.proofs.add_blocks.Reads as add-blocks-reads
-use Rattle.syndromes.proofs.trim_rows.Reads as trim-rows-reads
-use Rattle.vectors.proofs.clear.Reads as clear-reads
 
 clear-requires : tie.Need-clear-requires
 clear-requires c κs = search needs

@@ -7,9 +7,6 @@ use Rattle.syndromes.proofs.Trimming.{within-full, within-more}
 use borrow.Author.Needs.{needs}
 use Rattle.syndromes.proofs.trim_row.Statement.{statement}
 use Rattle.syndromes.proofs.trim_row.Tie as tie
-use Rattle.syndromes.proofs.trim_row.Reads as reads
-use Rattle.syndromes.proofs.trim_row.Lts as lts
-use Rattle.vectors.proofs.front.Reads as front-reads
 
 mul-last : tie.Need-mul-last
 mul-last c = search needs

@@ -1,6 +1,6 @@
 -- `syndromes::trim_rows` meets its contract: after r turns the first r rows are trimmed. Assumes nothing.
 use mathlib.Core.Path.{_≡_, refl, ap, _∙_}
-use Prim.Native.Nat.{ℕ, _+_, _-_, _*_, _≤_}
+use Prim.Native.Nat.{ℕ, _+_, _-_, _≤_}
 use native.Mathlib.Nat.{mul-le-mul-right}
 use native.Mathlib.Omega.{arith}
 use lib.ListN.{length}
@@ -10,9 +10,6 @@ use Rattle.syndromes.specs.Rows.{within, wide}
 use Rattle.syndromes.proofs.Trimming.{within-none}
 use Rattle.syndromes.proofs.trim_rows.Statement.{statement}
 use Rattle.syndromes.proofs.trim_rows.Tie as tie
-use Rattle.syndromes.proofs.trim_rows.Reads as reads
-use Rattle.syndromes.proofs.trim_rows.Lts as lts
-use Rattle.syndromes.proofs.trim_row.Reads as trim-row-reads
 
 abbrev Inv-loop : tie.InvT-loop
 Inv-loop s₀ sh r₀ s r = (r ≤ sh .rows) × (length s ≡ length s₀) × (wbit s ≡ within (wide sh) (sh .size) r (wbit s₀))
