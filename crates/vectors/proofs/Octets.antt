@@ -1,31 +1,22 @@
 -- Octets of words and words of octets. Assumes nothing.
 use mathlib.Core.Path.{_≡_, refl, sym, ap, _∙_, subst, fun-ext}
-use mathlib.Core.Bool.{Bool, true, false, _&&_}
+use mathlib.Core.Bool.{false}
 use mathlib.Core.Logic.{⊎-elim}
-use mathlib.Core.List.{List, [], _∷_}
+use mathlib.Core.List.{List, _∷_}
 use Prim.Native.Nat.{ℕ, zero, suc, _+_, _-_, _*_, _/_, _%_, _^_, _≤_, _<_}
 use native.Mathlib.Nat.{pow-suc, div-one, lt-of-lt-of-le}
 use native.Mathlib.Omega.{arith}
-use lib.Dec.{ltb, eqb, lit<}
+use lib.Dec.{eqb, lit<}
 use lib.Arith.{digits-lt}
 use lib.Pow.{pow-add, pow-mono}
 use lib.ListN.{getD, length}
-use borrow.Author.Tests.{lt-ltb, le-ltb}
 use Rattle.rules.specs.Bits.{Word, digit, bit, tally, number, octets}
 use Rattle.vectors.specs.Vectors.{Holds, upTo, from, joined}
-use Rattle.vectors.proofs.Places.{le-or-lt, place, place-front, place-behind, place-zero, place-cut, place-up, place-down, place-below}
+use Rattle.vectors.proofs.Places.{tally-lt, tally-odd, le-or-lt, place, place-front, place-behind, place-zero, place-cut, place-up, place-down, place-below}
 use Rattle.vectors.proofs.Cells.{cell-at, cell-past, same-cells, joined-below, joined-above}
 use Rattle.vectors.proofs.Spans.{upTo-below, upTo-above}
 
 -- ---- the number written with the first bits of a word
-
-tally-lt : (b : Bool) → tally b < 2
-tally-lt true = lit< tt
-tally-lt false = lit< tt
-
-tally-place : (b : Bool) → eqb (tally b % 2) 1 ≡ b
-tally-place true = refl
-tally-place false = refl
 
 pub number-lt : (w : ℕ) (x : Word) → number w x < 2 ^ w
 unfolding number
@@ -62,7 +53,7 @@ number-digit (suc w) x i h = ⊎-elim last (λ l. before l (number-digit w x i l
         ap (place (2 * n + b)) e
         ∙ ap (λ (k : ℕ). eqb (k % 2) 1) (div-one (2 * n + b))
         ∙ ap (λ (k : ℕ). eqb k 1) odd
-        ∙ tally-place (x w)
+        ∙ tally-odd (x w)
         ∙ ap x same
 
 -- ---- octets
@@ -118,12 +109,15 @@ pub octets-of : (o : List ℕ) (n : ℕ) (x : Word) → length o ≡ n → ((i :
 octets-of o n x e h b =
     same-cells 8 (lit< tt) o (octets n x) (e ∙ sym (length-octets n x)) h (octet-lt n x) (b ∙ sym (bit-octets n x))
 
+pub bit-past : (o : List ℕ) (n : ℕ) → 8 * length o ≤ n → bit o n ≡ false
+bit-past o n h = cell-past 8 (lit< tt) o n h
+
 pub bits-upTo : (o : List ℕ) → bit o ≡ upTo (8 * length o) (bit o)
 bits-upTo o =
     fun-ext
     (λ k.
     ⊎-elim
-    (λ (h : 8 * length o ≤ k). cell-past 8 (lit< tt) o k h ∙ sym (upTo-above (8 * length o) k (bit o) h))
+    (λ (h : 8 * length o ≤ k). bit-past o k h ∙ sym (upTo-above (8 * length o) k (bit o) h))
     (λ (h : k < 8 * length o). sym (upTo-below (8 * length o) k (bit o) h))
     (le-or-lt (8 * length o) k))
 
@@ -140,9 +134,10 @@ abbrev pub Gathered : List ℕ → ℕ → ℕ → ℕ → Type 0
 Gathered o at n v = (v < 2 ^ (8 * n)) × ((i : ℕ) → i < 8 * n → digit (8 * n) v i ≡ bit o (8 * at + i))
 
 pub octet-more : (o : List ℕ) (at n v : ℕ) → getD o (at + n) 0 < 2 ^ 8 → Gathered o at n v → Gathered o at (n + 1) (v * 256 + getD o (at + n) 0)
-octet-more o at n v hb g =
-    (subst (λ (k : ℕ). v * 256 + b < k) (sym (pow-add 2 (8 * n) 8) ∙ ap (λ (k : ℕ). 2 ^ k) wide) (digits-lt (g .0) hb),
-    λ i hi. ⊎-elim (behind i hi) (front i) (le-or-lt (8 * n) i))
+octet-more o at n v hb g = (
+  subst (λ (k : ℕ). v * 256 + b < k) (sym (pow-add 2 (8 * n) 8) ∙ ap (λ (k : ℕ). 2 ^ k) wide) (digits-lt (g .0) hb),
+  λ i hi. ⊎-elim (behind i hi) (front i) (le-or-lt (8 * n) i),
+)
   where
     b : ℕ
     b = getD o (at + n) 0
@@ -172,14 +167,14 @@ short-group o at n v e hn g i hi =
     place-cut (v * 2 ^ (64 - 8 * n)) 64 (64 - suc i) (omega arith)
     ∙ ⊎-elim
     (λ (h : 8 * n ≤ i).
-    place-below v (64 - 8 * n) (64 - suc i) (omega arith) ∙ sym (cell-past 8 (lit< tt) o (8 * at + i) (omega arith)))
+    place-below v (64 - 8 * n) (64 - suc i) (omega arith) ∙ sym (bit-past o (8 * at + i) (omega arith)))
     (λ (h : i < 8 * n).
     let d : 64 - suc i ≡ 64 - 8 * n + (8 * n - suc i) = omega arith in
     ap (place (v * 2 ^ (64 - 8 * n))) d ∙ place-up v (64 - 8 * n) (8 * n - suc i) ∙ g .1 i h)
     (le-or-lt (8 * n) i)
 
 pub no-group : (o : List ℕ) (at : ℕ) → length o ≤ at → Holds 0 (from (8 * at) (bit o))
-no-group o at h i hi = place-zero (64 - suc i) ∙ sym (cell-past 8 (lit< tt) o (8 * at + i) (omega arith))
+no-group o at h i hi = place-zero (64 - suc i) ∙ sym (bit-past o (8 * at + i) (omega arith))
 
 -- ---- octets of a number put into a list
 
@@ -192,8 +187,8 @@ put-octet v j i hj hi =
 abbrev pub after : ℕ → Word → ℕ → Word
 after a z v = joined a z (λ k. digit 64 v (k - a))
 
-pub put-more : (z x y : Word) (a e v : ℕ) → z ≡ joined a x y → a ≤ e → e ≤ a + 64 → Holds v (from a x) → joined e (after a z v) z ≡ joined e x y
-put-more z x y a e v was ha he hv = fun-ext (λ k. ⊎-elim (behind k) (before k) (le-or-lt e k))
+rest-more : (z x y : Word) (a e v : ℕ) → z ≡ joined a x y → a ≤ e → e ≤ a + 64 → Holds v (from a x) → joined e (after a z v) z ≡ joined e x y
+rest-more z x y a e v was ha he hv = fun-ext (λ k. ⊎-elim (behind k) (before k) (le-or-lt e k))
   where
     now : (k : ℕ) → z k ≡ joined a x y k
     now k = ap (λ (w : Word). w k) was
@@ -213,6 +208,11 @@ put-more z x y a e v was ha he hv = fun-ext (λ k. ⊎-elim (behind k) (before k
     before : (k : ℕ) → k < e → joined e (after a z v) z k ≡ joined e x y k
     before k h = joined-below e k (after a z v) z h ∙ inside k h ∙ sym (joined-below e k x y h)
 
+-- A list that has the bits of x before octet `at`, into which n octets more are put.
+pub put-more : (o p : List ℕ) (x y : Word) (at n v : ℕ) → n ≤ 8 → bit o ≡ joined (8 * at) x y → Holds v (from (8 * at) x)
+    → bit p ≡ joined (8 * (at + n)) (after (8 * at) (bit o) v) (bit o) → bit p ≡ joined (8 * (at + n)) x y
+put-more o p x y at n v hn was hv e = e ∙ rest-more (bit o) x y (8 * at) (8 * (at + n)) v was (omega arith) (omega arith) hv
+
 -- A list of octets that is written to its end.
 pub written : (o₀ o : List ℕ) (x : Word) (e : ℕ) → length o ≡ length o₀ → ((i : ℕ) → getD o i 0 < 2 ^ 8) → e ≡ 8 * length o₀ → bit o ≡ joined e x (bit o₀)
     → o ≡ octets (length o₀) x
@@ -224,6 +224,6 @@ written o₀ o x e long small all b = octets-of o (length o₀) x long small (b 
     cut : (k : ℕ) → joined m x (bit o₀) k ≡ upTo m x k
     cut k =
         ⊎-elim
-        (λ (h : m ≤ k). joined-above m k x (bit o₀) h ∙ cell-past 8 (lit< tt) o₀ k h ∙ sym (upTo-above m k x h))
+        (λ (h : m ≤ k). joined-above m k x (bit o₀) h ∙ bit-past o₀ k h ∙ sym (upTo-above m k x h))
         (λ (h : k < m). joined-below m k x (bit o₀) h ∙ sym (upTo-below m k x h))
         (le-or-lt m k)

@@ -1,6 +1,6 @@
 -- The binary digits of a number by their places, 0 the least; and by their numbers in a width, 0 the most significant. Assumes nothing.
-use mathlib.Core.Path.{_≡_, refl, sym, ap, ap₂, _∙_, subst}
-use mathlib.Core.Bool.{Bool, true, false, not, _&&_, _||_}
+use mathlib.Core.Path.{_≡_, refl, sym, ap, ap₂, _∙_}
+use mathlib.Core.Bool.{Bool, true, false, _&&_, _||_}
 use mathlib.Core.Logic.{_⊎_, inl, inr, ⊎-elim}
 use Prim.Native.Nat.{ℕ, zero, suc, min, max, _+_, _-_, _*_, _/_, _%_, _^_, _≤_, _<_}
 use native.Mathlib.Nat.{mod-lt, div-eq-of-lt, div-self, div-one, zero-div, zero-lt-suc, pow-suc, mul-mod-left, lt-of-not-le, lt-of-lt-of-le, mul-assoc}
@@ -8,7 +8,7 @@ use native.Mathlib.Decide.{decLe, ℕ-discrete}
 use native.Mathlib.Omega.{arith}
 use lib.Dec.{eqb, lit<}
 use lib.Arith.{lt-one}
-use lib.Pow.{pow-pos, pow-mono, pow-lt, pow-add, shr-shr, shl-shr, field, mod-mod-pow}
+use lib.Pow.{pow-pos, pow-mono, pow-lt, pow-add, shr-shr, shl-shr, field, mod-mod-pow, ones-split, ones-lt, high}
 use lib.Bits.{bitXor, bitAnd, bitOr, differ, xor-step, and-step, or-step, xor-shr, and-shr, or-shr, or-shifted}
 use borrow.Author.Tests.{eq-eqb, ne-eqb}
 use Rattle.rules.specs.Bits.{digit, tally, _⊕_}
@@ -31,6 +31,22 @@ pub same-test : (a b c d : ℕ) → (a ≡ b → c ≡ d) → (c ≡ d → a ≡
 same-test a b c d to back =
     ⊎-elim (λ e. eq-eqb a b e ∙ sym (eq-eqb c d (to e))) (λ n. ne-eqb a b n ∙ sym (ne-eqb c d (λ e. n (back e)))) (eq-or-not a b)
 
+pub or-none : (p : Bool) → (p || false) ≡ p
+or-none true = refl
+or-none false = refl
+
+pub and-none : (p : Bool) → (p && false) ≡ false
+and-none true = refl
+and-none false = refl
+
+pub xor-none : (p : Bool) → p ⊕ false ≡ p
+xor-none true = refl
+xor-none false = refl
+
+pub xor-same : (p : Bool) → p ⊕ p ≡ false
+xor-same true = refl
+xor-same false = refl
+
 -- The digit of a number that counts 2 ^ j.
 abbrev pub place : ℕ → ℕ → Bool
 place v j = eqb (v / 2 ^ j % 2) 1
@@ -42,7 +58,11 @@ tally-of zero h = refl
 tally-of (suc zero) h = refl
 tally-of (suc (suc p)) h = absurd (omega arith)
 
-tally-odd : (b : Bool) → eqb (tally b % 2) 1 ≡ b
+pub tally-lt : (b : Bool) → tally b < 2
+tally-lt true = lit< tt
+tally-lt false = lit< tt
+
+pub tally-odd : (b : Bool) → eqb (tally b % 2) 1 ≡ b
 tally-odd true = refl
 tally-odd false = refl
 
@@ -147,35 +167,65 @@ module _ (a b k : ℕ) (small : b < 2 ^ k) where
 
   pub place-front : (j : ℕ) → place (a * 2 ^ k + b) (k + j) ≡ place a j
   place-front j = joint (k + j) ∙ ap₂ _||_ (place-up a k j) (place-above b k (k + j) small (omega arith)) ∙ or-none (place a j)
-    where
-      or-none : (p : Bool) → (p || false) ≡ p
-      or-none true = refl
-      or-none false = refl
 
   pub place-behind : (j : ℕ) → j < k → place (a * 2 ^ k + b) j ≡ place b j
   place-behind j h = joint j ∙ ap (λ (p : Bool). p || place b j) (place-below a k j h)
 
--- ---- numbers of a width
+-- A number of k ones.
+pub place-ones : (k j : ℕ) → j < k → place (2 ^ k - 1) j ≡ true
+place-ones k j h =
+    let d = k - suc j in
+    let e : k ≡ suc d + j = omega arith in
+    let odd : (2 ^ suc d - 1) % 2 ≡ 1 = omega (arith, pow-suc 2 d, pow-pos d) in
+    ap (λ (n : ℕ). place (2 ^ n - 1) j) e
+    ∙ ap (λ (n : ℕ). place n j) (ones-split (suc d) j)
+    ∙ ap (λ (n : ℕ). eqb (n % 2) 1) (high (2 ^ suc d - 1) j (ones-lt j))
+    ∙ ap (λ (n : ℕ). eqb n 1) odd
+
+-- ---- digits by their numbers in a width
+
+module _ (w u v i : ℕ) where
+  pub digit-xor : digit w (bitXor u v) i ≡ digit w u i ⊕ digit w v i
+  digit-xor = place-xor u v (w - suc i)
+
+  pub digit-or : digit w (bitOr u v) i ≡ (digit w u i || digit w v i)
+  digit-or = place-or u v (w - suc i)
+
+  pub digit-and : digit w (bitAnd u v) i ≡ (digit w u i && digit w v i)
+  digit-and = place-and u v (w - suc i)
+
+pub digit-zero : (w i : ℕ) → digit w 0 i ≡ false
+digit-zero w i = place-zero (w - suc i)
+
+pub digit-ones : (w i : ℕ) → i < w → digit w (2 ^ w - 1) i ≡ true
+digit-ones w i h = place-ones w (w - suc i) (omega arith)
+
+-- Bit k alone.
+pub digit-power : (w k i : ℕ) → k < w → i < w → digit w (2 ^ (w - suc k)) i ≡ eqb i k
+digit-power w k i hk hi =
+    place-power (w - suc k) (w - suc i) ∙ same-test (w - suc k) (w - suc i) i k (λ e. omega arith) (λ e. omega arith)
+
+-- A digit more: the others are those of the half, and it is the odd one.
+pub digit-half : (w v i : ℕ) → i < w → digit w (v / 2) i ≡ digit (suc w) v i
+digit-half w v i h =
+    let e : 1 + (w - suc i) ≡ suc w - suc i = omega arith in
+    place-down v 1 (w - suc i) ∙ ap (place v) e
+
+pub digit-odd : (w v : ℕ) → v % 2 ≡ tally (digit (suc w) v w)
+digit-odd w v =
+    let e : 0 ≡ suc w - suc w = omega arith in
+    tally-of (v % 2) (mod-lt v (zero-lt-suc 1))
+    ∙ ap (λ (n : ℕ). tally (eqb (n % 2) 1)) (sym (div-one v))
+    ∙ ap (λ (n : ℕ). tally (place v n)) e
 
 -- A number is known by its digits.
 pub same-digits : (w u v : ℕ) → u < 2 ^ w → v < 2 ^ w → ((i : ℕ) → i < w → digit w u i ≡ digit w v i) → u ≡ v
 same-digits zero u v hu hv e = lt-one hu ∙ sym (lt-one hv)
 same-digits (suc w) u v hu hv e =
-    let halves : u / 2 ≡ v / 2 = same-digits w (u / 2) (v / 2) (half u hu) (half v hv) (λ i hi. move u i hi ∙ e i (omega arith) ∙ sym (move v i hi)) in
-    let last : place u 0 ≡ place v 0 = sym (end u) ∙ e w (omega arith) ∙ end v in
-    let odd : u % 2 ≡ v % 2 = whole u ∙ ap tally last ∙ sym (whole v) in
+    let halves : u / 2 ≡ v / 2 =
+    same-digits w (u / 2) (v / 2) (half u hu) (half v hv) (λ i h. digit-half w u i h ∙ e i (omega arith) ∙ sym (digit-half w v i h)) in
+    let odds : u % 2 ≡ v % 2 = digit-odd w u ∙ ap tally (e w (omega arith)) ∙ sym (digit-odd w v) in
     omega arith
   where
     half : (n : ℕ) → n < 2 ^ suc w → n / 2 < 2 ^ w
     half n h = omega (arith, pow-suc 2 w)
-
-    move : (n i : ℕ) → i < w → digit w (n / 2) i ≡ digit (suc w) n i
-    move n i hi =
-        let d : 1 + (w - suc i) ≡ suc w - suc i = omega arith in
-        place-down n 1 (w - suc i) ∙ ap (place n) d
-
-    end : (n : ℕ) → digit (suc w) n w ≡ place n 0
-    end n = let d : suc w - suc w ≡ 0 = omega arith in ap (place n) d
-
-    whole : (n : ℕ) → n % 2 ≡ tally (place n 0)
-    whole n = tally-of (n % 2) (mod-lt n (zero-lt-suc 1)) ∙ ap (λ (k : ℕ). tally (eqb (k % 2) 1)) (sym (div-one n))

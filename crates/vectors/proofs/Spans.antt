@@ -1,39 +1,24 @@
 -- What shifts and sums of words of 64 bits hold. Assumes nothing.
-use mathlib.Core.Path.{_≡_, refl, sym, ap, ap₂, _∙_, subst, fun-ext}
-use mathlib.Core.Bool.{Bool, true, false, not, _&&_, _||_}
+use mathlib.Core.Path.{_≡_, sym, ap, ap₂, _∙_, fun-ext}
+use mathlib.Core.Bool.{Bool, false, not, _&&_, _||_}
 use mathlib.Core.Logic.{⊎-elim}
 use mathlib.Core.List.{List, [], _∷_}
-use Prim.Native.Nat.{ℕ, zero, suc, _+_, _-_, _*_, _/_, _%_, _^_, _≤_, _<_}
-use native.Mathlib.Nat.{mod-lt, one-mul}
+use Prim.Native.Nat.{ℕ, suc, _+_, _-_, _*_, _/_, _%_, _^_, _≤_, _<_}
+use native.Mathlib.Nat.{mod-lt, mod-eq-of-lt, one-mul, add-comm}
+use lib.Arith.{digits-mod}
 use native.Mathlib.Omega.{arith}
-use lib.Dec.{leb, ltb, eqb, lit<}
+use lib.Dec.{ltb, eqb}
 use lib.Pow.{pow-pos}
-use lib.Bits.{bitXor, bitOr}
+use lib.Bits.{bitXor, bitAnd, bitOr}
 use lib.ListN.{getD, length, set}
 use borrow.Author.Tests.{lt-ltb, le-ltb, le-leb, lt-leb, ne-eqb}
 use Rattle.rules.specs.Bits.{Word, digit, flipped, _⊕_}
 use Rattle.vectors.specs.Vectors.{wbit, Holds, upTo, from, later, joined, twice, added}
-use Rattle.vectors.proofs.Places.{le-or-lt, place, place-or, place-xor, place-up, place-down, place-below, place-above, place-cut, place-power, place-zero, same-test}
+use Rattle.vectors.proofs.Places.{or-none, and-none, xor-none, xor-same, digit-or, digit-and, digit-xor, digit-power, le-or-lt, place, place-or, place-xor, place-up, place-down, place-below, place-above, place-cut, place-zero, same-test}
 use Rattle.vectors.proofs.Cells.{joined-below, joined-above, joined-start, joined-end}
 use Rattle.vectors.proofs.Filling.{word-at, word-holds, word-past, word-stored}
 
 -- ---- tests of bits
-
-pub or-none : (p : Bool) → (p || false) ≡ p
-or-none true = refl
-or-none false = refl
-
-pub xor-same : (p : Bool) → p ⊕ p ≡ false
-xor-same true = refl
-xor-same false = refl
-
-pub xor-none : (p : Bool) → p ⊕ false ≡ p
-xor-none true = refl
-xor-none false = refl
-
-pub and-none : (p : Bool) → (p && false) ≡ false
-and-none true = refl
-and-none false = refl
 
 module _ (m n : ℕ) (x : Word) where
   pub upTo-below : n < m → upTo m x n ≡ x n
@@ -50,6 +35,25 @@ module _ (m n : ℕ) (x : Word) where
 
 pub upTo-past : (ws : List ℕ) (m n : ℕ) → 64 * length ws ≤ n → upTo m (wbit ws) n ≡ false
 upTo-past ws m n h = ap (λ (b : Bool). ltb n m && b) (word-past ws n h) ∙ and-none (ltb n m)
+
+-- what is cut off at bit m is as good as cut off there again
+pub upTo-again : (m : ℕ) (x y : Word) → y ≡ upTo m x → y ≡ upTo m y
+upTo-again m x y e = fun-ext (λ n. ⊎-elim (above n) (λ h. sym (upTo-below m n y h)) (le-or-lt m n))
+  where
+    above : (n : ℕ) → m ≤ n → y n ≡ upTo m y n
+    above n h = ap (λ (z : Word). z n) e ∙ upTo-above m n x h ∙ sym (upTo-above m n y h)
+
+-- ---- words bit by bit
+
+module _ (u v : ℕ) (x y : Word) (hu : Holds u x) (hv : Holds v y) where
+  pub xor-holds : Holds (bitXor u v) (λ i. x i ⊕ y i)
+  xor-holds i hi = digit-xor 64 u v i ∙ ap₂ _⊕_ (hu i hi) (hv i hi)
+
+  pub or-holds : Holds (bitOr u v) (λ i. x i || y i)
+  or-holds i hi = digit-or 64 u v i ∙ ap₂ _||_ (hu i hi) (hv i hi)
+
+  pub and-holds : Holds (bitAnd u v) (λ i. x i && y i)
+  and-holds i hi = digit-and 64 u v i ∙ ap₂ _&&_ (hu i hi) (hv i hi)
 
 -- ---- two words from bit t on
 
@@ -188,6 +192,19 @@ module _ (v : List ℕ) (m k : ℕ) (short : wbit v ≡ upTo m (wbit v)) where
   pub twice-past : (n : ℕ) → 2 * m ≤ n → twice m x n ≡ false
   twice-past n h = joined-above m n x (λ i. x (i - m)) (omega arith) ∙ none-from (n - m) (omega arith)
 
+-- m bits twice over, read from bit s on, are the m bits turned by s
+pub twice-turned : (m s n : ℕ) (x : Word) → s < m → n < m → twice m x (s + n) ≡ x ((n + s) % m)
+twice-turned m s n x hs hn = ⊎-elim again still (le-or-lt m (s + n))
+  where
+    still : s + n < m → twice m x (s + n) ≡ x ((n + s) % m)
+    still h = joined-below m (s + n) x (λ i. x (i - m)) h ∙ ap x (sym (mod-eq-of-lt h) ∙ ap (λ (k : ℕ). k % m) (add-comm s n))
+
+    again : m ≤ s + n → twice m x (s + n) ≡ x ((n + s) % m)
+    again h =
+        let e : n + s ≡ 1 * m + (s + n - m) = omega arith in
+        let l : s + n - m < m = omega arith in
+        joined-above m (s + n) x (λ i. x (i - m)) h ∙ ap x (sym (ap (λ (k : ℕ). k % m) e ∙ digits-mod 1 l))
+
 -- ---- bits added
 
 module _ (x y : Word) (a e n : ℕ) where
@@ -199,9 +216,6 @@ module _ (x y : Word) (a e n : ℕ) where
 
   pub added-inside : a ≤ n → n < e → added x a e y n ≡ x n ⊕ y (n - a)
   added-inside h l = ap₂ (λ (b c : Bool). x n ⊕ ((b && c) && y (n - a))) (le-leb a n h) (lt-ltb n e l)
-
-pub xor-holds : (u v : ℕ) (x y : Word) → Holds u x → Holds v y → Holds (bitXor u v) (λ i. x i ⊕ y i)
-xor-holds u v x y hu hv i hi = place-xor u v (64 - suc i) ∙ ap₂ _⊕_ (hu i hi) (hv i hi)
 
 -- word at + j, to which a word of y is added
 pub added-word : (u v : ℕ) (x y : Word) (at w j : ℕ) → j < w → Holds u (from (64 * (at + j)) x) → Holds v (from (64 * j) y)
@@ -223,10 +237,11 @@ module _ (ws : List ℕ) (n : ℕ) (inside : n < 64 * length ws) where
 
   power : (i : ℕ) → i < 64 → digit 64 ((1 * 2 ^ (63 - n % 64)) % 2 ^ 64) i ≡ eqb (64 * (n / 64) + i) n
   power i hi =
+      let e : 63 - n % 64 ≡ 64 - suc (n % 64) = omega arith in
       place-cut (1 * 2 ^ (63 - n % 64)) 64 (64 - suc i) (omega arith)
-      ∙ ap (λ (v : ℕ). place v (64 - suc i)) (one-mul (2 ^ (63 - n % 64)))
-      ∙ place-power (63 - n % 64) (64 - suc i)
-      ∙ same-test (63 - n % 64) (64 - suc i) (64 * (n / 64) + i) n (λ e. omega arith) (λ e. omega arith)
+      ∙ ap (λ (v : ℕ). place v (64 - suc i)) (one-mul (2 ^ (63 - n % 64)) ∙ ap (λ (k : ℕ). 2 ^ k) e)
+      ∙ digit-power 64 (n % 64) i (omega arith) hi
+      ∙ same-test i (n % 64) (64 * (n / 64) + i) n (λ e. omega arith) (λ e. omega arith)
 
   pub turned-over : wbit (set ws (n / 64) (bitXor (getD ws (n / 64) 0) ((1 * 2 ^ (63 - n % 64)) % 2 ^ 64))) ≡ flipped y n
   turned-over =

@@ -1,18 +1,14 @@
 -- `vectors::add_turned` meets its contract: the words before word at + j have their sums. Assumes nothing.
-use mathlib.Core.Path.{sym, ap, ap₂, subst, _∙_}
+use mathlib.Core.Path.{sym, ap, subst, _∙_}
 use Prim.Native.Nat.{ℕ, _+_, _-_, _*_, _≤_}
 use native.Mathlib.Omega.{arith}
-use lib.ListN.{length, getD, set}
+use lib.ListN.{getD, set}
 use lib.Bits.{bitXor}
-use Rattle.rules.specs.Bits.{_⊕_}
 use Rattle.vectors.specs.Vectors.{wbit, from, added}
 use Rattle.vectors.proofs.Filling.{Filled, filled-from, filled-next, filled-more, filled-to}
 use Rattle.vectors.proofs.Spans.{added-before, added-after, added-word}
 use Rattle.vectors.proofs.add_turned.Statement.{statement}
 use Rattle.vectors.proofs.add_turned.Tie as tie
-use Rattle.vectors.proofs.add_turned.Reads as reads
-use Rattle.vectors.proofs.add_turned.Lts as lts
-use Rattle.vectors.proofs.span.Reads as span-reads
 
 abbrev Inv-loop : tie.InvT-loop
 Inv-loop d s acc₀ at w q t j₀ acc j = (j ≤ w) × Filled acc₀ (added (wbit acc₀) (64 * at) (64 * (at + w)) (from s (wbit d))) acc (at + j)
@@ -27,7 +23,7 @@ loop-holds c =
     let z = from (a .s) (wbit (a .d .now)) in (
       omega arith,
       filled-from (a .acc .now) (added y (64 * a .at) (64 * (a .at + a .w)) z) (a .at + 0)
-      (λ n h. sym (added-before y z (64 * a .at) (64 * (a .at + a .w)) n (omega arith))),
+          (λ n h. sym (added-before y z (64 * a .at) (64 * (a .at + a .w)) n (omega arith))),
     )
 
 add-span : tie.Need-add-span Inv-loop μ-loop
@@ -66,9 +62,9 @@ loop-again c =
     let f = l .inv .1 in (
       omega arith,
       subst (λ (n : ℕ). Filled (a .acc .now) x (set (l .acc) k v) n) (omega arith)
-      (filled-more (a .acc .now) x (l .acc) k f v (omega (arith, f .long))
-      (added-word (getD (l .acc) k 0) (c .before .span .result) y z (a .at) (a .w) (l .j) (omega arith) (filled-next (a .acc .now) x (l .acc) k f)
-      (λ i hi. c .before .span .ensures i hi ∙ ap (wbit (a .d .now)) (omega arith)))),
+          (filled-more (a .acc .now) x (l .acc) k f v (omega (arith, f .long))
+          (added-word (getD (l .acc) k 0) (c .before .span .result) y z (a .at) (a .w) (l .j) (omega arith) (filled-next (a .acc .now) x (l .acc) k f)
+          (λ i hi. c .before .span .ensures i hi ∙ ap (wbit (a .d .now)) (omega arith)))),
     )
 
 same-length : tie.Need-same-length Inv-loop μ-loop

@@ -8,8 +8,6 @@ use Rattle.vectors.proofs.Places.{place-zero}
 use Rattle.vectors.proofs.Filling.{Filled, filled-start, filled-more, filled-all}
 use Rattle.vectors.proofs.clear.Statement.{statement}
 use Rattle.vectors.proofs.clear.Tie as tie
-use Rattle.vectors.proofs.clear.Reads as reads
-use Rattle.vectors.proofs.clear.Lts as lts
 
 abbrev Inv-loop : tie.InvT-loop
 Inv-loop ws₀ k₀ ws k = Filled ws₀ (λ n. false) ws k

@@ -9,10 +9,6 @@ use Rattle.vectors.proofs.Filling.{Filled, filled-start, filled-more}
 use Rattle.vectors.proofs.Spans.{upTo-joined}
 use Rattle.vectors.proofs.cut.Statement.{statement}
 use Rattle.vectors.proofs.cut.Tie as tie
-use Rattle.vectors.proofs.cut.Reads as reads
-use Rattle.vectors.proofs.cut.Lts as lts
-use Rattle.vectors.proofs.span.Reads as span-reads
-use Rattle.vectors.proofs.trim.Reads as trim-reads
 
 abbrev Inv-loop : tie.InvT-loop
 Inv-loop y p m v₀ q t k₀ v k = Filled v₀ (from p (wbit y)) v k

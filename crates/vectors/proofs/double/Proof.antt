@@ -1,5 +1,5 @@
 -- `vectors::double` meets its contract: after k turns the first k words are right. Assumes nothing.
-use Prim.Native.Nat.{_-_, _*_}
+use Prim.Native.Nat.{_-_}
 use native.Mathlib.Omega.{arith}
 use lib.ListN.{length}
 use Rattle.vectors.specs.Vectors.{wbit, twice}
@@ -7,9 +7,6 @@ use Rattle.vectors.proofs.Filling.{Filled, filled-start, filled-more, f
 use Rattle.vectors.proofs.Spans.{twice-past}
 use Rattle.vectors.proofs.double.Statement.{statement}
 use Rattle.vectors.proofs.double.Tie as tie
-use Rattle.vectors.proofs.double.Reads as reads
-use Rattle.vectors.proofs.double.Lts as lts
-use Rattle.vectors.proofs.double_word.Reads as double-word-reads
 
 abbrev Inv-loop : tie.InvT-loop
 Inv-loop v m d₀ k₀ d k = Filled d₀ (twice m (wbit v)) d k

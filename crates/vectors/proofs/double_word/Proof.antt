@@ -5,10 +5,6 @@ use borrow.Author.Needs.{needs}
 use Rattle.vectors.proofs.Spans.{twice-before, twice-behind, twice-at}
 use Rattle.vectors.proofs.double_word.Statement.{statement}
 use Rattle.vectors.proofs.double_word.Tie as tie
-use Rattle.vectors.proofs.double_word.Reads as reads
-use Rattle.vectors.proofs.double_word.Lts as lts
-use Rattle.vectors.proofs.funnel.Reads as funnel-reads
-use Rattle.vectors.proofs.word.Reads as word-reads
 
 mul-p : tie.Need-mul-p
 mul-p c = search needs

@@ -3,8 +3,6 @@ use borrow.Author.Needs.{needs}
 use Rattle.vectors.proofs.Spans.{first-holds}
 use Rattle.vectors.proofs.front.Statement.{statement}
 use Rattle.vectors.proofs.front.Tie as tie
-use Rattle.vectors.proofs.front.Reads as reads
-use Rattle.vectors.proofs.front.Lts as lts
 
 shl-result : tie.Need-shl-result
 shl-result c = search needs

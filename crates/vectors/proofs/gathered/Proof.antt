@@ -1,15 +1,11 @@
 -- `vectors::gathered` meets its contract: after j octets the number has their 8 j bits. Assumes nothing.
-use mathlib.Core.Path.{_≡_, refl, subst}
+use mathlib.Core.Path.{subst}
 use Prim.Native.Nat.{ℕ, _+_, _-_, _*_, _^_, _≤_, _<_}
 use native.Mathlib.Omega.{arith}
 use lib.Dec.{lit<}
-use lib.ListN.{length, getD}
-use Rattle.rules.specs.Bits.{digit, bit}
 use Rattle.vectors.proofs.Octets.{Gathered, octet-more, fits}
 use Rattle.vectors.proofs.gathered.Statement.{statement}
 use Rattle.vectors.proofs.gathered.Tie as tie
-use Rattle.vectors.proofs.gathered.Reads as reads
-use Rattle.vectors.proofs.gathered.Lts as lts
 
 abbrev Inv-loop : tie.InvT-loop
 Inv-loop octets at n number₀ j₀ number j = (j ≤ n) × Gathered octets at j number

@@ -6,9 +6,6 @@ use borrow.Author.Needs.{needs}
 use Rattle.vectors.proofs.Octets.{short-group, no-group}
 use Rattle.vectors.proofs.group.Statement.{statement}
 use Rattle.vectors.proofs.group.Tie as tie
-use Rattle.vectors.proofs.group.Reads as reads
-use Rattle.vectors.proofs.group.Lts as lts
-use Rattle.vectors.proofs.gathered.Reads as gathered-reads
 
 add-if1 : tie.Need-add-if1
 add-if1 c = search needs

@@ -3,8 +3,6 @@ use borrow.Author.Needs.{needs}
 use Rattle.vectors.proofs.Filling.{word-place}
 use Rattle.vectors.proofs.is_set.Statement.{statement}
 use Rattle.vectors.proofs.is_set.Tie as tie
-use Rattle.vectors.proofs.is_set.Reads as reads
-use Rattle.vectors.proofs.is_set.Lts as lts
 
 mul-result : tie.Need-mul-result
 mul-result c = search needs

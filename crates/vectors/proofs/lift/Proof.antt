@@ -1,5 +1,5 @@
 -- `vectors::lift` meets its contract: `before` is the word before word k, as it was. Assumes nothing.
-use Prim.Native.Nat.{_-_, _*_, _<_}
+use Prim.Native.Nat.{_-_, _*_}
 use native.Mathlib.Omega.{arith}
 use lib.ListN.{length, getD}
 use Rattle.vectors.specs.Vectors.{wbit, Holds, from, later}
@@ -7,9 +7,6 @@ use Rattle.vectors.proofs.Filling.{Filled, filled-start, filled-next, f
 use Rattle.vectors.proofs.Spans.{later-holds, later-next, later-first, later-past, later-none}
 use Rattle.vectors.proofs.lift.Statement.{statement}
 use Rattle.vectors.proofs.lift.Tie as tie
-use Rattle.vectors.proofs.lift.Reads as reads
-use Rattle.vectors.proofs.lift.Lts as lts
-use Rattle.vectors.proofs.funnel.Reads as funnel-reads
 
 abbrev Inv-loop : tie.InvT-loop
 Inv-loop ws₀ u before₀ k₀ ws before k = Holds before (from (64 * k) (later 64 (wbit ws₀))) × Filled ws₀ (later u (wbit ws₀)) ws k
@@ -58,7 +55,7 @@ loop-again c =
     let h = filled-next (a .ws .now) x (l .ws) (l .k) (l .inv .1) in (
       later-next v (l .k) y h,
       filled-more (a .ws .now) x (l .ws) (l .k) (l .inv .1) (c .funnel .result) (omega arith)
-      (later-holds (l .before) v (l .k) (a .u) (c .funnel .result) y (omega arith) (s .pre .0) (l .inv .0) h (c .funnel .ensures)),
+          (later-holds (l .before) v (l .k) (a .u) (c .funnel .result) y (omega arith) (s .pre .0) (l .inv .0) h (c .funnel .ensures)),
     )
 
 same-length : tie.Need-same-length Inv-loop μ-loop

@@ -1,17 +1,13 @@
 -- `vectors::load` meets its contract: after k turns the first k words have the octets' bits. Assumes nothing.
 use mathlib.Core.Path.{ap, _∙_}
-use Prim.Native.Nat.{_-_, _*_}
+use Prim.Native.Nat.{_-_}
 use native.Mathlib.Omega.{arith}
-use lib.Dec.{lit<}
 use lib.ListN.{length}
 use Rattle.rules.specs.Bits.{bit}
-use Rattle.vectors.proofs.Cells.{cell-past}
+use Rattle.vectors.proofs.Octets.{bit-past}
 use Rattle.vectors.proofs.Filling.{Filled, filled-start, filled-more, filled-all}
 use Rattle.vectors.proofs.load.Statement.{statement}
 use Rattle.vectors.proofs.load.Tie as tie
-use Rattle.vectors.proofs.load.Reads as reads
-use Rattle.vectors.proofs.load.Lts as lts
-use Rattle.vectors.proofs.group.Reads as group-reads
 
 abbrev Inv-loop : tie.InvT-loop
 Inv-loop octets ws₀ k₀ ws k = Filled ws₀ (bit octets) ws k
@@ -57,7 +53,7 @@ returns c =
     let a = c .before .before .before .before .args in
     let l = c .before .loop in
     filled-all (a .ws .now) (bit (a .octets .now)) (l .ws) (l .k) (l .inv) (omega arith)
-    (λ n h. cell-past 8 (lit< tt) (a .octets .now) n (omega arith))
+    (λ n h. bit-past (a .octets .now) n (omega arith))
 
 pub load-spec : {M : Type 1} → statement M
 load-spec =

@@ -1,6 +1,6 @@
 -- `vectors::ones` meets its contract: n counts the bits of the first k words. Assumes nothing.
-use mathlib.Core.Path.{_≡_, refl, sym, ap, _∙_}
-use Prim.Native.Nat.{ℕ, _+_, _-_, _*_, _≤_}
+use mathlib.Core.Path.{_≡_, ap, _∙_}
+use Prim.Native.Nat.{ℕ, _-_, _*_, _≤_}
 use native.Mathlib.Omega.{arith}
 use lib.Count.{ones-le}
 use lib.ListN.{length, getD}
@@ -9,8 +9,6 @@ use Rattle.vectors.specs.Vectors.{wbit}
 use Rattle.vectors.proofs.Counts.{count-le, count-word, count-none}
 use Rattle.vectors.proofs.ones.Statement.{statement}
 use Rattle.vectors.proofs.ones.Tie as tie
-use Rattle.vectors.proofs.ones.Reads as reads
-use Rattle.vectors.proofs.ones.Lts as lts
 
 abbrev Inv-loop : tie.InvT-loop
 Inv-loop ws n₀ k₀ n k = (k ≤ length ws) × (n ≡ count (64 * k) (wbit ws))
@@ -36,10 +34,11 @@ add-n : tie.Need-add-n Inv-loop μ-loop
 add-n c =
     let a = c .before .before .before .args in
     let l = c .before .before .loop in
-    omega
-    (arith,
-    ones-le 64 (getD (a .ws .now) (l .k) 0) (c .shared-slice-known .given (l .k) .fits),
-    count-le (64 * l .k) (wbit (a .ws .now)))
+    omega (
+      arith,
+      ones-le 64 (getD (a .ws .now) (l .k) 0) (c .shared-slice-known .given (l .k) .fits),
+      count-le (64 * l .k) (wbit (a .ws .now)),
+    )
 
 add-k : tie.Need-add-k Inv-loop μ-loop
 add-k c = omega arith

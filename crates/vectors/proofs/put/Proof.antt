@@ -10,8 +10,6 @@ use Rattle.vectors.proofs.Cells.{stored, joined-start, joined-below, jo
 use Rattle.vectors.proofs.Octets.{after, put-octet}
 use Rattle.vectors.proofs.put.Statement.{statement}
 use Rattle.vectors.proofs.put.Tie as tie
-use Rattle.vectors.proofs.put.Reads as reads
-use Rattle.vectors.proofs.put.Lts as lts
 
 abbrev Inv-loop : tie.InvT-loop
 Inv-loop v n out₀ at j₀ out j = (j ≤ n) × (length out ≡ length out₀) × (bit out ≡ joined (8 * (at + j)) (after (8 * at) (bit out₀) v) (bit out₀))
@@ -62,11 +60,11 @@ loop-again c =
       omega arith,
       length-set (l .out) k v ∙ l .inv .1,
       stored 8 (lit< tt) (l .out) k x z (l .inv .2) v (omega (arith, l .inv .1))
-      (λ i hi.
-      put-octet (a .v) (l .j) i (omega arith) hi
-      ∙ ap (digit 64 (a .v)) (omega arith)
-      ∙ sym (joined-above (8 * a .at) (8 * k + i) z f (omega arith)))
-      ∙ ap (λ (n : ℕ). joined (8 * n) x z) e,
+          (λ i hi.
+          put-octet (a .v) (l .j) i (omega arith) hi
+          ∙ ap (digit 64 (a .v)) (omega arith)
+          ∙ sym (joined-above (8 * a .at) (8 * k + i) z f (omega arith)))
+          ∙ ap (λ (n : ℕ). joined (8 * n) x z) e,
     )
 
 same-length : tie.Need-same-length Inv-loop μ-loop

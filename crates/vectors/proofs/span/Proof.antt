@@ -4,9 +4,6 @@ use borrow.Author.Needs.{needs}
 use Rattle.vectors.proofs.Spans.{neighbours}
 use Rattle.vectors.proofs.span.Statement.{statement}
 use Rattle.vectors.proofs.span.Tie as tie
-use Rattle.vectors.proofs.span.Reads as reads
-use Rattle.vectors.proofs.span.Lts as lts
-use Rattle.vectors.proofs.funnel.Reads as funnel-reads
 
 mul-funnel : tie.Need-mul-funnel
 mul-funnel c = search needs

@@ -1,5 +1,5 @@
 -- `vectors::store` meets its contract: after k turns the first 8 k octets stand there, and the last few follow. Assumes nothing.
-use mathlib.Core.Path.{_≡_, refl, sym, ap, _∙_}
+use mathlib.Core.Path.{_≡_, refl, ap, _∙_}
 use Prim.Native.Nat.{ℕ, _+_, _-_, _*_, _/_, _%_, _^_, _≤_, _<_}
 use native.Mathlib.Omega.{arith}
 use lib.ListN.{length, getD}
@@ -10,10 +10,6 @@ use Rattle.vectors.proofs.Cells.{joined-start}
 use Rattle.vectors.proofs.Octets.{put-more, written}
 use Rattle.vectors.proofs.store.Statement.{statement}
 use Rattle.vectors.proofs.store.Tie as tie
-use Rattle.vectors.proofs.store.Reads as reads
-use Rattle.vectors.proofs.store.Lts as lts
-use Rattle.vectors.proofs.put.Reads as put-reads
-use Rattle.vectors.proofs.span.Reads as span-reads
 
 abbrev Inv-loop : tie.InvT-loop
 Inv-loop ws u out₀ q t whole k₀ out k =
@@ -55,13 +51,13 @@ loop-again c =
     let x = from (a .u) (wbit (a .ws .now)) in
     let p = c .before .before .put in
     let s = c .before .before .before .before .span in
-    let e : 8 * (8 * l .k + 8) ≡ 8 * (8 * (l .k + 1)) = omega arith in (
+    let y = bit (a .out .now) in
+    let e : 8 * l .k + 8 ≡ 8 * (l .k + 1) = omega arith in (
       omega arith,
       search needs,
-      p .ensures
-      ∙ put-more (bit (l .out)) x (bit (a .out .now)) (8 * (8 * l .k)) (8 * (8 * l .k + 8)) (s .result) (l .inv .2) (omega arith) (omega arith)
-      (λ i hi. s .ensures i hi ∙ ap (wbit (a .ws .now)) (omega arith))
-      ∙ ap (λ (n : ℕ). joined n x (bit (a .out .now))) e,
+      put-more (l .out) (p .last .1 .1 .0) x y (8 * l .k) 8 (s .result) (omega arith) (l .inv .2)
+          (λ i hi. s .ensures i hi ∙ ap (wbit (a .ws .now)) (omega arith)) (p .ensures)
+          ∙ ap (λ (n : ℕ). joined (8 * n) x y) e,
       λ i. c .slice-known2 .given i .fits,
     )
 
@@ -89,12 +85,12 @@ returns c =
     let s = c .before .before .before .before .span2 in
     let k = length (a .out .now) / 8 in
     let r = length (l .out) % 8 in
+    let y = bit (a .out .now) in
     let e : l .k ≡ k = omega arith in
-    written (a .out .now) (p .last .1 .1 .0) x (8 * (8 * k + r)) (search needs) (λ i. c .slice-known3 .given i .fits) (omega arith)
-    (p .ensures
-    ∙ put-more (bit (l .out)) x (bit (a .out .now)) (8 * (8 * k)) (8 * (8 * k + r)) (s .result)
-    (l .inv .2 ∙ ap (λ (n : ℕ). joined (8 * (8 * n)) x (bit (a .out .now))) e) (omega arith) (omega arith)
-    (λ i hi. s .ensures i hi ∙ ap (wbit (a .ws .now)) (omega arith)))
+    let out = p .last .1 .1 .0 in
+    written (a .out .now) out x (8 * (8 * k + r)) (search needs) (λ i. c .slice-known3 .given i .fits) (omega arith)
+    (put-more (l .out) out x y (8 * k) r (s .result) (omega arith) (l .inv .2 ∙ ap (λ (n : ℕ). joined (8 * (8 * n)) x y) e)
+    (λ i hi. s .ensures i hi ∙ ap (wbit (a .ws .now)) (omega arith)) (p .ensures))
 
 same-length-2 : tie.Need-same-length-2 Inv-loop μ-loop
 same-length-2 c = c .before .before .loop .inv .1

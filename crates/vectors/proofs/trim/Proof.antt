@@ -8,9 +8,6 @@ use Rattle.vectors.proofs.Filling.{Filled, filled-from, filled-next, fi
 use Rattle.vectors.proofs.Spans.{upTo-below, upTo-past, front-upTo}
 use Rattle.vectors.proofs.trim.Statement.{statement}
 use Rattle.vectors.proofs.trim.Tie as tie
-use Rattle.vectors.proofs.trim.Reads as reads
-use Rattle.vectors.proofs.trim.Lts as lts
-use Rattle.vectors.proofs.front.Reads as front-reads
 
 abbrev Inv-loop : tie.InvT-loop
 Inv-loop ws₀ n k₀ t₀ ws k t = (n / 64 ≤ k) × (t ≡ n - 64 * k) × Filled ws₀ (upTo n (wbit ws₀)) ws k
@@ -55,7 +52,7 @@ loop-again c =
       omega arith,
       omega arith,
       filled-more (a .ws .now) x (l .ws) (l .k) (l .inv .2) v (omega arith)
-      (front-upTo v (getD (l .ws) (l .k) 0) (l .k) (a .n) (l .t) y (c .front .ensures) (filled-next (a .ws .now) x (l .ws) (l .k) (l .inv .2)) (l .inv .1)),
+          (front-upTo v (getD (l .ws) (l .k) 0) (l .k) (a .n) (l .t) y (c .front .ensures) (filled-next (a .ws .now) x (l .ws) (l .k) (l .inv .2)) (l .inv .1)),
     )
 
 same-length : tie.Need-same-length Inv-loop μ-loop

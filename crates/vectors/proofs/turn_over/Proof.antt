@@ -3,8 +3,6 @@ use borrow.Author.Needs.{needs}
 use Rattle.vectors.proofs.Spans.{turned-over}
 use Rattle.vectors.proofs.turn_over.Statement.{statement}
 use Rattle.vectors.proofs.turn_over.Tie as tie
-use Rattle.vectors.proofs.turn_over.Reads as reads
-use Rattle.vectors.proofs.turn_over.Lts as lts
 
 sub-ws : tie.Need-sub-ws
 sub-ws c = search needs

@@ -5,9 +5,6 @@ use borrow.Author.Needs.{needs}
 use Rattle.vectors.specs.Vectors.{wbit}
 use Rattle.vectors.proofs.window.Statement.{statement}
 use Rattle.vectors.proofs.window.Tie as tie
-use Rattle.vectors.proofs.window.Reads as reads
-use Rattle.vectors.proofs.window.Lts as lts
-use Rattle.vectors.proofs.span.Reads as span-reads
 
 span-requires : tie.Need-span-requires
 span-requires c κs = search needs

@@ -4,8 +4,6 @@ use lib.ListN.{List·getD-eq-default}
 use borrow.Author.Needs.{needs}
 use Rattle.vectors.proofs.word.Statement.{statement}
 use Rattle.vectors.proofs.word.Tie as tie
-use Rattle.vectors.proofs.word.Reads as reads
-use Rattle.vectors.proofs.word.Lts as lts
 
 mul-result : tie.Need-mul-result
 mul-result c = search needs
