@@ -73,7 +73,7 @@ pub fn load(octets: &[u8], ws: &mut [u64])
 }
 
 // The first t bits of v.
-fn front(v: u64, t: usize) -> u64
+pub fn front(v: u64, t: usize) -> u64
     requires { ⌜ t < 64 ⌝ }
     ensures { λ r. ⌜ Holds r (upTo t (digit 64 v)) ⌝ }
 {

@@ -1,0 +1,5 @@
+pub mod Bounds
+pub mod Rowwise
+pub mod Shifts
+pub mod Trimming
+pub mod Laid

@@ -1,0 +1,21 @@
+-- `syndromes::broken` meets its contract: the ones of a syndrome are its broken checks. Assumes nothing.
+use mathlib.Core.Path.{ap, _∙_}
+use Prim.Native.Nat.{_*_}
+use native.Mathlib.Omega.{arith}
+use lib.ListN.{length}
+use Rattle.rules.specs.Bits.{count}
+use Rattle.syndromes.proofs.Laid.{laid-count}
+use borrow.Author.Needs.{needs}
+use Rattle.syndromes.proofs.broken.Statement.{statement}
+use Rattle.syndromes.proofs.broken.Tie as tie
+
+ones-requires : tie.Need-ones-requires
+ones-requires c κs = search needs
+
+returns : tie.Need-returns
+returns c code h sh x fit lent e =
+    let long = 64 * length (c .before .before .args .s .now) in
+    c .ones .ensures ∙ ap (count long) e ∙ laid-count h sh fit code lent x long (omega arith)
+
+pub broken-spec : {M : Type 1} → statement M
+broken-spec = tie.close (tie.spec ones-requires returns)

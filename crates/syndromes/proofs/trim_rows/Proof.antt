@@ -1,0 +1,66 @@
+-- `syndromes::trim_rows` meets its contract: after r turns the first r rows are trimmed. Assumes nothing.
+use mathlib.Core.Path.{_≡_, refl, ap, _∙_}
+use Prim.Native.Nat.{ℕ, _+_, _-_, _≤_}
+use native.Mathlib.Nat.{mul-le-mul-right}
+use native.Mathlib.Omega.{arith}
+use lib.ListN.{length}
+use borrow.Author.Needs.{needs}
+use Rattle.vectors.specs.Vectors.{wbit}
+use Rattle.syndromes.specs.Rows.{within, wide}
+use Rattle.syndromes.proofs.Trimming.{within-none}
+use Rattle.syndromes.proofs.trim_rows.Statement.{statement}
+use Rattle.syndromes.proofs.trim_rows.Tie as tie
+
+abbrev Inv-loop : tie.InvT-loop
+Inv-loop s₀ sh r₀ s r = (r ≤ sh .rows) × (length s ≡ length s₀) × (wbit s ≡ within (wide sh) (sh .size) r (wbit s₀))
+
+abbrev μ-loop : tie.MeasureT-loop
+μ-loop s₀ sh r₀ s r = sh .rows - r
+
+loop-holds : tie.Need-loop-holds Inv-loop μ-loop
+loop-holds c =
+    let a = c .before .args in
+    (omega arith, refl, within-none (wide (a .sh)) (a .sh .size) (omega arith) (wbit (a .s .now)))
+
+trim-row-requires : tie.Need-trim-row-requires Inv-loop μ-loop
+trim-row-requires c κs =
+    let a = c .before .before .before .before .before .args in
+    let r = c .before .before .before .loop .r in
+    let room = mul-le-mul-right {m = r + 1} {n = a .sh .rows} (a .sh .words) (omega arith) in
+    search needs
+
+add-r : tie.Need-add-r Inv-loop μ-loop
+add-r c = search needs
+
+loop-less : tie.Need-loop-less Inv-loop μ-loop
+loop-less c = omega arith
+
+loop-again : tie.Need-loop-again Inv-loop μ-loop
+loop-again c =
+    let a = c .before .before .before .before .before .before .before .before .args in
+    let l = c .before .before .before .before .before .before .loop in
+    (omega arith, search needs, c .before .before .trim-row .ensures (wbit (a .s .now)) (l .inv .2))
+
+same-length : tie.Need-same-length Inv-loop μ-loop
+same-length c = search needs
+
+returns : tie.Need-returns Inv-loop μ-loop
+returns c =
+    let a = c .before .before .before .before .args in
+    let l = c .before .before .loop in
+    let all : l .r ≡ a .sh .rows = omega arith in
+    l .inv .2 ∙ ap (λ (k : ℕ). within (wide (a .sh)) (a .sh .size) k (wbit (a .s .now))) all
+
+pub trim-rows-spec : {M : Type 1} → statement M
+trim-rows-spec =
+    tie.close
+    (tie.spec
+    Inv-loop
+    μ-loop
+    loop-holds
+    trim-row-requires
+    add-r
+    loop-less
+    loop-again
+    same-length
+    returns)

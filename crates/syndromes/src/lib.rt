@@ -1,0 +1,168 @@
+// The syndrome of a word, row after row, for whatever table is lent.
+use layout::Shape;
+ghost use mathlib.Core.Path.{_≡_};
+ghost use mathlib.Core.Bool.{false};
+ghost use mathlib.Core.List.{List};
+ghost use Prim.Native.Nat.{ℕ, _+_, _-_, _*_, _/_, _%_, _<_, _≤_};
+ghost use lib.ListN.{length, getD};
+ghost use Rattle.rules.specs.Bits.{Word, flipped};
+ghost use Rattle.rules.specs.Codes.{Code};
+ghost use Rattle.rules.specs.Checks.{broken};
+ghost use Rattle.vectors.specs.Vectors.{wbit, added};
+ghost use Rattle.layout.specs.Lent.{Fit, Lent, placeOf, laid};
+ghost use Rattle.syndromes.specs.Rows.{plus, rowed, within, wide, entry, spread, doubled, turned, summed, covering};
+
+// What stands at the two places of a block.
+struct Places {
+    first: usize,
+    second: usize,
+}
+
+// The two places of block b of row r.
+fn read_places(h: &[u16], sh: Shape, b: usize, r: usize) -> Places
+    requires { ⌜ Fit (now h) sh × (b < sh .blocks) × (r < sh .rows) ⌝ }
+    ensures { λ p. ⌜ (p .first ≡ getD (now (h .entry)) (placeOf sh r b) (sh .size)) × (p .second ≡ getD (now (h .entry)) (placeOf sh r b + 1) (sh .size)) ⌝ }
+{
+    let at = 2 * (r * sh.blocks + b);
+    Places {
+        first: h[at] as usize,
+        second: h[at + 1] as usize,
+    }
+}
+
+// Adds a doubled block to row r, turned by s; a number that is M or more is no shift.
+fn add_entry(d: &[u64], s: usize, sh: Shape, acc: &mut [u64], r: usize)
+    requires { ⌜ (sh .size ≤ wide sh) × (2 * sh .words ≤ length (now d)) × ((r + 1) * sh .words ≤ length (now acc)) ⌝ }
+    ensures { λ q. ⌜ wbit (now (acc .exit)) ≡ added (wbit (now (acc .entry))) (wide sh * r) (wide sh * (r + 1)) (entry (sh .size) (turned (wbit (now (d .entry)))) s) ⌝ }
+{
+    if s < sh.size {
+        vectors::add_turned(d, s, acc, r * sh.words, sh.words);
+    }
+}
+
+// Adds a doubled block to row r, turned by each of its shifts there.
+fn add_row(d: &[u64], h: &[u16], sh: Shape, b: usize, acc: &mut [u64], r: usize)
+    requires { ⌜ Fit (now h) sh × (2 * sh .words ≤ length (now d)) × (b < sh .blocks) × (r < sh .rows) × (length (now acc) ≡ 16) ⌝ }
+    ensures { λ q. ⌜ wbit (now (acc .exit)) ≡ added (wbit (now (acc .entry))) (wide sh * r) (wide sh * (r + 1)) (spread sh (now (h .entry)) b (turned (wbit (now (d .entry)))) r) ⌝ }
+{
+    let p = read_places(h, sh, b, r);
+    add_entry(d, p.first, sh, acc, r);
+    add_entry(d, p.second, sh, acc, r);
+}
+
+// Adds block b, doubled, to every row.
+fn add_block(d: &[u64], h: &[u16], sh: Shape, b: usize, acc: &mut [u64])
+    requires { ⌜ Fit (now h) sh × (2 * sh .words ≤ length (now d)) × (b < sh .blocks) × (length (now acc) ≡ 16) ⌝ }
+    ensures { λ q. ⌜ wbit (now (acc .exit)) ≡ plus (wbit (now (acc .entry))) (rowed (wide sh) (sh .rows) (spread sh (now (h .entry)) b (turned (wbit (now (d .entry)))))) ⌝ }
+{
+    let mut r = 0;
+    while r < sh.rows {
+        add_row(d, h, sh, b, acc, r);
+        r += 1;
+    }
+}
+
+// Adds every block of y to the rows; part and d have room for a block, and for a doubled one.
+fn add_blocks(y: &[u64], h: &[u16], sh: Shape, part: &mut [u64], d: &mut [u64], acc: &mut [u64])
+    requires { ⌜ Fit (now h) sh × (length (now y) ≡ 130) × (length (now part) ≡ sh .words) × (length (now d) ≡ 2 * sh .words) × (length (now acc) ≡ 16) × (wbit (now acc) ≡ (λ n. false)) ⌝ }
+    ensures { λ q. ⌜ wbit (now (acc .exit)) ≡ rowed (wide sh) (sh .rows) (summed sh (now (h .entry)) (wbit (now (y .entry))) (sh .blocks)) ⌝ }
+{
+    let mut b = 0;
+    while b < sh.blocks {
+        vectors::cut(y, b * sh.size, sh.size, part);
+        vectors::double(part, sh.size, d);
+        add_block(d, h, sh, b, acc);
+        b += 1;
+    }
+}
+
+// Clears what is past bit M of row r, where it does not fill its last word.
+fn trim_row(s: &mut [u64], sh: Shape, r: usize)
+    requires { ⌜ (1 ≤ sh .size) × (sh .size ≤ wide sh) × (wide sh < sh .size + 64) × ((r + 1) * sh .words ≤ length (now s)) ⌝ }
+    ensures { λ q. ⌜ ((x : Word) → wbit (now (s .entry)) ≡ within (wide sh) (sh .size) r x → wbit (now (s .exit)) ≡ within (wide sh) (sh .size) (r + 1) x) ⌝ }
+{
+    let t = sh.size % 64;
+    if t > 0 {
+        let last = r * sh.words + sh.words - 1;
+        s[last] = vectors::front(s[last], t);
+    }
+}
+
+// Clears what is past bit M of every row.
+fn trim_rows(s: &mut [u64], sh: Shape)
+    requires { ⌜ (1 ≤ sh .size) × (sh .size ≤ wide sh) × (wide sh < sh .size + 64) × (sh .rows * sh .words ≤ length (now s)) ⌝ }
+    ensures { λ q. ⌜ wbit (now (s .exit)) ≡ within (wide sh) (sh .size) (sh .rows) (wbit (now (s .entry))) ⌝ }
+{
+    let mut r = 0;
+    while r < sh.rows {
+        trim_row(s, sh, r);
+        r += 1;
+    }
+}
+
+// The syndrome of y.
+pub fn syndrome(y: &[u64], h: &[u16], sh: Shape, s: &mut [u64])
+    requires { ⌜ Fit (now h) sh × (length (now y) ≡ 130) × (length (now s) ≡ 16) ⌝ }
+    ensures { λ q. ⌜ ((c : Code) → Lent c (now (h .entry)) sh → wbit (now (s .exit)) ≡ laid c sh (wbit (now (y .entry)))) ⌝ }
+{
+    let mut part = [0u64; 8];
+    let mut d = [0u64; 16];
+    let words = sh.words;
+    vectors::clear(s);
+    add_blocks(y, h, sh, &mut part[..words], &mut d[..2 * words], s);
+    trim_rows(s, sh);
+}
+
+// How many checks are broken.
+pub fn broken(s: &[u64]) -> usize
+    requires { ⌜ length (now s) ≡ 16 ⌝ }
+    ensures { λ n. ⌜ ((c : Code) (h : List ℕ) (sh : Shape) (x : Word) → Fit h sh → Lent c h sh → wbit (now (s .entry)) ≡ laid c sh x → n ≡ broken c x) ⌝ }
+{
+    vectors::ones(s)
+}
+
+// Turns the check of row r over that covers bit k by the shift e; a number that is M or more is no shift.
+fn flip_entry(s: &mut [u64], e: usize, sh: Shape, k: usize, r: usize)
+    requires { ⌜ (sh .size ≤ wide sh) × (k < sh .size) × ((r + 1) * sh .words ≤ length (now s)) × (length (now s) ≡ 16) ⌝ }
+    ensures { λ q. ⌜ wbit (now (s .exit)) ≡ added (wbit (now (s .entry))) (wide sh * r) (wide sh * (r + 1)) (entry (sh .size) (covering (sh .size) k) e) ⌝ }
+{
+    if e < sh.size {
+        let mut i = k + (sh.size - e);
+        if i >= sh.size {
+            i -= sh.size;
+        }
+        vectors::turn_over(s, 64 * sh.words * r + i);
+    }
+}
+
+// Turns the checks of row r over that cover bit k of block b.
+fn flip_row(s: &mut [u64], h: &[u16], sh: Shape, b: usize, k: usize, r: usize)
+    requires { ⌜ Fit (now h) sh × (b < sh .blocks) × (k < sh .size) × (r < sh .rows) × (length (now s) ≡ 16) ⌝ }
+    ensures { λ q. ⌜ wbit (now (s .exit)) ≡ added (wbit (now (s .entry))) (wide sh * r) (wide sh * (r + 1)) (spread sh (now (h .entry)) b (covering (sh .size) k) r) ⌝ }
+{
+    let p = read_places(h, sh, b, r);
+    flip_entry(s, p.first, sh, k, r);
+    flip_entry(s, p.second, sh, k, r);
+}
+
+// Turns the checks over that cover bit k of block b.
+fn flip_checks(s: &mut [u64], h: &[u16], sh: Shape, b: usize, k: usize)
+    requires { ⌜ Fit (now h) sh × (b < sh .blocks) × (k < sh .size) × (length (now s) ≡ 16) ⌝ }
+    ensures { λ q. ⌜ wbit (now (s .exit)) ≡ plus (wbit (now (s .entry))) (rowed (wide sh) (sh .rows) (spread sh (now (h .entry)) b (covering (sh .size) k))) ⌝ }
+{
+    let mut r = 0;
+    while r < sh.rows {
+        flip_row(s, h, sh, b, k, r);
+        r += 1;
+    }
+}
+
+// Turns bit n of a word over, and its checks with it.
+pub fn flip(y: &mut [u64], s: &mut [u64], h: &[u16], sh: Shape, n: usize)
+    requires { ⌜ Fit (now h) sh × (length (now y) ≡ 130) × (length (now s) ≡ 16) × (n < sh .blocks * sh .size) ⌝ }
+    ensures word { λ q. ⌜ wbit (now (y .exit)) ≡ flipped (wbit (now (y .entry))) n ⌝ }
+    ensures checks { λ q. ⌜ ((c : Code) → Lent c (now (h .entry)) sh → (x : Word) → wbit (now (s .entry)) ≡ laid c sh x → wbit (now (s .exit)) ≡ laid c sh (flipped x n)) ⌝ }
+{
+    vectors::turn_over(y, n);
+    flip_checks(s, h, sh, n / sh.size, n % sh.size);
+}
