@@ -1,14 +1,12 @@
 -- The rows of the syndrome, each twice over at a place of its own.
 -- Assumes nothing.
-use mathlib.Core.Path.{_≡_, refl, sym, ap, ap₂, _∙_, fun-ext}
-use mathlib.Core.Bool.{Bool, true, false, _&&_}
+use mathlib.Core.Path.{_≡_, sym, ap, ap₂, _∙_}
 use mathlib.Core.Logic.{⊎-elim}
 use mathlib.Core.List.{List, _++_}
 use Prim.Native.Nat.{ℕ, _+_, _-_, _*_, _/_, _%_, _≤_, _<_}
 use native.Mathlib.Nat.{mod-eq-of-lt, mod-eq-sub-mod}
 use native.Mathlib.Decide.{ℕ-discrete}
 use native.Mathlib.Omega.{arith}
-use lib.Dec.{ltb}
 use lib.ListN.{getD, length, take, List·getD-append}
 use lib.Seq.{length-take-le, getD-append-add, getD-take}
 use Rattle.rules.specs.Bits.{Word, digit}
@@ -29,13 +27,6 @@ twice-mod m x n h = ⊎-elim
   where
     under : m ≤ n → n - m < m
     under l = omega arith
-
-pub upTo-again : (m : ℕ) (x y : Word) → y ≡ upTo m x → y ≡ upTo m y
-upTo-again m x y e = e ∙ fun-ext (λ n. go (ltb n m) (x n)) ∙ ap (upTo m) (sym e)
-  where
-    go : (a b : Bool) → (a && b) ≡ (a && (a && b))
-    go true b = refl
-    go false b = refl
 
 -- A part of d from word `to` on is p.
 module _ (d p rest : List ℕ) (to : ℕ) (inside : to ≤ length d) where

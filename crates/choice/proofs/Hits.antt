@@ -1,6 +1,6 @@
--- Counting one more, and what is read once more.
+-- The counts of a block's bits, start after start, and the best of them.
 -- Assumes nothing.
-use mathlib.Core.Path.{_≡_, refl, sym, ap, ap₂, _∙_}
+use mathlib.Core.Path.{_≡_, sym, ap, ap₂, _∙_}
 use mathlib.Core.List.{List}
 use Prim.Native.Nat.{ℕ, suc, _+_, _-_, _*_, _≤_, _<_}
 use mathlib.Core.Logic.{⊎-elim}
@@ -22,10 +22,6 @@ use Rattle.choice.specs.Reading.{hits, Scored}
 pub count-more : (n : ℕ) (x : Word) → count (n + 1) x ≡ count n x + tally (x n)
 unfolding count
 count-more n x = ap (λ k. count k x) (add-one n)
-
-pub count-none : (x : Word) → 0 ≡ count 0 x
-unfolding count
-count-none x = refl
 
 -- A row more is within all rows.
 pub within : (r n w : ℕ) → r < n → r * w + w ≤ n * w

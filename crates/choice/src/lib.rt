@@ -59,7 +59,8 @@ fn best_part(
     better(best, 2 * peak.count + (8 - n) as u32, first + at + peak.at)
 }
 
-// The best so far, and the best of a block of m bits from bit `first` on. Where all n checks are broken, no later bit of the block is better.
+// The best so far, and the best of a block of m bits from bit `first` on. A bit whose n checks are all broken has the score 8 + n: from there on
+// no bit of the block is better.
 fn best_block(d: &[u64], starts: &[usize], n: usize, m: usize, first: usize, best: Best) -> Best
     requires { ⌜ (n ≤ 8) × (n ≤ length (now starts)) × (length (now d) < 2 ^ 32) × (first < 2 ^ 31) × (m < 2 ^ 31) × ((e : ℕ) → e < n → 64 + (getD (now starts) e 0 + m) ≤ 64 * length (now d)) ⌝ }
     ensures { λ r. ⌜ ((g : ℕ → ℕ) → Scored g first m (wbit (now (d .entry))) (now (starts .entry)) n → Running g first best → Running g (first + m) r) ⌝ }
@@ -162,7 +163,7 @@ fn double_rows(s: &[u64], sh: Shape, v: &mut [u64], d: &mut [u64])
     }
 }
 
-// The bit of the greatest score, the lowest number of several.
+// The bit of the greatest score; of several, the lowest number.
 pub fn choose(s: &[u64], h: &[u16], sh: Shape) -> Best
     requires { ⌜ Fit (now h) sh × (length (now s) ≡ 16) × (1 ≤ sh .blocks) ⌝ }
     ensures { λ r. ⌜ ((c : Code) → Lent c (now (h .entry)) sh → (x : Word) → wbit (now (s .entry)) ≡ laid c sh x → Top (score c x) 0 (bits c) (r .bit) (r .score)) ⌝ }

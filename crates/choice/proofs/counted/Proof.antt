@@ -3,9 +3,10 @@ use mathlib.Core.Path.{_≡_, ap, _∙_}
 use Prim.Native.Nat.{ℕ, _+_, _-_, _≤_, _<_}
 use native.Mathlib.Omega.{arith}
 use Rattle.vectors.specs.Vectors.{wbit}
+use Rattle.vectors.proofs.Counts.{count-none}
 use Rattle.planes.specs.Counts.{value}
 use Rattle.choice.specs.Reading.{hits}
-use Rattle.choice.proofs.Hits.{count-none, hit-more}
+use Rattle.choice.proofs.Hits.{hit-more}
 use Rattle.choice.proofs.counted.Statement.{statement}
 use Rattle.choice.proofs.counted.Tie as tie
 

@@ -5,7 +5,8 @@ use native.Mathlib.Omega.{arith}
 use borrow.Author.Needs.{needs}
 use lib.ListN.{drop, length-take, length-drop}
 use Rattle.vectors.specs.Vectors.{wbit, from, twice}
-use Rattle.choice.proofs.Doubled.{upTo-again, placed}
+use Rattle.vectors.proofs.Spans.{upTo-again}
+use Rattle.choice.proofs.Doubled.{placed}
 use Rattle.choice.proofs.double_row.Statement.{statement}
 use Rattle.choice.proofs.double_row.Tie as tie
 

@@ -23,28 +23,46 @@ loop-holds c =
     (omega arith, omega arith, s .pre .2, listed-none (a .starts .now) (3072 + a .sh .size) (a .h .now) (a .sh) (a .b))
 
 mul-at : tie.Need-mul-at Inv-loop μ-loop
-mul-at c = omega (arith, within (c .before .before .before .loop .r) (c .before .before .before .before .before .before .args .sh .rows) (c .before .before .before .before .before .before .args .sh .blocks) (omega arith))
+mul-at c =
+    let s = c .before .before .before .before .before .before in
+    let inside = within (c .before .before .before .loop .r) (s .args .sh .rows) (s .args .sh .blocks) (omega arith) in
+    omega arith
 
 add-at : tie.Need-add-at Inv-loop μ-loop
-add-at c = omega (arith, within (c .before .before .before .loop .r) (c .before .before .before .before .before .before .args .sh .rows) (c .before .before .before .before .before .before .args .sh .blocks) (omega arith))
+add-at c =
+    let s = c .before .before .before .before .before .before in
+    let inside = within (c .before .before .before .loop .r) (s .args .sh .rows) (s .args .sh .blocks) (omega arith) in
+    omega arith
 
 mul-at-2 : tie.Need-mul-at-2 Inv-loop μ-loop
-mul-at-2 c = omega (arith, within (c .before .before .before .loop .r) (c .before .before .before .before .before .before .args .sh .rows) (c .before .before .before .before .before .before .args .sh .blocks) (omega arith))
+mul-at-2 c =
+    let s = c .before .before .before .before .before .before in
+    let inside = within (c .before .before .before .loop .r) (s .args .sh .rows) (s .args .sh .blocks) (omega arith) in
+    omega arith
 
 mul-note : tie.Need-mul-note Inv-loop μ-loop
 mul-note c = omega arith
 
 note-requires : tie.Need-note-requires Inv-loop μ-loop
-note-requires c κs = (omega (arith, within (c .before .before .before .before .loop .r) (c .before .before .before .before .before .before .before .args .sh .rows) (c .before .before .before .before .before .before .before .args .sh .blocks) (omega arith)), omega arith, omega arith, omega arith)
+note-requires c κs =
+    let s = c .before .before .before .before .before .before .before in
+    let inside = within (c .before .before .before .before .loop .r) (s .args .sh .rows) (s .args .sh .blocks) (omega arith) in
+    (omega arith, omega arith, omega arith, omega arith)
 
 add-note : tie.Need-add-note Inv-loop μ-loop
-add-note c = omega (arith, within (c .before .before .before .before .before .before .before .loop .r) (c .before .before .before .before .before .before .before .before .before .before .args .sh .rows) (c .before .before .before .before .before .before .before .before .before .before .args .sh .blocks) (omega arith))
+add-note c =
+    let s = c .before .before .before .before .before .before .before .before .before .before in
+    let inside = within (c .before .before .before .before .before .before .before .loop .r) (s .args .sh .rows) (s .args .sh .blocks) (omega arith) in
+    omega arith
 
 mul-note-2 : tie.Need-mul-note-2 Inv-loop μ-loop
 mul-note-2 c = omega arith
 
 note-requires-2 : tie.Need-note-requires-2 Inv-loop μ-loop
-note-requires-2 c κs = (omega (arith, within (c .before .before .before .before .before .before .before .before .loop .r) (c .before .before .before .before .before .before .before .before .before .before .before .args .sh .rows) (c .before .before .before .before .before .before .before .before .before .before .before .args .sh .blocks) (omega arith)), omega (arith, noted-le (c .before .before .before .note .ensures), c .before .before .before .note .ensures .long), omega arith, omega arith)
+note-requires-2 c κs =
+    let s = c .before .before .before .before .before .before .before .before .before .before .before in
+    let inside = within (c .before .before .before .before .before .before .before .before .loop .r) (s .args .sh .rows) (s .args .sh .blocks) (omega arith) in
+    (omega arith, omega (arith, noted-le (c .before .before .before .note .ensures), c .before .before .before .note .ensures .long), omega arith, omega arith)
 
 add-r : tie.Need-add-r Inv-loop μ-loop
 add-r c = omega arith
