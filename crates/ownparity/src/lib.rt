@@ -12,11 +12,12 @@ ghost use Rattle.ownparity.specs.Odd.{oddBlock};
 
 // For each parity block, the blocks that it is counted with: the information blocks whose printed row has an odd number of ones, and itself.
 const FIRST: u64 = 0x06E6;
+
 const SECOND: u64 = 0x0D7D;
 
 // 1 if an odd number of bits are set.
 fn odd_word(v: u64) -> u64
-    ensures { λ r. ⌜ ((w : ℕ) → v < 2 ^ w → r ≡ tally (sum w (digit w v))) ⌝ }
+    ensures { λ r. ⌜ (r < 2) × ((w : ℕ) → v < 2 ^ w → r ≡ tally (sum w (digit w v))) ⌝ }
 {
     (u64::count_ones(v) % 2) as u64
 }

@@ -1,41 +1,46 @@
+-- `ownparity::folded` meets its contract: v is the sum of the first k words. Assumes nothing.
+use mathlib.Core.Path.{_≡_, ap, _∙_}
+use Prim.Native.Nat.{ℕ, _-_, _≤_}
+use native.Mathlib.Omega.{arith}
+use lib.ListN.{length}
+use Rattle.rules.specs.Bits.{digit, sum}
+use Rattle.ownparity.proofs.Words.{oddWord, fold-start, fold-more, fold-all}
 use Rattle.ownparity.proofs.folded.Statement.{statement}
 use Rattle.ownparity.proofs.folded.Tie as tie
-use Rattle.ownparity.proofs.folded.Reads as reads
-use Rattle.ownparity.proofs.folded.Lts as lts
 
 abbrev Inv-loop : tie.InvT-loop
-Inv-loop ws v₀ k₀ v k = ?
+Inv-loop ws v₀ k₀ v k = (k ≤ length ws) × (sum 64 (digit 64 v) ≡ sum k (oddWord ws))
 
 abbrev μ-loop : tie.MeasureT-loop
-μ-loop ws v₀ k₀ v k = ?
+μ-loop ws v₀ k₀ v k = length ws - k
 
--- src/lib.rt:30:5
 loop-holds : tie.Need-loop-holds Inv-loop μ-loop
-loop-holds c = ?
+loop-holds c = (omega arith, fold-start (c .args .ws .now))
 
--- src/lib.rt:31:14
 mul-v : tie.Need-mul-v Inv-loop μ-loop
-mul-v c = ?
+mul-v c = omega arith
 
--- src/lib.rt:31:14
 shared-slice-read-v : tie.Need-shared-slice-read-v Inv-loop μ-loop
-shared-slice-read-v c = ?
+shared-slice-read-v c = omega arith
 
--- src/lib.rt:32:9
 add-k : tie.Need-add-k Inv-loop μ-loop
-add-k c = ?
+add-k c = omega arith
 
--- src/lib.rt:30:5
 loop-less : tie.Need-loop-less Inv-loop μ-loop
-loop-less c = ?
+loop-less c = omega arith
 
--- src/lib.rt:30:5
 loop-again : tie.Need-loop-again Inv-loop μ-loop
-loop-again c = ?
+loop-again c =
+    let a = c .before .before .before .args in
+    let l = c .before .before .loop in
+    (omega arith, fold-more (a .ws .now) (l .v) (l .k) (l .inv .1))
 
--- src/lib.rt:25:1
 returns : tie.Need-returns Inv-loop μ-loop
-returns c = ?
+returns c =
+    let a = c .before .before .args in
+    let l = c .before .loop in
+    let e : l .k ≡ length (a .ws .now) = omega arith in
+    l .inv .1 ∙ ap (λ (k : ℕ). sum k (oddWord (a .ws .now))) e ∙ fold-all (a .ws .now) (length (a .ws .now))
 
 pub folded-spec : {M : Type 1} → statement M
 folded-spec =
