@@ -38,7 +38,7 @@ fn folded(ws: &[u64]) -> u64
 // 1 if an odd number of the m bits from bit p on are set.
 fn odd(y: &[u64], p: usize, m: usize) -> u64
     requires { ⌜ (m ≤ 512) × (p / 64 + 8 < length (now y)) ⌝ }
-    ensures { λ r. ⌜ r ≡ tally (sum m (from p (wbit (now (y .entry))))) ⌝ }
+    ensures { λ r. ⌜ (r < 2) × (r ≡ tally (sum m (from p (wbit (now (y .entry)))))) ⌝ }
 {
     let mut v = [0u64; 8];
     vectors::cut(y, p, m, &mut v);

@@ -1,6 +1,6 @@
 -- `ownparity::odd` meets its contract: the m bits are cut out, and their words added up. Assumes nothing.
 use mathlib.Core.Path.{_≡_, _∙_}
-use Prim.Native.Nat.{_*_, _^_, _≤_, _<_}
+use Prim.Native.Nat.{_^_, _<_}
 use native.Mathlib.Omega.{arith}
 use lib.ListN.{length}
 use borrow.Author.Needs.{needs}
@@ -31,9 +31,11 @@ returns c =
     let folded = c .before .folded in
     let v = cut .last .1 .1 .1 .0 in
     let long : length v ≡ 8 = search needs in
-    let word : folded .result < 2 ^ 64 = search needs in
-    c .odd-word .ensures .1 64 word
-    ∙ fold-cut v (a .m) (folded .result) (from (a .p) (wbit (a .y .now))) (cut .ensures) (omega arith) (folded .ensures)
+    let word : folded .result < 2 ^ 64 = search needs in (
+      c .odd-word .ensures .0,
+      c .odd-word .ensures .1 64 word
+          ∙ fold-cut v (a .m) (folded .result) (from (a .p) (wbit (a .y .now))) (cut .ensures) (omega arith) (folded .ensures),
+    )
 
 pub odd-spec : {M : Type 1} → statement M
 odd-spec =

@@ -1,9 +1,8 @@
 -- `ownparity::odd_blocks` meets its contract: after j turns v has a bit for each of the first j blocks. Assumes nothing.
-use mathlib.Core.Path.{_≡_, refl, sym, ap, _∙_, subst}
+use mathlib.Core.Path.{_≡_, sym, ap, _∙_, subst}
 use Prim.Native.Nat.{ℕ, _+_, _-_, _*_, _^_, _≤_, _<_}
 use native.Mathlib.Omega.{arith}
-use Rattle.rules.specs.Bits.{tally, number}
-use Rattle.rules.proofs.Counting.{tally-le}
+use Rattle.rules.specs.Bits.{number}
 use Rattle.vectors.specs.Vectors.{wbit}
 use Rattle.vectors.proofs.Octets.{number-lt, fits}
 use Rattle.ownparity.specs.Odd.{oddBlock}
@@ -30,7 +29,7 @@ odd-requires : tie.Need-odd-requires Inv-loop μ-loop
 odd-requires c κs = (omega arith, omega arith)
 
 add-v : tie.Need-add-v Inv-loop μ-loop
-add-v c = omega (arith, c .odd .ensures, tally-le (oddBlock (wbit (c .before .before .before .before .args .y .now)) (c .before .before .loop .j)))
+add-v c = omega arith
 
 add-j : tie.Need-add-j Inv-loop μ-loop
 add-j c = omega arith
@@ -43,7 +42,7 @@ loop-again c =
     let l = c .before .before .loop in
     let x = oddBlock (wbit (c .before .before .before .before .args .y .now)) in
     let v = 2 * l .v + c .odd .result in
-    let e : v ≡ number (l .j + 1) x = ap (λ (n : ℕ). 2 * l .v + n) (c .odd .ensures) ∙ number-more (l .j) (l .v) x (l .inv .2) in
+    let e : v ≡ number (l .j + 1) x = ap (λ (n : ℕ). 2 * l .v + n) (c .odd .ensures .1) ∙ number-more (l .j) (l .v) x (l .inv .2) in
     (omega arith, fits (l .j + 1) 16 v (subst (λ (n : ℕ). n < 2 ^ (l .j + 1)) (sym e) (number-lt (l .j + 1) x)) (omega arith), e)
 
 returns : tie.Need-returns Inv-loop μ-loop

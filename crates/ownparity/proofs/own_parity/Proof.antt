@@ -1,6 +1,5 @@
 -- `ownparity::own_parity` meets its contract: its answer is that of the test, which decides. Assumes nothing.
-use mathlib.Core.Path.{_≡_, sym, ap, ap₂, _∙_}
-use mathlib.Core.Bool.{Bool}
+use mathlib.Core.Path.{_≡_, sym, ap₂, _∙_}
 use Prim.Native.Nat.{ℕ, _+_}
 use lib.Dec.{eqb, lit<}
 use lib.ListN.{getD}
