@@ -1,0 +1,3 @@
+pub mod Ones
+pub mod Near
+pub mod Words
