@@ -1,0 +1,57 @@
+use borrow.Author.Needs.{needs}
+use Rattle.received.proofs.write.Statement.{statement}
+use Rattle.received.proofs.write.Tie as tie
+use Rattle.received.proofs.write.Reads as reads
+use Rattle.received.proofs.write.Lts as lts
+use Rattle.vectors.proofs.store.Reads as store-reads
+use Rattle.vectors.proofs.trim.Reads as trim-reads
+
+-- src/lib.rt:59:9
+trim-requires : tie.Need-trim-requires
+trim-requires c κs = search needs
+
+-- src/lib.rt:60:9
+store-requires : tie.Need-store-requires
+store-requires c κs = ?
+
+-- src/lib.rt:62:9
+store-requires-2 : tie.Need-store-requires-2
+store-requires-2 c κs = ?
+
+-- src/lib.rt:54:1
+same-length : tie.Need-same-length
+same-length c = search needs
+
+-- src/lib.rt:54:1
+same-length-2 : tie.Need-same-length-2
+same-length-2 c = search needs
+
+-- src/lib.rt:54:1
+returns : tie.Need-returns
+returns c = ?
+
+-- src/lib.rt:54:1
+same-length-3 : tie.Need-same-length-3
+same-length-3 c = search needs
+
+-- src/lib.rt:54:1
+same-length-4 : tie.Need-same-length-4
+same-length-4 c = search needs
+
+-- src/lib.rt:54:1
+returns-2 : tie.Need-returns-2
+returns-2 c = ?
+
+pub write-spec : {M : Type 1} → statement M
+write-spec =
+    tie.close
+    (tie.spec
+    trim-requires
+    store-requires
+    store-requires-2
+    same-length
+    same-length-2
+    returns
+    same-length-3
+    same-length-4
+    returns-2)

@@ -1,0 +1,75 @@
+// Words as they are handed over: their lengths, octets in, octets out, and the syndrome of what was received.
+ghost use mathlib.Core.Path.{_≡_};
+ghost use mathlib.Core.List.{List};
+ghost use Prim.Native.Nat.{_*_, _≤_};
+ghost use lib.ListN.{length};
+ghost use Rattle.rules.specs.Bits.{Word, bit};
+ghost use Rattle.rules.specs.Codes.{code as codeOf};
+ghost use Rattle.rules.specs.Encoding.{lifted};
+ghost use Rattle.rules.specs.Calls.{written};
+ghost use Rattle.vectors.specs.Vectors.{wbit};
+ghost use Rattle.received.specs.Measured.{Offered, Measured};
+use layout::Shape;
+
+// The octets of a word.
+pub fn word_octets(code: u8) -> usize
+    requires { ⌜ Offered code ⌝ }
+    ensures { λ r. ⌜ (r ≡ codeOf code .wordOctets) × (r ≤ 1022) ⌝ }
+{
+    match code {
+        1 => 16,
+        2 => 32,
+        3 => 64,
+        4 => 1022,
+        _ => 1020,
+    }
+}
+
+// The octets of a word's information.
+pub fn information_octets(code: u8) -> usize
+    requires { ⌜ Offered code ⌝ }
+    ensures { λ r. ⌜ (r ≡ codeOf code .informationOctets) × (r ≤ codeOf code .wordOctets) ⌝ }
+{
+    match code {
+        1 => 8,
+        2 => 16,
+        3 => 32,
+        4 => 895,
+        _ => 892,
+    }
+}
+
+// The bits that the checks are over, from octets that are handed in; code 5 has 18 zero bits in front.
+pub fn take(code: u8, octets: &[u8], y: &mut [u64])
+    requires { ⌜ Offered code × (length (now octets) ≤ 1022) × (length (now y) ≡ 130) ⌝ }
+    ensures { λ _. ⌜ wbit (now (y .exit)) ≡ lifted (codeOf code) (bit (now (octets .entry))) ⌝ }
+{
+    vectors::load(octets, y);
+    if code == 5 {
+        vectors::lift(y, 18);
+    }
+}
+
+// The octets of a word as it is sent; code 5 leaves out the 18 bits in front and sends two zero bits last.
+pub fn write(code: u8, y: &mut [u64], out: &mut [u8])
+    requires { ⌜ Offered code × (length (now y) ≡ 130) × (length (now out) ≡ codeOf code .wordOctets) ⌝ }
+    ensures { λ _. ⌜ now (out .exit) ≡ written (codeOf code) (wbit (now (y .entry))) ⌝ }
+{
+    if code == 5 {
+        vectors::trim(y, 8176);
+        vectors::store(y, 18, out);
+    } else {
+        vectors::store(y, 0, out);
+    }
+}
+
+// The word, its parity table and its syndrome.
+pub fn measure(code: u8, word: &[u8], t: &mut [u16], y: &mut [u64], s: &mut [u64]) -> Shape
+    requires { ⌜ Offered code × (length (now word) ≡ codeOf code .wordOctets) × (length (now t) ≡ 64) × (length (now y) ≡ 130) × (length (now s) ≡ 16) ⌝ }
+    ensures { λ r. ⌜ Measured code (now (word .entry)) (now (t .exit)) (wbit (now (y .exit))) (wbit (now (s .exit))) r ⌝ }
+{
+    let sh = tables::lend(code, t);
+    take(code, word, y);
+    syndromes::syndrome(y, t, sh, s);
+    sh
+}
