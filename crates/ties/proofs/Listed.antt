@@ -1,0 +1,49 @@
+-- The things of a flat table, listed by `pieces`.
+use mathlib.Core.Path.{_≡_, refl, sym, ap, ap₂, _∙_}
+use mathlib.Core.List.{List, [], _∷_}
+use Prim.Native.Nat.{ℕ, zero, suc, _+_, _-_, _*_, _≤_, _<_}
+use native.Mathlib.Nat.{suc-mul, mul-le-mul-right, add-assoc, add-comm}
+use native.Mathlib.Omega.{arith}
+use lib.ListN.{length, getD, drop}
+use Rattle.ties.specs.Flat.{pieces}
+
+-- A further one fits.
+pub more-fits : {p n : ℕ} (size : ℕ) → p < n → p * size + size ≤ n * size
+more-fits {p} {n} size h = omega (arith, suc-mul p size, mul-le-mul-right size h)
+
+module _ {A : Type 0} (f : ℕ → A) (step : ℕ) where
+  pub pieces-length : (at n : ℕ) → length (pieces f step at n) ≡ n
+  unfolding pieces
+  pieces-length at zero = refl
+  pieces-length at (suc n) = ap suc (pieces-length (at + step) n)
+
+  pub pieces-drop : (k at n : ℕ) → k ≤ n → drop k (pieces f step at n) ≡ pieces f step (at + k * step) (n - k)
+  unfolding pieces
+  pieces-drop zero at n h =
+      let e : at ≡ at + 0 * step = omega arith in
+      let l : n ≡ n - 0 = omega arith in
+      ap₂ (λ (x y : ℕ). pieces f step x y) e l
+  pieces-drop (suc k) at zero h = absurd (omega arith)
+  pieces-drop (suc k) at (suc n) h =
+      let e : at + step + k * step ≡ at + suc k * step = omega (arith, suc-mul k step) in
+      let l : n - k ≡ suc n - suc k = omega arith in
+      pieces-drop k (at + step) n (omega arith) ∙ ap₂ (λ (x y : ℕ). pieces f step x y) e l
+
+  pub pieces-at : (i at n : ℕ) (d : A) → i < n → getD (pieces f step at n) i d ≡ f (at + i * step)
+  unfolding pieces
+  pieces-at i at zero d h = absurd (omega arith)
+  pieces-at zero at (suc n) d h = ap f (omega arith)
+  pieces-at (suc i) at (suc n) d h = pieces-at i (at + step) n d (omega arith) ∙ ap f (omega (arith, suc-mul i step))
+
+  -- One more in front, where some are left.
+  pub pieces-more : (at n : ℕ) → 0 < n → pieces f step at n ≡ f at ∷ pieces f step (at + step) (n - 1)
+  unfolding pieces
+  pieces-more at zero h = absurd (omega arith)
+  pieces-more at (suc n) h =
+      let e : n ≡ suc n - 1 = omega arith in
+      ap (λ (x : ℕ). f at ∷ pieces f step (at + step) x) e
+
+  pub pieces-none : (at n : ℕ) → n ≤ 0 → pieces f step at n ≡ []
+  unfolding pieces
+  pieces-none at zero h = refl
+  pieces-none at (suc n) h = absurd (omega arith)
