@@ -1,13 +1,23 @@
 -- The things of a flat table, listed by `pieces`.
 use mathlib.Core.Path.{_≡_, refl, sym, ap, ap₂, _∙_}
+use mathlib.Core.Bool.{Bool, true, false, not, _&&_, Bool·beq}
 use mathlib.Core.List.{List, [], _∷_}
 use Prim.Native.Nat.{ℕ, zero, suc, _+_, _-_, _*_, _≤_, _<_}
 use native.Mathlib.Nat.{suc-mul, mul-le-mul-right, add-assoc, add-comm}
 use native.Mathlib.Omega.{arith}
+use borrow.Author.Tests.{not-true, not-false}
 use lib.ListN.{length, getD, drop}
+use Rattle.rules.specs.Bits.{_⊕_}
+use Rattle.rules.specs.Identity.{over, blocks, below}
 use Rattle.ties.specs.Flat.{pieces}
+use Rattle.ties.proofs.Sums.{xor-is, ⊕-assoc}
 
--- A further one fits.
+-- The last of several of a size; and where there is room for n, there is room after any of those before.
+pub one-less : {n : ℕ} (size : ℕ) → 0 < n → n * size ≡ (n - 1) * size + size
+one-less {n} size h =
+    let e : n ≡ suc (n - 1) = omega arith in
+    ap (λ (x : ℕ). x * size) e ∙ suc-mul (n - 1) size
+
 pub more-fits : {p n : ℕ} (size : ℕ) → p < n → p * size + size ≤ n * size
 more-fits {p} {n} size h = omega (arith, suc-mul p size, mul-le-mul-right size h)
 
@@ -47,3 +57,30 @@ module _ {A : Type 0} (f : ℕ → A) (step : ℕ) where
   unfolding pieces
   pieces-none at zero h = refl
   pieces-none at (suc n) h = absurd (omega arith)
+
+-- The sum over blocks that are listed so: one block more.
+pub blocks-step : (B : ℕ → List ℕ) (step at n p : ℕ) (f : ℕ → ℕ → Bool) (sum : Bool) {b : Bool} → 0 < n → b ≡ over (B at) (f p)
+    → not (Bool·beq sum b) ⊕ blocks (pieces B step (at + step) (n - 1)) (suc p) f ≡ sum ⊕ blocks (pieces B step at n) p f
+blocks-step B step at n p f sum {b} h e =
+    let rest = blocks (pieces B step (at + step) (n - 1)) (suc p) f in
+    ap (λ (x : Bool). x ⊕ rest) (xor-is sum b ∙ ap (λ (x : Bool). sum ⊕ x) e)
+    ∙ ⊕-assoc sum (over (B at) (f p)) rest
+    ∙ ap (λ (l : List (List ℕ)). sum ⊕ blocks l p f) (sym (pieces-more B step at n h))
+
+-- Loops that leave at the first failure: what is to be decided is one test and the rest, and the rest is what is left.
+module _ {whole now test r : Bool} (next : Bool) (inv : whole ≡ now) (step : now ≡ (test && next)) (e : r ≡ test) where
+  pub stops : not r ≡ true → false ≡ whole
+  stops h = sym (inv ∙ step ∙ ap (λ (x : Bool). x && next) (sym e ∙ not-true r h))
+
+  pub goes-on : not r ≡ false → whole ≡ next
+  goes-on h = inv ∙ step ∙ ap (λ (x : Bool). x && next) (sym e ∙ not-false r h)
+
+pub below-step : (n : ℕ) (f : ℕ → Bool) → 0 < n → below n f ≡ (f (n - 1) && below (n - 1) f)
+below-step zero f h = absurd (omega arith)
+below-step (suc n) f h =
+    let e : n ≡ suc n - 1 = omega arith in
+    ap (λ (x : ℕ). f x && below x f) e
+
+pub below-none : (n : ℕ) (f : ℕ → Bool) → n ≤ 0 → true ≡ below n f
+below-none zero f h = refl
+below-none (suc n) f h = absurd (omega arith)

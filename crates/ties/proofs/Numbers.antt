@@ -3,11 +3,13 @@ use mathlib.Core.Path.{_≡_, refl, sym, ap, _∙_}
 use mathlib.Core.Logic.{_⊎_, inl, inr, ⊎-elim}
 use mathlib.Core.List.{List}
 use Prim.Native.Nat.{ℕ, zero, suc, _+_, _-_, _*_, _/_, _%_, _^_, _≤_, _<_}
-use native.Mathlib.Nat.{mul-assoc, add-comm, add-mul-div-right, mul-add-mod-self-right, pow-suc, zero-mul, zero-add, add-zero, lt-of-not-le}
+use native.Mathlib.Nat.{mul-assoc, add-comm, add-mul-div-right, mul-add-mod-self-right, pow-suc, div-eq-of-lt, div-lt-iff-lt-mul, zero-mul, zero-add, add-zero, lt-of-not-le}
 use native.Mathlib.Decide.{decLe}
 use native.Mathlib.Omega.{arith}
 use lib.Pow.{pow-pos, pow-add, shr-shr, high}
+use lib.Dec.{eqb, ltb}
 use lib.ListN.{getD}
+use borrow.Author.Tests.{eq-eqb, ne-eqb, lt-ltb, le-ltb}
 use Rattle.ties.specs.Flat.{joined}
 
 pub le-or-lt : (a b : ℕ) → (a ≤ b) ⊎ (b < a)
@@ -77,3 +79,15 @@ module _ (words : List ℕ) (at : ℕ) (small : (i : ℕ) → getD words i 0 < 2
       front-words (joined (suc w) words at) (getD words (at + suc w) 0) k (small (at + suc w)) (omega arith)
       ∙ joined-front w (k - 64) (omega arith)
       ∙ ap (λ (n : ℕ). getD words at 0 / 2 ^ n) e
+
+-- Below a power of two: nothing is in front of its place.
+pub below-power : (x k : ℕ) → eqb (x / 2 ^ k) 0 ≡ ltb x (2 ^ k)
+below-power x k = ⊎-elim above under (le-or-lt (2 ^ k) x)
+  where
+    under : x < 2 ^ k → eqb (x / 2 ^ k) 0 ≡ ltb x (2 ^ k)
+    under h = eq-eqb (x / 2 ^ k) 0 (div-eq-of-lt h) ∙ sym (lt-ltb x (2 ^ k) h)
+
+    above : 2 ^ k ≤ x → eqb (x / 2 ^ k) 0 ≡ ltb x (2 ^ k)
+    above h =
+        ne-eqb (x / 2 ^ k) 0 (λ e. let l : x / 2 ^ k < 1 = omega arith in omega (arith, div-lt-iff-lt-mul (pow-pos k) .0 l))
+        ∙ sym (le-ltb x (2 ^ k) h)

@@ -1,7 +1,7 @@
 -- Flat tables, and the lists of rules that they stand for.
 use mathlib.Core.Bool.{Bool, _&&_}
 use mathlib.Core.List.{List, [], _∷_}
-use Prim.Native.Nat.{ℕ, zero, suc, _+_, _-_, _*_, _/_, _%_, _^_}
+use Prim.Native.Nat.{ℕ, zero, suc, _+_, _*_, _/_, _%_, _^_}
 use lib.Dec.{eqb, ltb}
 use lib.ListN.{getD}
 use Rattle.rules.specs.Bits.{digit, if_then_else_}
@@ -40,15 +40,15 @@ met M generator at d s = digit M (joined (words M) generator at) ((d + s) % M)
 abbrev pub own : ℕ → ℕ → ℕ → Bool
 own M d s = eqb ((d + s) % M) 0
 
--- The two tables, whole. There is a row of numbers for each block that is not one of the parity.
+-- The two tables, whole. A row has count information blocks, then parts parity blocks; each information block has a row of numbers.
 abbrev pub parityOf : ℕ → ℕ → ℕ → List ℕ → List (List (List ℕ))
 parityOf M rows blocks parity = pieces (row M blocks parity) (3 * blocks) 0 rows
 
 abbrev pub generatorOf : ℕ → ℕ → ℕ → List ℕ → List (List ℕ)
-generatorOf M blocks parts generator = pieces (numbers M parts generator) (parts * words M) 0 (blocks - parts)
+generatorOf M count parts generator = pieces (numbers M parts generator) (parts * words M) 0 count
 
 -- The identity of rules, at the lists that flat tables stand for.
 abbrev pub flatTied : ℕ → ℕ → ℕ → ℕ → ℕ → List ℕ → List ℕ → Bool
-flatTied M printed rows blocks parts parity generator =
-    rowsTied M printed (parityOf M rows blocks parity) (generatorOf M blocks parts generator)
-    && allPadded M (generatorOf M blocks parts generator)
+flatTied M printed rows count parts parity generator =
+    rowsTied M printed (parityOf M rows (count + parts) parity) (generatorOf M count parts generator)
+    && allPadded M (generatorOf M count parts generator)

@@ -2,8 +2,8 @@
 ghost use mathlib.Core.Path.{_≡_};
 ghost use mathlib.Core.Bool.{Bool, _&&_};
 ghost use mathlib.Core.List.{[]};
-ghost use Prim.Native.Nat.{ℕ, _+_, _-_, _*_, _%_, _<_, _≤_};
-ghost use lib.Dec.{eqb};
+ghost use Prim.Native.Nat.{ℕ, _+_, _-_, _*_, _%_, _^_, _<_, _≤_};
+ghost use lib.Dec.{eqb, ltb};
 ghost use lib.ListN.{length, getD};
 ghost use Rattle.rules.specs.Bits.{digit};
 ghost use Rattle.rules.specs.Identity.{over, blocks, cancels, below, rowTied, rowsTied, padded, allPadded};
@@ -15,6 +15,14 @@ fn words_of(m: usize) -> usize
     ensures { λ r. ⌜ r ≡ words m ⌝ }
 {
     (m + 63) / 64
+}
+
+// How many words the numbers of an information block take.
+fn row_words(m: usize, parts: usize) -> usize
+    requires { ⌜ (m < 65536) × (parts < 65536) ⌝ }
+    ensures { λ r. ⌜ r ≡ parts * words m ⌝ }
+{
+    parts * words_of(m)
 }
 
 // Row d of a block has a one in this column for shift s.
@@ -125,4 +133,96 @@ fn block_tied(m: usize, parts: usize, parity: &[u16], information: usize, first:
         left -= 1;
     }
     true
+}
+
+// A row of the parity table, whose blocks start at a place, for all its information blocks.
+fn row_tied(m: usize, count: usize, parts: usize, parity: &[u16], place: usize, generator: &[u64]) -> bool
+    requires { ⌜ (m < 65536) × (parts < 65536) × (place + 3 * (count + parts) ≤ length (now parity)) × (count * (parts * words m) ≡ length (now generator)) ⌝ }
+    ensures { λ r. ⌜ r ≡ rowTied m m (row m parts (now (parity .entry)) (place + 3 * count)) (row m (count + parts) (now (parity .entry)) place) (generatorOf m count parts (now (generator .entry))) ⌝ }
+{
+    let first = place + 3 * count;
+    let step = row_words(m, parts);
+    let mut left = count;
+    let mut information = place;
+    let mut at = 0;
+    while left > 0 {
+        if !block_tied(m, parts, parity, information, first, generator, at) {
+            return false;
+        }
+        information += 3;
+        at += step;
+        left -= 1;
+    }
+    true
+}
+
+// Every row.
+fn rows_tied(m: usize, rows: usize, count: usize, parts: usize, parity: &[u16], generator: &[u64]) -> bool
+    requires { ⌜ (m < 65536) × (count < 65536) × (parts < 65536) × (rows * (3 * (count + parts)) ≡ length (now parity)) × (count * (parts * words m) ≡ length (now generator)) ⌝ }
+    ensures { λ r. ⌜ r ≡ rowsTied m m (parityOf m rows (count + parts) (now (parity .entry))) (generatorOf m count parts (now (generator .entry))) ⌝ }
+{
+    let step = 3 * (count + parts);
+    let mut left = rows;
+    let mut place = 0;
+    while left > 0 {
+        if !row_tied(m, count, parts, parity, place, generator) {
+            return false;
+        }
+        place += step;
+        left -= 1;
+    }
+    true
+}
+
+// Whether the bits of a number in front of its m bits are 0: they are in its first word.
+fn number_padded(m: usize, generator: &[u64], at: usize) -> bool
+    requires { ⌜ (0 < m) × (m < 65536) × (at + words m ≤ length (now generator)) ⌝ }
+    ensures { λ r. ⌜ r ≡ ltb (joined (words m) (now (generator .entry)) at) (2 ^ m) ⌝ }
+{
+    (generator[at] / 2) >> ((m - 1) % 64) == 0
+}
+
+fn numbers_padded(m: usize, parts: usize, generator: &[u64], at: usize) -> bool
+    requires { ⌜ (0 < m) × (m < 65536) × (at + parts * words m ≤ length (now generator)) ⌝ }
+    ensures { λ r. ⌜ r ≡ padded m (numbers m parts (now (generator .entry)) at) ⌝ }
+{
+    let step = words_of(m);
+    let mut left = parts;
+    let mut number = at;
+    while left > 0 {
+        if !number_padded(m, generator, number) {
+            return false;
+        }
+        number += step;
+        left -= 1;
+    }
+    true
+}
+
+fn all_padded(m: usize, count: usize, parts: usize, generator: &[u64]) -> bool
+    requires { ⌜ (0 < m) × (m < 65536) × (parts < 65536) × (count * (parts * words m) ≡ length (now generator)) ⌝ }
+    ensures { λ r. ⌜ r ≡ allPadded m (generatorOf m count parts (now (generator .entry))) ⌝ }
+{
+    let step = row_words(m, parts);
+    let mut left = count;
+    let mut at = 0;
+    while left > 0 {
+        if !numbers_padded(m, parts, generator, at) {
+            return false;
+        }
+        at += step;
+        left -= 1;
+    }
+    true
+}
+
+// The identity, whole, however many bits the numbers are printed with.
+pub fn tied(m: usize, rows: usize, count: usize, parts: usize, parity: &[u16], generator: &[u64]) -> bool
+    requires { ⌜ (0 < m) × (m < 65536) × (count < 65536) × (parts < 65536) × (rows * (3 * (count + parts)) ≡ length (now parity)) × (count * (parts * words m) ≡ length (now generator)) ⌝ }
+    ensures { λ r. ⌜ ((printed : ℕ) → m ≤ printed → r ≡ flatTied m printed rows count parts (now (parity .entry)) (now (generator .entry))) ⌝ }
+{
+    if rows_tied(m, rows, count, parts, parity, generator) {
+        return all_padded(m, count, parts, generator);
+    }
+    false
 }

@@ -1,46 +1,73 @@
+-- `ties::block_tied` meets its contract: the differences passed cancel, so the whole is what is left.
+use mathlib.Core.Path.{_≡_, refl, sym, ap, _∙_}
+use mathlib.Core.Bool.{Bool}
+use mathlib.Core.List.{List}
+use Prim.Native.Nat.{ℕ, _-_, _≤_, _<_}
+use native.Mathlib.Omega.{arith}
+use Rattle.rules.specs.Identity.{below, cancels}
+use Rattle.ties.specs.Flat.{block, row, numbers}
+use Rattle.ties.proofs.Listed.{stops, goes-on, below-step, below-none}
 use Rattle.ties.proofs.block_tied.Statement.{statement}
 use Rattle.ties.proofs.block_tied.Tie as tie
 use Rattle.ties.proofs.block_tied.Reads as reads
 use Rattle.ties.proofs.block_tied.Lts as lts
 use Rattle.ties.proofs.cancels_at.Reads as cancels-at-reads
 
+-- The block's identity, by the difference.
+abbrev at-difference : ℕ → ℕ → List ℕ → ℕ → ℕ → List ℕ → ℕ → ℕ → Bool
+at-difference m parts parity information first generator at =
+    cancels m m (block m parity information) (row m parts parity first) (numbers m parts generator at)
+
 abbrev Inv-loop : tie.InvT-loop
-Inv-loop m parts parity own first generator at left₀ left = ?
+Inv-loop m parts parity information first generator at left₀ left =
+    (left ≤ m) × (below m (at-difference m parts parity information first generator at) ≡ below left (at-difference m parts parity information first generator at))
 
 abbrev μ-loop : tie.MeasureT-loop
-μ-loop m parts parity own first generator at left₀ left = ?
+μ-loop m parts parity information first generator at left₀ left = left
 
--- src/lib.rt:119:5
+-- src/lib.rt:121:5
 loop-holds : tie.Need-loop-holds Inv-loop μ-loop
-loop-holds c = ?
+loop-holds c = (omega arith, refl)
 
--- src/lib.rt:120:54
+-- src/lib.rt:122:62
 sub-cancels-at : tie.Need-sub-cancels-at Inv-loop μ-loop
-sub-cancels-at c = ?
+sub-cancels-at c = omega arith
 
--- src/lib.rt:120:13
+-- src/lib.rt:122:13
 cancels-at-requires : tie.Need-cancels-at-requires Inv-loop μ-loop
-cancels-at-requires c κs = ?
+cancels-at-requires c κs = (omega arith, omega arith, omega arith, omega arith, omega arith)
 
--- src/lib.rt:121:13
+-- src/lib.rt:123:13
 returns : tie.Need-returns Inv-loop μ-loop
-returns c = ?
+returns c =
+    let a = c .before .before .before .before .before .before .args in
+    let l = c .before .before .before .loop in
+    let f = at-difference (a .m) (a .parts) (a .parity .now) (a .information) (a .first) (a .generator .now) (a .at) in
+    stops (below (l .left - 1) f) (l .inv .1) (below-step (l .left) f (omega arith)) (c .before .cancels-at .ensures) (c .if1 .taken)
 
--- src/lib.rt:123:9
+-- src/lib.rt:125:9
 sub-left : tie.Need-sub-left Inv-loop μ-loop
-sub-left c = ?
+sub-left c = omega arith
 
--- src/lib.rt:119:5
+-- src/lib.rt:121:5
 loop-less : tie.Need-loop-less Inv-loop μ-loop
-loop-less c = ?
+loop-less c = omega arith
 
--- src/lib.rt:119:5
+-- src/lib.rt:121:5
 loop-again : tie.Need-loop-again Inv-loop μ-loop
-loop-again c = ?
+loop-again c =
+    let a = c .before .before .before .before .before .before .args in
+    let l = c .before .before .before .loop in
+    let f = at-difference (a .m) (a .parts) (a .parity .now) (a .information) (a .first) (a .generator .now) (a .at) in
+    (omega arith, goes-on (below (l .left - 1) f) (l .inv .1) (below-step (l .left) f (omega arith)) (c .before .cancels-at .ensures) (c .if1 .left))
 
--- src/lib.rt:114:1
+-- src/lib.rt:116:1
 returns-2 : tie.Need-returns-2 Inv-loop μ-loop
-returns-2 c = ?
+returns-2 c =
+    let a = c .before .before .before .before .args in
+    let l = c .before .loop in
+    let f = at-difference (a .m) (a .parts) (a .parity .now) (a .information) (a .first) (a .generator .now) (a .at) in
+    below-none (l .left) f (omega arith) ∙ sym (l .inv .1)
 
 pub block-tied-spec : {M : Type 1} → statement M
 block-tied-spec =
