@@ -25,7 +25,7 @@ last-word x y k h =
     let j = 63 - k in
     let whole : 64 ≡ suc j + k = omega arith in
     let e : 2 ^ 64 ≡ 2 ^ j * 2 * 2 ^ k =
-        ap (λ (n : ℕ). 2 ^ n) whole ∙ pow-add 2 (suc j) k ∙ ap (λ (n : ℕ). n * 2 ^ k) (pow-suc 2 j) in
+    ap (λ (n : ℕ). 2 ^ n) whole ∙ pow-add 2 (suc j) k ∙ ap (λ (n : ℕ). n * 2 ^ k) (pow-suc 2 j) in
     ap (λ (n : ℕ). (x * n + y) / 2 ^ k % 2) e
     ∙ ap (λ (n : ℕ). n / 2 ^ k % 2) (ap (λ (n : ℕ). n + y) (sym (mul-assoc x (2 ^ j * 2) (2 ^ k))) ∙ add-comm (x * (2 ^ j * 2) * 2 ^ k) y)
     ∙ ap (λ (n : ℕ). n % 2) (add-mul-div-right y (x * (2 ^ j * 2)) (pow-pos k) ∙ add-comm (y / 2 ^ k) (x * (2 ^ j * 2)))

@@ -51,7 +51,14 @@ fn wide(s: u16) -> usize
 }
 
 // What one place of a parity block adds d rows on: the bit of a number that its shift meets there.
-fn place_meets(m: usize, parity: &[u16], place: usize, d: usize, generator: &[u64], at: usize) -> bool
+fn place_meets(
+    m: usize,
+    parity: &[u16],
+    place: usize,
+    d: usize,
+    generator: &[u64],
+    at: usize,
+) -> bool
     requires { ⌜ (d < m) × (m < 65536) × (place < length (now parity)) × (at + words m ≤ length (now generator)) ⌝ }
     ensures { λ r. ⌜ r ≡ over (kept m (getD (now (parity .entry)) place 0) []) (met m (now (generator .entry)) at d) ⌝ }
 {
@@ -63,7 +70,14 @@ fn place_meets(m: usize, parity: &[u16], place: usize, d: usize, generator: &[u6
 }
 
 // The same for the three places of the block.
-fn block_meets(m: usize, parity: &[u16], place: usize, d: usize, generator: &[u64], at: usize) -> bool
+fn block_meets(
+    m: usize,
+    parity: &[u16],
+    place: usize,
+    d: usize,
+    generator: &[u64],
+    at: usize,
+) -> bool
     requires { ⌜ (d < m) × (m < 65536) × (place + 3 ≤ length (now parity)) × (at + words m ≤ length (now generator)) ⌝ }
     ensures { λ r. ⌜ r ≡ over (block m (now (parity .entry)) place) (met m (now (generator .entry)) at d) ⌝ }
 {
@@ -74,7 +88,15 @@ fn block_meets(m: usize, parity: &[u16], place: usize, d: usize, generator: &[u6
 }
 
 // All parity blocks of a row, each with the number of its part.
-fn parity_meets(m: usize, parts: usize, parity: &[u16], place: usize, d: usize, generator: &[u64], at: usize) -> bool
+fn parity_meets(
+    m: usize,
+    parts: usize,
+    parity: &[u16],
+    place: usize,
+    d: usize,
+    generator: &[u64],
+    at: usize,
+) -> bool
     requires { ⌜ (d < m) × (m < 65536) × (place + 3 * parts ≤ length (now parity)) × (at + parts * words m ≤ length (now generator)) ⌝ }
     ensures { λ r. ⌜ r ≡ blocks (row m parts (now (parity .entry)) place) 0 (λ part s. digit m (getD (numbers m parts (now (generator .entry)) at) part 0) ((d + s) % m)) ⌝ }
 {
@@ -113,21 +135,48 @@ fn block_own(m: usize, parity: &[u16], place: usize, d: usize) -> bool
 }
 
 // One information block of a row at one difference. The row's parity blocks start at place first.
-fn cancels_at(m: usize, parts: usize, parity: &[u16], information: usize, first: usize, d: usize, generator: &[u64], at: usize) -> bool
+fn cancels_at(
+    m: usize,
+    parts: usize,
+    parity: &[u16],
+    information: usize,
+    first: usize,
+    d: usize,
+    generator: &[u64],
+    at: usize,
+) -> bool
     requires { ⌜ (d < m) × (m < 65536) × (information + 3 ≤ length (now parity)) × (first + 3 * parts ≤ length (now parity)) × (at + parts * words m ≤ length (now generator)) ⌝ }
     ensures { λ r. ⌜ r ≡ cancels m m (block m (now (parity .entry)) information) (row m parts (now (parity .entry)) first) (numbers m parts (now (generator .entry)) at) d ⌝ }
 {
-    !(block_own(m, parity, information, d) ^ parity_meets(m, parts, parity, first, d, generator, at))
+    !(block_own(m, parity, information, d)
+        ^ parity_meets(m, parts, parity, first, d, generator, at))
 }
 
 // At every difference.
-fn block_tied(m: usize, parts: usize, parity: &[u16], information: usize, first: usize, generator: &[u64], at: usize) -> bool
+fn block_tied(
+    m: usize,
+    parts: usize,
+    parity: &[u16],
+    information: usize,
+    first: usize,
+    generator: &[u64],
+    at: usize,
+) -> bool
     requires { ⌜ (m < 65536) × (information + 3 ≤ length (now parity)) × (first + 3 * parts ≤ length (now parity)) × (at + parts * words m ≤ length (now generator)) ⌝ }
     ensures { λ r. ⌜ r ≡ below m (cancels m m (block m (now (parity .entry)) information) (row m parts (now (parity .entry)) first) (numbers m parts (now (generator .entry)) at)) ⌝ }
 {
     let mut left = m;
     while left > 0 {
-        if !cancels_at(m, parts, parity, information, first, left - 1, generator, at) {
+        if !cancels_at(
+            m,
+            parts,
+            parity,
+            information,
+            first,
+            left - 1,
+            generator,
+            at,
+        ) {
             return false;
         }
         left -= 1;
@@ -136,7 +185,14 @@ fn block_tied(m: usize, parts: usize, parity: &[u16], information: usize, first:
 }
 
 // A row of the parity table, whose blocks start at a place, for all its information blocks.
-fn row_tied(m: usize, count: usize, parts: usize, parity: &[u16], place: usize, generator: &[u64]) -> bool
+fn row_tied(
+    m: usize,
+    count: usize,
+    parts: usize,
+    parity: &[u16],
+    place: usize,
+    generator: &[u64],
+) -> bool
     requires { ⌜ (m < 65536) × (parts < 65536) × (place + 3 * (count + parts) ≤ length (now parity)) × (count * (parts * words m) ≡ length (now generator)) ⌝ }
     ensures { λ r. ⌜ r ≡ rowTied m m (row m parts (now (parity .entry)) (place + 3 * count)) (row m (count + parts) (now (parity .entry)) place) (generatorOf m count parts (now (generator .entry))) ⌝ }
 {
@@ -157,7 +213,14 @@ fn row_tied(m: usize, count: usize, parts: usize, parity: &[u16], place: usize, 
 }
 
 // Every row.
-fn rows_tied(m: usize, rows: usize, count: usize, parts: usize, parity: &[u16], generator: &[u64]) -> bool
+fn rows_tied(
+    m: usize,
+    rows: usize,
+    count: usize,
+    parts: usize,
+    parity: &[u16],
+    generator: &[u64],
+) -> bool
     requires { ⌜ (m < 65536) × (count < 65536) × (parts < 65536) × (rows * (3 * (count + parts)) ≡ length (now parity)) × (count * (parts * words m) ≡ length (now generator)) ⌝ }
     ensures { λ r. ⌜ r ≡ rowsTied m m (parityOf m rows (count + parts) (now (parity .entry))) (generatorOf m count parts (now (generator .entry))) ⌝ }
 {
@@ -217,7 +280,14 @@ fn all_padded(m: usize, count: usize, parts: usize, generator: &[u64]) -> bool
 }
 
 // The identity, whole, however many bits the numbers are printed with.
-pub fn tied(m: usize, rows: usize, count: usize, parts: usize, parity: &[u16], generator: &[u64]) -> bool
+pub fn tied(
+    m: usize,
+    rows: usize,
+    count: usize,
+    parts: usize,
+    parity: &[u16],
+    generator: &[u64],
+) -> bool
     requires { ⌜ (0 < m) × (m < 65536) × (count < 65536) × (parts < 65536) × (rows * (3 * (count + parts)) ≡ length (now parity)) × (count * (parts * words m) ≡ length (now generator)) ⌝ }
     ensures { λ r. ⌜ ((printed : ℕ) → m ≤ printed → r ≡ flatTied m printed rows count parts (now (parity .entry)) (now (generator .entry))) ⌝ }
 {

@@ -33,7 +33,7 @@ returns : tie.Need-returns
 returns c =
     let a = c .before .before .before .before .before .args in
     over-block (a .m) (met (a .m) (a .generator .now) (a .at) (a .d)) (a .parity .now) (a .place)
-        (c .before .before .place-meets .ensures) (c .before .place-meets2 .ensures) (c .place-meets3 .ensures)
+    (c .before .before .place-meets .ensures) (c .before .place-meets2 .ensures) (c .place-meets3 .ensures)
 
 pub block-meets-spec : {M : Type 1} → statement M
 block-meets-spec =

@@ -33,7 +33,7 @@ returns : tie.Need-returns
 returns c =
     let a = c .before .before .before .before .args in
     over-block (a .m) (own (a .m) (a .d)) (a .parity .now) (a .place)
-        (c .before .before .place-own .ensures) (c .before .place-own2 .ensures) (c .place-own3 .ensures)
+    (c .before .before .place-own .ensures) (c .before .place-own2 .ensures) (c .place-own3 .ensures)
 
 pub block-own-spec : {M : Type 1} → statement M
 block-own-spec =

@@ -31,8 +31,8 @@ returns c =
     let pos : 0 < a .m = omega arith in
     ap not (xor-is (c .before .block-own .result) (c .parity-meets .result) ∙ ap₂ (λ (x y : Bool). x ⊕ y) (c .before .block-own .ensures) (c .parity-meets .ensures))
     ∙ sym
-      (printed-cancels (a .m) (a .m) pos (le-refl (a .m)) (block (a .m) (a .parity .now) (a .information))
-          (row (a .m) (a .parts) (a .parity .now) (a .first)) (numbers (a .m) (a .parts) (a .generator .now) (a .at)) (a .d))
+    (printed-cancels (a .m) (a .m) pos (le-refl (a .m)) (block (a .m) (a .parity .now) (a .information))
+    (row (a .m) (a .parts) (a .parity .now) (a .first)) (numbers (a .m) (a .parts) (a .generator .now) (a .at)) (a .d))
 
 pub cancels-at-spec : {M : Type 1} → statement M
 cancels-at-spec = tie.close (tie.spec block-own-requires parity-meets-requires returns)

@@ -88,7 +88,7 @@ loop-again c =
     let B = block (a .m) (a .parity .now) in
     let h : l .p < a .parts = omega arith in
     let number : joined w (a .generator .now) (l .number) ≡ getD (numbers (a .m) (a .parts) (a .generator .now) (a .at)) (l .p) 0 =
-        ap (joined w (a .generator .now)) (l .inv .1) ∙ sym (pieces-at (joined w (a .generator .now)) w (l .p) (a .at) (a .parts) 0 h) in
+    ap (joined w (a .generator .now)) (l .inv .1) ∙ sym (pieces-at (joined w (a .generator .now)) w (l .p) (a .at) (a .parts) 0 h) in
     let i : a .place + 3 * (l .p + 1) ≡ a .place + 3 * l .p + 3 = omega arith in
     let j : a .parts - (l .p + 1) ≡ a .parts - l .p - 1 = omega arith in
     let k : l .p + 1 ≡ suc (l .p) = omega arith in
@@ -96,10 +96,10 @@ loop-again c =
       omega arith,
       omega (arith, add-mul (l .p) 1 w),
       ap₂ (λ (x y : ℕ). sum ⊕ blocks (pieces B 3 x y) (l .p + 1) f) i j
-      ∙ ap (λ (x : ℕ). sum ⊕ blocks (pieces B 3 (a .place + 3 * l .p + 3) (a .parts - l .p - 1)) x f) k
-      ∙ blocks-step B 3 (a .place + 3 * l .p) (a .parts - l .p) (l .p) f (l .sum) (omega arith)
+          ∙ ap (λ (x : ℕ). sum ⊕ blocks (pieces B 3 (a .place + 3 * l .p + 3) (a .parts - l .p - 1)) x f) k
+          ∙ blocks-step B 3 (a .place + 3 * l .p) (a .parts - l .p) (l .p) f (l .sum) (omega arith)
           (c .block-meets .ensures ∙ ap (λ (x : ℕ). over (B (a .place + 3 * l .p)) (λ s. digit (a .m) x ((a .d + s) % a .m))) number)
-      ∙ l .inv .2,
+          ∙ l .inv .2,
     )
 
 -- src/lib.rt:66:1

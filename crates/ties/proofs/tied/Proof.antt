@@ -31,7 +31,7 @@ returns c printed fits =
     let pos : 0 < a .m = omega arith in
     c .all-padded .ensures
     ∙ ap (λ (x : Bool). x && allPadded (a .m) G)
-      (sym (same-rows (a .m) printed pos fits P G ∙ sym (c .before .before .rows-tied .ensures) ∙ c .before .if1 .taken))
+    (sym (same-rows (a .m) printed pos fits P G ∙ sym (c .before .before .rows-tied .ensures) ∙ c .before .if1 .taken))
 
 -- src/lib.rt:212:1
 returns-2 : tie.Need-returns-2
