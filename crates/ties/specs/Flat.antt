@@ -1,9 +1,10 @@
 -- Flat tables, and the lists of rules that they stand for.
 use mathlib.Core.Bool.{Bool, _&&_}
+use mathlib.Core.Path.{_≡_}
 use mathlib.Core.List.{List, [], _∷_}
-use Prim.Native.Nat.{ℕ, zero, suc, _+_, _*_, _/_, _%_, _^_}
+use Prim.Native.Nat.{ℕ, zero, suc, _+_, _*_, _/_, _%_, _^_, _<_}
 use lib.Dec.{eqb, ltb}
-use lib.ListN.{getD}
+use lib.ListN.{length, getD}
 use Rattle.rules.specs.Bits.{digit, if_then_else_}
 use Rattle.rules.specs.Identity.{rowsTied, allPadded}
 
@@ -46,6 +47,15 @@ parityOf M rows blocks parity = pieces (row M blocks parity) (3 * blocks) 0 rows
 
 abbrev pub generatorOf : ℕ → ℕ → ℕ → List ℕ → List (List ℕ)
 generatorOf M count parts generator = pieces (numbers M parts generator) (parts * words M) 0 count
+
+-- The flat lists have the sizes that the counts say.
+pub record Sizes (M rows count parts : ℕ) (parity generator : List ℕ) : Type 0 where
+  pub some : 0 < M
+  pub small : M < 65536
+  pub few : count < 65536
+  pub narrow : parts < 65536
+  pub places : rows * (3 * (count + parts)) ≡ length parity
+  pub filled : count * (parts * words M) ≡ length generator
 
 -- The identity of rules, at the lists that flat tables stand for.
 abbrev pub flatTied : ℕ → ℕ → ℕ → ℕ → ℕ → List ℕ → List ℕ → Bool

@@ -7,7 +7,7 @@ ghost use lib.Dec.{eqb, ltb};
 ghost use lib.ListN.{length, getD};
 ghost use Rattle.rules.specs.Bits.{digit};
 ghost use Rattle.rules.specs.Identity.{over, blocks, cancels, below, rowTied, rowsTied, padded, allPadded};
-ghost use Rattle.ties.specs.Flat.{pieces, kept, block, row, joined, words, met, own, numbers, parityOf, generatorOf, flatTied};
+ghost use Rattle.ties.specs.Flat.{pieces, kept, block, row, joined, words, met, own, numbers, parityOf, generatorOf, Sizes, flatTied};
 
 // How many words of 64 bits hold m bits.
 fn words_of(m: usize) -> usize
@@ -288,7 +288,7 @@ pub fn tied(
     parity: &[u16],
     generator: &[u64],
 ) -> bool
-    requires { ⌜ (0 < m) × (m < 65536) × (count < 65536) × (parts < 65536) × (rows * (3 * (count + parts)) ≡ length (now parity)) × (count * (parts * words m) ≡ length (now generator)) ⌝ }
+    requires { ⌜ Sizes m rows count parts (now parity) (now generator) ⌝ }
     ensures { λ r. ⌜ ((printed : ℕ) → m ≤ printed → r ≡ flatTied m printed rows count parts (now (parity .entry)) (now (generator .entry))) ⌝ }
 {
     if rows_tied(m, rows, count, parts, parity, generator) {
