@@ -1,0 +1,30 @@
+-- Counting one more, and the places that a count goes over.
+use mathlib.Core.Path.{_≡_, refl, sym, ap, ap₂, _∙_}
+use mathlib.Core.Bool.{Bool, true, false}
+use Prim.Native.Nat.{ℕ, suc, _+_, _*_, _/_, _%_, _≤_, _<_}
+use native.Mathlib.Nat.{div-lt-iff-lt-mul, mul-le-mul, mod-lt}
+use native.Mathlib.Numerals.{add-one}
+use native.Mathlib.Omega.{arith}
+use lib.Dec.{lit≤}
+use Rattle.rules.specs.Bits.{count, tally}
+
+pub tally-le : (b : Bool) → tally b ≤ 1
+tally-le true = lit≤ tt
+tally-le false = lit≤ tt
+
+pub count-more : (t : ℕ) (f : ℕ → Bool) {n r : ℕ} {b : Bool} → n ≡ count t f → b ≡ f t → r ≡ tally b → n + r ≡ count (t + 1) f
+unfolding count
+count-more t f {n} {r} {b} e p q = ap₂ (λ (x y : ℕ). x + y) e (q ∙ ap tally p) ∙ ap (λ (x : ℕ). count x f) (sym (add-one t))
+
+pub count-none : (f : ℕ → Bool) → 0 ≡ count 0 f
+unfolding count
+count-none f = refl
+
+-- t below n * k is one of k in one of n places.
+pub within : (t n k : ℕ) → 0 < k → t < n * k → t / k < n
+within t n k pos h = div-lt-iff-lt-mul pos .1 h
+
+pub product-fits : {n k : ℕ} → n < 65536 → k ≤ 65536 → n * k ≤ 65535 * 65536
+product-fits {n} {k} h l =
+    let m : n ≤ 65535 = omega arith in
+    mul-le-mul m l
