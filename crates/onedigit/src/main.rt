@@ -1,5 +1,6 @@
 // Who would notice one wrong digit in a table? Tries every one, and counts those that break the identity between the two tables.
 mod tables;
+
 ghost use mathlib.Core.Path.{_≡_};
 ghost use mathlib.Core.Bool.{Bool, not, _&&_, _||_};
 ghost use Prim.Native.Nat.{ℕ, _+_, _*_, _/_, _%_, _^_, _<_, _≤_};
@@ -28,7 +29,14 @@ fn published(n: u8) -> bool
     if n == 3 {
         return ties::tied(64, 4, 4, 4, &tables::parity_64(), &tables::generator_64());
     }
-    ties::tied(511, 2, 14, 2, &tables::parity_511(), &tables::generator_511())
+    ties::tied(
+        511,
+        2,
+        14,
+        2,
+        &tables::parity_511(),
+        &tables::generator_511(),
+    )
 }
 
 fn one_if(b: bool) -> usize
@@ -38,7 +46,16 @@ fn one_if(b: bool) -> usize
 }
 
 // Whether a word in place of another is noticed. The table is left as it was.
-fn word_noticed(m: usize, rows: usize, count: usize, parts: usize, parity: &[u16], generator: &mut [u64], at: usize, word: u64) -> bool
+fn word_noticed(
+    m: usize,
+    rows: usize,
+    count: usize,
+    parts: usize,
+    parity: &[u16],
+    generator: &mut [u64],
+    at: usize,
+    word: u64,
+) -> bool
     requires { ⌜ Sizes m rows count parts (now parity) (now generator) × (at < length (now generator)) ⌝ }
     ensures noticed { λ r. ⌜ ((printed : ℕ) → m ≤ printed → r ≡ not (flatTied m printed rows count parts (now (parity .entry)) (set (now (generator .entry)) at word))) ⌝ }
     ensures kept { λ r. ⌜ now (generator .exit) ≡ now (generator .entry) ⌝ }
@@ -51,7 +68,16 @@ fn word_noticed(m: usize, rows: usize, count: usize, parts: usize, parity: &[u16
 }
 
 // The same for a place of the parity table.
-fn place_noticed(m: usize, rows: usize, count: usize, parts: usize, parity: &mut [u16], generator: &[u64], at: usize, shift: u16) -> bool
+fn place_noticed(
+    m: usize,
+    rows: usize,
+    count: usize,
+    parts: usize,
+    parity: &mut [u16],
+    generator: &[u64],
+    at: usize,
+    shift: u16,
+) -> bool
     requires { ⌜ Sizes m rows count parts (now parity) (now generator) × (at < length (now parity)) ⌝ }
     ensures noticed { λ r. ⌜ ((printed : ℕ) → m ≤ printed → r ≡ not (flatTied m printed rows count parts (set (now (parity .entry)) at shift) (now (generator .entry)))) ⌝ }
     ensures kept { λ r. ⌜ now (parity .exit) ≡ now (parity .entry) ⌝ }
@@ -72,7 +98,16 @@ fn other_word(word: u64, difference: u64, digit: u32) -> u64
 }
 
 // Whether wrong digit t is noticed.
-fn digit_noticed(m: usize, rows: usize, count: usize, parts: usize, digits: usize, parity: &[u16], generator: &mut [u64], t: usize) -> bool
+fn digit_noticed(
+    m: usize,
+    rows: usize,
+    count: usize,
+    parts: usize,
+    digits: usize,
+    parity: &[u16],
+    generator: &mut [u64],
+    t: usize,
+) -> bool
     requires { ⌜ Sizes m rows count parts (now parity) (now generator) × (0 < digits) × (digits ≤ 16) × (t / 15 / digits < length (now generator)) ⌝ }
     ensures noticed { λ r. ⌜ ((printed : ℕ) → m ≤ printed → r ≡ digitNoticed m printed rows count parts digits (now (parity .entry)) (now (generator .entry)) t) ⌝ }
     ensures kept { λ r. ⌜ now (generator .exit) ≡ now (generator .entry) ⌝ }
@@ -83,7 +118,15 @@ fn digit_noticed(m: usize, rows: usize, count: usize, parts: usize, digits: usiz
 }
 
 // How many are.
-fn digits_noticed(m: usize, rows: usize, count: usize, parts: usize, digits: usize, parity: &[u16], generator: &mut [u64]) -> usize
+fn digits_noticed(
+    m: usize,
+    rows: usize,
+    count: usize,
+    parts: usize,
+    digits: usize,
+    parity: &[u16],
+    generator: &mut [u64],
+) -> usize
     requires { ⌜ Sizes m rows count parts (now parity) (now generator) × (0 < digits) × (digits ≤ 16) × (length (now generator) < 65536) ⌝ }
     ensures noticed { λ r. ⌜ ((printed : ℕ) → m ≤ printed → r ≡ bits.count (length (now (generator .entry)) * digits * 15) (digitNoticed m printed rows count parts digits (now (parity .entry)) (now (generator .entry)))) ⌝ }
     ensures kept { λ r. ⌜ now (generator .exit) ≡ now (generator .entry) ⌝ }
@@ -121,7 +164,16 @@ fn wrong_entry(m: usize, parity: &[u16], place: usize, s: usize) -> bool
 }
 
 // Whether that is a wrong entry and is noticed.
-fn entry_noticed(m: usize, rows: usize, count: usize, parts: usize, parity: &mut [u16], generator: &[u64], place: usize, s: usize) -> bool
+fn entry_noticed(
+    m: usize,
+    rows: usize,
+    count: usize,
+    parts: usize,
+    parity: &mut [u16],
+    generator: &[u64],
+    place: usize,
+    s: usize,
+) -> bool
     requires { ⌜ Sizes m rows count parts (now parity) (now generator) × (place < length (now parity)) × (s ≤ m) ⌝ }
     ensures noticed { λ r. ⌜ ((printed : ℕ) → m ≤ printed → r ≡ placeNoticed m printed rows count parts (now (parity .entry)) (now (generator .entry)) place s) ⌝ }
     ensures kept { λ r. ⌜ now (parity .exit) ≡ now (parity .entry) ⌝ }
@@ -147,7 +199,14 @@ fn entries_tried(m: usize, parity: &[u16]) -> usize
     tried
 }
 
-fn entries_noticed(m: usize, rows: usize, count: usize, parts: usize, parity: &mut [u16], generator: &[u64]) -> usize
+fn entries_noticed(
+    m: usize,
+    rows: usize,
+    count: usize,
+    parts: usize,
+    parity: &mut [u16],
+    generator: &[u64],
+) -> usize
     requires { ⌜ Sizes m rows count parts (now parity) (now generator) × (length (now parity) < 65536) ⌝ }
     ensures noticed { λ r. ⌜ ((printed : ℕ) → m ≤ printed → r ≡ bits.count (length (now (parity .entry)) * (m + 1)) (entryNoticed m printed rows count parts (now (parity .entry)) (now (generator .entry)))) ⌝ }
     ensures kept { λ r. ⌜ now (parity .exit) ≡ now (parity .entry) ⌝ }
@@ -156,11 +215,126 @@ fn entries_noticed(m: usize, rows: usize, count: usize, parts: usize, parity: &m
     let mut noticed = 0;
     let mut t = 0;
     while t < n {
-        noticed += one_if(entry_noticed(m, rows, count, parts, parity, generator, t / (m + 1), t % (m + 1)));
+        noticed += one_if(entry_noticed(
+            m,
+            rows,
+            count,
+            parts,
+            parity,
+            generator,
+            t / (m + 1),
+            t % (m + 1),
+        ));
         t += 1;
     }
     noticed
 }
 
+fn text(bytes: &[u8]) {
+    io::write_all(STDOUT_FILENO, bytes);
+}
+
+fn number(n: usize) {
+    io::print_decimal(STDOUT_FILENO, n as u64);
+}
+
+fn shown(tried: usize, noticed: usize) {
+    number(tried);
+    text(b" tried, ");
+    number(noticed);
+    text(b" noticed");
+}
+
+// The line of a code.
+fn line(n: usize, digits: usize, caught: usize, entries: usize, found: usize)
+    requires { ⌜ (digits < 2 ^ 62) × (caught < 2 ^ 62) × (entries < 2 ^ 62) × (found < 2 ^ 62) ⌝ }
+{
+    text(b"code ");
+    number(n);
+    text(b": generator digits ");
+    shown(digits, caught);
+    text(b"; parity entries ");
+    shown(entries, found);
+    text(b"; in all ");
+    shown(digits + entries, caught + found);
+    text(b"\n");
+}
+
+fn try_code(
+    n: usize,
+    m: usize,
+    rows: usize,
+    count: usize,
+    parts: usize,
+    digits: usize,
+    parity: &mut [u16],
+    generator: &mut [u64],
+)
+    requires { ⌜ Sizes m rows count parts (now parity) (now generator) × (0 < digits) × (digits ≤ 16) × (length (now parity) < 65536) × (length (now generator) < 65536) ⌝ }
+{
+    let tried = generator.len() * digits * 15;
+    let caught = digits_noticed(m, rows, count, parts, digits, parity, generator);
+    let entries = entries_tried(m, parity);
+    let found = entries_noticed(m, rows, count, parts, parity, generator);
+    line(n, tried, caught, entries, found);
+}
+
+fn answer(n: u8)
+    requires { ⌜ (0 < n) × (n ≤ 5) ⌝ }
+{
+    if published(n) {
+        text(b" yes");
+    } else {
+        text(b" no");
+    }
+}
+
 fn main() {
+    text(b"The published tables of codes 1, 2, 3, 4 and 5 are tied:");
+    answer(1);
+    answer(2);
+    answer(3);
+    answer(4);
+    answer(5);
+    text(b"\nOne wrong digit, tried everywhere:\n");
+    try_code(
+        1,
+        16,
+        4,
+        4,
+        4,
+        4,
+        &mut tables::parity_16(),
+        &mut tables::generator_16(),
+    );
+    try_code(
+        2,
+        32,
+        4,
+        4,
+        4,
+        8,
+        &mut tables::parity_32(),
+        &mut tables::generator_32(),
+    );
+    try_code(
+        3,
+        64,
+        4,
+        4,
+        4,
+        16,
+        &mut tables::parity_64(),
+        &mut tables::generator_64(),
+    );
+    try_code(
+        4,
+        511,
+        2,
+        14,
+        2,
+        16,
+        &mut tables::parity_511(),
+        &mut tables::generator_511(),
+    );
 }

@@ -3,7 +3,7 @@ use mathlib.Core.Path.{_≡_, refl, sym, ap, ap₂, _∙_}
 use mathlib.Core.Bool.{Bool, true, false, not, _&&_, Bool·beq}
 use mathlib.Core.List.{List, [], _∷_}
 use Prim.Native.Nat.{ℕ, zero, suc, _+_, _-_, _*_, _≤_, _<_}
-use native.Mathlib.Nat.{suc-mul, mul-le-mul-right, add-assoc, add-comm}
+use native.Mathlib.Nat.{suc-mul, mul-le-mul-right}
 use native.Mathlib.Omega.{arith}
 use borrow.Author.Tests.{not-true, not-false}
 use lib.ListN.{length, getD, drop}
@@ -12,7 +12,7 @@ use Rattle.rules.specs.Identity.{over, blocks, below}
 use Rattle.ties.specs.Flat.{pieces}
 use Rattle.ties.proofs.Sums.{xor-is, ⊕-assoc}
 
--- The last of several of a size; and where there is room for n, there is room after any of those before.
+-- The last of n things of a size; and the room that another one needs.
 pub one-less : {n : ℕ} (size : ℕ) → 0 < n → n * size ≡ (n - 1) * size + size
 one-less {n} size h =
     let e : n ≡ suc (n - 1) = omega arith in

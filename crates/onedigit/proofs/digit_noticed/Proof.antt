@@ -1,7 +1,7 @@
 -- `onedigit::digit_noticed` meets its contract: the word that is tried is the one of the definition.
-use mathlib.Core.Path.{_≡_, ap, _∙_}
+use mathlib.Core.Path.{ap, _∙_}
 use mathlib.Core.Bool.{not}
-use Prim.Native.Nat.{ℕ, _/_, _%_, _<_}
+use Prim.Native.Nat.{ℕ, _/_}
 use native.Mathlib.Nat.{mod-lt}
 use native.Mathlib.Omega.{arith}
 use lib.ListN.{set}
@@ -9,56 +9,42 @@ use Rattle.ties.specs.Flat.{flatTied}
 use borrow.Author.Needs.{needs}
 use Rattle.onedigit.proofs.digit_noticed.Statement.{statement}
 use Rattle.onedigit.proofs.digit_noticed.Tie as tie
-use Rattle.onedigit.proofs.digit_noticed.Reads as reads
-use Rattle.onedigit.proofs.digit_noticed.Lts as lts
-use Rattle.onedigit.proofs.other_word.Reads as other-word-reads
-use Rattle.onedigit.proofs.word_noticed.Reads as word-noticed-reads
 
--- src/main.rt:80:14
 div-at : tie.Need-div-at
 div-at c = search needs
 
--- src/main.rt:81:27
 mul-other-word : tie.Need-mul-other-word
 mul-other-word c = search needs
 
--- src/main.rt:81:27
 slice-read-other-word : tie.Need-slice-read-other-word
 slice-read-other-word c = search needs
 
--- src/main.rt:81:43
 add-other-word : tie.Need-add-other-word
 add-other-word c = search needs
 
--- src/main.rt:81:64
 rem-other-word : tie.Need-rem-other-word
 rem-other-word c = search needs
 
--- src/main.rt:81:63
 cast-other-word : tie.Need-cast-other-word
 cast-other-word c = omega (arith, mod-lt (c .before .before .before .args .t / 15) (c .before .before .before .pre .1))
 
--- src/main.rt:81:9
 other-word-requires : tie.Need-other-word-requires
 other-word-requires c κs =
     (omega arith, omega (arith, mod-lt (c .before .before .before .args .t / 15) (c .before .before .before .pre .1)))
 
--- src/main.rt:82:5
 word-noticed-requires : tie.Need-word-noticed-requires
 word-noticed-requires c κs = search needs
 
--- src/main.rt:75:1
 same-length : tie.Need-same-length
 same-length c = search needs
 
--- src/main.rt:75:1
 returns : tie.Need-returns
 returns c =
     let a = c .before .before .before .before .before .before .before .before .args in (
       λ printed fits.
           c .before .before .word-noticed .ensures .0 printed fits
           ∙ ap (λ (w : ℕ). not (flatTied (a .m) printed (a .rows) (a .count) (a .parts) (a .parity .now) (set (a .generator .now) (a .t / 15 / a .digits) w)))
-            (c .before .before .before .before .other-word .ensures),
+          (c .before .before .before .before .other-word .ensures),
       c .before .before .word-noticed .ensures .1,
     )
 

@@ -1,7 +1,7 @@
 -- `onedigit::digits_noticed` meets its contract: those passed are counted, and the table is as it was.
 use mathlib.Core.Path.{_≡_, refl, sym, ap, _∙_, subst}
 use mathlib.Core.List.{List}
-use Prim.Native.Nat.{ℕ, _+_, _-_, _*_, _/_, _≤_, _<_}
+use Prim.Native.Nat.{ℕ, _-_, _*_, _/_, _≤_, _<_}
 use native.Mathlib.Omega.{arith}
 use lib.ListN.{length}
 use Rattle.rules.specs.Bits as bits
@@ -10,10 +10,6 @@ use Rattle.onedigit.specs.Wrong.{digitNoticed}
 use Rattle.onedigit.proofs.Counts.{tally-le, count-none, count-more, within, product-fits}
 use Rattle.onedigit.proofs.digits_noticed.Statement.{statement}
 use Rattle.onedigit.proofs.digits_noticed.Tie as tie
-use Rattle.onedigit.proofs.digits_noticed.Reads as reads
-use Rattle.onedigit.proofs.digits_noticed.Lts as lts
-use Rattle.onedigit.proofs.digit_noticed.Reads as digit-noticed-reads
-use Rattle.onedigit.proofs.one_if.Reads as one-if-reads
 
 abbrev Inv-loop : tie.InvT-loop
 Inv-loop m rows count parts digits parity generator₀ n noticed₀ t₀ generator noticed t =
@@ -26,7 +22,6 @@ Inv-loop m rows count parts digits parity generator₀ n noticed₀ t₀ generat
 abbrev μ-loop : tie.MeasureT-loop
 μ-loop m rows count parts digits parity generator₀ n noticed₀ t₀ generator noticed t = n - t
 
--- src/main.rt:91:13
 mul-n : tie.Need-mul-n Inv-loop μ-loop
 mul-n c =
     let a = c .before .before .args in
@@ -34,7 +29,6 @@ mul-n c =
     let l : a .digits ≤ 65536 = omega arith in
     omega (arith, product-fits h l)
 
--- src/main.rt:91:13
 mul-n-2 : tie.Need-mul-n-2 Inv-loop μ-loop
 mul-n-2 c =
     let a = c .before .before .args in
@@ -42,7 +36,6 @@ mul-n-2 c =
     let l : a .digits ≤ 65536 = omega arith in
     omega (arith, product-fits h l)
 
--- src/main.rt:94:5
 loop-holds : tie.Need-loop-holds Inv-loop μ-loop
 loop-holds c =
     let a = c .before .before .args in
@@ -55,7 +48,6 @@ loop-holds c =
       λ printed fits. count-none (digitNoticed (a .m) printed (a .rows) (a .count) (a .parts) (a .digits) (a .parity .now) (a .generator .now)),
     )
 
--- src/main.rt:95:27
 digit-noticed-requires : tie.Need-digit-noticed-requires Inv-loop μ-loop
 digit-noticed-requires c κs =
     let s = c .before .before .before .before .before in
@@ -71,23 +63,18 @@ digit-noticed-requires c κs =
           (within (l .t / 15) (length (a .generator .now)) (a .digits) (s .pre .1) (within (l .t) (length (a .generator .now) * a .digits) 15 some h)),
     )
 
--- src/main.rt:95:20
 one-if-requires : tie.Need-one-if-requires Inv-loop μ-loop
 one-if-requires c κs = tt
 
--- src/main.rt:95:9
 add-noticed : tie.Need-add-noticed Inv-loop μ-loop
 add-noticed c = omega (arith, tally-le (c .before .before .before .digit-noticed .result))
 
--- src/main.rt:96:9
 add-t : tie.Need-add-t Inv-loop μ-loop
 add-t c = omega arith
 
--- src/main.rt:94:5
 loop-less : tie.Need-loop-less Inv-loop μ-loop
 loop-less c = omega arith
 
--- src/main.rt:94:5
 loop-again : tie.Need-loop-again Inv-loop μ-loop
 loop-again c =
     let a = c .before .before .before .before .before .before .before .before .before .args in
@@ -99,16 +86,14 @@ loop-again c =
       e .ensures .1 ∙ l .inv .3,
       λ printed fits.
           count-more (l .t) (digitNoticed (a .m) printed (a .rows) (a .count) (a .parts) (a .digits) (a .parity .now) (a .generator .now)) (l .inv .4 printed fits)
-              (e .ensures .0 printed fits
-              ∙ ap (λ (g : List ℕ). digitNoticed (a .m) printed (a .rows) (a .count) (a .parts) (a .digits) (a .parity .now) g (l .t)) (l .inv .3))
-              (c .one-if .ensures),
+          (e .ensures .0 printed fits
+          ∙ ap (λ (g : List ℕ). digitNoticed (a .m) printed (a .rows) (a .count) (a .parts) (a .digits) (a .parity .now) g (l .t)) (l .inv .3))
+          (c .one-if .ensures),
     )
 
--- src/main.rt:86:1
 same-length : tie.Need-same-length Inv-loop μ-loop
 same-length c = ap length (c .before .loop .inv .3)
 
--- src/main.rt:86:1
 returns : tie.Need-returns Inv-loop μ-loop
 returns c =
     let a = c .before .before .before .before .args in

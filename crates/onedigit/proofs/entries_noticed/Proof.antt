@@ -11,10 +11,6 @@ use Rattle.onedigit.specs.Wrong.{placeNoticed, entryNoticed}
 use Rattle.onedigit.proofs.Counts.{tally-le, count-none, count-more, within, product-fits}
 use Rattle.onedigit.proofs.entries_noticed.Statement.{statement}
 use Rattle.onedigit.proofs.entries_noticed.Tie as tie
-use Rattle.onedigit.proofs.entries_noticed.Reads as reads
-use Rattle.onedigit.proofs.entries_noticed.Lts as lts
-use Rattle.onedigit.proofs.entry_noticed.Reads as entry-noticed-reads
-use Rattle.onedigit.proofs.one_if.Reads as one-if-reads
 
 abbrev Inv-loop : tie.InvT-loop
 Inv-loop m rows count parts parity₀ generator n noticed₀ t₀ parity noticed t =
@@ -27,11 +23,9 @@ Inv-loop m rows count parts parity₀ generator n noticed₀ t₀ parity noticed
 abbrev μ-loop : tie.MeasureT-loop
 μ-loop m rows count parts parity₀ generator n noticed₀ t₀ parity noticed t = n - t
 
--- src/main.rt:155:29
 add-n : tie.Need-add-n Inv-loop μ-loop
 add-n c = omega arith
 
--- src/main.rt:155:13
 mul-n : tie.Need-mul-n Inv-loop μ-loop
 mul-n c =
     let a = c .before .before .args in
@@ -39,7 +33,6 @@ mul-n c =
     let l : a .m + 1 ≤ 65536 = omega arith in
     omega (arith, product-fits h l)
 
--- src/main.rt:158:5
 loop-holds : tie.Need-loop-holds Inv-loop μ-loop
 loop-holds c =
     let a = c .before .before .args in
@@ -52,23 +45,18 @@ loop-holds c =
       λ printed fits. count-none (entryNoticed (a .m) printed (a .rows) (a .count) (a .parts) (a .parity .now) (a .generator .now)),
     )
 
--- src/main.rt:159:88
 add-entry-noticed : tie.Need-add-entry-noticed Inv-loop μ-loop
 add-entry-noticed c = omega arith
 
--- src/main.rt:159:83
 div-entry-noticed : tie.Need-div-entry-noticed Inv-loop μ-loop
 div-entry-noticed c = omega arith
 
--- src/main.rt:159:101
 add-entry-noticed-2 : tie.Need-add-entry-noticed-2 Inv-loop μ-loop
 add-entry-noticed-2 c = omega arith
 
--- src/main.rt:159:96
 rem-entry-noticed : tie.Need-rem-entry-noticed Inv-loop μ-loop
 rem-entry-noticed c = omega arith
 
--- src/main.rt:159:27
 entry-noticed-requires : tie.Need-entry-noticed-requires Inv-loop μ-loop
 entry-noticed-requires c κs =
     let s = c .before .before .before .before .before in
@@ -82,23 +70,18 @@ entry-noticed-requires c κs =
       omega (arith, mod-lt (l .t) pos),
     )
 
--- src/main.rt:159:20
 one-if-requires : tie.Need-one-if-requires Inv-loop μ-loop
 one-if-requires c κs = tt
 
--- src/main.rt:159:9
 add-noticed : tie.Need-add-noticed Inv-loop μ-loop
 add-noticed c = omega (arith, tally-le (c .before .before .before .entry-noticed .result))
 
--- src/main.rt:160:9
 add-t : tie.Need-add-t Inv-loop μ-loop
 add-t c = omega arith
 
--- src/main.rt:158:5
 loop-less : tie.Need-loop-less Inv-loop μ-loop
 loop-less c = omega arith
 
--- src/main.rt:158:5
 loop-again : tie.Need-loop-again Inv-loop μ-loop
 loop-again c =
     let a = c .before .before .before .before .before .before .before .before .before .args in
@@ -110,16 +93,14 @@ loop-again c =
       e .ensures .1 ∙ l .inv .3,
       λ printed fits.
           count-more (l .t) (entryNoticed (a .m) printed (a .rows) (a .count) (a .parts) (a .parity .now) (a .generator .now)) (l .inv .4 printed fits)
-              (e .ensures .0 printed fits
-              ∙ ap (λ (p : List ℕ). placeNoticed (a .m) printed (a .rows) (a .count) (a .parts) p (a .generator .now) (l .t / (a .m + 1)) (l .t % (a .m + 1))) (l .inv .3))
-              (c .one-if .ensures),
+          (e .ensures .0 printed fits
+          ∙ ap (λ (p : List ℕ). placeNoticed (a .m) printed (a .rows) (a .count) (a .parts) p (a .generator .now) (l .t / (a .m + 1)) (l .t % (a .m + 1))) (l .inv .3))
+          (c .one-if .ensures),
     )
 
--- src/main.rt:150:1
 same-length : tie.Need-same-length Inv-loop μ-loop
 same-length c = ap length (c .before .loop .inv .3)
 
--- src/main.rt:150:1
 returns : tie.Need-returns Inv-loop μ-loop
 returns c =
     let a = c .before .before .before .before .args in

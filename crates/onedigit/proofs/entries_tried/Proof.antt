@@ -1,6 +1,6 @@
 -- `onedigit::entries_tried` meets its contract: those passed are counted.
 use mathlib.Core.Path.{_≡_, ap, _∙_}
-use Prim.Native.Nat.{ℕ, _+_, _-_, _*_, _/_, _%_, _≤_, _<_}
+use Prim.Native.Nat.{ℕ, _+_, _-_, _*_, _≤_, _<_}
 use native.Mathlib.Omega.{arith}
 use lib.ListN.{length}
 use Rattle.rules.specs.Bits.{count}
@@ -8,10 +8,6 @@ use Rattle.onedigit.specs.Wrong.{entryWrong}
 use Rattle.onedigit.proofs.Counts.{tally-le, count-none, count-more, within, product-fits}
 use Rattle.onedigit.proofs.entries_tried.Statement.{statement}
 use Rattle.onedigit.proofs.entries_tried.Tie as tie
-use Rattle.onedigit.proofs.entries_tried.Reads as reads
-use Rattle.onedigit.proofs.entries_tried.Lts as lts
-use Rattle.onedigit.proofs.one_if.Reads as one-if-reads
-use Rattle.onedigit.proofs.wrong_entry.Reads as wrong-entry-reads
 
 abbrev Inv-loop : tie.InvT-loop
 Inv-loop m parity n tried₀ t₀ tried t =
@@ -20,11 +16,9 @@ Inv-loop m parity n tried₀ t₀ tried t =
 abbrev μ-loop : tie.MeasureT-loop
 μ-loop m parity n tried₀ t₀ tried t = n - t
 
--- src/main.rt:140:29
 add-n : tie.Need-add-n Inv-loop μ-loop
 add-n c = omega arith
 
--- src/main.rt:140:13
 mul-n : tie.Need-mul-n Inv-loop μ-loop
 mul-n c =
     let a = c .before .args in
@@ -32,7 +26,6 @@ mul-n c =
     let l : a .m + 1 ≤ 65536 = omega arith in
     omega (arith, product-fits h l)
 
--- src/main.rt:143:5
 loop-holds : tie.Need-loop-holds Inv-loop μ-loop
 loop-holds c =
     let a = c .before .args in
@@ -40,23 +33,18 @@ loop-holds c =
     let l : a .m + 1 ≤ 65536 = omega arith in
     (omega arith, product-fits h l, omega arith, count-none (entryWrong (a .m) (a .parity .now)))
 
--- src/main.rt:144:53
 add-wrong-entry : tie.Need-add-wrong-entry Inv-loop μ-loop
 add-wrong-entry c = omega arith
 
--- src/main.rt:144:48
 div-wrong-entry : tie.Need-div-wrong-entry Inv-loop μ-loop
 div-wrong-entry c = omega arith
 
--- src/main.rt:144:66
 add-wrong-entry-2 : tie.Need-add-wrong-entry-2 Inv-loop μ-loop
 add-wrong-entry-2 c = omega arith
 
--- src/main.rt:144:61
 rem-wrong-entry : tie.Need-rem-wrong-entry Inv-loop μ-loop
 rem-wrong-entry c = omega arith
 
--- src/main.rt:144:25
 wrong-entry-requires : tie.Need-wrong-entry-requires Inv-loop μ-loop
 wrong-entry-requires c κs =
     let a = c .before .before .before .args in
@@ -65,29 +53,31 @@ wrong-entry-requires c κs =
     let h : l .t < length (a .parity .now) * (a .m + 1) = omega arith in
     (within (l .t) (length (a .parity .now)) (a .m + 1) pos h, omega arith)
 
--- src/main.rt:144:18
 one-if-requires : tie.Need-one-if-requires Inv-loop μ-loop
 one-if-requires c κs = tt
 
--- src/main.rt:144:9
 add-tried : tie.Need-add-tried Inv-loop μ-loop
-add-tried c = ?
+add-tried c = omega (arith, tally-le (c .before .wrong-entry .result))
 
--- src/main.rt:145:9
 add-t : tie.Need-add-t Inv-loop μ-loop
 add-t c = omega arith
 
--- src/main.rt:143:5
 loop-less : tie.Need-loop-less Inv-loop μ-loop
 loop-less c = omega arith
 
--- src/main.rt:143:5
 loop-again : tie.Need-loop-again Inv-loop μ-loop
-loop-again c = ?
+loop-again c =
+    let a = c .before .before .before .before .before .args in
+    let l = c .before .before .before .loop in
+    let e = c .before .wrong-entry in
+    (omega arith, l .inv .1, omega (arith, tally-le (e .result)), count-more (l .t) (entryWrong (a .m) (a .parity .now)) (l .inv .3) (e .ensures) (c .one-if .ensures))
 
--- src/main.rt:136:1
 returns : tie.Need-returns Inv-loop μ-loop
-returns c = ?
+returns c =
+    let a = c .before .before .before .args in
+    let l = c .before .loop in
+    let e : l .t ≡ length (a .parity .now) * (a .m + 1) = omega arith in
+    l .inv .3 ∙ ap (λ (x : ℕ). count x (entryWrong (a .m) (a .parity .now))) e
 
 pub entries-tried-spec : {M : Type 1} → statement M
 entries-tried-spec =

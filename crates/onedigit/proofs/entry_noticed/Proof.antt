@@ -7,20 +7,13 @@ use Rattle.ties.specs.Flat.{flatTied}
 use borrow.Author.Needs.{needs}
 use Rattle.onedigit.proofs.entry_noticed.Statement.{statement}
 use Rattle.onedigit.proofs.entry_noticed.Tie as tie
-use Rattle.onedigit.proofs.entry_noticed.Reads as reads
-use Rattle.onedigit.proofs.entry_noticed.Lts as lts
-use Rattle.onedigit.proofs.place_noticed.Reads as place-noticed-reads
-use Rattle.onedigit.proofs.wrong_entry.Reads as wrong-entry-reads
 
--- src/main.rt:129:9
 wrong-entry-requires : tie.Need-wrong-entry-requires
 wrong-entry-requires c κs = search needs
 
--- src/main.rt:130:9
 same-length : tie.Need-same-length
 same-length c = search needs
 
--- src/main.rt:130:9
 returns : tie.Need-returns
 returns c =
     let a = c .before .before .before .before .before .args in (
@@ -30,27 +23,23 @@ returns c =
       refl,
     )
 
--- src/main.rt:132:68
 cast-place-noticed : tie.Need-cast-place-noticed
 cast-place-noticed c = search needs
 
--- src/main.rt:132:5
 place-noticed-requires : tie.Need-place-noticed-requires
 place-noticed-requires c κs = search needs
 
--- src/main.rt:124:1
 same-length-2 : tie.Need-same-length-2
 same-length-2 c = search needs
 
--- src/main.rt:124:1
 returns-2 : tie.Need-returns-2
 returns-2 c =
     let a = c .before .before .before .before .before .before .before .before .before .args in (
       λ printed fits.
           c .before .before .place-noticed .ensures .0 printed fits
           ∙ ap (λ (x : Bool). x && not (flatTied (a .m) printed (a .rows) (a .count) (a .parts) (set (a .parity .now) (a .place) (a .s)) (a .generator .now)))
-            (sym (not-false (c .before .before .before .before .before .wrong-entry .result) (c .before .before .before .before .if1 .left))
-            ∙ c .before .before .before .before .before .wrong-entry .ensures),
+          (sym (not-false (c .before .before .before .before .before .wrong-entry .result) (c .before .before .before .before .if1 .left))
+          ∙ c .before .before .before .before .before .wrong-entry .ensures),
       c .before .before .place-noticed .ensures .1,
     )
 

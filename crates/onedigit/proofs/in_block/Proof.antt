@@ -6,60 +6,45 @@ use lib.Dec.{eqb}
 use borrow.Author.Needs.{needs}
 use Rattle.onedigit.proofs.in_block.Statement.{statement}
 use Rattle.onedigit.proofs.in_block.Tie as tie
-use Rattle.onedigit.proofs.in_block.Reads as reads
-use Rattle.onedigit.proofs.in_block.Lts as lts
-use Rattle.onedigit.proofs.wide.Reads as wide-reads
 
--- src/main.rt:111:11
 mul-wide : tie.Need-mul-wide
 mul-wide c = search needs
 
--- src/main.rt:111:11
 shared-slice-read-wide : tie.Need-shared-slice-read-wide
 shared-slice-read-wide c = search needs
 
--- src/main.rt:111:6
 wide-requires : tie.Need-wide-requires
 wide-requires c κs = search needs
 
--- src/main.rt:111:48
 add-wide : tie.Need-add-wide
 add-wide c = search needs
 
--- src/main.rt:111:41
 mul-wide-2 : tie.Need-mul-wide-2
 mul-wide-2 c = search needs
 
--- src/main.rt:111:41
 shared-slice-read-wide-2 : tie.Need-shared-slice-read-wide-2
 shared-slice-read-wide-2 c = search needs
 
--- src/main.rt:111:36
 wide-requires-2 : tie.Need-wide-requires-2
 wide-requires-2 c κs = search needs
 
--- src/main.rt:111:81
 add-wide-2 : tie.Need-add-wide-2
 add-wide-2 c = search needs
 
--- src/main.rt:111:74
 mul-wide-3 : tie.Need-mul-wide-3
 mul-wide-3 c = search needs
 
--- src/main.rt:111:74
 shared-slice-read-wide-3 : tie.Need-shared-slice-read-wide-3
 shared-slice-read-wide-3 c = search needs
 
--- src/main.rt:111:69
 wide-requires-3 : tie.Need-wide-requires-3
 wide-requires-3 c κs = search needs
 
--- src/main.rt:107:1
 returns : tie.Need-returns
 returns c =
     let s = c .before .before .before .before .before .before .before .args .s in
     ap₂ (λ (x y : Bool). x || y) (ap (λ (x : ℕ). eqb x s) (c .before .before .before .before .wide .ensures))
-        (ap₂ (λ (x y : Bool). x || y) (ap (λ (x : ℕ). eqb x s) (c .before .before .wide2 .ensures)) (ap (λ (x : ℕ). eqb x s) (c .wide3 .ensures)))
+    (ap₂ (λ (x y : Bool). x || y) (ap (λ (x : ℕ). eqb x s) (c .before .before .wide2 .ensures)) (ap (λ (x : ℕ). eqb x s) (c .wide3 .ensures)))
 
 pub in-block-spec : {M : Type 1} → statement M
 in-block-spec =

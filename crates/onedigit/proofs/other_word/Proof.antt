@@ -1,28 +1,22 @@
 -- `onedigit::other_word` meets its contract: nothing is shifted out.
 use mathlib.Core.Path.{ap}
-use Prim.Native.Nat.{ℕ, _+_, _*_, _^_, _<_, _≤_}
+use Prim.Native.Nat.{_*_, _^_, _<_}
 use native.Mathlib.Omega.{arith}
 use lib.Bits.{bitXor}
 use lib.Pow.{shl-exact}
 use borrow.Author.Needs.{needs}
 use Rattle.onedigit.proofs.other_word.Statement.{statement}
 use Rattle.onedigit.proofs.other_word.Tie as tie
-use Rattle.onedigit.proofs.other_word.Reads as reads
-use Rattle.onedigit.proofs.other_word.Lts as lts
 
--- src/main.rt:71:28
 mul-result : tie.Need-mul-result
 mul-result c = search needs
 
--- src/main.rt:71:28
 cast-result : tie.Need-cast-result
 cast-result c = search needs
 
--- src/main.rt:71:13
 shl-result : tie.Need-shl-result
 shl-result c = search needs
 
--- src/main.rt:67:1
 returns : tie.Need-returns
 returns c =
     let a = c .args in

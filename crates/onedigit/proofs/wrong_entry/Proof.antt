@@ -1,37 +1,27 @@
 -- `onedigit::wrong_entry` meets its contract.
-use mathlib.Core.Path.{ap, ap₂}
+use mathlib.Core.Path.{ap₂}
 use mathlib.Core.Bool.{Bool, not, _&&_, _||_}
 use Prim.Native.Nat.{ℕ, _%_}
 use lib.Dec.{eqb, ltb}
 use borrow.Author.Needs.{needs}
 use Rattle.onedigit.proofs.wrong_entry.Statement.{statement}
 use Rattle.onedigit.proofs.wrong_entry.Tie as tie
-use Rattle.onedigit.proofs.wrong_entry.Reads as reads
-use Rattle.onedigit.proofs.wrong_entry.Lts as lts
-use Rattle.onedigit.proofs.in_block.Reads as in-block-reads
-use Rattle.onedigit.proofs.wide.Reads as wide-reads
 
--- src/main.rt:119:34
 mul-in-block : tie.Need-mul-in-block
 mul-in-block c = search needs
 
--- src/main.rt:119:9
 in-block-requires : tie.Need-in-block-requires
 in-block-requires c κs = search needs
 
--- src/main.rt:120:21
 mul-wide : tie.Need-mul-wide
 mul-wide c = search needs
 
--- src/main.rt:120:21
 shared-slice-read-wide : tie.Need-shared-slice-read-wide
 shared-slice-read-wide c = search needs
 
--- src/main.rt:120:16
 wide-requires : tie.Need-wide-requires
 wide-requires c κs = search needs
 
--- src/main.rt:115:1
 returns : tie.Need-returns
 returns c =
     let a = c .before .before .before .before .args in

@@ -1,19 +1,13 @@
 -- `ties::all_padded` meets its contract: the rows passed are padded, so the whole is what is left.
-use mathlib.Core.Path.{_≡_, refl, sym, ap, ap₂, _∙_}
-use mathlib.Core.Bool.{Bool}
-use mathlib.Core.List.{List}
-use Prim.Native.Nat.{ℕ, _+_, _-_, _*_, _≤_, _<_}
+use mathlib.Core.Path.{_≡_, refl, sym, ap, _∙_}
+use Prim.Native.Nat.{ℕ, _+_, _-_, _*_, _<_}
 use native.Mathlib.Omega.{arith}
-use lib.ListN.{length, drop}
+use lib.ListN.{length}
 use Rattle.rules.specs.Identity.{allPadded}
 use Rattle.ties.specs.Flat.{pieces, words, numbers, generatorOf}
 use Rattle.ties.proofs.Listed.{one-less, pieces-more, pieces-none, stops, goes-on}
 use Rattle.ties.proofs.all_padded.Statement.{statement}
 use Rattle.ties.proofs.all_padded.Tie as tie
-use Rattle.ties.proofs.all_padded.Reads as reads
-use Rattle.ties.proofs.all_padded.Lts as lts
-use Rattle.ties.proofs.numbers_padded.Reads as numbers-padded-reads
-use Rattle.ties.proofs.row_words.Reads as row-words-reads
 
 abbrev Inv-loop : tie.InvT-loop
 Inv-loop m count parts generator step left₀ at₀ left at =
@@ -23,15 +17,12 @@ Inv-loop m count parts generator step left₀ at₀ left at =
 abbrev μ-loop : tie.MeasureT-loop
 μ-loop m count parts generator step left₀ at₀ left at = left
 
--- src/lib.rt:206:9
 row-words-requires : tie.Need-row-words-requires Inv-loop μ-loop
 row-words-requires c κs = (omega arith, omega arith)
 
--- src/lib.rt:209:5
 loop-holds : tie.Need-loop-holds Inv-loop μ-loop
 loop-holds c = (omega arith, refl)
 
--- src/lib.rt:210:13
 numbers-padded-requires : tie.Need-numbers-padded-requires Inv-loop μ-loop
 numbers-padded-requires c κs =
     let a = c .before .before .before .before .args in
@@ -39,7 +30,6 @@ numbers-padded-requires c κs =
     let h : 0 < l .left = omega arith in
     (omega arith, omega arith, omega (arith, one-less (a .parts * words (a .m)) h))
 
--- src/lib.rt:211:13
 returns : tie.Need-returns Inv-loop μ-loop
 returns c =
     let a = c .before .before .before .before .before .before .args in
@@ -50,7 +40,6 @@ returns c =
     (ap (allPadded (a .m)) (pieces-more G w (l .at) (l .left) (omega arith)))
     (c .before .numbers-padded .ensures) (c .if1 .taken)
 
--- src/lib.rt:213:9
 add-at : tie.Need-add-at Inv-loop μ-loop
 add-at c =
     let a = c .before .before .before .before .before .before .args in
@@ -58,15 +47,12 @@ add-at c =
     let h : 0 < l .left = omega arith in
     omega (arith, one-less (a .parts * words (a .m)) h)
 
--- src/lib.rt:214:9
 sub-left : tie.Need-sub-left Inv-loop μ-loop
 sub-left c = omega arith
 
--- src/lib.rt:209:5
 loop-less : tie.Need-loop-less Inv-loop μ-loop
 loop-less c = omega arith
 
--- src/lib.rt:209:5
 loop-again : tie.Need-loop-again Inv-loop μ-loop
 loop-again c =
     let a = c .before .before .before .before .before .before .args in
@@ -80,7 +66,6 @@ loop-again c =
           ∙ ap (λ (x : ℕ). allPadded (a .m) (pieces G w (l .at + x) (l .left - 1))) (sym (c .before .before .before .before .row-words .ensures)),
     )
 
--- src/lib.rt:202:1
 returns-2 : tie.Need-returns-2 Inv-loop μ-loop
 returns-2 c =
     let a = c .before .before .before .before .args in

@@ -1,6 +1,6 @@
 -- `ties::bit_of` meets its contract: the bit is at place m - 1 - t, counted from the least significant.
 use mathlib.Core.Path.{_≡_, sym, ap, _∙_}
-use Prim.Native.Nat.{ℕ, _+_, _-_, _*_, _/_, _%_, _^_, _<_, suc}
+use Prim.Native.Nat.{ℕ, _+_, _-_, _/_, _%_, _^_, suc}
 use native.Mathlib.Omega.{arith}
 use lib.Dec.{eqb}
 use lib.ListN.{getD}
@@ -9,42 +9,31 @@ use Rattle.ties.proofs.Numbers.{joined-place}
 use borrow.Author.Needs.{needs}
 use Rattle.ties.proofs.bit_of.Statement.{statement}
 use Rattle.ties.proofs.bit_of.Tie as tie
-use Rattle.ties.proofs.bit_of.Reads as reads
-use Rattle.ties.proofs.bit_of.Lts as lts
 
--- src/lib.rt:33:13
 sub-k : tie.Need-sub-k
 sub-k c = search needs
 
--- src/lib.rt:33:13
 sub-k-2 : tie.Need-sub-k-2
 sub-k-2 c = search needs
 
--- src/lib.rt:34:19
 sub-w : tie.Need-sub-w
 sub-w c = search needs
 
--- src/lib.rt:34:13
 add-w : tie.Need-add-w
 add-w c = search needs
 
--- src/lib.rt:34:13
 sub-w-2 : tie.Need-sub-w-2
 sub-w-2 c = search needs
 
--- src/lib.rt:35:6
 mul-result : tie.Need-mul-result
 mul-result c = search needs
 
--- src/lib.rt:35:6
 shared-slice-read-result : tie.Need-shared-slice-read-result
 shared-slice-read-result c = search needs
 
--- src/lib.rt:35:6
 shr-result : tie.Need-shr-result
 shr-result c = search needs
 
--- src/lib.rt:29:1
 returns : tie.Need-returns
 returns c =
     let a = c .before .args in

@@ -4,31 +4,22 @@ use Rattle.ties.proofs.Sums.{over-block}
 use borrow.Author.Needs.{needs}
 use Rattle.ties.proofs.block_meets.Statement.{statement}
 use Rattle.ties.proofs.block_meets.Tie as tie
-use Rattle.ties.proofs.block_meets.Reads as reads
-use Rattle.ties.proofs.block_meets.Lts as lts
-use Rattle.ties.proofs.place_meets.Reads as place-meets-reads
 
--- src/lib.rt:60:9
 place-meets-requires : tie.Need-place-meets-requires
 place-meets-requires c κs = search needs
 
--- src/lib.rt:61:41
 add-place-meets : tie.Need-add-place-meets
 add-place-meets c = search needs
 
--- src/lib.rt:61:9
 place-meets-requires-2 : tie.Need-place-meets-requires-2
 place-meets-requires-2 c κs = search needs
 
--- src/lib.rt:62:40
 add-place-meets-2 : tie.Need-add-place-meets-2
 add-place-meets-2 c = search needs
 
--- src/lib.rt:62:9
 place-meets-requires-3 : tie.Need-place-meets-requires-3
 place-meets-requires-3 c κs = search needs
 
--- src/lib.rt:56:1
 returns : tie.Need-returns
 returns c =
     let a = c .before .before .before .before .before .args in

@@ -4,31 +4,22 @@ use Rattle.ties.proofs.Sums.{over-block}
 use borrow.Author.Needs.{needs}
 use Rattle.ties.proofs.block_own.Statement.{statement}
 use Rattle.ties.proofs.block_own.Tie as tie
-use Rattle.ties.proofs.block_own.Reads as reads
-use Rattle.ties.proofs.block_own.Lts as lts
-use Rattle.ties.proofs.place_own.Reads as place-own-reads
 
--- src/lib.rt:99:9
 place-own-requires : tie.Need-place-own-requires
 place-own-requires c κs = search needs
 
--- src/lib.rt:100:39
 add-place-own : tie.Need-add-place-own
 add-place-own c = search needs
 
--- src/lib.rt:100:9
 place-own-requires-2 : tie.Need-place-own-requires-2
 place-own-requires-2 c κs = search needs
 
--- src/lib.rt:101:38
 add-place-own-2 : tie.Need-add-place-own-2
 add-place-own-2 c = search needs
 
--- src/lib.rt:101:9
 place-own-requires-3 : tie.Need-place-own-requires-3
 place-own-requires-3 c κs = search needs
 
--- src/lib.rt:95:1
 returns : tie.Need-returns
 returns c =
     let a = c .before .before .before .before .args in

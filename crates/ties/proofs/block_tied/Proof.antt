@@ -1,17 +1,14 @@
 -- `ties::block_tied` meets its contract: the differences passed cancel, so the whole is what is left.
-use mathlib.Core.Path.{_≡_, refl, sym, ap, _∙_}
+use mathlib.Core.Path.{_≡_, refl, sym, _∙_}
 use mathlib.Core.Bool.{Bool}
 use mathlib.Core.List.{List}
-use Prim.Native.Nat.{ℕ, _-_, _≤_, _<_}
+use Prim.Native.Nat.{ℕ, _-_, _≤_}
 use native.Mathlib.Omega.{arith}
 use Rattle.rules.specs.Identity.{below, cancels}
 use Rattle.ties.specs.Flat.{block, row, numbers}
 use Rattle.ties.proofs.Listed.{stops, goes-on, below-step, below-none}
 use Rattle.ties.proofs.block_tied.Statement.{statement}
 use Rattle.ties.proofs.block_tied.Tie as tie
-use Rattle.ties.proofs.block_tied.Reads as reads
-use Rattle.ties.proofs.block_tied.Lts as lts
-use Rattle.ties.proofs.cancels_at.Reads as cancels-at-reads
 
 -- The block's identity, by the difference.
 abbrev at-difference : ℕ → ℕ → List ℕ → ℕ → ℕ → List ℕ → ℕ → ℕ → Bool
@@ -25,19 +22,15 @@ Inv-loop m parts parity information first generator at left₀ left =
 abbrev μ-loop : tie.MeasureT-loop
 μ-loop m parts parity information first generator at left₀ left = left
 
--- src/lib.rt:121:5
 loop-holds : tie.Need-loop-holds Inv-loop μ-loop
 loop-holds c = (omega arith, refl)
 
--- src/lib.rt:122:62
 sub-cancels-at : tie.Need-sub-cancels-at Inv-loop μ-loop
 sub-cancels-at c = omega arith
 
--- src/lib.rt:122:13
 cancels-at-requires : tie.Need-cancels-at-requires Inv-loop μ-loop
 cancels-at-requires c κs = (omega arith, omega arith, omega arith, omega arith, omega arith)
 
--- src/lib.rt:123:13
 returns : tie.Need-returns Inv-loop μ-loop
 returns c =
     let a = c .before .before .before .before .before .before .args in
@@ -45,15 +38,12 @@ returns c =
     let f = at-difference (a .m) (a .parts) (a .parity .now) (a .information) (a .first) (a .generator .now) (a .at) in
     stops (below (l .left - 1) f) (l .inv .1) (below-step (l .left) f (omega arith)) (c .before .cancels-at .ensures) (c .if1 .taken)
 
--- src/lib.rt:125:9
 sub-left : tie.Need-sub-left Inv-loop μ-loop
 sub-left c = omega arith
 
--- src/lib.rt:121:5
 loop-less : tie.Need-loop-less Inv-loop μ-loop
 loop-less c = omega arith
 
--- src/lib.rt:121:5
 loop-again : tie.Need-loop-again Inv-loop μ-loop
 loop-again c =
     let a = c .before .before .before .before .before .before .args in
@@ -61,7 +51,6 @@ loop-again c =
     let f = at-difference (a .m) (a .parts) (a .parity .now) (a .information) (a .first) (a .generator .now) (a .at) in
     (omega arith, goes-on (below (l .left - 1) f) (l .inv .1) (below-step (l .left) f (omega arith)) (c .before .cancels-at .ensures) (c .if1 .left))
 
--- src/lib.rt:116:1
 returns-2 : tie.Need-returns-2 Inv-loop μ-loop
 returns-2 c =
     let a = c .before .before .before .before .args in

@@ -1,7 +1,7 @@
 -- `ties::cancels_at` meets its contract: the two sums are those of the identity.
-use mathlib.Core.Path.{_≡_, sym, ap, ap₂, _∙_}
+use mathlib.Core.Path.{sym, ap, ap₂, _∙_}
 use mathlib.Core.Bool.{Bool, not}
-use Prim.Native.Nat.{ℕ, _<_}
+use Prim.Native.Nat.{_<_}
 use native.Mathlib.Nat.{le-refl}
 use native.Mathlib.Omega.{arith}
 use Rattle.rules.specs.Bits.{_⊕_}
@@ -11,20 +11,13 @@ use Rattle.ties.proofs.Printed.{printed-cancels}
 use borrow.Author.Needs.{needs}
 use Rattle.ties.proofs.cancels_at.Statement.{statement}
 use Rattle.ties.proofs.cancels_at.Tie as tie
-use Rattle.ties.proofs.cancels_at.Reads as reads
-use Rattle.ties.proofs.cancels_at.Lts as lts
-use Rattle.ties.proofs.block_own.Reads as block-own-reads
-use Rattle.ties.proofs.parity_meets.Reads as parity-meets-reads
 
--- src/lib.rt:110:7
 block-own-requires : tie.Need-block-own-requires
 block-own-requires c κs = search needs
 
--- src/lib.rt:110:38
 parity-meets-requires : tie.Need-parity-meets-requires
 parity-meets-requires c κs = search needs
 
--- src/lib.rt:106:1
 returns : tie.Need-returns
 returns c =
     let a = c .before .before .before .before .args in

@@ -10,26 +10,19 @@ use Rattle.ties.proofs.Numbers.{joined-front, below-power}
 use borrow.Author.Needs.{needs}
 use Rattle.ties.proofs.number_padded.Statement.{statement}
 use Rattle.ties.proofs.number_padded.Tie as tie
-use Rattle.ties.proofs.number_padded.Reads as reads
-use Rattle.ties.proofs.number_padded.Lts as lts
 
--- src/lib.rt:174:6
 mul-result : tie.Need-mul-result
 mul-result c = search needs
 
--- src/lib.rt:174:6
 shared-slice-read-result : tie.Need-shared-slice-read-result
 shared-slice-read-result c = search needs
 
--- src/lib.rt:174:30
 sub-result : tie.Need-sub-result
 sub-result c = search needs
 
--- src/lib.rt:174:5
 shr-result : tie.Need-shr-result
 shr-result c = search needs
 
--- src/lib.rt:170:1
 returns : tie.Need-returns
 returns c =
     let a = c .before .args in

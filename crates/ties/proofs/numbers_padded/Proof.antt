@@ -1,19 +1,13 @@
 -- `ties::numbers_padded` meets its contract: the numbers passed are padded, so the whole is what is left.
-use mathlib.Core.Path.{_≡_, refl, sym, ap, ap₂, _∙_}
-use mathlib.Core.Bool.{Bool}
-use mathlib.Core.List.{List}
-use Prim.Native.Nat.{ℕ, _+_, _-_, _*_, _^_, _≤_, _<_}
+use mathlib.Core.Path.{_≡_, refl, sym, ap, _∙_}
+use Prim.Native.Nat.{ℕ, _+_, _-_, _*_, _≤_, _<_}
 use native.Mathlib.Omega.{arith}
-use lib.ListN.{length, drop}
+use lib.ListN.{length}
 use Rattle.rules.specs.Identity.{padded}
-use Rattle.ties.specs.Flat.{pieces, joined, words, numbers}
+use Rattle.ties.specs.Flat.{joined, words, numbers}
 use Rattle.ties.proofs.Listed.{one-less, pieces-more, pieces-none, stops, goes-on}
 use Rattle.ties.proofs.numbers_padded.Statement.{statement}
 use Rattle.ties.proofs.numbers_padded.Tie as tie
-use Rattle.ties.proofs.numbers_padded.Reads as reads
-use Rattle.ties.proofs.numbers_padded.Lts as lts
-use Rattle.ties.proofs.number_padded.Reads as number-padded-reads
-use Rattle.ties.proofs.words_of.Reads as words-of-reads
 
 abbrev Inv-loop : tie.InvT-loop
 Inv-loop m parts generator at step left₀ number₀ left number =
@@ -22,22 +16,18 @@ Inv-loop m parts generator at step left₀ number₀ left number =
 abbrev μ-loop : tie.MeasureT-loop
 μ-loop m parts generator at step left₀ number₀ left number = left
 
--- src/lib.rt:181:9
 words-of-requires : tie.Need-words-of-requires Inv-loop μ-loop
 words-of-requires c κs = omega arith
 
--- src/lib.rt:184:5
 loop-holds : tie.Need-loop-holds Inv-loop μ-loop
 loop-holds c = (omega arith, refl)
 
--- src/lib.rt:185:13
 number-padded-requires : tie.Need-number-padded-requires Inv-loop μ-loop
 number-padded-requires c κs =
     let l = c .before .loop in
     let h : 0 < l .left = omega arith in
     (omega arith, omega arith, omega (arith, one-less (words (c .before .before .before .before .args .m)) h))
 
--- src/lib.rt:186:13
 returns : tie.Need-returns Inv-loop μ-loop
 returns c =
     let a = c .before .before .before .before .before .before .args in
@@ -47,22 +37,18 @@ returns c =
     (ap (padded (a .m)) (pieces-more (joined w (a .generator .now)) w (l .number) (l .left) (omega arith)))
     (c .before .number-padded .ensures) (c .if1 .taken)
 
--- src/lib.rt:188:9
 add-number : tie.Need-add-number Inv-loop μ-loop
 add-number c =
     let l = c .before .before .before .loop in
     let h : 0 < l .left = omega arith in
     omega (arith, one-less (words (c .before .before .before .before .before .before .args .m)) h)
 
--- src/lib.rt:189:9
 sub-left : tie.Need-sub-left Inv-loop μ-loop
 sub-left c = omega arith
 
--- src/lib.rt:184:5
 loop-less : tie.Need-loop-less Inv-loop μ-loop
 loop-less c = omega arith
 
--- src/lib.rt:184:5
 loop-again : tie.Need-loop-again Inv-loop μ-loop
 loop-again c =
     let a = c .before .before .before .before .before .before .args in
@@ -75,7 +61,6 @@ loop-again c =
           ∙ ap (λ (x : ℕ). padded (a .m) (numbers (a .m) (l .left - 1) (a .generator .now) (l .number + x))) (sym (c .before .before .before .before .words-of .ensures)),
     )
 
--- src/lib.rt:177:1
 returns-2 : tie.Need-returns-2 Inv-loop μ-loop
 returns-2 c =
     let a = c .before .before .before .before .args in

@@ -1,6 +1,6 @@
 -- `ties::parity_meets` meets its contract: the blocks passed are in the sum, and with those left they give the whole.
-use mathlib.Core.Path.{_≡_, sym, ap, ap₂, _∙_, subst}
-use mathlib.Core.Bool.{Bool, false, not, Bool·beq}
+use mathlib.Core.Path.{_≡_, sym, ap, ap₂, _∙_}
+use mathlib.Core.Bool.{Bool, not, Bool·beq}
 use mathlib.Core.List.{List}
 use Prim.Native.Nat.{ℕ, suc, _+_, _-_, _*_, _%_, _≤_, _<_}
 use native.Mathlib.Nat.{add-mul}
@@ -8,15 +8,11 @@ use native.Mathlib.Omega.{arith}
 use lib.ListN.{getD}
 use Rattle.rules.specs.Bits.{_⊕_, digit}
 use Rattle.rules.specs.Identity.{over, blocks}
-use Rattle.ties.specs.Flat.{pieces, block, row, joined, words, numbers, met}
+use Rattle.ties.specs.Flat.{pieces, block, row, joined, words, numbers}
 use Rattle.ties.proofs.Sums.{⊕-false}
 use Rattle.ties.proofs.Listed.{more-fits, pieces-at, pieces-none, blocks-step}
 use Rattle.ties.proofs.parity_meets.Statement.{statement}
 use Rattle.ties.proofs.parity_meets.Tie as tie
-use Rattle.ties.proofs.parity_meets.Reads as reads
-use Rattle.ties.proofs.parity_meets.Lts as lts
-use Rattle.ties.proofs.block_meets.Reads as block-meets-reads
-use Rattle.ties.proofs.words_of.Reads as words-of-reads
 
 -- What a shift of the block of a part meets.
 abbrev meets : ℕ → ℕ → ℕ → List ℕ → ℕ → ℕ → ℕ → Bool
@@ -31,11 +27,9 @@ Inv-loop m parts parity place d generator at n sum₀ p₀ number₀ sum p numbe
 abbrev μ-loop : tie.MeasureT-loop
 μ-loop m parts parity place d generator at n sum₀ p₀ number₀ sum p number = parts - p
 
--- src/lib.rt:70:9
 words-of-requires : tie.Need-words-of-requires Inv-loop μ-loop
 words-of-requires c κs = omega arith
 
--- src/lib.rt:74:5
 loop-holds : tie.Need-loop-holds Inv-loop μ-loop
 loop-holds c =
     let a = c .before .before .before .args in
@@ -46,15 +40,12 @@ loop-holds c =
       ap₂ (λ (x y : ℕ). blocks (row (a .m) x (a .parity .now) y) 0 (meets (a .m) (a .parts) (a .d) (a .generator .now) (a .at))) e l,
     )
 
--- src/lib.rt:75:52
 mul-block-meets : tie.Need-mul-block-meets Inv-loop μ-loop
 mul-block-meets c = omega arith
 
--- src/lib.rt:75:44
 add-block-meets : tie.Need-add-block-meets Inv-loop μ-loop
 add-block-meets c = omega arith
 
--- src/lib.rt:75:21
 block-meets-requires : tie.Need-block-meets-requires Inv-loop μ-loop
 block-meets-requires c κs =
     let a = c .before .before .before .before .before .args in
@@ -62,7 +53,6 @@ block-meets-requires c κs =
     let h : p < a .parts = omega arith in
     (omega arith, omega arith, omega arith, omega (arith, more-fits (words (a .m)) h))
 
--- src/lib.rt:76:9
 add-number : tie.Need-add-number Inv-loop μ-loop
 add-number c =
     let a = c .before .before .before .before .before .before .args in
@@ -70,15 +60,12 @@ add-number c =
     let h : p < a .parts = omega arith in
     omega (arith, more-fits (words (a .m)) h)
 
--- src/lib.rt:77:9
 add-p : tie.Need-add-p Inv-loop μ-loop
 add-p c = omega arith
 
--- src/lib.rt:74:5
 loop-less : tie.Need-loop-less Inv-loop μ-loop
 loop-less c = omega arith
 
--- src/lib.rt:74:5
 loop-again : tie.Need-loop-again Inv-loop μ-loop
 loop-again c =
     let a = c .before .before .before .before .before .before .args in
@@ -102,7 +89,6 @@ loop-again c =
           ∙ l .inv .2,
     )
 
--- src/lib.rt:66:1
 returns : tie.Need-returns Inv-loop μ-loop
 returns c =
     let a = c .before .before .before .before .before .args in

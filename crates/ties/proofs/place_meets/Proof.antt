@@ -1,6 +1,6 @@
 -- `ties::place_meets` meets its contract: a place with a shift adds one bit, any other none.
 use mathlib.Core.Path.{_≡_, sym, ap, _∙_}
-use Prim.Native.Nat.{ℕ, _+_, _%_, _<_, _≤_}
+use Prim.Native.Nat.{ℕ, _+_, _%_}
 use native.Mathlib.Omega.{arith}
 use lib.ListN.{getD}
 use Rattle.rules.specs.Bits.{digit}
@@ -9,33 +9,22 @@ use Rattle.ties.proofs.Sums.{over-one, over-none}
 use borrow.Author.Needs.{needs}
 use Rattle.ties.proofs.place_meets.Statement.{statement}
 use Rattle.ties.proofs.place_meets.Tie as tie
-use Rattle.ties.proofs.place_meets.Reads as reads
-use Rattle.ties.proofs.place_meets.Lts as lts
-use Rattle.ties.proofs.bit_of.Reads as bit-of-reads
-use Rattle.ties.proofs.turned.Reads as turned-reads
-use Rattle.ties.proofs.wide.Reads as wide-reads
 
--- src/lib.rt:48:18
 mul-wide : tie.Need-mul-wide
 mul-wide c = search needs
 
--- src/lib.rt:48:18
 shared-slice-read-wide : tie.Need-shared-slice-read-wide
 shared-slice-read-wide c = search needs
 
--- src/lib.rt:48:9
 wide-requires : tie.Need-wide-requires
 wide-requires c κs = search needs
 
--- src/lib.rt:50:41
 turned-requires : tie.Need-turned-requires
 turned-requires c κs = search needs
 
--- src/lib.rt:50:9
 bit-of-requires : tie.Need-bit-of-requires
 bit-of-requires c κs = search needs
 
--- src/lib.rt:50:9
 returns : tie.Need-returns
 returns c =
     let a = c .before .before .before .before .before .before .before .args in
@@ -46,7 +35,6 @@ returns c =
     ∙ ap (λ (t : ℕ). digit (a .m) (joined (words (a .m)) (a .generator .now) (a .at)) t) (c .before .turned .ensures .0 ∙ ap (λ (x : ℕ). (a .d + x) % a .m) w)
     ∙ sym (over-one (a .m) f s (omega arith))
 
--- src/lib.rt:44:1
 returns-2 : tie.Need-returns-2
 returns-2 c =
     let a = c .before .before .before .before .before .args in

@@ -1,6 +1,6 @@
 -- `ties::place_own` meets its contract: a place with a shift has a one at one difference, any other at none.
 use mathlib.Core.Path.{_≡_, sym, ap, _∙_}
-use Prim.Native.Nat.{ℕ, _+_, _%_, _<_, _≤_}
+use Prim.Native.Nat.{ℕ, _+_, _%_}
 use native.Mathlib.Omega.{arith}
 use lib.Dec.{eqb}
 use lib.ListN.{getD}
@@ -9,28 +9,19 @@ use Rattle.ties.proofs.Sums.{over-one, over-none}
 use borrow.Author.Needs.{needs}
 use Rattle.ties.proofs.place_own.Statement.{statement}
 use Rattle.ties.proofs.place_own.Tie as tie
-use Rattle.ties.proofs.place_own.Reads as reads
-use Rattle.ties.proofs.place_own.Lts as lts
-use Rattle.ties.proofs.turned.Reads as turned-reads
-use Rattle.ties.proofs.wide.Reads as wide-reads
 
--- src/lib.rt:88:18
 mul-wide : tie.Need-mul-wide
 mul-wide c = search needs
 
--- src/lib.rt:88:18
 shared-slice-read-wide : tie.Need-shared-slice-read-wide
 shared-slice-read-wide c = search needs
 
--- src/lib.rt:88:9
 wide-requires : tie.Need-wide-requires
 wide-requires c κs = search needs
 
--- src/lib.rt:90:16
 turned-requires : tie.Need-turned-requires
 turned-requires c κs = search needs
 
--- src/lib.rt:90:9
 returns : tie.Need-returns
 returns c =
     let a = c .before .before .before .before .before .args in
@@ -39,7 +30,6 @@ returns c =
     ap (λ (t : ℕ). eqb t 0) (c .turned .ensures .0 ∙ ap (λ (x : ℕ). (a .d + x) % a .m) w)
     ∙ sym (over-one (a .m) (own (a .m) (a .d)) s (omega arith))
 
--- src/lib.rt:84:1
 returns-2 : tie.Need-returns-2
 returns-2 c =
     let a = c .before .before .before .before .args in

@@ -1,19 +1,13 @@
 -- `ties::row_tied` meets its contract: the information blocks passed are tied, so the whole is what is left.
 use mathlib.Core.Path.{_≡_, refl, sym, ap, ap₂, _∙_}
-use mathlib.Core.Bool.{Bool}
-use mathlib.Core.List.{List}
-use Prim.Native.Nat.{ℕ, _+_, _-_, _*_, _≤_, _<_}
+use Prim.Native.Nat.{ℕ, _+_, _-_, _*_, _<_}
 use native.Mathlib.Omega.{arith}
-use lib.ListN.{length, drop}
+use lib.ListN.{length}
 use Rattle.rules.specs.Identity.{rowTied}
 use Rattle.ties.specs.Flat.{pieces, block, row, words, numbers, generatorOf}
 use Rattle.ties.proofs.Listed.{one-less, pieces-more, pieces-none, stops, goes-on}
 use Rattle.ties.proofs.row_tied.Statement.{statement}
 use Rattle.ties.proofs.row_tied.Tie as tie
-use Rattle.ties.proofs.row_tied.Reads as reads
-use Rattle.ties.proofs.row_tied.Lts as lts
-use Rattle.ties.proofs.block_tied.Reads as block-tied-reads
-use Rattle.ties.proofs.row_words.Reads as row-words-reads
 
 abbrev Inv-loop : tie.InvT-loop
 Inv-loop m count parts parity place generator first step left₀ information₀ at₀ left information at =
@@ -26,23 +20,18 @@ abbrev μ-loop : tie.MeasureT-loop
 μ-loop m count parts parity place generator first step left₀ information₀ at₀ left information at =
     left
 
--- src/lib.rt:143:25
 mul-first : tie.Need-mul-first Inv-loop μ-loop
 mul-first c = omega arith
 
--- src/lib.rt:143:17
 add-first : tie.Need-add-first Inv-loop μ-loop
 add-first c = omega arith
 
--- src/lib.rt:144:9
 row-words-requires : tie.Need-row-words-requires Inv-loop μ-loop
 row-words-requires c κs = (omega arith, omega arith)
 
--- src/lib.rt:148:5
 loop-holds : tie.Need-loop-holds Inv-loop μ-loop
 loop-holds c = (omega arith, omega arith, refl)
 
--- src/lib.rt:149:13
 block-tied-requires : tie.Need-block-tied-requires Inv-loop μ-loop
 block-tied-requires c κs =
     let a = c .before .before .before .before .before .args in
@@ -50,7 +39,6 @@ block-tied-requires c κs =
     let h : 0 < l .left = omega arith in
     (omega arith, omega arith, omega arith, omega (arith, one-less (a .parts * words (a .m)) h))
 
--- src/lib.rt:150:13
 returns : tie.Need-returns Inv-loop μ-loop
 returns c =
     let a = c .before .before .before .before .before .before .before .args in
@@ -63,11 +51,9 @@ returns c =
     (ap₂ (rowTied (a .m) (a .m) P) (pieces-more B 3 (l .information) (l .left + a .parts) (omega arith)) (pieces-more G w (l .at) (l .left) (omega arith)))
     (c .before .block-tied .ensures) (c .if1 .taken)
 
--- src/lib.rt:152:9
 add-information : tie.Need-add-information Inv-loop μ-loop
 add-information c = omega arith
 
--- src/lib.rt:153:9
 add-at : tie.Need-add-at Inv-loop μ-loop
 add-at c =
     let a = c .before .before .before .before .before .before .before .args in
@@ -75,15 +61,12 @@ add-at c =
     let h : 0 < l .left = omega arith in
     omega (arith, one-less (a .parts * words (a .m)) h)
 
--- src/lib.rt:154:9
 sub-left : tie.Need-sub-left Inv-loop μ-loop
 sub-left c = omega arith
 
--- src/lib.rt:148:5
 loop-less : tie.Need-loop-less Inv-loop μ-loop
 loop-less c = omega arith
 
--- src/lib.rt:148:5
 loop-again : tie.Need-loop-again Inv-loop μ-loop
 loop-again c =
     let a = c .before .before .before .before .before .before .before .args in
@@ -102,7 +85,6 @@ loop-again c =
           ∙ ap₂ (λ (x y : ℕ). rowTied (a .m) (a .m) P (pieces B 3 (l .information + 3) x) (pieces G w (l .at + y) (l .left - 1))) e (sym (c .before .before .before .before .row-words .ensures)),
     )
 
--- src/lib.rt:139:1
 returns-2 : tie.Need-returns-2 Inv-loop μ-loop
 returns-2 c =
     let a = c .before .before .before .before .before .args in

@@ -1,8 +1,8 @@
 -- `ties::rows_tied` meets its contract: the rows passed are tied, so the whole is what is left.
 use mathlib.Core.Path.{_≡_, refl, sym, ap, ap₂, _∙_}
-use mathlib.Core.Bool.{Bool, _&&_}
+use mathlib.Core.Bool.{_&&_}
 use mathlib.Core.List.{List}
-use Prim.Native.Nat.{ℕ, _+_, _-_, _*_, _≤_, _<_}
+use Prim.Native.Nat.{ℕ, _+_, _-_, _*_, _<_}
 use native.Mathlib.Omega.{arith}
 use lib.ListN.{length, drop}
 use Rattle.rules.specs.Identity.{rowTied, rowsTied}
@@ -10,9 +10,6 @@ use Rattle.ties.specs.Flat.{pieces, block, row, words, numbers, parityOf
 use Rattle.ties.proofs.Listed.{one-less, pieces-length, pieces-drop, pieces-more, pieces-none, stops, goes-on}
 use Rattle.ties.proofs.rows_tied.Statement.{statement}
 use Rattle.ties.proofs.rows_tied.Tie as tie
-use Rattle.ties.proofs.rows_tied.Reads as reads
-use Rattle.ties.proofs.rows_tied.Lts as lts
-use Rattle.ties.proofs.row_tied.Reads as row-tied-reads
 
 -- The parity blocks of a row are those after the information blocks.
 parity-blocks : (m count parts at : ℕ) (parity generator : List ℕ)
@@ -46,19 +43,15 @@ Inv-loop m rows count parts parity generator step left₀ place₀ left place =
 abbrev μ-loop : tie.MeasureT-loop
 μ-loop m rows count parts parity generator step left₀ place₀ left place = left
 
--- src/lib.rt:156:21
 add-step : tie.Need-add-step Inv-loop μ-loop
 add-step c = omega arith
 
--- src/lib.rt:156:16
 mul-step : tie.Need-mul-step Inv-loop μ-loop
 mul-step c = omega arith
 
--- src/lib.rt:159:5
 loop-holds : tie.Need-loop-holds Inv-loop μ-loop
 loop-holds c = (omega arith, refl)
 
--- src/lib.rt:160:13
 row-tied-requires : tie.Need-row-tied-requires Inv-loop μ-loop
 row-tied-requires c κs =
     let a = c .before .before .before .before .args in
@@ -66,7 +59,6 @@ row-tied-requires c κs =
     let h : 0 < l .left = omega arith in
     (omega arith, omega arith, omega (arith, one-less (3 * (a .count + a .parts)) h), omega arith)
 
--- src/lib.rt:161:13
 returns : tie.Need-returns Inv-loop μ-loop
 returns c =
     let a = c .before .before .before .before .before .before .args in
@@ -76,7 +68,6 @@ returns c =
     (l .inv .1) (rows-step (a .m) (a .count) (a .parts) (l .place) (l .left) (a .parity .now) (a .generator .now) (omega arith))
     (c .before .row-tied .ensures) (c .if1 .taken)
 
--- src/lib.rt:163:9
 add-place : tie.Need-add-place Inv-loop μ-loop
 add-place c =
     let a = c .before .before .before .before .before .before .args in
@@ -84,15 +75,12 @@ add-place c =
     let h : 0 < l .left = omega arith in
     omega (arith, one-less (3 * (a .count + a .parts)) h)
 
--- src/lib.rt:164:9
 sub-left : tie.Need-sub-left Inv-loop μ-loop
 sub-left c = omega arith
 
--- src/lib.rt:159:5
 loop-less : tie.Need-loop-less Inv-loop μ-loop
 loop-less c = omega arith
 
--- src/lib.rt:159:5
 loop-again : tie.Need-loop-again Inv-loop μ-loop
 loop-again c =
     let a = c .before .before .before .before .before .before .args in
@@ -105,7 +93,6 @@ loop-again c =
           (c .before .row-tied .ensures) (c .if1 .left),
     )
 
--- src/lib.rt:152:1
 returns-2 : tie.Need-returns-2 Inv-loop μ-loop
 returns-2 c =
     let a = c .before .before .before .before .args in

@@ -1,28 +1,21 @@
 -- `ties::tied` meets its contract: both parts of the identity.
-use mathlib.Core.Path.{_≡_, sym, ap, _∙_}
+use mathlib.Core.Path.{sym, ap, _∙_}
 use mathlib.Core.Bool.{Bool, _&&_}
 use native.Mathlib.Omega.{arith}
-use Prim.Native.Nat.{ℕ, _+_, _<_, _≤_}
+use Prim.Native.Nat.{_+_, _<_}
 use Rattle.rules.specs.Identity.{allPadded}
 use Rattle.ties.specs.Flat.{parityOf, generatorOf}
 use Rattle.ties.proofs.Printed.{same-rows}
 use borrow.Author.Needs.{needs}
 use Rattle.ties.proofs.tied.Statement.{statement}
 use Rattle.ties.proofs.tied.Tie as tie
-use Rattle.ties.proofs.tied.Reads as reads
-use Rattle.ties.proofs.tied.Lts as lts
-use Rattle.ties.proofs.all_padded.Reads as all-padded-reads
-use Rattle.ties.proofs.rows_tied.Reads as rows-tied-reads
 
--- src/lib.rt:216:8
 rows-tied-requires : tie.Need-rows-tied-requires
 rows-tied-requires c κs = search needs
 
--- src/lib.rt:217:9
 all-padded-requires : tie.Need-all-padded-requires
 all-padded-requires c κs = search needs
 
--- src/lib.rt:217:9
 returns : tie.Need-returns
 returns c printed fits =
     let a = c .before .before .before .before .before .args in
@@ -33,7 +26,6 @@ returns c printed fits =
     ∙ ap (λ (x : Bool). x && allPadded (a .m) G)
     (sym (same-rows (a .m) printed pos fits P G ∙ sym (c .before .before .rows-tied .ensures) ∙ c .before .if1 .taken))
 
--- src/lib.rt:212:1
 returns-2 : tie.Need-returns-2
 returns-2 c printed fits =
     let a = c .before .before .before .before .args in

@@ -7,20 +7,15 @@ use lib.Arith.{digits-mod}
 use borrow.Author.Needs.{needs}
 use Rattle.ties.proofs.turned.Statement.{statement}
 use Rattle.ties.proofs.turned.Tie as tie
-use Rattle.ties.proofs.turned.Reads as reads
-use Rattle.ties.proofs.turned.Lts as lts
 
--- src/lib.rt:24:13
 add-t : tie.Need-add-t
 add-t c = search needs
 
--- src/lib.rt:20:1
 returns : tie.Need-returns
 returns c =
     let h : c .before .args .d + c .before .args .s < c .before .args .m = omega arith in
     (sym (mod-eq-of-lt h), h)
 
--- src/lib.rt:20:1
 returns-2 : tie.Need-returns-2
 returns-2 c =
     let a = c .before .args in

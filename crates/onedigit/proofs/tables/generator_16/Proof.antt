@@ -4,10 +4,7 @@ use Rattle.rules.specs.Tables.{generator16}
 use Rattle.ties.specs.Flat.{pieces, joined}
 use Rattle.onedigit.proofs.tables.generator_16.Statement.{statement}
 use Rattle.onedigit.proofs.tables.generator_16.Tie as tie
-use Rattle.onedigit.proofs.tables.generator_16.Reads as reads
-use Rattle.onedigit.proofs.tables.generator_16.Lts as lts
 
--- src/tables.rt:22:1
 returns : tie.Need-returns
 unfolding pieces joined generator16
 returns c = refl

@@ -4,10 +4,7 @@ use Rattle.rules.specs.Tables.{generator32}
 use Rattle.ties.specs.Flat.{pieces, joined}
 use Rattle.onedigit.proofs.tables.generator_32.Statement.{statement}
 use Rattle.onedigit.proofs.tables.generator_32.Tie as tie
-use Rattle.onedigit.proofs.tables.generator_32.Reads as reads
-use Rattle.onedigit.proofs.tables.generator_32.Lts as lts
 
--- src/tables.rt:44:1
 returns : tie.Need-returns
 unfolding pieces joined generator32
 returns c = refl

@@ -4,10 +4,7 @@ use Rattle.rules.specs.Tables.{generator511}
 use Rattle.ties.specs.Flat.{pieces, joined}
 use Rattle.onedigit.proofs.tables.generator_511.Statement.{statement}
 use Rattle.onedigit.proofs.tables.generator_511.Tie as tie
-use Rattle.onedigit.proofs.tables.generator_511.Reads as reads
-use Rattle.onedigit.proofs.tables.generator_511.Lts as lts
 
--- src/tables.rt:86:1
 returns : tie.Need-returns
 unfolding pieces joined generator511
 returns c = refl

@@ -4,10 +4,7 @@ use Rattle.rules.specs.Tables.{generator64}
 use Rattle.ties.specs.Flat.{pieces, joined}
 use Rattle.onedigit.proofs.tables.generator_64.Statement.{statement}
 use Rattle.onedigit.proofs.tables.generator_64.Tie as tie
-use Rattle.onedigit.proofs.tables.generator_64.Reads as reads
-use Rattle.onedigit.proofs.tables.generator_64.Lts as lts
 
--- src/tables.rt:66:1
 returns : tie.Need-returns
 unfolding pieces joined generator64
 returns c = refl

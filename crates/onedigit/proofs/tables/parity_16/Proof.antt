@@ -4,10 +4,7 @@ use Rattle.rules.specs.Tables.{parity16}
 use Rattle.ties.specs.Flat.{pieces}
 use Rattle.onedigit.proofs.tables.parity_16.Statement.{statement}
 use Rattle.onedigit.proofs.tables.parity_16.Tie as tie
-use Rattle.onedigit.proofs.tables.parity_16.Reads as reads
-use Rattle.onedigit.proofs.tables.parity_16.Lts as lts
 
--- src/tables.rt:11:1
 returns : tie.Need-returns
 unfolding pieces parity16
 returns c = refl

@@ -4,10 +4,7 @@ use Rattle.rules.specs.Tables.{parity32}
 use Rattle.ties.specs.Flat.{pieces}
 use Rattle.onedigit.proofs.tables.parity_32.Statement.{statement}
 use Rattle.onedigit.proofs.tables.parity_32.Tie as tie
-use Rattle.onedigit.proofs.tables.parity_32.Reads as reads
-use Rattle.onedigit.proofs.tables.parity_32.Lts as lts
 
--- src/tables.rt:33:1
 returns : tie.Need-returns
 unfolding pieces parity32
 returns c = refl

@@ -4,10 +4,7 @@ use Rattle.rules.specs.Tables.{parity511}
 use Rattle.ties.specs.Flat.{pieces}
 use Rattle.onedigit.proofs.tables.parity_511.Statement.{statement}
 use Rattle.onedigit.proofs.tables.parity_511.Tie as tie
-use Rattle.onedigit.proofs.tables.parity_511.Reads as reads
-use Rattle.onedigit.proofs.tables.parity_511.Lts as lts
 
--- src/tables.rt:77:1
 returns : tie.Need-returns
 unfolding pieces parity511
 returns c = refl

@@ -4,10 +4,7 @@ use Rattle.rules.specs.Tables.{parity64}
 use Rattle.ties.specs.Flat.{pieces}
 use Rattle.onedigit.proofs.tables.parity_64.Statement.{statement}
 use Rattle.onedigit.proofs.tables.parity_64.Tie as tie
-use Rattle.onedigit.proofs.tables.parity_64.Reads as reads
-use Rattle.onedigit.proofs.tables.parity_64.Lts as lts
 
--- src/tables.rt:55:1
 returns : tie.Need-returns
 unfolding pieces parity64
 returns c = refl
