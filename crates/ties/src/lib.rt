@@ -152,7 +152,7 @@ fn cancels_at(
         ^ parity_meets(m, parts, parity, first, d, generator, at))
 }
 
-// At every difference.
+// At every difference, the greatest first.
 fn block_tied(
     m: usize,
     parts: usize,
@@ -165,21 +165,21 @@ fn block_tied(
     requires { ⌜ (m < 65536) × (information + 3 ≤ length (now parity)) × (first + 3 * parts ≤ length (now parity)) × (at + parts * words m ≤ length (now generator)) ⌝ }
     ensures { λ r. ⌜ r ≡ below m (cancels m m (block m (now (parity .entry)) information) (row m parts (now (parity .entry)) first) (numbers m parts (now (generator .entry)) at)) ⌝ }
 {
-    let mut left = m;
-    while left > 0 {
+    let mut above = m;
+    while above > 0 {
         if !cancels_at(
             m,
             parts,
             parity,
             information,
             first,
-            left - 1,
+            above - 1,
             generator,
             at,
         ) {
             return false;
         }
-        left -= 1;
+        above -= 1;
     }
     true
 }

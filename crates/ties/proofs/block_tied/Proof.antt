@@ -16,11 +16,11 @@ at-difference m parts parity information first generator at =
     cancels m m (block m parity information) (row m parts parity first) (numbers m parts generator at)
 
 abbrev Inv-loop : tie.InvT-loop
-Inv-loop m parts parity information first generator at left₀ left =
-    (left ≤ m) × (below m (at-difference m parts parity information first generator at) ≡ below left (at-difference m parts parity information first generator at))
+Inv-loop m parts parity information first generator at above₀ above =
+    (above ≤ m) × (below m (at-difference m parts parity information first generator at) ≡ below above (at-difference m parts parity information first generator at))
 
 abbrev μ-loop : tie.MeasureT-loop
-μ-loop m parts parity information first generator at left₀ left = left
+μ-loop m parts parity information first generator at above₀ above = above
 
 loop-holds : tie.Need-loop-holds Inv-loop μ-loop
 loop-holds c = (omega arith, refl)
@@ -36,10 +36,10 @@ returns c =
     let a = c .before .before .before .before .before .before .args in
     let l = c .before .before .before .loop in
     let f = at-difference (a .m) (a .parts) (a .parity .now) (a .information) (a .first) (a .generator .now) (a .at) in
-    stops (below (l .left - 1) f) (l .inv .1) (below-step (l .left) f (omega arith)) (c .before .cancels-at .ensures) (c .if1 .taken)
+    stops (below (l .above - 1) f) (l .inv .1) (below-step (l .above) f (omega arith)) (c .before .cancels-at .ensures) (c .if1 .taken)
 
-sub-left : tie.Need-sub-left Inv-loop μ-loop
-sub-left c = omega arith
+sub-above : tie.Need-sub-above Inv-loop μ-loop
+sub-above c = omega arith
 
 loop-less : tie.Need-loop-less Inv-loop μ-loop
 loop-less c = omega arith
@@ -49,14 +49,14 @@ loop-again c =
     let a = c .before .before .before .before .before .before .args in
     let l = c .before .before .before .loop in
     let f = at-difference (a .m) (a .parts) (a .parity .now) (a .information) (a .first) (a .generator .now) (a .at) in
-    (omega arith, goes-on (below (l .left - 1) f) (l .inv .1) (below-step (l .left) f (omega arith)) (c .before .cancels-at .ensures) (c .if1 .left))
+    (omega arith, goes-on (below (l .above - 1) f) (l .inv .1) (below-step (l .above) f (omega arith)) (c .before .cancels-at .ensures) (c .if1 .left))
 
 returns-2 : tie.Need-returns-2 Inv-loop μ-loop
 returns-2 c =
     let a = c .before .before .before .before .args in
     let l = c .before .loop in
     let f = at-difference (a .m) (a .parts) (a .parity .now) (a .information) (a .first) (a .generator .now) (a .at) in
-    below-none (l .left) f (omega arith) ∙ sym (l .inv .1)
+    below-none (l .above) f (omega arith) ∙ sym (l .inv .1)
 
 pub block-tied-spec : {M : Type 1} → statement M
 block-tied-spec =
@@ -68,7 +68,7 @@ block-tied-spec =
     sub-cancels-at
     cancels-at-requires
     returns
-    sub-left
+    sub-above
     loop-less
     loop-again
     returns-2)
