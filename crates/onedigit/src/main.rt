@@ -2,11 +2,10 @@
 mod tables;
 
 ghost use mathlib.Core.Path.{_≡_};
-ghost use mathlib.Core.Bool.{Bool, not, _&&_, _||_};
+ghost use mathlib.Core.Bool.{not};
 ghost use Prim.Native.Nat.{ℕ, _+_, _*_, _/_, _%_, _^_, _<_, _≤_};
 ghost use lib.Bits.{bitXor};
-ghost use lib.Dec.{eqb, ltb};
-ghost use lib.ListN.{length, getD, set};
+ghost use lib.ListN.{length, set};
 ghost use Rattle.rules.specs.Bits.{tally};
 ghost use Rattle.rules.specs.Bits as bits;
 ghost use Rattle.rules.specs.Codes.{code};
@@ -39,6 +38,7 @@ fn published(n: u8) -> bool
     )
 }
 
+// A try that counts.
 fn one_if(b: bool) -> usize
     ensures { λ r. ⌜ r ≡ tally b ⌝ }
 {
@@ -289,6 +289,18 @@ fn answer(n: u8)
     }
 }
 
+// Codes 1 to 3 have four rows of four information blocks and four parity blocks.
+fn try_telecommand(n: usize, m: usize, digits: usize, parity: &mut [u16], generator: &mut [u64])
+    requires { ⌜ Sizes m 4 4 4 (now parity) (now generator) × (0 < digits) × (digits ≤ 16) × (length (now parity) < 65536) × (length (now generator) < 65536) ⌝ }
+{
+    try_code(n, m, 4, 4, 4, digits, parity, generator);
+}
+
+// Codes 4 and 5 have two rows of 14 and two.
+fn try_near_earth(n: usize, parity: &mut [u16; 96], generator: &mut [u64; 224]) {
+    try_code(n, 511, 2, 14, 2, 16, parity, generator);
+}
+
 fn main() {
     text(b"The published tables of codes 1, 2, 3, 4 and 5 are tied:");
     answer(1);
@@ -296,45 +308,27 @@ fn main() {
     answer(3);
     answer(4);
     answer(5);
-    text(b"\nOne wrong digit, tried everywhere:\n");
-    try_code(
+    text(b"\nOne wrong digit, tried everywhere. Code 5 has the tables of code 4.\n");
+    try_telecommand(
         1,
         16,
-        4,
-        4,
-        4,
         4,
         &mut tables::parity_16(),
         &mut tables::generator_16(),
     );
-    try_code(
+    try_telecommand(
         2,
         32,
-        4,
-        4,
-        4,
         8,
         &mut tables::parity_32(),
         &mut tables::generator_32(),
     );
-    try_code(
+    try_telecommand(
         3,
         64,
-        4,
-        4,
-        4,
         16,
         &mut tables::parity_64(),
         &mut tables::generator_64(),
     );
-    try_code(
-        4,
-        511,
-        2,
-        14,
-        2,
-        16,
-        &mut tables::parity_511(),
-        &mut tables::generator_511(),
-    );
+    try_near_earth(4, &mut tables::parity_511(), &mut tables::generator_511());
 }

@@ -1,7 +1,5 @@
 // The published tables, flat. Each says which table of rules it stands for.
 ghost use mathlib.Core.Path.{_≡_};
-ghost use Prim.Native.Nat.{_+_};
-ghost use lib.ListN.{length};
 ghost use Rattle.rules.specs.Tables.{parity16, parity32, parity64, parity511, generator16, generator32, generator64, generator511};
 ghost use Rattle.ties.specs.Flat.{parityOf, generatorOf};
 

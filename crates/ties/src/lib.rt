@@ -1,13 +1,12 @@
 // Decides the identity of rules for a pair of tables that are lent as flat lists, whatever the code.
 ghost use mathlib.Core.Path.{_≡_};
-ghost use mathlib.Core.Bool.{Bool, _&&_};
 ghost use mathlib.Core.List.{[]};
-ghost use Prim.Native.Nat.{ℕ, _+_, _-_, _*_, _%_, _^_, _<_, _≤_};
-ghost use lib.Dec.{eqb, ltb};
+ghost use Prim.Native.Nat.{ℕ, _+_, _*_, _%_, _^_, _<_, _≤_};
+ghost use lib.Dec.{ltb};
 ghost use lib.ListN.{length, getD};
 ghost use Rattle.rules.specs.Bits.{digit};
 ghost use Rattle.rules.specs.Identity.{over, blocks, cancels, below, rowTied, rowsTied, padded, allPadded};
-ghost use Rattle.ties.specs.Flat.{pieces, kept, block, row, joined, words, met, own, numbers, parityOf, generatorOf, Sizes, flatTied};
+ghost use Rattle.ties.specs.Flat.{kept, block, row, joined, words, met, own, numbers, parityOf, generatorOf, Sizes, flatTied};
 
 // How many words of 64 bits hold m bits.
 fn words_of(m: usize) -> usize
