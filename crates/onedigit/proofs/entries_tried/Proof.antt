@@ -1,0 +1,101 @@
+-- `onedigit::entries_tried` meets its contract: those passed are counted.
+use mathlib.Core.Path.{_≡_, ap, _∙_}
+use Prim.Native.Nat.{ℕ, _+_, _-_, _*_, _≤_, _<_}
+use native.Mathlib.Omega.{arith}
+use lib.ListN.{length}
+use Rattle.rules.specs.Bits.{count}
+use Rattle.onedigit.specs.Wrong.{entryWrong}
+use Rattle.onedigit.proofs.Counts.{tally-le, count-none, count-more, within, product-fits}
+use Rattle.onedigit.proofs.entries_tried.Statement.{statement}
+use Rattle.onedigit.proofs.entries_tried.Tie as tie
+
+abbrev Inv-loop : tie.InvT-loop
+Inv-loop m parity n tried₀ t₀ tried t =
+    (t ≤ n) × (n ≤ 65535 * 65536) × (tried ≤ t) × (tried ≡ count t (entryWrong m parity))
+
+abbrev μ-loop : tie.MeasureT-loop
+μ-loop m parity n tried₀ t₀ tried t = n - t
+
+add-n : tie.Need-add-n Inv-loop μ-loop
+add-n c = omega arith
+
+mul-n : tie.Need-mul-n Inv-loop μ-loop
+mul-n c =
+    let a = c .before .args in
+    let h : length (a .parity .now) < 65536 = omega arith in
+    let l : a .m + 1 ≤ 65536 = omega arith in
+    omega (arith, product-fits h l)
+
+loop-holds : tie.Need-loop-holds Inv-loop μ-loop
+loop-holds c =
+    let a = c .before .args in
+    let h : length (a .parity .now) < 65536 = omega arith in
+    let l : a .m + 1 ≤ 65536 = omega arith in
+    (omega arith, product-fits h l, omega arith, count-none (entryWrong (a .m) (a .parity .now)))
+
+add-wrong-entry : tie.Need-add-wrong-entry Inv-loop μ-loop
+add-wrong-entry c = omega arith
+
+div-wrong-entry : tie.Need-div-wrong-entry Inv-loop μ-loop
+div-wrong-entry c = omega arith
+
+add-wrong-entry-2 : tie.Need-add-wrong-entry-2 Inv-loop μ-loop
+add-wrong-entry-2 c = omega arith
+
+rem-wrong-entry : tie.Need-rem-wrong-entry Inv-loop μ-loop
+rem-wrong-entry c = omega arith
+
+wrong-entry-requires : tie.Need-wrong-entry-requires Inv-loop μ-loop
+wrong-entry-requires c κs =
+    let a = c .before .before .before .args in
+    let l = c .before .loop in
+    let pos : 0 < a .m + 1 = omega arith in
+    let h : l .t < length (a .parity .now) * (a .m + 1) = omega arith in
+    (within (l .t) (length (a .parity .now)) (a .m + 1) pos h, omega arith)
+
+one-if-requires : tie.Need-one-if-requires Inv-loop μ-loop
+one-if-requires c κs = tt
+
+add-tried : tie.Need-add-tried Inv-loop μ-loop
+add-tried c = omega (arith, tally-le (c .before .wrong-entry .result))
+
+add-t : tie.Need-add-t Inv-loop μ-loop
+add-t c = omega arith
+
+loop-less : tie.Need-loop-less Inv-loop μ-loop
+loop-less c = omega arith
+
+loop-again : tie.Need-loop-again Inv-loop μ-loop
+loop-again c =
+    let a = c .before .before .before .before .before .args in
+    let l = c .before .before .before .loop in
+    let e = c .before .wrong-entry in
+    (omega arith, l .inv .1, omega (arith, tally-le (e .result)), count-more (l .t) (entryWrong (a .m) (a .parity .now)) (l .inv .3) (e .ensures) (c .one-if .ensures))
+
+returns : tie.Need-returns Inv-loop μ-loop
+returns c =
+    let a = c .before .before .before .args in
+    let l = c .before .loop in
+    let e : l .t ≡ length (a .parity .now) * (a .m + 1) = omega arith in
+    l .inv .3 ∙ ap (λ (x : ℕ). count x (entryWrong (a .m) (a .parity .now))) e
+
+pub entries-tried-spec : {M : Type 1} → statement M
+entries-tried-spec =
+    tie.close
+    (tie.spec
+    Inv-loop
+    μ-loop
+    add-n
+    mul-n
+    loop-holds
+    add-wrong-entry
+    div-wrong-entry
+    add-wrong-entry-2
+    rem-wrong-entry
+    wrong-entry-requires
+    one-if-requires
+    add-tried
+    add-t
+    loop-less
+    loop-again
+    returns)

@@ -1,0 +1,4 @@
+pub mod Sums
+pub mod Listed
+pub mod Numbers
+pub mod Printed
