@@ -1,3 +1,10 @@
+use mathlib.Core.Path.{_≡_, refl, sym, ap, _∙_}
+use native.Mathlib.Omega.{arith}
+use lib.Dec.{lit<}
+use Rattle.rules.specs.Bits.{bit}
+use Rattle.rules.proofs.Octets.{bit-past}
+use Rattle.vectors.specs.Vectors.{later}
+use Rattle.received.proofs.Handed.{taken-whole, taken-five}
 use borrow.Author.Needs.{needs}
 use Rattle.received.proofs.take.Statement.{statement}
 use Rattle.received.proofs.take.Tie as tie
@@ -12,7 +19,10 @@ load-requires c κs = search needs
 
 -- src/lib.rt:49:9
 lift-requires : tie.Need-lift-requires
-lift-requires c κs = ?
+lift-requires c κs =
+    let d = c .before .before .before .before in
+    let a = d .before .before .before .before in
+    (lit< tt, λ n l. ap (λ w. w n) (d .load .ensures) ∙ bit-past (a .args .octets .now) n (omega arith))
 
 -- src/lib.rt:43:1
 same-length : tie.Need-same-length
@@ -20,7 +30,11 @@ same-length c = search needs
 
 -- src/lib.rt:43:1
 returns : tie.Need-returns
-returns c = ?
+returns c =
+    let d = c .before .before in
+    let b = d .before .before .before .before .before in
+    let a = b .before .before .before .before in
+    d .lift .ensures ∙ ap (later 18) (b .load .ensures) ∙ sym (taken-five (a .args .code) (omega arith) (bit (a .args .octets .now)))
 
 -- src/lib.rt:43:1
 same-length-2 : tie.Need-same-length-2
@@ -28,7 +42,10 @@ same-length-2 c = search needs
 
 -- src/lib.rt:43:1
 returns-2 : tie.Need-returns-2
-returns-2 c = ?
+returns-2 c =
+    let b = c .before .before .before in
+    let a = b .before .before .before .before in
+    b .load .ensures ∙ sym (taken-whole (a .args .code) (a .pre .0) (λ e. c .if1 .left e) (bit (a .args .octets .now)))
 
 pub take-spec : {M : Type 1} → statement M
 take-spec =

@@ -1,3 +1,9 @@
+use mathlib.Core.Path.{_≡_, refl, sym, ap, _∙_}
+use native.Mathlib.Omega.{arith}
+use lib.ListN.{length}
+use Rattle.rules.specs.Bits.{octets}
+use Rattle.vectors.specs.Vectors.{wbit, from, upTo}
+use Rattle.received.proofs.Handed.{word-few, written-whole, written-five}
 use borrow.Author.Needs.{needs}
 use Rattle.received.proofs.write.Statement.{statement}
 use Rattle.received.proofs.write.Tie as tie
@@ -12,11 +18,15 @@ trim-requires c κs = search needs
 
 -- src/lib.rt:60:9
 store-requires : tie.Need-store-requires
-store-requires c κs = ?
+store-requires c κs =
+    let a = c .before .before .before .before .before .before .before .before .before in
+    omega (arith, word-few (a .args .code) (a .pre .0), a .pre .2)
 
 -- src/lib.rt:62:9
 store-requires-2 : tie.Need-store-requires-2
-store-requires-2 c κs = ?
+store-requires-2 c κs =
+    let a = c .before .before .before .before .before in
+    omega (arith, word-few (a .args .code) (a .pre .0), a .pre .2)
 
 -- src/lib.rt:54:1
 same-length : tie.Need-same-length
@@ -28,7 +38,13 @@ same-length-2 c = search needs
 
 -- src/lib.rt:54:1
 returns : tie.Need-returns
-returns c = ?
+returns c =
+    let d = c .before .before in
+    let t = d .before .before .before .before .before in
+    let a = t .before .before .before .before .before in
+    d .store .ensures
+    ∙ ap (λ w. octets (length (a .args .out .now)) (from 18 w)) (t .trim .ensures)
+    ∙ written-five (a .args .code) (length (a .args .out .now)) (omega arith) (a .pre .2) (wbit (a .args .y .now))
 
 -- src/lib.rt:54:1
 same-length-3 : tie.Need-same-length-3
@@ -40,7 +56,10 @@ same-length-4 c = search needs
 
 -- src/lib.rt:54:1
 returns-2 : tie.Need-returns-2
-returns-2 c = ?
+returns-2 c =
+    let d = c .before .before in
+    let a = d .before .before .before .before .before .before in
+    d .store2 .ensures ∙ written-whole (a .args .code) _ (a .pre .0) (λ e. d .before .before .before .if1 .left e) (a .pre .2) (wbit (a .args .y .now))
 
 pub write-spec : {M : Type 1} → statement M
 write-spec =
