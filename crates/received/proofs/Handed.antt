@@ -6,7 +6,7 @@ use Prim.Native.Nat.{ℕ, zero, suc, _+_, _-_, _*_, _≤_, _<_}
 use native.Mathlib.Nat.{zero-add, add-comm, lt-of-not-le}
 use native.Mathlib.Decide.{ℕ-discrete, decLt}
 use native.Mathlib.Omega.{arith}
-use lib.Dec.{T, eqb, leb, ltb, lit≤, le→leb}
+use lib.Dec.{T, eqb, leb, ltb, lit≤, leb→le}
 use lib.ListN.{length}
 use borrow.Author.Tests.{lt-ltb, le-ltb, ne-eqb}
 use Rattle.rules.specs.Bits.{Word, bit, octets}
@@ -14,12 +14,12 @@ use Rattle.rules.specs.Codes.{Code, code, code1, code2, code3, code4, code5, bi
 use Rattle.rules.specs.Tables.{parity511}
 use Rattle.rules.specs.Encoding.{lifted, sent}
 use Rattle.rules.specs.Calls.{offered, written}
+use Rattle.rules.proofs.Sums.{and-l, and-r}
 use Rattle.rules.proofs.Answers.{five}
 use Rattle.rules.proofs.Octets.{octets-same}
 use Rattle.rules.proofs.Codewords.{sent-bit}
 use Rattle.rules.proofs.Demands.{Whole, whole, lifted-whole}
 use Rattle.vectors.specs.Vectors.{upTo, from, later}
-use Rattle.received.specs.Measured.{Offered}
 
 -- ---- lengths
 
@@ -51,26 +51,29 @@ long5 n e = subst (λ k. Long k 1020 892) (sym e) (record { word = refl; few = l
 
 -- ---- code 5, and the others
 
-pub is-offered : (n : ℕ) → Offered n → T (offered n)
-is-offered n o = both (leb 1 n) (leb n 5) (le→leb 1 n (o .low)) (le→leb n 5 (o .high))
-  where
-    both : (a b : Bool) → T a → T b → T (a && b)
-    both true b s t = t
-    both false b s t = s
+pub is-offered : (n : ℕ) → offered n ≡ true → T (offered n)
+is-offered n o = subst T (sym o) tt
 
-not-five : (n : ℕ) → Offered n → (n ≡ 5 → ⊥) → T (offered n && not (eqb n 5))
+-- a code number that is offered, as a number
+pub offered-low : (n : ℕ) → offered n ≡ true → 1 ≤ n
+offered-low n o = leb→le 1 n (and-l (leb 1 n) (leb n 5) (is-offered n o))
+
+pub offered-high : (n : ℕ) → offered n ≡ true → n ≤ 5
+offered-high n o = leb→le n 5 (and-r (leb 1 n) (leb n 5) (is-offered n o))
+
+not-five : (n : ℕ) → offered n ≡ true → (n ≡ 5 → ⊥) → T (offered n && not (eqb n 5))
 not-five n o d = go (offered n) (eqb n 5) (is-offered n o) (ne-eqb n 5 d)
   where
     go : (a b : Bool) → T a → b ≡ false → T (a && not b)
     go true b t e = subst (λ z. T (not z)) (sym e) tt
     go false b t e = t
 
-whole-of : (n : ℕ) → Offered n → (n ≡ 5 → ⊥) → Whole (code n)
+whole-of : (n : ℕ) → offered n ≡ true → (n ≡ 5 → ⊥) → Whole (code n)
 whole-of n o d = whole n (not-five n o d)
 
 -- ---- octets in
 
-pub taken-whole : (n : ℕ) → Offered n → (n ≡ 5 → ⊥) → (y : Word) → lifted (code n) y ≡ y
+pub taken-whole : (n : ℕ) → offered n ≡ true → (n ≡ 5 → ⊥) → (y : Word) → lifted (code n) y ≡ y
 taken-whole n o d y = lifted-whole (code n) (whole-of n o d) y
 
 pub taken-five : (n : ℕ) → n ≡ 5 → (y : Word) → lifted (code n) y ≡ later 18 y
@@ -79,7 +82,7 @@ taken-five n e y = ap (λ k. lifted (code k) y) e
 
 -- ---- octets out
 
-pub written-whole : (n long : ℕ) → Offered n → (n ≡ 5 → ⊥) → long ≡ code n .wordOctets → (x : Word) → octets long (from 0 x) ≡ written (code n) x
+pub written-whole : (n long : ℕ) → offered n ≡ true → (n ≡ 5 → ⊥) → long ≡ code n .wordOctets → (x : Word) → octets long (from 0 x) ≡ written (code n) x
 written-whole n long o d e x =
     let w : Whole (code n) = whole-of n o d in
     ap (λ z. octets z (from 0 x)) e
@@ -98,6 +101,6 @@ written-five n long e f x =
     shifted i (yes l) = lt-ltb (18 + i) 8176 (omega arith) ∙ sym (lt-ltb i 8158 l)
     shifted i (no g) = le-ltb (18 + i) 8176 (omega (arith, lt-of-not-le g)) ∙ sym (le-ltb i 8158 (omega (arith, lt-of-not-le g)))
 
-pub word-few : (n : ℕ) → Offered n → code n .wordOctets ≤ 1022
+pub word-few : (n : ℕ) → offered n ≡ true → code n .wordOctets ≤ 1022
 unfolding code code1 code2 code3 code4 code5
 word-few n o = five (λ k. code k .wordOctets ≤ 1022) (lit≤ tt) (lit≤ tt) (lit≤ tt) (lit≤ tt) (lit≤ tt) n (is-offered n o)

@@ -1,18 +1,13 @@
 -- What is known of a word once it is measured.
 use mathlib.Core.Path.{_≡_}
 use mathlib.Core.List.{List}
-use Prim.Native.Nat.{ℕ, _≤_}
+use Prim.Native.Nat.{ℕ}
 use Rattle.rules.specs.Bits.{Word, bit}
 use Rattle.rules.specs.Codes.{code}
 use Rattle.rules.specs.Encoding.{lifted}
 use Rattle.layout.specs.declared.Shape.{Shape}
 use Rattle.layout.specs.Lent.{laid}
 use Rattle.tables.specs.Flat.{Lends}
-
--- A code number from 1 to 5.
-pub record Offered (n : ℕ) : Type 0 where
-  pub low : 1 ≤ n
-  pub high : n ≤ 5
 
 -- The places t and the shape are the code's, y is the word, and s its syndrome.
 pub record Measured (n : ℕ) (word t : List ℕ) (y s : Word) (sh : Shape) : Type 0 where

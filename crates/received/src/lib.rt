@@ -1,19 +1,26 @@
 // Words as they are handed over: their lengths, octets in, octets out, and the syndrome of what was received.
 ghost use mathlib.Core.Path.{_≡_};
-ghost use mathlib.Core.List.{List};
+ghost use mathlib.Core.Bool.{true};
 ghost use Prim.Native.Nat.{_*_, _≤_};
 ghost use lib.ListN.{length};
 ghost use Rattle.rules.specs.Bits.{Word, bit};
 ghost use Rattle.rules.specs.Codes.{code as codeOf};
 ghost use Rattle.rules.specs.Encoding.{lifted};
-ghost use Rattle.rules.specs.Calls.{written};
+ghost use Rattle.rules.specs.Calls.{offered, written};
 ghost use Rattle.vectors.specs.Vectors.{wbit};
-ghost use Rattle.received.specs.Measured.{Offered, Measured};
+ghost use Rattle.received.specs.Measured.{Measured};
 use layout::Shape;
+
+// Whether a code is offered: codes 1 to 5 are.
+pub fn is_offered(code: u8) -> bool
+    ensures { λ r. ⌜ r ≡ offered code ⌝ }
+{
+    1 <= code && code <= 5
+}
 
 // The octets of a word.
 pub fn word_octets(code: u8) -> usize
-    requires { ⌜ Offered code ⌝ }
+    requires { ⌜ (offered code ≡ true) ⌝ }
     ensures { λ r. ⌜ (r ≡ codeOf code .wordOctets) × (r ≤ 1022) ⌝ }
 {
     match code {
@@ -27,7 +34,7 @@ pub fn word_octets(code: u8) -> usize
 
 // The octets of a word's information.
 pub fn information_octets(code: u8) -> usize
-    requires { ⌜ Offered code ⌝ }
+    requires { ⌜ (offered code ≡ true) ⌝ }
     ensures { λ r. ⌜ (r ≡ codeOf code .informationOctets) × (r ≤ codeOf code .wordOctets) ⌝ }
 {
     match code {
@@ -41,7 +48,7 @@ pub fn information_octets(code: u8) -> usize
 
 // The bits that the checks are over, from octets that are handed in; code 5 has 18 zero bits in front.
 pub fn take(code: u8, octets: &[u8], y: &mut [u64])
-    requires { ⌜ Offered code × (length (now octets) ≤ 1022) × (length (now y) ≡ 130) ⌝ }
+    requires { ⌜ (offered code ≡ true) × (length (now octets) ≤ 1022) × (length (now y) ≡ 130) ⌝ }
     ensures { λ _. ⌜ wbit (now (y .exit)) ≡ lifted (codeOf code) (bit (now (octets .entry))) ⌝ }
 {
     vectors::load(octets, y);
@@ -52,7 +59,7 @@ pub fn take(code: u8, octets: &[u8], y: &mut [u64])
 
 // The octets of a word as it is sent; code 5 leaves out the 18 bits in front and sends two zero bits last.
 pub fn write(code: u8, y: &mut [u64], out: &mut [u8])
-    requires { ⌜ Offered code × (length (now y) ≡ 130) × (length (now out) ≡ codeOf code .wordOctets) ⌝ }
+    requires { ⌜ (offered code ≡ true) × (length (now y) ≡ 130) × (length (now out) ≡ codeOf code .wordOctets) ⌝ }
     ensures { λ _. ⌜ now (out .exit) ≡ written (codeOf code) (wbit (now (y .entry))) ⌝ }
 {
     if code == 5 {
@@ -65,7 +72,7 @@ pub fn write(code: u8, y: &mut [u64], out: &mut [u8])
 
 // The word, its parity table and its syndrome.
 pub fn measure(code: u8, word: &[u8], t: &mut [u16], y: &mut [u64], s: &mut [u64]) -> Shape
-    requires { ⌜ Offered code × (length (now word) ≡ codeOf code .wordOctets) × (length (now t) ≡ 64) × (length (now y) ≡ 130) × (length (now s) ≡ 16) ⌝ }
+    requires { ⌜ (offered code ≡ true) × (length (now word) ≡ codeOf code .wordOctets) × (length (now t) ≡ 64) × (length (now y) ≡ 130) × (length (now s) ≡ 16) ⌝ }
     ensures { λ r. ⌜ Measured code (now (word .entry)) (now (t .exit)) (wbit (now (y .exit))) (wbit (now (s .exit))) r ⌝ }
 {
     let sh = tables::lend(code, t);

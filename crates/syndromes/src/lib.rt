@@ -114,11 +114,11 @@ pub fn syndrome(y: &[u64], h: &[u16], sh: Shape, s: &mut [u64])
 }
 
 // How many checks are broken.
-pub fn broken(s: &[u64]) -> usize
+pub fn broken(s: &[u64]) -> u32
     requires { ⌜ length (now s) ≡ 16 ⌝ }
     ensures { λ n. ⌜ ((c : Code) (h : List ℕ) (sh : Shape) (x : Word) → Fit h sh → Lent c h sh → wbit (now (s .entry)) ≡ laid c sh x → n ≡ broken c x) ⌝ }
 {
-    vectors::ones(s)
+    vectors::ones(s) as u32
 }
 
 // Turns the check of row r over that covers bit k by the shift e; a number that is M or more is no shift.

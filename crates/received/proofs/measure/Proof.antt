@@ -1,7 +1,7 @@
 use mathlib.Core.Path.{_≡_, refl, sym, ap, _∙_}
 use native.Mathlib.Omega.{arith}
 use Rattle.rules.specs.Codes.{code}
-use Rattle.received.proofs.Handed.{word-few}
+use Rattle.received.proofs.Handed.{offered-low, offered-high, word-few}
 use borrow.Author.Needs.{needs}
 use Rattle.received.proofs.measure.Statement.{statement}
 use Rattle.received.proofs.measure.Tie as tie
@@ -13,7 +13,9 @@ use Rattle.tables.proofs.lend.Reads as lend-reads
 
 -- src/lib.rt:71:9
 lend-requires : tie.Need-lend-requires
-lend-requires c κs = search needs
+lend-requires c κs =
+    let a = c .before .before .before .before .before in
+    (offered-low (a .args .code) (a .pre .0), offered-high (a .args .code) (a .pre .0), search needs)
 
 -- src/lib.rt:72:5
 take-requires : tie.Need-take-requires

@@ -1,0 +1,20 @@
+-- The calls' results as the definition's answers.
+use mathlib.Core.List.{List}
+use Prim.Native.Nat.{ℕ}
+use Rattle.rules.specs.Calls.{Checked as CheckedAnswer, Opened as OpenedAnswer, Corrected as CorrectedAnswer, Stepped as SteppedAnswer}
+use Rattle.codes.specs.declared.Checked.{Checked}
+use Rattle.codes.specs.declared.Corrected.{Corrected}
+use Rattle.codes.specs.declared.Stepped.{Stepped}
+
+abbrev pub asChecked : Checked → CheckedAnswer
+asChecked r = record { number = r .number; broken = r .broken }
+
+abbrev pub asOpened : ℕ → List ℕ → OpenedAnswer
+asOpened number part = record { number = number; part = part }
+
+-- the output octets afterwards are part of the answer
+abbrev pub asCorrected : Corrected → List ℕ → CorrectedAnswer
+asCorrected r out = record { number = r .number; flips = r .flips; first = r .first; last = r .last; out = out }
+
+abbrev pub asStepped : Stepped → List ℕ → SteppedAnswer
+asStepped r out = record { number = r .number; quiet = r .quiet; bit = r .bit; excess = r .excess; out = out }

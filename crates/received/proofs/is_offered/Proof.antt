@@ -1,0 +1,14 @@
+use borrow.Author.Tests.{le-leb, lt-leb}
+use Rattle.received.proofs.is_offered.Statement.{statement}
+use Rattle.received.proofs.is_offered.Tie as tie
+use Rattle.received.proofs.is_offered.Reads as reads
+use Rattle.received.proofs.is_offered.Lts as lts
+
+returns : tie.Need-returns
+returns c = simp (le-leb _ _ (c .if1 .taken))
+
+returns-2 : tie.Need-returns-2
+returns-2 c = simp (lt-leb _ _ (c .if1 .left))
+
+pub is-offered-spec : {M : Type 1} → statement M
+is-offered-spec = tie.close (tie.spec returns returns-2)
