@@ -38,15 +38,75 @@ pub struct Stepped {
     pub excess: i8,
 }
 
+// Whether an unsent bit of code 5 is set.
+fn unsent_set(y: &[u64]) -> bool
+    requires { ⌜ length (now y) ≡ 130 ⌝ }
+    ensures { λ r. ⌜ r ≡ ltb 0 (count 18 (wbit (now (y .entry)))) ⌝ }
+{
+    let mut v = [0u64; 1];
+    vectors::cut(y, 0, 18, &mut v);
+    0 < vectors::ones(&v)
+}
+
+// The number of a run: after a quiet end 7 for an unsent bit, then 8 for parity unlike the encoder's.
+fn judge(code: u8, y: &[u64], number: u8) -> u8
+    requires { ⌜ (offered code ≡ true) × (length (now y) ≡ 130) ⌝ }
+    ensures { λ r. ⌜ ((run : Run) → run .number ≡ number → run .word ≡ wbit (now (y .entry)) → (number ≡ 0 → broken (codeOf code) (wbit (now (y .entry))) ≡ 0) → r ≡ judged (codeOf code) run) ⌝ }
+{
+    if number != 0 {
+        return number;
+    }
+    if code < 4 {
+        return 0;
+    }
+    if code == 5 {
+        if unsent_set(y) {
+            return 7;
+        }
+    }
+    if ownparity::own_parity(y) { 0 } else { 8 }
+}
+
+// Whether a measured word is a codeword.
+fn is_codeword(code: u8, y: &[u64], s: &[u64]) -> bool
+    requires { ⌜ (offered code ≡ true) × (length (now y) ≡ 130) × (length (now s) ≡ 16) ⌝ }
+    ensures { λ r. ⌜ ((word t : List ℕ) (sh : Shape) → length word ≡ codeOf code .wordOctets → Measured code word t (wbit (now (y .entry))) (wbit (now (s .entry))) sh → r ≡ codeword (codeOf code) (bit word)) ⌝ }
+{
+    if syndromes::broken(s) != 0 {
+        return false;
+    }
+    if code < 4 {
+        return true;
+    }
+    if !ownparity::own_parity(y) {
+        return false;
+    }
+    if code == 5 {
+        if vectors::is_set(y, 8176) {
+            return false;
+        }
+        if vectors::is_set(y, 8177) {
+            return false;
+        }
+    }
+    true
+}
+
 // How many checks are broken.
 pub fn check(code: u8, word: &[u8]) -> Checked
     ensures { λ r. ⌜ asChecked r ≡ checkAnswer code (now (word .entry)) ⌝ }
 {
     if !received::is_offered(code) {
-        return Checked { number: 1, broken: 0 };
+        return Checked {
+            number: 1,
+            broken: 0,
+        };
     }
     if word.len() != received::word_octets(code) {
-        return Checked { number: 2, broken: 0 };
+        return Checked {
+            number: 2,
+            broken: 0,
+        };
     }
     let mut t = [0u16; 64];
     let mut y = [0u64; 130];
@@ -54,14 +114,90 @@ pub fn check(code: u8, word: &[u8]) -> Checked
     received::measure(code, word, &mut t, &mut y, &mut s);
     Checked {
         number: 0,
-        broken: counted(&s),
+        broken: syndromes::broken(&s),
     }
 }
 
-// The count of broken checks, which is small.
-fn counted(s: &[u64]) -> u32
-    requires { ⌜ length (now s) ≡ 16 ⌝ }
-    ensures { λ r. ⌜ ((n : ℕ) (word t : List ℕ) (sh : Shape) → Measured n word t (wbit (now (s .entry))) sh → r ≡ 0) ⌝ }
+// The information octets of a codeword, lent back as a part of the word.
+pub fn open<'a>(code: u8, word: &'a [u8], number: &mut u8) -> &'a [u8]
+    ensures { λ r. ⌜ asOpened (now (number .exit)) (now r) ≡ openAnswer code (now (word .entry)) ⌝ }
 {
-    syndromes::broken(s) as u32
+    if !received::is_offered(code) {
+        *number = 1;
+        return &word[..0];
+    }
+    if code == 4 {
+        *number = 1;
+        return &word[..0];
+    }
+    if word.len() != received::word_octets(code) {
+        *number = 2;
+        return &word[..0];
+    }
+    if !opens(code, word) {
+        *number = 9;
+        return &word[..0];
+    }
+    *number = 0;
+    let end = received::information_octets(code);
+    &word[..end]
+}
+
+// Whether a word of the right length is a codeword.
+fn opens(code: u8, word: &[u8]) -> bool
+    requires { ⌜ (offered code ≡ true) × (length (now word) ≡ codeOf code .wordOctets) ⌝ }
+    ensures { λ r. ⌜ r ≡ codeword (codeOf code) (bit (now (word .entry))) ⌝ }
+{
+    let mut t = [0u16; 64];
+    let mut y = [0u64; 130];
+    let mut s = [0u64; 16];
+    received::measure(code, word, &mut t, &mut y, &mut s);
+    is_codeword(code, &y, &s)
+}
+
+// The flipping run on a received word, under a limit.
+pub fn correct(code: u8, word: &[u8], limit: u16, out: &mut [u8]) -> Corrected
+    ensures { λ r. ⌜ asCorrected r (now (out .exit)) ≡ correctAnswer code (now (word .entry)) limit (now (out .entry)) ⌝ }
+{
+    if !received::is_offered(code) {
+        return Corrected {
+            number: 1,
+            flips: 0,
+            first: 0,
+            last: 0,
+        };
+    }
+    if word.len() != received::word_octets(code) {
+        return Corrected {
+            number: 2,
+            flips: 0,
+            first: 0,
+            last: 0,
+        };
+    }
+    if out.len() != received::word_octets(code) {
+        return Corrected {
+            number: 3,
+            flips: 0,
+            first: 0,
+            last: 0,
+        };
+    }
+    let mut t = [0u16; 64];
+    let mut y = [0u64; 130];
+    let mut s = [0u64; 16];
+    let sh = received::measure(code, word, &mut t, &mut y, &mut s);
+    let first = syndromes::broken(&s);
+    let ran = runs::run(&mut y, &mut s, &t, sh, limit);
+    let last = syndromes::broken(&s);
+    let number = judge(code, &y, ran.number);
+    if number == 0 {
+        received::write(code, &mut y, out);
+    }
+    Corrected {
+        number: number,
+        flips: ran.flips,
+        first: first,
+        last: last,
+    }
 }
