@@ -1,4 +1,11 @@
+-- `encoder::put_part` meets its contract: what is past the part is cleared, and the part is added from bit at on. Assumes nothing.
+use mathlib.Core.Path.{ap, _∙_}
+use Prim.Native.Nat.{_+_, _-_, _*_, _/_, _%_}
+use native.Mathlib.Omega.{arith}
 use borrow.Author.Needs.{needs}
+use Rattle.rules.specs.Bits.{Word}
+use Rattle.vectors.specs.Vectors.{wbit, from, added}
+use Rattle.encoder.proofs.Adding.{put-added}
 use Rattle.encoder.proofs.put_part.Statement.{statement}
 use Rattle.encoder.proofs.put_part.Tie as tie
 use Rattle.encoder.proofs.put_part.Reads as reads
@@ -6,37 +13,35 @@ use Rattle.encoder.proofs.put_part.Lts as lts
 use Rattle.vectors.proofs.add_turned.Reads as add-turned-reads
 use Rattle.vectors.proofs.trim.Reads as trim-reads
 
--- src/lib.rt:55:22
 add-trim : tie.Need-add-trim
 add-trim c = search needs
 
--- src/lib.rt:55:5
 trim-requires : tie.Need-trim-requires
 trim-requires c κs = search needs
 
--- src/lib.rt:56:28
 sub-add-turned : tie.Need-sub-add-turned
 sub-add-turned c = search needs
 
--- src/lib.rt:56:54
 add-add-turned : tie.Need-add-add-turned
 add-add-turned c = search needs
 
--- src/lib.rt:56:5
 add-turned-requires : tie.Need-add-turned-requires
 add-turned-requires c κs = search needs
 
--- src/lib.rt:51:1
 same-length : tie.Need-same-length
 same-length c = search needs
 
--- src/lib.rt:51:1
 same-length-2 : tie.Need-same-length-2
 same-length-2 c = search needs
 
--- src/lib.rt:51:1
 returns : tie.Need-returns
-returns c = ?
+returns c =
+    let a = c .before .before .before .before .before .before .before .before .before .before .before .before .before .args in
+    let pre = c .before .before .before .before .before .before .before .before .before .before .before .before .before .pre in
+    let y = wbit (a .y .now) in
+    c .before .before .add-turned .ensures
+    ∙ ap (λ (u : Word). added y (64 * (a .at / 64)) (64 * (a .at / 64 + (a .sh .words + 1))) (from (64 - a .at % 64) u)) (c .before .before .before .before .before .before .before .trim .ensures)
+    ∙ put-added y (wbit (a .u .now)) (a .at) (a .sh .size) (a .sh .words) (omega arith) (pre .6)
 
 pub put-part-spec : {M : Type 1} → statement M
 put-part-spec =
