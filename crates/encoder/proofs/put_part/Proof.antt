@@ -40,7 +40,7 @@ returns c =
     let pre = c .before .before .before .before .before .before .before .before .before .before .before .before .before .pre in
     let y = wbit (a .y .now) in
     c .before .before .add-turned .ensures
-    ∙ ap (λ (u : Word). added y (64 * (a .at / 64)) (64 * (a .at / 64 + (a .sh .words + 1))) (from (64 - a .at % 64) u)) (c .before .before .before .before .before .before .before .trim .ensures)
+    ∙ ap (λ (u : Word). added y (64 * (a .at / 64)) (64 * (a .at / 64 + (a .sh .words + 1))) (from (64 - a .at % 64) u)) (c .before .before .before .before .before .before .before .before .trim .ensures)
     ∙ put-added y (wbit (a .u .now)) (a .at) (a .sh .size) (a .sh .words) (omega arith) (pre .6)
 
 pub put-part-spec : {M : Type 1} → statement M
