@@ -3,12 +3,13 @@ use mathlib.Core.Path.{_≡_, refl, sym, ap, ap₂, _∙_, fun-ext}
 use mathlib.Core.Bool.{Bool, true, false, _&&_}
 use mathlib.Core.Logic.{⊎-elim}
 use mathlib.Core.List.{List}
-use Prim.Native.Nat.{ℕ, suc, _+_, _-_, _*_, _/_, _%_, _≤_, _<_}
+use Prim.Native.Nat.{ℕ, zero, suc, _+_, _-_, _*_, _/_, _%_, _≤_, _<_}
+use native.Mathlib.Nat.{add-zero, add-suc}
 use native.Mathlib.Numerals.{add-one}
 use native.Mathlib.Omega.{arith}
 use lib.Dec.{ltb, leb}
 use Rattle.rules.specs.Bits.{Word, _⊕_, sum}
-use Rattle.rules.proofs.Sums.{⊕-assoc, and-⊕}
+use Rattle.rules.proofs.Sums.{⊕-false, ⊕-assoc, and-⊕}
 use Rattle.vectors.specs.Vectors.{wbit, upTo, from, added}
 use Rattle.vectors.proofs.Places.{le-or-lt, and-none, xor-none}
 use Rattle.vectors.proofs.Spans.{upTo-below, upTo-above, added-before, added-after, added-inside}
@@ -53,6 +54,15 @@ module _ (x : Word) (a e M : ℕ) (y d : Word) (n : ℕ) where
   turns-one h =
       ap (added (added x a e (turns M y d n)) a e) (fun-ext (λ k. sym (ap (λ (b : Bool). b && d (M - n + k)) h)))
       ∙ sum-more x a e n term
+
+-- a run of bits that are 0 adds nothing
+pub turns-skip : (M : ℕ) (y d : Word) (n m : ℕ) → ((i : ℕ) → i < m → y (n + i) ≡ false) → turns M y d n ≡ turns M y d (n + m)
+unfolding sum
+turns-skip M y d n zero none = ap (turns M y d) (sym (add-zero n))
+turns-skip M y d n (suc m) none =
+    turns-skip M y d n m (λ i h. none i (omega arith))
+    ∙ fun-ext (λ k. sym (ap (λ (b : Bool). turns M y d (n + m) k ⊕ (b && d (M - (n + m) + k))) (none m (omega arith)) ∙ ⊕-false (turns M y d (n + m) k)))
+    ∙ ap (turns M y d) (sym (add-suc n m))
 
 -- M bits that stand from bit 64 on, zeros before and after them, are added word by word from any bit on
 module _ (y u : Word) (at M w : ℕ) (held : M ≤ 64 * w) (before : (n : ℕ) → n < 64 → u n ≡ false) where

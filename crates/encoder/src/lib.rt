@@ -5,9 +5,10 @@ ghost use mathlib.Core.Path.{_≡_};
 ghost use mathlib.Core.Bool.{false};
 ghost use Prim.Native.Nat.{ℕ, _+_, _-_, _*_, _/_, _%_, _<_, _≤_};
 ghost use lib.ListN.{length};
+ghost use Rattle.rules.specs.Bits.{Word, digit};
 ghost use Rattle.rules.specs.Codes.{Code, bits};
 ghost use Rattle.rules.specs.Encoding.{encoded};
-ghost use Rattle.vectors.specs.Vectors.{wbit, upTo, from, added};
+ghost use Rattle.vectors.specs.Vectors.{wbit, Holds, upTo, from, added};
 ghost use Rattle.encoder.specs.Rows.{RowsFit, LentRows, doubledRow, turns, partSum};
 
 // The row of a printed number, twice over; row has room for the row.
@@ -20,17 +21,49 @@ fn double_row(g: &[u64], sh: Shape, number: usize, row: &mut [u64], d: &mut [u64
     vectors::double(row, sh.size, d);
 }
 
-// Adds the doubled row to the part that u holds from word 1 on, turned for each bit that is set of the block from bit at on.
+// Whether bit i of v is set.
+fn has(v: u64, i: usize) -> bool
+    requires { ⌜ i < 64 ⌝ }
+    ensures { λ r. ⌜ r ≡ digit 64 v i ⌝ }
+{
+    (v >> (63 - i)) % 2 == 1
+}
+
+// Adds the doubled row to the part that u holds from word 1 on, turned for each bit that is set from bit first to before bit last of a block; v begins with these.
+fn add_bits(v: u64, first: usize, last: usize, d: &[u64], sh: Shape, u: &mut [u64])
+    requires { ⌜ (first ≤ last) × (last ≤ sh .size) × (last ≤ first + 64) × (sh .size ≤ 64 * sh .words) × (sh .words ≤ 8) × (length (now d) ≡ 2 * sh .words + 1) × (length (now u) ≡ 12) ⌝ }
+    ensures { λ r. ⌜ ((x z : Word) → Holds v (from first x) → wbit (now (u .entry)) ≡ added z 64 (64 * (1 + sh .words)) (turns (sh .size) x (wbit (now (d .entry))) first) → wbit (now (u .exit)) ≡ added z 64 (64 * (1 + sh .words)) (turns (sh .size) x (wbit (now (d .entry))) last)) ⌝ }
+{
+    let mut t = first;
+    while t < last {
+        if has(v, t - first) {
+            vectors::add_turned(d, sh.size - t, u, 1, sh.words);
+        }
+        t += 1;
+    }
+}
+
+// Where the 64 bits from bit t on end, or the m bits of a block.
+fn end_of(t: usize, m: usize) -> usize
+    requires { ⌜ (t < m) × (m ≤ 512) ⌝ }
+    ensures { λ r. ⌜ (t < r) × (r ≤ m) × (r ≤ t + 64) ⌝ }
+{
+    if t + 64 < m { t + 64 } else { m }
+}
+
+// The same for all M bits of the block from bit at on.
 fn add_block(y: &[u64], at: usize, d: &[u64], sh: Shape, u: &mut [u64])
     requires { ⌜ (at + sh .size ≤ 8176) × (length (now y) ≡ 130) × (sh .size ≤ 64 * sh .words) × (sh .words ≤ 8) × (length (now d) ≡ 2 * sh .words + 1) × (length (now u) ≡ 12) ⌝ }
     ensures { λ r. ⌜ wbit (now (u .exit)) ≡ added (wbit (now (u .entry))) 64 (64 * (1 + sh .words)) (turns (sh .size) (from at (wbit (now (y .entry)))) (wbit (now (d .entry))) (sh .size)) ⌝ }
 {
     let mut t = 0;
     while t < sh.size {
-        if vectors::is_set(y, at + t) {
-            vectors::add_turned(d, sh.size - t, u, 1, sh.words);
+        let v = vectors::window(y, at + t);
+        let next = end_of(t, sh.size);
+        if v != 0 {
+            add_bits(v, t, next, d, sh, u);
         }
-        t += 1;
+        t = next;
     }
 }
 

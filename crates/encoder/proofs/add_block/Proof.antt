@@ -1,84 +1,60 @@
--- `encoder::add_block` meets its contract: after t turns the first t bits of the block are added. Assumes nothing.
-use mathlib.Core.Path.{_≡_, ap, sym, _∙_}
-use mathlib.Core.Bool.{_&&_}
-use mathlib.Core.Logic.{⊎-elim}
-use Prim.Native.Nat.{ℕ, _+_, _-_, _*_, _≤_}
-use native.Mathlib.Omega.{arith}
-use lib.ListN.{length}
-use Rattle.rules.specs.Bits.{Word}
-use Rattle.vectors.specs.Vectors.{wbit, from, added}
-use Rattle.encoder.specs.Rows.{turns}
-use Rattle.encoder.proofs.Adding.{sum-start, turns-none, turns-one}
 use Rattle.encoder.proofs.add_block.Statement.{statement}
 use Rattle.encoder.proofs.add_block.Tie as tie
 use Rattle.encoder.proofs.add_block.Reads as reads
 use Rattle.encoder.proofs.add_block.Lts as lts
-use Rattle.vectors.proofs.add_turned.Reads as add-turned-reads
-use Rattle.vectors.proofs.is_set.Reads as is-set-reads
+use Rattle.encoder.proofs.add_bits.Reads as add-bits-reads
+use Rattle.encoder.proofs.end_of.Reads as end-of-reads
+use Rattle.vectors.proofs.window.Reads as window-reads
 
 abbrev Inv-loop : tie.InvT-loop
-Inv-loop y at d sh u₀ t₀ u t =
-    (t ≤ sh .size) × (length u ≡ 12) × (wbit u ≡ added (wbit u₀) 64 (64 * (1 + sh .words)) (turns (sh .size) (from at (wbit y)) (wbit d) t))
+Inv-loop y at d sh u₀ t₀ u t = ?
 
 abbrev μ-loop : tie.MeasureT-loop
-μ-loop y at d sh u₀ t₀ u t = sh .size - t
+μ-loop y at d sh u₀ t₀ u t = ?
 
+-- src/lib.rt:60:5
 loop-holds : tie.Need-loop-holds Inv-loop μ-loop
-loop-holds c =
-    let a = c .before .before .before .args in
-    let pre = c .before .before .before .pre in
-    (omega arith, pre .5, sum-start (wbit (a .u .now)) 64 (64 * (1 + a .sh .words)) (λ t k. wbit (a .y .now) (a .at + t) && wbit (a .d .now) (a .sh .size - t + k)))
+loop-holds c = ?
 
-add-is-set : tie.Need-add-is-set Inv-loop μ-loop
-add-is-set c = omega arith
+-- src/lib.rt:61:36
+add-window : tie.Need-add-window Inv-loop μ-loop
+add-window c = ?
 
-is-set-requires : tie.Need-is-set-requires Inv-loop μ-loop
-is-set-requires c κs = omega arith
+-- src/lib.rt:61:13
+window-requires : tie.Need-window-requires Inv-loop μ-loop
+window-requires c κs = ?
 
-sub-add-turned : tie.Need-sub-add-turned Inv-loop μ-loop
-sub-add-turned c = omega arith
+-- src/lib.rt:62:13
+end-of-requires : tie.Need-end-of-requires Inv-loop μ-loop
+end-of-requires c κs = ?
 
-add-turned-requires : tie.Need-add-turned-requires Inv-loop μ-loop
-add-turned-requires c κs = (omega arith, omega arith)
+-- src/lib.rt:64:13
+add-bits-requires : tie.Need-add-bits-requires Inv-loop μ-loop
+add-bits-requires c κs = ?
 
-add-t : tie.Need-add-t Inv-loop μ-loop
-add-t c = omega arith
-
+-- src/lib.rt:60:5
 loop-less : tie.Need-loop-less Inv-loop μ-loop
-loop-less c = omega arith
+loop-less c = ?
 
+-- src/lib.rt:60:5
 loop-again : tie.Need-loop-again Inv-loop μ-loop
-loop-again c =
-    let a = c .before .before .before .before .before .before .before .before .args in
-    let l = c .before .before .before .before .loop in
-    let set = c .before .is-set .ensures in
-    let x = wbit (a .u .now) in
-    let e = 64 * (1 + a .sh .words) in
-    let y = from (a .at) (wbit (a .y .now)) in
-    let d = wbit (a .d .now) in
-    let M = a .sh .size in
-    ⊎-elim
-    (λ w. (
-      omega arith,
-      ap length (w .6) ∙ w .3 .kept .1 .1 .0 ∙ l .inv .1,
-      ap wbit (w .6) ∙ w .3 .ensures ∙ ap (λ (z : Word). added z 64 e (from (M - l .t) d)) (l .inv .2) ∙ turns-one x 64 e M y d (l .t) (sym set ∙ w .0 .taken),
-    ))
-    (λ w. (
-      omega arith,
-      ap length (w .1) ∙ l .inv .1,
-      ap wbit (w .1) ∙ l .inv .2 ∙ turns-none x 64 e M y d (l .t) (sym set ∙ w .0 .left),
-    ))
-    (c .if2 .came)
+loop-again c = ?
 
+-- src/lib.rt:60:5
+loop-less-2 : tie.Need-loop-less-2 Inv-loop μ-loop
+loop-less-2 c = ?
+
+-- src/lib.rt:60:5
+loop-again-2 : tie.Need-loop-again-2 Inv-loop μ-loop
+loop-again-2 c = ?
+
+-- src/lib.rt:55:1
 same-length : tie.Need-same-length Inv-loop μ-loop
-same-length c = omega arith
+same-length c = ?
 
+-- src/lib.rt:55:1
 returns : tie.Need-returns Inv-loop μ-loop
-returns c =
-    let a = c .before .before .before .before .before .before .args in
-    let l = c .before .before .loop in
-    let all : l .t ≡ a .sh .size = omega arith in
-    l .inv .2 ∙ ap (λ (t : ℕ). added (wbit (a .u .now)) 64 (64 * (1 + a .sh .words)) (turns (a .sh .size) (from (a .at) (wbit (a .y .now))) (wbit (a .d .now)) t)) all
+returns c = ?
 
 pub add-block-spec : {M : Type 1} → statement M
 add-block-spec =
@@ -87,12 +63,13 @@ add-block-spec =
     Inv-loop
     μ-loop
     loop-holds
-    add-is-set
-    is-set-requires
-    sub-add-turned
-    add-turned-requires
-    add-t
+    add-window
+    window-requires
+    end-of-requires
+    add-bits-requires
     loop-less
     loop-again
+    loop-less-2
+    loop-again-2
     same-length
     returns)
