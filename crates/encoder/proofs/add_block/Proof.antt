@@ -1,3 +1,16 @@
+-- `encoder::add_block` meets its contract: after each turn the bits before bit t of the block are added. Assumes nothing.
+use mathlib.Core.Path.{_≡_, ap, sym, _∙_}
+use mathlib.Core.Bool.{false, _&&_}
+use Prim.Native.Nat.{ℕ, _+_, _-_, _*_, _≤_, _<_}
+use native.Mathlib.Nat.{add-assoc}
+use native.Mathlib.Omega.{arith}
+use lib.ListN.{length}
+use borrow.Author.Needs.{needs}
+use Rattle.rules.specs.Bits.{digit}
+use Rattle.vectors.specs.Vectors.{wbit, from, added}
+use Rattle.vectors.proofs.Places.{digit-zero}
+use Rattle.encoder.specs.Rows.{turns}
+use Rattle.encoder.proofs.Adding.{sum-start, turns-skip}
 use Rattle.encoder.proofs.add_block.Statement.{statement}
 use Rattle.encoder.proofs.add_block.Tie as tie
 use Rattle.encoder.proofs.add_block.Reads as reads
@@ -7,54 +20,74 @@ use Rattle.encoder.proofs.end_of.Reads as end-of-reads
 use Rattle.vectors.proofs.window.Reads as window-reads
 
 abbrev Inv-loop : tie.InvT-loop
-Inv-loop y at d sh u₀ t₀ u t = ?
+Inv-loop y at d sh u₀ t₀ u t =
+    (t ≤ sh .size) × (length u ≡ 12) × (wbit u ≡ added (wbit u₀) 64 (64 * (1 + sh .words)) (turns (sh .size) (from at (wbit y)) (wbit d) t))
 
 abbrev μ-loop : tie.MeasureT-loop
-μ-loop y at d sh u₀ t₀ u t = ?
+μ-loop y at d sh u₀ t₀ u t = sh .size - t
 
--- src/lib.rt:60:5
 loop-holds : tie.Need-loop-holds Inv-loop μ-loop
-loop-holds c = ?
+loop-holds c =
+    let a = c .before .before .before .args in
+    (omega arith, c .before .before .before .pre .5, sum-start (wbit (a .u .now)) 64 (64 * (1 + a .sh .words)) (λ t k. wbit (a .y .now) (a .at + t) && wbit (a .d .now) (a .sh .size - t + k)))
 
--- src/lib.rt:61:36
 add-window : tie.Need-add-window Inv-loop μ-loop
-add-window c = ?
+add-window c = omega arith
 
--- src/lib.rt:61:13
 window-requires : tie.Need-window-requires Inv-loop μ-loop
-window-requires c κs = ?
+window-requires c κs = omega arith
 
--- src/lib.rt:62:13
 end-of-requires : tie.Need-end-of-requires Inv-loop μ-loop
-end-of-requires c κs = ?
+end-of-requires c κs = (omega arith, omega arith)
 
--- src/lib.rt:64:13
 add-bits-requires : tie.Need-add-bits-requires Inv-loop μ-loop
-add-bits-requires c κs = ?
+add-bits-requires c κs = search needs
 
--- src/lib.rt:60:5
 loop-less : tie.Need-loop-less Inv-loop μ-loop
-loop-less c = ?
+loop-less c = omega arith
 
--- src/lib.rt:60:5
 loop-again : tie.Need-loop-again Inv-loop μ-loop
-loop-again c = ?
+loop-again c =
+    let a = c .before .before .before .before .before .before .before .before .before .before .before .before .before .args in
+    let l = c .before .before .before .before .before .before .before .before .before .loop in
+    let y = wbit (a .y .now) in (
+      omega arith,
+      search needs,
+      c .before .before .add-bits .ensures (from (a .at) y) (wbit (a .u .now)) (λ i hi. c .before .before .before .before .before .before .window .ensures i hi ∙ ap y (add-assoc (a .at) (l .t) i)) (l .inv .2),
+    )
 
--- src/lib.rt:60:5
 loop-less-2 : tie.Need-loop-less-2 Inv-loop μ-loop
-loop-less-2 c = ?
+loop-less-2 c = omega arith
 
--- src/lib.rt:60:5
 loop-again-2 : tie.Need-loop-again-2 Inv-loop μ-loop
-loop-again-2 c = ?
+loop-again-2 c =
+    let a = c .before .before .before .before .before .before .before .before .before .args in
+    let l = c .before .before .before .before .before .loop in
+    let y = wbit (a .y .now) in
+    let d = wbit (a .d .now) in
+    let next = c .before .end-of .result in
+    let far : l .t + (next - l .t) ≡ next = omega arith in
+    let none : (i : ℕ) → i < next - l .t → y (a .at + (l .t + i)) ≡ false =
+    λ i h.
+    sym (ap y (add-assoc (a .at) (l .t) i))
+    ∙ sym (c .before .before .window .ensures i (omega arith))
+    ∙ ap (λ (v : ℕ). digit 64 v i) (c .if2 .left)
+    ∙ digit-zero 64 i in (
+      omega arith,
+      l .inv .1,
+      l .inv .2
+      ∙ ap (added (wbit (a .u .now)) 64 (64 * (1 + a .sh .words))) (turns-skip (a .sh .size) (from (a .at) y) d (l .t) (next - l .t) none ∙ ap (turns (a .sh .size) (from (a .at) y) d) far),
+    )
 
--- src/lib.rt:55:1
 same-length : tie.Need-same-length Inv-loop μ-loop
-same-length c = ?
+same-length c = omega arith
 
--- src/lib.rt:55:1
 returns : tie.Need-returns Inv-loop μ-loop
-returns c = ?
+returns c =
+    let a = c .before .before .before .before .before .before .args in
+    let l = c .before .before .loop in
+    let all : l .t ≡ a .sh .size = omega arith in
+    l .inv .2 ∙ ap (λ (t : ℕ). added (wbit (a .u .now)) 64 (64 * (1 + a .sh .words)) (turns (a .sh .size) (from (a .at) (wbit (a .y .now))) (wbit (a .d .now)) t)) all
 
 pub add-block-spec : {M : Type 1} → statement M
 add-block-spec =
