@@ -1,8 +1,7 @@
 -- How the sums grow, and how a part is put in its place. Assumes nothing.
-use mathlib.Core.Path.{_≡_, refl, sym, ap, ap₂, _∙_, fun-ext}
+use mathlib.Core.Path.{_≡_, sym, ap, _∙_, fun-ext}
 use mathlib.Core.Bool.{Bool, true, false, _&&_}
 use mathlib.Core.Logic.{⊎-elim}
-use mathlib.Core.List.{List}
 use Prim.Native.Nat.{ℕ, zero, suc, _+_, _-_, _*_, _/_, _%_, _≤_, _<_}
 use native.Mathlib.Nat.{add-zero, add-suc}
 use native.Mathlib.Numerals.{add-one}
@@ -10,11 +9,10 @@ use native.Mathlib.Omega.{arith}
 use lib.Dec.{ltb, leb}
 use Rattle.rules.specs.Bits.{Word, _⊕_, sum}
 use Rattle.rules.proofs.Sums.{⊕-false, ⊕-assoc, and-⊕}
-use Rattle.vectors.specs.Vectors.{wbit, upTo, from, added}
+use Rattle.vectors.specs.Vectors.{upTo, from, added}
 use Rattle.vectors.proofs.Places.{le-or-lt, and-none, xor-none}
 use Rattle.vectors.proofs.Spans.{upTo-below, upTo-above, added-before, added-after, added-inside}
-use Rattle.layout.specs.declared.Shape.{Shape}
-use Rattle.encoder.specs.Rows.{turns, partSum, doubledRow}
+use Rattle.encoder.specs.Rows.{turns}
 
 -- what is added twice at one place is added in one sum
 pub added-twice : (x : Word) (a e : ℕ) (y z : Word) → added (added x a e y) a e z ≡ added x a e (λ k. y k ⊕ z k)

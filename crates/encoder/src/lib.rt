@@ -1,6 +1,5 @@
 // The parity of a word, by whatever generator table is lent.
 use layout::Shape;
-
 ghost use mathlib.Core.Path.{_≡_};
 ghost use mathlib.Core.Bool.{false};
 ghost use Prim.Native.Nat.{ℕ, _+_, _-_, _*_, _/_, _%_, _<_, _≤_};
@@ -68,7 +67,17 @@ fn add_block(y: &[u64], at: usize, d: &[u64], sh: Shape, u: &mut [u64])
 }
 
 // Adds part p of the parity to what u holds from word 1 on.
-fn add_part(y: &[u64], g: &[u64], sh: Shape, inform: usize, parts: usize, p: usize, row: &mut [u64], d: &mut [u64], u: &mut [u64])
+fn add_part(
+    y: &[u64],
+    g: &[u64],
+    sh: Shape,
+    inform: usize,
+    parts: usize,
+    p: usize,
+    row: &mut [u64],
+    d: &mut [u64],
+    u: &mut [u64],
+)
     requires { ⌜ RowsFit (now g) sh inform parts × (p < parts) × (length (now y) ≡ 130) × (length (now row) ≡ sh .words) × (length (now d) ≡ 2 * sh .words + 1) × (length (now u) ≡ 12) ⌝ }
     ensures { λ r. ⌜ wbit (now (u .exit)) ≡ added (wbit (now (u .entry))) 64 (64 * (1 + sh .words)) (partSum (now (g .entry)) sh parts p (wbit (now (y .entry))) inform) ⌝ }
 {
@@ -90,7 +99,16 @@ fn put_part(y: &mut [u64], at: usize, u: &mut [u64], sh: Shape)
 }
 
 // Puts the parity after the information bits, part by part.
-fn put_parts(y: &mut [u64], g: &[u64], sh: Shape, inform: usize, parts: usize, row: &mut [u64], d: &mut [u64], u: &mut [u64])
+fn put_parts(
+    y: &mut [u64],
+    g: &[u64],
+    sh: Shape,
+    inform: usize,
+    parts: usize,
+    row: &mut [u64],
+    d: &mut [u64],
+    u: &mut [u64],
+)
     requires { ⌜ RowsFit (now g) sh inform parts × (length (now y) ≡ 130) × (wbit (now y) ≡ upTo (inform * sh .size) (wbit (now y))) × (length (now row) ≡ sh .words) × (length (now d) ≡ 2 * sh .words + 1) × (length (now u) ≡ 12) ⌝ }
     ensures { λ r. ⌜ ((c : Code) → LentRows c (now (g .entry)) sh inform parts → wbit (now (y .exit)) ≡ upTo (bits c) (encoded c (wbit (now (y .entry))))) ⌝ }
 {
@@ -112,5 +130,14 @@ pub fn encode(y: &mut [u64], g: &[u64], sh: Shape, inform: usize, parts: usize)
     let mut d = [0u64; 17];
     let mut u = [0u64; 12];
     let words = sh.words;
-    put_parts(y, g, sh, inform, parts, &mut row[..words], &mut d[..2 * words + 1], &mut u);
+    put_parts(
+        y,
+        g,
+        sh,
+        inform,
+        parts,
+        &mut row[..words],
+        &mut d[..2 * words + 1],
+        &mut u,
+    );
 }

@@ -10,10 +10,6 @@ use Rattle.encoder.specs.Rows.{turns}
 use Rattle.encoder.proofs.Adding.{turns-none, turns-one}
 use Rattle.encoder.proofs.add_bits.Statement.{statement}
 use Rattle.encoder.proofs.add_bits.Tie as tie
-use Rattle.encoder.proofs.add_bits.Reads as reads
-use Rattle.encoder.proofs.add_bits.Lts as lts
-use Rattle.encoder.proofs.has.Reads as has-reads
-use Rattle.vectors.proofs.add_turned.Reads as add-turned-reads
 
 abbrev Inv-loop : tie.InvT-loop
 Inv-loop v first last d sh u₀ t₀ u t =
@@ -65,10 +61,10 @@ loop-again c =
       omega arith,
       ap length (w .6) ∙ w .3 .kept .1 .1 .0 ∙ l .inv .2,
       λ x z h was.
-      ap wbit (w .6)
-      ∙ w .3 .ensures
-      ∙ ap (λ (y : Word). added y 64 e (from (M - l .t) d)) (l .inv .3 x z h was)
-      ∙ turns-one z 64 e M x d (l .t) (set x h ∙ w .0 .taken),
+          ap wbit (w .6)
+          ∙ w .3 .ensures
+          ∙ ap (λ (y : Word). added y 64 e (from (M - l .t) d)) (l .inv .3 x z h was)
+          ∙ turns-one z 64 e M x d (l .t) (set x h ∙ w .0 .taken),
     ))
     (λ w. (
       omega arith,

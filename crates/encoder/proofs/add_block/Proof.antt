@@ -13,11 +13,6 @@ use Rattle.encoder.specs.Rows.{turns}
 use Rattle.encoder.proofs.Adding.{sum-start, turns-skip}
 use Rattle.encoder.proofs.add_block.Statement.{statement}
 use Rattle.encoder.proofs.add_block.Tie as tie
-use Rattle.encoder.proofs.add_block.Reads as reads
-use Rattle.encoder.proofs.add_block.Lts as lts
-use Rattle.encoder.proofs.add_bits.Reads as add-bits-reads
-use Rattle.encoder.proofs.end_of.Reads as end-of-reads
-use Rattle.vectors.proofs.window.Reads as window-reads
 
 abbrev Inv-loop : tie.InvT-loop
 Inv-loop y at d sh u₀ t₀ u t =
@@ -76,7 +71,7 @@ loop-again-2 c =
       omega arith,
       l .inv .1,
       l .inv .2
-      ∙ ap (added (wbit (a .u .now)) 64 (64 * (1 + a .sh .words))) (turns-skip (a .sh .size) (from (a .at) y) d (l .t) (next - l .t) none ∙ ap (turns (a .sh .size) (from (a .at) y) d) far),
+          ∙ ap (added (wbit (a .u .now)) 64 (64 * (1 + a .sh .words))) (turns-skip (a .sh .size) (from (a .at) y) d (l .t) (next - l .t) none ∙ ap (turns (a .sh .size) (from (a .at) y) d) far),
     )
 
 same-length : tie.Need-same-length Inv-loop μ-loop

@@ -12,10 +12,6 @@ use Rattle.encoder.proofs.Adding.{sum-start, sum-more}
 use Rattle.encoder.proofs.Bounds.{numbers-few, number-room, table-small, bits-room}
 use Rattle.encoder.proofs.add_part.Statement.{statement}
 use Rattle.encoder.proofs.add_part.Tie as tie
-use Rattle.encoder.proofs.add_part.Reads as reads
-use Rattle.encoder.proofs.add_part.Lts as lts
-use Rattle.encoder.proofs.add_block.Reads as add-block-reads
-use Rattle.encoder.proofs.double_row.Reads as double-row-reads
 
 abbrev Inv-loop : tie.InvT-loop
 Inv-loop y g sh inform parts p row₀ d₀ u₀ j₀ row d u j =
@@ -89,8 +85,8 @@ loop-again c =
       search needs,
       search needs,
       c .before .before .add-block .ensures
-      ∙ ap₂ (λ (z d : Word). added z 64 e (turns (sh .size) (from (l .j * sh .size) y) d (sh .size))) (l .inv .4) (c .before .before .before .before .before .before .before .before .before .before .double-row .ensures)
-      ∙ sum-more x 64 e (l .j) (λ j. turns (sh .size) (from (j * sh .size) y) (row j) (sh .size)),
+          ∙ ap₂ (λ (z d : Word). added z 64 e (turns (sh .size) (from (l .j * sh .size) y) d (sh .size))) (l .inv .4) (c .before .before .before .before .before .before .before .before .before .before .double-row .ensures)
+          ∙ sum-more x 64 e (l .j) (λ j. turns (sh .size) (from (j * sh .size) y) (row j) (sh .size)),
     )
 
 same-length : tie.Need-same-length Inv-loop μ-loop

@@ -7,10 +7,6 @@ use Rattle.vectors.proofs.Spans.{upTo-again}
 use Rattle.encoder.specs.Rows.{rowStart}
 use Rattle.encoder.proofs.double_row.Statement.{statement}
 use Rattle.encoder.proofs.double_row.Tie as tie
-use Rattle.encoder.proofs.double_row.Reads as reads
-use Rattle.encoder.proofs.double_row.Lts as lts
-use Rattle.vectors.proofs.cut.Reads as cut-reads
-use Rattle.vectors.proofs.double.Reads as double-reads
 
 mul-at : tie.Need-mul-at
 mul-at c = search needs

@@ -7,9 +7,6 @@ use Rattle.encoder.proofs.Bounds.{length-front}
 use borrow.Author.Needs.{needs}
 use Rattle.encoder.proofs.encode.Statement.{statement}
 use Rattle.encoder.proofs.encode.Tie as tie
-use Rattle.encoder.proofs.encode.Reads as reads
-use Rattle.encoder.proofs.encode.Lts as lts
-use Rattle.encoder.proofs.put_parts.Reads as put-parts-reads
 
 array-borrow-prefix-row : tie.Need-array-borrow-prefix-row
 array-borrow-prefix-row c = search needs

@@ -6,8 +6,6 @@ use Rattle.vectors.proofs.Places.{place}
 use borrow.Author.Needs.{needs}
 use Rattle.encoder.proofs.has.Statement.{statement}
 use Rattle.encoder.proofs.has.Tie as tie
-use Rattle.encoder.proofs.has.Reads as reads
-use Rattle.encoder.proofs.has.Lts as lts
 
 sub-result : tie.Need-sub-result
 sub-result c = search needs

@@ -8,10 +8,6 @@ use Rattle.vectors.specs.Vectors.{wbit, from, added}
 use Rattle.encoder.proofs.Adding.{put-added}
 use Rattle.encoder.proofs.put_part.Statement.{statement}
 use Rattle.encoder.proofs.put_part.Tie as tie
-use Rattle.encoder.proofs.put_part.Reads as reads
-use Rattle.encoder.proofs.put_part.Lts as lts
-use Rattle.vectors.proofs.add_turned.Reads as add-turned-reads
-use Rattle.vectors.proofs.trim.Reads as trim-reads
 
 add-trim : tie.Need-add-trim
 add-trim c = search needs

@@ -7,18 +7,13 @@ use borrow.Author.Needs.{needs}
 use Rattle.rules.specs.Bits.{Word}
 use Rattle.rules.specs.Codes.{Code}
 use Rattle.rules.specs.Encoding.{encoded}
-use Rattle.vectors.specs.Vectors.{wbit, upTo, from, added}
+use Rattle.vectors.specs.Vectors.{wbit, upTo, added}
 use Rattle.vectors.proofs.Spans.{added-before}
 use Rattle.encoder.specs.Rows.{LentRows, partSum}
 use Rattle.encoder.proofs.Bounds.{bits-room}
 use Rattle.encoder.proofs.Parity.{parts-start, parts-more}
 use Rattle.encoder.proofs.put_parts.Statement.{statement}
 use Rattle.encoder.proofs.put_parts.Tie as tie
-use Rattle.encoder.proofs.put_parts.Reads as reads
-use Rattle.encoder.proofs.put_parts.Lts as lts
-use Rattle.encoder.proofs.add_part.Reads as add-part-reads
-use Rattle.encoder.proofs.put_part.Reads as put-part-reads
-use Rattle.vectors.proofs.clear.Reads as clear-reads
 
 abbrev Inv-loop : tie.InvT-loop
 Inv-loop y₀ g sh inform parts row₀ d₀ u₀ p₀ y row d u p =
@@ -68,9 +63,9 @@ put-part-requires c κs =
       fit .words,
       search needs,
       λ n h.
-      ap (λ (u : Word). u n) (part .ensures)
-      ∙ added-before (wbit (first .last .0)) (partSum (a .g .now) (a .sh) (a .parts) (l .p) (wbit (l .y)) (a .inform)) 64 (64 * (1 + a .sh .words)) n h
-      ∙ ap (λ (u : Word). u n) (first .ensures),
+          ap (λ (u : Word). u n) (part .ensures)
+          ∙ added-before (wbit (first .last .0)) (partSum (a .g .now) (a .sh) (a .parts) (l .p) (wbit (l .y)) (a .inform)) 64 (64 * (1 + a .sh .words)) n h
+          ∙ ap (λ (u : Word). u n) (first .ensures),
     )
 
 add-p : tie.Need-add-p Inv-loop μ-loop
@@ -94,9 +89,9 @@ loop-again c =
       search needs,
       put .kept .1 .1 .0 ∙ part .kept .1 .1 .1 .1 .1 .1 .1 .1 .0 ∙ first .kept .0 ∙ l .inv .4,
       λ code lent.
-      put .ensures
-      ∙ parts-more code (a .g .now) (a .sh) (a .inform) (a .parts) (s .pre .0) lent (wbit (a .y .now)) (wbit (l .y)) (wbit (part .last .1 .1 .1 .1 .1 .1 .1 .1 .0)) (l .p) more (l .inv .5 code lent)
-      (part .ensures ∙ ap (λ (u : Word). added u 64 (64 * (1 + a .sh .words)) (partSum (a .g .now) (a .sh) (a .parts) (l .p) (wbit (l .y)) (a .inform))) (first .ensures)),
+          put .ensures
+          ∙ parts-more code (a .g .now) (a .sh) (a .inform) (a .parts) (s .pre .0) lent (wbit (a .y .now)) (wbit (l .y)) (wbit (part .last .1 .1 .1 .1 .1 .1 .1 .1 .0)) (l .p) more (l .inv .5 code lent)
+          (part .ensures ∙ ap (λ (u : Word). added u 64 (64 * (1 + a .sh .words)) (partSum (a .g .now) (a .sh) (a .parts) (l .p) (wbit (l .y)) (a .inform))) (first .ensures)),
     )
 
 same-length : tie.Need-same-length Inv-loop μ-loop
