@@ -28,7 +28,8 @@ fn has(v: u64, i: usize) -> bool
     (v >> (63 - i)) % 2 == 1
 }
 
-// Adds the doubled row to the part that u holds from word 1 on, turned for each bit that is set from bit first to before bit last of a block; v begins with these.
+// Adds the doubled row to the part that u holds from word 1 on, turned for each bit that is set from bit first to before bit last of a block.
+// v begins with these bits.
 fn add_bits(v: u64, first: usize, last: usize, d: &[u64], sh: Shape, u: &mut [u64])
     requires { ⌜ (first ≤ last) × (last ≤ sh .size) × (last ≤ first + 64) × (sh .size ≤ 64 * sh .words) × (sh .words ≤ 8) × (length (now d) ≡ 2 * sh .words + 1) × (length (now u) ≡ 12) ⌝ }
     ensures { λ r. ⌜ ((x z : Word) → Holds v (from first x) → wbit (now (u .entry)) ≡ added z 64 (64 * (1 + sh .words)) (turns (sh .size) x (wbit (now (d .entry))) first) → wbit (now (u .exit)) ≡ added z 64 (64 * (1 + sh .words)) (turns (sh .size) x (wbit (now (d .entry))) last)) ⌝ }
@@ -50,7 +51,7 @@ fn end_of(t: usize, m: usize) -> usize
     if t + 64 < m { t + 64 } else { m }
 }
 
-// The same for all M bits of the block from bit at on.
+// Adds the doubled row, turned for each bit that is set of the block from bit at on; 64 zeros in a row are passed over.
 fn add_block(y: &[u64], at: usize, d: &[u64], sh: Shape, u: &mut [u64])
     requires { ⌜ (at + sh .size ≤ 8176) × (length (now y) ≡ 130) × (sh .size ≤ 64 * sh .words) × (sh .words ≤ 8) × (length (now d) ≡ 2 * sh .words + 1) × (length (now u) ≡ 12) ⌝ }
     ensures { λ r. ⌜ wbit (now (u .exit)) ≡ added (wbit (now (u .entry))) 64 (64 * (1 + sh .words)) (turns (sh .size) (from at (wbit (now (y .entry)))) (wbit (now (d .entry))) (sh .size)) ⌝ }
