@@ -1,3 +1,8 @@
+use mathlib.Core.Path.{sym, _∙_}
+use borrow.Author.Tests.{not-true, not-false}
+use native.Mathlib.Omega.{arith}
+use Rattle.vectors.specs.Vectors.{wbit}
+use Rattle.codes.proofs.Judging.{finds-broken, finds-telecommand, finds-unlike, finds-fill, finds-four, finds-five}
 use borrow.Author.Needs.{needs}
 use Rattle.codes.proofs.is_codeword.Statement.{statement}
 use Rattle.codes.proofs.is_codeword.Tie as tie
@@ -13,11 +18,17 @@ broken-requires c κs = search needs
 
 -- src/lib.rt:76:9
 returns : tie.Need-returns
-returns c = ?
+returns c =
+    let b = c .before in
+    let a = b .before .before .before in
+    λ word t sh long m. finds-broken (a .args .code) (a .pre .0) (wbit (a .args .y .now)) (wbit (a .args .s .now)) word t sh long m _ (b .broken .ensures) (c .if1 .taken)
 
 -- src/lib.rt:79:9
 returns-2 : tie.Need-returns-2
-returns-2 c = ?
+returns-2 c =
+    let b = c .before .before in
+    let a = b .before .before .before in
+    λ word t sh long m. finds-telecommand (a .args .code) (a .pre .0) (wbit (a .args .y .now)) (wbit (a .args .s .now)) word t sh long m _ (b .broken .ensures) (c .before .if1 .left) (c .if2 .taken)
 
 -- src/lib.rt:81:9
 own-parity-requires : tie.Need-own-parity-requires
@@ -25,7 +36,11 @@ own-parity-requires c κs = search needs
 
 -- src/lib.rt:82:9
 returns-3 : tie.Need-returns-3
-returns-3 c = ?
+returns-3 c =
+    let o = c .before in
+    let b = o .before .before .before in
+    let a = b .before .before .before in
+    λ word t sh long m. finds-unlike (a .args .code) (a .pre .0) (wbit (a .args .y .now)) (wbit (a .args .s .now)) word t sh long m _ (b .broken .ensures) (o .before .before .if1 .left) (o .before .if2 .left) _ (o .own-parity .ensures) (not-true _ (c .if3 .taken))
 
 -- src/lib.rt:85:12
 is-set-requires : tie.Need-is-set-requires
@@ -33,7 +48,13 @@ is-set-requires c κs = search needs
 
 -- src/lib.rt:86:13
 returns-4 : tie.Need-returns-4
-returns-4 c = ?
+returns-4 c =
+    let f = c .before .before in
+    let o = f .before .before in
+    let b = o .before .before .before in
+    let a = b .before .before .before in
+    λ word t sh long m.
+    finds-fill (a .args .code) (a .pre .0) (wbit (a .args .y .now)) (wbit (a .args .s .now)) word t sh long m _ (b .broken .ensures) (o .before .before .if1 .left) (o .before .if2 .left) _ (o .own-parity .ensures) (f .if4 .taken) 8176 (omega arith) (omega arith) (sym (c .before .is-set .ensures) ∙ c .if5 .taken)
 
 -- src/lib.rt:88:12
 is-set-requires-2 : tie.Need-is-set-requires-2
@@ -41,15 +62,32 @@ is-set-requires-2 c κs = search needs
 
 -- src/lib.rt:89:13
 returns-5 : tie.Need-returns-5
-returns-5 c = ?
+returns-5 c =
+    let f = c .before .before .before .before in
+    let o = f .before .before in
+    let b = o .before .before .before in
+    let a = b .before .before .before in
+    λ word t sh long m.
+    finds-fill (a .args .code) (a .pre .0) (wbit (a .args .y .now)) (wbit (a .args .s .now)) word t sh long m _ (b .broken .ensures) (o .before .before .if1 .left) (o .before .if2 .left) _ (o .own-parity .ensures) (f .if4 .taken) 8177 (omega arith) (omega arith) (sym (c .before .is-set2 .ensures) ∙ c .if6 .taken)
 
 -- src/lib.rt:71:1
 returns-6 : tie.Need-returns-6
-returns-6 c = ?
+returns-6 c =
+    let f = c .before .before .before .before in
+    let o = f .before .before in
+    let b = o .before .before .before in
+    let a = b .before .before .before in
+    λ word t sh long m.
+    finds-five (a .args .code) (a .pre .0) (wbit (a .args .y .now)) (wbit (a .args .s .now)) word t sh long m _ (b .broken .ensures) (o .before .before .if1 .left) (o .before .if2 .left) _ (o .own-parity .ensures) (not-false _ (f .before .if3 .left)) (f .if4 .taken)
+    (sym (c .before .before .before .is-set .ensures) ∙ c .before .before .if5 .left) (sym (c .before .is-set2 .ensures) ∙ c .if6 .left)
 
 -- src/lib.rt:71:1
 returns-7 : tie.Need-returns-7
-returns-7 c = ?
+returns-7 c =
+    let o = c .before .before in
+    let b = o .before .before .before in
+    let a = b .before .before .before in
+    λ word t sh long m. finds-four (a .args .code) (a .pre .0) (wbit (a .args .y .now)) (wbit (a .args .s .now)) word t sh long m _ (b .broken .ensures) (o .before .before .if1 .left) (o .before .if2 .left) _ (o .own-parity .ensures) (not-false _ (c .before .if3 .left)) (c .if4 .left)
 
 pub is-codeword-spec : {M : Type 1} → statement M
 is-codeword-spec =

@@ -36,7 +36,10 @@ is-codeword-requires c κs = search needs
 
 -- src/lib.rt:147:1
 returns : tie.Need-returns
-returns c = ?
+returns c =
+    let m = c .before .before .before .before .before .before in
+    let a = m .before .before .before .before .before in
+    c .is-codeword .ensures (a .args .word .now) _ _ (a .pre .1) (m .measure .ensures)
 
 pub opens-spec : {M : Type 1} → statement M
 opens-spec =

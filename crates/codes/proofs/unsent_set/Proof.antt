@@ -1,3 +1,6 @@
+use mathlib.Core.Path.{ap, _∙_}
+use lib.Dec.{ltb}
+use Rattle.codes.proofs.Judging.{front-count}
 use borrow.Author.Needs.{needs}
 use Rattle.codes.proofs.unsent_set.Statement.{statement}
 use Rattle.codes.proofs.unsent_set.Tie as tie
@@ -24,7 +27,9 @@ ones-requires c κs = search needs
 
 -- src/lib.rt:42:1
 returns : tie.Need-returns
-returns c = ?
+returns c =
+    let k = c .before .before .before in
+    ap (ltb 0) (c .ones .ensures ∙ front-count 18 _ _ _ (k .cut .ensures) (search needs))
 
 pub unsent-set-spec : {M : Type 1} → statement M
 unsent-set-spec =
