@@ -11,6 +11,7 @@ ghost use Rattle.rules.specs.Checks.{broken};
 ghost use Rattle.rules.specs.Encoding.{codeword};
 ghost use Rattle.rules.specs.Flipping.{Run};
 ghost use Rattle.rules.specs.Calls.{offered, judged, checkAnswer, openAnswer, correctAnswer, stepAnswer};
+ghost use Rattle.rules.proofs.Answers.{ranFrom, steppedFrom};
 ghost use Rattle.layout.specs.declared.Shape.{Shape};
 ghost use Rattle.vectors.specs.Vectors.{wbit};
 ghost use Rattle.received.specs.Measured.{Measured};
@@ -155,6 +156,30 @@ fn opens(code: u8, word: &[u8]) -> bool
     is_codeword(code, &y, &s)
 }
 
+// The flipping run on a word of the right length, into an output of the right length.
+fn correct_taken(code: u8, word: &[u8], limit: u16, out: &mut [u8]) -> Corrected
+    requires { ⌜ (offered code ≡ true) × (length (now word) ≡ codeOf code .wordOctets) × (length (now out) ≡ codeOf code .wordOctets) ⌝ }
+    ensures { λ r. ⌜ asCorrected r (now (out .exit)) ≡ ranFrom code (now (word .entry)) limit (now (out .entry)) ⌝ }
+{
+    let mut t = [0u16; 64];
+    let mut y = [0u64; 130];
+    let mut s = [0u64; 16];
+    let sh = received::measure(code, word, &mut t, &mut y, &mut s);
+    let first = syndromes::broken(&s);
+    let ran = runs::run(&mut y, &mut s, &t, sh, limit);
+    let last = syndromes::broken(&s);
+    let number = judge(code, &y, ran.number);
+    if number == 0 {
+        received::write(code, &mut y, out);
+    }
+    Corrected {
+        number: number,
+        flips: ran.flips,
+        first: first,
+        last: last,
+    }
+}
+
 // The flipping run on a received word, under a limit.
 pub fn correct(code: u8, word: &[u8], limit: u16, out: &mut [u8]) -> Corrected
     ensures { λ r. ⌜ asCorrected r (now (out .exit)) ≡ correctAnswer code (now (word .entry)) limit (now (out .entry)) ⌝ }
@@ -183,21 +208,93 @@ pub fn correct(code: u8, word: &[u8], limit: u16, out: &mut [u8]) -> Corrected
             last: 0,
         };
     }
+    correct_taken(code, word, limit, out)
+}
+
+// One flip of the run on a word of the right length, into an output of the right length.
+fn step_taken(code: u8, word: &[u8], out: &mut [u8]) -> Stepped
+    requires { ⌜ (offered code ≡ true) × (length (now word) ≡ codeOf code .wordOctets) × (length (now out) ≡ codeOf code .wordOctets) ⌝ }
+    ensures { λ r. ⌜ asStepped r (now (out .exit)) ≡ steppedFrom code (now (word .entry)) (now (out .entry)) ⌝ }
+{
     let mut t = [0u16; 64];
     let mut y = [0u64; 130];
     let mut s = [0u64; 16];
     let sh = received::measure(code, word, &mut t, &mut y, &mut s);
-    let first = syndromes::broken(&s);
-    let ran = runs::run(&mut y, &mut s, &t, sh, limit);
-    let last = syndromes::broken(&s);
-    let number = judge(code, &y, ran.number);
-    if number == 0 {
-        received::write(code, &mut y, out);
+    let next = runs::next(&s, &t, sh);
+    if next.quiet {
+        copy(word, out);
+        return Stepped {
+            number: 0,
+            quiet: true,
+            bit: 0,
+            excess: 0,
+        };
     }
-    Corrected {
-        number: number,
-        flips: ran.flips,
-        first: first,
-        last: last,
+    if next.number == 5 {
+        return Stepped {
+            number: 5,
+            quiet: false,
+            bit: 0,
+            excess: 0,
+        };
+    }
+    vectors::turn_over(&mut y, next.bit);
+    received::write(code, &mut y, out);
+    Stepped {
+        number: 0,
+        quiet: false,
+        bit: next.bit as u32,
+        excess: next.excess as i8,
+    }
+}
+
+// One flip of the run, with the bit's number and excess; or quiet, in which case the word is copied.
+pub fn step(code: u8, word: &[u8], out: &mut [u8]) -> Stepped
+    ensures { λ r. ⌜ asStepped r (now (out .exit)) ≡ stepAnswer code (now (word .entry)) (now (out .entry)) ⌝ }
+{
+    if !received::is_offered(code) {
+        return Stepped {
+            number: 1,
+            quiet: false,
+            bit: 0,
+            excess: 0,
+        };
+    }
+    if code == 5 {
+        return Stepped {
+            number: 1,
+            quiet: false,
+            bit: 0,
+            excess: 0,
+        };
+    }
+    if word.len() != received::word_octets(code) {
+        return Stepped {
+            number: 2,
+            quiet: false,
+            bit: 0,
+            excess: 0,
+        };
+    }
+    if out.len() != received::word_octets(code) {
+        return Stepped {
+            number: 3,
+            quiet: false,
+            bit: 0,
+            excess: 0,
+        };
+    }
+    step_taken(code, word, out)
+}
+
+// The octets of a word into an output of the same length.
+fn copy(word: &[u8], out: &mut [u8])
+    requires { ⌜ length (now word) ≡ length (now out) ⌝ }
+    ensures { λ _. ⌜ now (out .exit) ≡ now (word .entry) ⌝ }
+{
+    let mut i: usize = 0;
+    while i < word.len() {
+        out[i] = word[i];
+        i += 1;
     }
 }
