@@ -41,7 +41,7 @@ same-difference a b a′ b′ e = go (decLt a b)
 
 module _ {c : Code} {h : List ℕ} {sh : Shape} (lent : Lent c h sh) (x : Word) where
   -- No bit has more than 7 checks.
-  degree-le : (n : ℕ) → n < bits c → degreeOf c n ≤ 7
+  pub degree-le : (n : ℕ) → n < bits c → degreeOf c n ≤ 7
   degree-le n l = go (sh .size) refl
     where
       under : n < sh .blocks * sh .size

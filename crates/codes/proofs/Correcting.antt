@@ -1,21 +1,23 @@
 -- Correct and step, put together from what the engine ensures.
 use mathlib.Core.Path.{_≡_, refl, sym, ap, ap₂, _∙_, subst}
-use mathlib.Core.Bool.{Bool, true, false}
+use mathlib.Core.Bool.{Bool, true, false, cond}
 use mathlib.Core.List.{List}
-use Prim.Native.Nat.{ℕ, _≤_, _<_}
+use Prim.Native.Nat.{ℕ, suc, _-_, _≤_, _<_}
 use native.Mathlib.Omega.{arith}
 use lib.Dec.{eqb, lit≤}
-use lib.IntN.{ℤ, pos}
+use lib.IntN.{ℤ, pos, negsuc, subℕ, natAbs}
 use lib.ListN.{length}
-use borrow.Author.Tests.{eq-eqb, ne-eqb}
+use borrow.Author.Tests.{eq-eqb, ne-eqb, le-ltb}
 use Rattle.rules.specs.Bits.{Word, bit, flipped, if_then_else_}
-use Rattle.rules.specs.Codes.{Code, code}
+use Rattle.rules.specs.Codes.{Code, code, bits}
 use Rattle.rules.specs.Checks.{broken}
 use Rattle.rules.specs.Encoding.{lifted}
 use Rattle.rules.specs.Flipping.{Next, quiet, stuck, flip, byExcess, Run, run}
 use Rattle.rules.specs.Calls.{offered, written, Corrected, judged, ranCorrect, Stepped, refusedStep, nextStep}
 use Rattle.rules.proofs.Runs.{run-ends, End, ends-quiet, ends-stuck, ends-limit}
-use Rattle.rules.proofs.Choosing.{next-quiet}
+use Rattle.rules.proofs.Choosing.{next-quiet, next-flip, Chosen, chosen-lt}
+use Rattle.rules.proofs.Flips.{brokenOf, metOf, excess-is, broken-met}
+use Rattle.choice.proofs.Excesses.{degree-le}
 use Rattle.rules.proofs.Answers.{ranFrom, steppedFrom}
 use Rattle.layout.specs.declared.Shape.{Shape}
 use Rattle.layout.specs.Lent.{Fit, Lent, laid}
@@ -118,3 +120,16 @@ wrote-word number w out out′ e f = f ∙ sym (ap (λ b. if b then w else out) 
 
 pub wrote-none : (number : ℕ) (w out : List ℕ) → (number ≡ 0 → ⊥) → out ≡ (if eqb number 0 then w else out)
 wrote-none number w out d = sym (ap (λ b. if b then w else out) (ne-eqb number 0 d))
+
+-- ---- the excess of a flip is small
+
+-- where more checks are broken than met
+more-broken : (b m : ℕ) → m < b → subℕ b m ≡ pos (b - m)
+more-broken b m l = ap (λ t. cond t (negsuc (m - suc b)) (pos (b - m))) (le-ltb b m (omega arith))
+
+pub small-excess : (c : Code) (h : List ℕ) (sh : Shape) → Lent c h sh → 0 < bits c → (x : Word) (k ex : ℕ) → byExcess c x ≡ flip k (pos ex) → ex ≤ 7
+small-excess c h sh lent some x k ex e =
+    let ch : Chosen c x k (pos ex) = next-flip c x k (pos ex) e in
+    let l : k < bits c = subst (λ z. z < bits c) (sym (ch .bit)) (chosen-lt c some x) in
+    let is : ex ≡ brokenOf c x k - metOf c x k = ap natAbs (ch .value ∙ excess-is c x k ∙ more-broken (brokenOf c x k) (metOf c x k) (ch .above)) in
+    omega (arith, is, broken-met c x k, degree-le lent x k l)

@@ -1,3 +1,18 @@
+use mathlib.Core.Path.{_≡_, sym, ap, ap₂, _∙_}
+use mathlib.Core.Bool.{true, false}
+use native.Mathlib.Omega.{arith}
+use native.Mathlib.Nat.{lt-of-le-of-lt}
+use mir.Syntax.{w8}
+use mir.Facts.{toZ-pos}
+use lib.Dec.{lit<}
+use lib.IntN.{pos}
+use Rattle.rules.specs.Bits.{flipped}
+use Rattle.rules.specs.Codes.{code}
+use Rattle.rules.specs.Calls.{written, nextStep}
+use Rattle.rules.specs.Flipping.{quiet, stuck, flip}
+use Rattle.runs.proofs.Turning.{comes-quiet, comes-stuck, comes-flip}
+use Rattle.codes.proofs.Judging.{pb}
+use Rattle.codes.proofs.Correcting.{blocks-some, holding, stepped-is, small-excess}
 use borrow.Author.Needs.{needs}
 use Rattle.codes.proofs.step_taken.Statement.{statement}
 use Rattle.codes.proofs.step_taken.Tie as tie
@@ -35,7 +50,11 @@ slice-aggregate-next-2 c = search needs
 
 -- src/lib.rt:223:9
 next-requires : tie.Need-next-requires
-next-requires c κs = ?
+next-requires c κs =
+    let m = c .before .before .before .before .before in
+    let a = m .before .before .before .before .before .before in
+    let e = m .measure .ensures in
+    (e .lends .fit, search needs, blocks-some (a .args .code) (a .args .word .now) _ _ _ _ e, holding (a .args .code) (a .args .word .now) _ _ _ _ e)
 
 -- src/lib.rt:225:9
 copy-requires : tie.Need-copy-requires
@@ -47,11 +66,23 @@ same-length c = search needs
 
 -- src/lib.rt:226:9
 returns : tie.Need-returns
-returns c = ?
+unfolding nextStep
+returns c =
+    let x = c .before .before .before .before .before in
+    let m = x .before .before .before .before .before .before in
+    let a = m .before .before .before .before .before .before in
+    let e = m .measure .ensures in
+    ap (λ z. record { number = 0; quiet = true; bit = 0; excess = pos 0; out = z }) (c .before .before .copy .ensures)
+    ∙ stepped-is (a .args .code) (a .args .word .now) _ _ _ _ e (a .args .out .now) (x .next .result) quiet (x .next .ensures .1) (comes-quiet (x .next .result) (c .before .before .before .before .if1 .taken))
 
 -- src/lib.rt:234:9
 returns-2 : tie.Need-returns-2
-returns-2 c = ?
+unfolding nextStep
+returns-2 c =
+    let x = c .before .before .before in
+    let m = x .before .before .before .before .before .before in
+    let a = m .before .before .before .before .before .before in
+    stepped-is (a .args .code) (a .args .word .now) _ _ _ _ (m .measure .ensures) (a .args .out .now) (x .next .result) stuck (x .next .ensures .1) (comes-stuck (x .next .result) (c .before .before .if1 .left) (c .if2 .taken))
 
 -- src/lib.rt:241:24
 slice-aggregate-turn-over : tie.Need-slice-aggregate-turn-over
@@ -75,7 +106,16 @@ cast-t30 c = search needs
 
 -- src/lib.rt:247:17
 cast-t31 : tie.Need-cast-t31
-cast-t31 c = ?
+cast-t31 c =
+    let x = c .before .before .before .before .before .before .before .before .before .before .before .before .before .before in
+    let m = x .before .before .before .before .before .before in
+    let a = m .before .before .before .before .before .before in
+    let n = a .args .code in
+    let e = m .measure .ensures in
+    let k = c .before .before .before .before .before .before .before .before .before .before .before in
+    let f = comes-flip (x .next .result) (k .before .before .if1 .left) (k .if2 .left) in
+    let l = small-excess (code n) _ _ (e .lends .lent) (pb n (a .pre .0) .some) _ (x .next .result .bit) (x .next .result .excess) (x .next .ensures .1 (code n) (e .lends .lent) _ (e .held) ∙ f) in
+    record { sfits = lt-of-le-of-lt l (lit< tt) }
 
 -- src/lib.rt:215:1
 same-length-2 : tie.Need-same-length-2
@@ -83,7 +123,21 @@ same-length-2 c = search needs
 
 -- src/lib.rt:215:1
 returns-3 : tie.Need-returns-3
-returns-3 c = ?
+unfolding nextStep
+returns-3 c =
+    let x = c .before .before .before .before .before .before .before .before .before .before .before .before .before .before in
+    let m = x .before .before .before .before .before .before in
+    let a = m .before .before .before .before .before .before in
+    let n = a .args .code in
+    let e = m .measure .ensures in
+    let k = c .before .before .before .before .before .before .before .before .before .before .before in
+    let f = comes-flip (x .next .result) (k .before .before .if1 .left) (k .if2 .left) in
+    let l = small-excess (code n) _ _ (e .lends .lent) (pb n (a .pre .0) .some) _ (x .next .result .bit) (x .next .result .excess) (x .next .ensures .1 (code n) (e .lends .lent) _ (e .held) ∙ f) in
+    let b = x .next .result .bit in
+    ap₂ (λ z o. record { number = 0; quiet = false; bit = b; excess = z; out = o }) (toZ-pos w8 (lt-of-le-of-lt l (lit< tt)))
+    (c .before .before .before .before .before .write .ensures
+    ∙ ap (written (code n)) (c .before .before .before .before .before .before .before .before .before .turn-over .ensures ∙ ap (λ z. flipped z b) (e .bits)))
+    ∙ stepped-is n (a .args .word .now) _ _ _ _ e (a .args .out .now) (x .next .result) (flip b (pos (x .next .result .excess))) (x .next .ensures .1) f
 
 pub step-taken-spec : {M : Type 1} → statement M
 step-taken-spec =
