@@ -1,3 +1,4 @@
 pub mod Refusals
 pub mod Judging
 pub mod Correcting
+pub mod Outcomes
