@@ -1,27 +1,19 @@
 -- A flat list that has the words of the printed numbers is the generator table, lent. Said once over M and over the words of a number.
-use mathlib.Core.Path.{_≡_, refl, sym, ap, ap₂, _∙_, subst}
+use mathlib.Core.Path.{_≡_, sym, ap, ap₂, _∙_}
 use mathlib.Core.List.{List, []}
 use Prim.Native.Nat.{ℕ, suc, _+_, _-_, _*_, _/_, _%_, _^_, _≤_, _<_}
 use native.Mathlib.Nat.{mul-comm, mod-lt, zero-lt-suc}
 use native.Mathlib.Omega.{arith}
 use lib.Arith.{digits-div, digits-mod, digits-lt}
-use lib.Dec.{T, eqb, eqb→eq}
 use lib.ListN.{length, getD}
-use Rattle.rules.specs.Bits.{digit}
 use Rattle.rules.specs.Codes.{Code, bits, information}
 use Rattle.rules.specs.Encoding.{printedBit}
-use Rattle.rules.specs.Identity.{below}
-use Rattle.rules.proofs.Sums.{below-at}
 use Rattle.vectors.specs.Vectors.{wbit}
 use Rattle.vectors.proofs.Places.{place, place-down, place-cut}
 use Rattle.vectors.proofs.Filling.{word-at}
 use Rattle.layout.specs.declared.Shape.{Shape}
 use Rattle.encoder.specs.Rows.{LentRows, rowStart}
 use Rattle.generators.specs.Words.{wordOf, printedWord, Prints}
-
--- the computed test of a constant's words
-pub same-words : (n : ℕ) (f w : ℕ → ℕ) → T (below n (λ i. eqb (f i) (w i))) → (i : ℕ) → i < n → f i ≡ w i
-same-words n f w t i h = eqb→eq (f i) (w i) (below-at n (λ i. eqb (f i) (w i)) t i h)
 
 -- a place of a number, in its words
 place-word : (words number q j : ℕ) → j < 64 → place (wordOf words number q) j ≡ place number (64 * (words - suc q) + j)
@@ -31,11 +23,10 @@ place-word words number q j h = place-cut (number / 2 ^ (64 * (words - suc q))) 
 word-of : (words parts : ℕ) (table : List (List ℕ)) (j p q : ℕ) → p < parts → q < words
     → printedWord words parts table ((j * parts + p) * words + q) ≡ wordOf words (getD (getD table j []) p 0) q
 word-of words parts table j p q hp hq =
-    let i = (j * parts + p) * words + q in
     ap₂ (λ v r. wordOf words (getD (getD table (v / parts) []) (v % parts) 0) r) (digits-div (j * parts + p) hq) (digits-mod (j * parts + p) hq)
     ∙ ap₂ (λ a b. wordOf words (getD (getD table a []) b 0) q) (digits-div j hp) (digits-mod j hp)
 
-module _ (c : Code) (g : List ℕ) (sh : Shape) (inform parts : ℕ) (w : ℕ → ℕ) (held : sh .size ≤ 64 * sh .words) (prints : Prints c (sh .size) (sh .words) inform parts w) (filled : (i : ℕ) → i < inform * parts * sh .words → getD g i 0 ≡ w i) where
+module _ {A : Type 0} (c : Code) (g : List ℕ) (sh : Shape) (inform parts : ℕ) (flat : A → ℕ → ℕ) (h : A) (held : sh .size ≤ 64 * sh .words) (prints : Prints c (sh .size) (sh .words) inform parts flat h) (filled : (i : ℕ) → i < inform * parts * sh .words → getD g i 0 ≡ flat h i) where
   row-by : (j p k : ℕ) → j < inform → p < parts → k < sh .size → printedBit c j p k ≡ wbit g (rowStart sh (j * parts + p) + k)
   row-by j p k hj hp hk =
       let number = getD (getD (c .generator) j []) p 0 in

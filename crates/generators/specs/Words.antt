@@ -20,10 +20,10 @@ flat4 h i = getD (getD h (i / 4) []) (i % 4) 0
 abbrev pub flat28 : List (List (List ℕ)) → ℕ → ℕ
 flat28 h i = getD (getD (getD h (i / 16) []) (i / 8 % 2) []) (i % 8) 0
 
--- The words w are those of the generator table of the code c.
-pub record Prints (c : Code) (size words inform parts : ℕ) (w : ℕ → ℕ) : Type 0 where
+-- The words of a constant h, laid flat, are those of the generator table of the code c.
+pub record Prints {A : Type 0} (c : Code) (size words inform parts : ℕ) (flat : A → ℕ → ℕ) (h : A) : Type 0 where
   pub size-is : c .size ≡ size
   pub digits : size ≤ c .printed
   pub inform-are : length (c .generator) ≡ inform
   pub blocks-are : length (getD (c .parity) 0 []) ≡ inform + parts
-  pub words-are : (i : ℕ) → i < inform * parts * words → w i ≡ printedWord words parts (c .generator) i
+  pub words-are : (i : ℕ) → i < inform * parts * words → flat h i ≡ printedWord words parts (c .generator) i

@@ -394,7 +394,7 @@ fn flatten28(h: &[[[u64; 8]; 2]; 14], g: &mut [u64])
 // Encodes by a table whose numbers have one word each.
 fn encode4(h: &[[u64; 4]; 4], size: usize, y: &mut [u64])
     requires { ⌜ (1 ≤ size) × (size ≤ 64) × (length (now y) ≡ 130) × (wbit (now y) ≡ upTo (4 * size) (wbit (now y))) ⌝ }
-    ensures { λ _. ⌜ ((c : Code) → Prints c size 1 4 4 (flat4 (now (h .entry))) → wbit (now (y .exit)) ≡ upTo (bits c) (encoded c (wbit (now (y .entry))))) ⌝ }
+    ensures { λ _. ⌜ ((c : Code) → Prints c size 1 4 4 flat4 (now (h .entry)) → wbit (now (y .exit)) ≡ upTo (bits c) (encoded c (wbit (now (y .entry))))) ⌝ }
 {
     let mut g = [0u64; 17];
     flatten4(h, &mut g);
@@ -415,7 +415,7 @@ fn encode4(h: &[[u64; 4]; 4], size: usize, y: &mut [u64])
 // Encodes by a table whose numbers have eight words each.
 fn encode28(h: &[[[u64; 8]; 2]; 14], y: &mut [u64])
     requires { ⌜ (length (now y) ≡ 130) × (wbit (now y) ≡ upTo (14 * 511) (wbit (now y))) ⌝ }
-    ensures { λ _. ⌜ ((c : Code) → Prints c 511 8 14 2 (flat28 (now (h .entry))) → wbit (now (y .exit)) ≡ upTo (bits c) (encoded c (wbit (now (y .entry))))) ⌝ }
+    ensures { λ _. ⌜ ((c : Code) → Prints c 511 8 14 2 flat28 (now (h .entry)) → wbit (now (y .exit)) ≡ upTo (bits c) (encoded c (wbit (now (y .entry))))) ⌝ }
 {
     let mut g = [0u64; 225];
     flatten28(h, &mut g);

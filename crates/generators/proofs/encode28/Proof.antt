@@ -1,6 +1,7 @@
 -- `generators::encode28` meets its contract: the flat list is the table, lent. Assumes nothing.
 use native.Mathlib.Omega.{arith}
 use borrow.Author.Needs.{needs}
+use Rattle.generators.specs.Words.{flat28}
 use Rattle.generators.proofs.Lending.{lent-rows}
 use Rattle.generators.proofs.encode28.Statement.{statement}
 use Rattle.generators.proofs.encode28.Tie as tie
@@ -21,7 +22,7 @@ same-length : tie.Need-same-length
 same-length c = search needs
 
 returns : tie.Need-returns
-returns c = λ code prints. c .before .before .encode .ensures code (lent-rows code _ _ 14 2 _ (omega arith) prints (c .before .before .before .before .before .before .flatten28 .ensures))
+returns c = λ code prints. c .before .before .encode .ensures code (lent-rows code _ _ 14 2 flat28 _ (omega arith) prints (c .before .before .before .before .before .before .flatten28 .ensures))
 
 pub encode28-spec : {M : Type 1} → statement M
 encode28-spec =

@@ -1,6 +1,7 @@
 -- `generators::encode4` meets its contract: the flat list is the table, lent. Assumes nothing.
 use native.Mathlib.Omega.{arith}
 use borrow.Author.Needs.{needs}
+use Rattle.generators.specs.Words.{flat4}
 use Rattle.generators.proofs.Lending.{lent-rows}
 use Rattle.generators.proofs.encode4.Statement.{statement}
 use Rattle.generators.proofs.encode4.Tie as tie
@@ -21,7 +22,7 @@ same-length : tie.Need-same-length
 same-length c = search needs
 
 returns : tie.Need-returns
-returns c = λ code prints. c .before .before .encode .ensures code (lent-rows code _ _ 4 4 _ (omega arith) prints (c .before .before .before .before .before .before .flatten4 .ensures))
+returns c = λ code prints. c .before .before .encode .ensures code (lent-rows code _ _ 4 4 flat4 _ (omega arith) prints (c .before .before .before .before .before .before .flatten4 .ensures))
 
 pub encode4-spec : {M : Type 1} → statement M
 encode4-spec =
