@@ -5,6 +5,9 @@ use borrow.Fn.World.{ArgsD, ResD}
 use borrow.Fn.Kinds.{endedOf}
 use denote.Triple.Clauses.{AtExit}
 use denote.Ref.{now}
+use Rattle.codes.proofs.encode as encode
+use Rattle.codes.proofs.encode.Kinds as encode-kinds
+use Rattle.codes.proofs.encode.Reads as encode-reads
 use Rattle.codes.proofs.check as check
 use Rattle.codes.proofs.check.Kinds as check-kinds
 use Rattle.codes.proofs.check.Reads as check-reads
@@ -17,6 +20,10 @@ use Rattle.codes.proofs.correct.Reads as correct-reads
 use Rattle.codes.proofs.step as step
 use Rattle.codes.proofs.step.Kinds as step-kinds
 use Rattle.codes.proofs.step.Reads as step-reads
+
+pub encode-outcome : (κs : Lfts 2) (a : ArgsD encode.signature κs) (r₁ r₂ : ResD encode.signature κs) (s₁ s₂ : AtExit (endedOf 2 encode-kinds.ps encode-kinds.r) κs)
+    → encode-reads.Post κs a r₁ s₁ → encode-reads.Post κs a r₂ s₂ → (r₁ ≡ r₂) × (now (s₁ .1 .1 .0) ≡ now (s₂ .1 .1 .0))
+encode-outcome κs a r₁ r₂ s₁ s₂ p q = (ap (λ x. x .number) (p ∙ sym q), ap (λ x. x .out) (p ∙ sym q))
 
 pub check-outcome : (κs : Lfts 1) (a : ArgsD check.signature κs) (r₁ r₂ : ResD check.signature κs) (s₁ s₂ : AtExit (endedOf 1 check-kinds.ps check-kinds.r) κs)
     → check-reads.Post κs a r₁ s₁ → check-reads.Post κs a r₂ s₂ → r₁ ≡ r₂
