@@ -4,7 +4,7 @@ use Prim.Native.Nat.{_-_}
 use native.Mathlib.Omega.{arith}
 use lib.ListN.{length}
 use Rattle.rules.specs.Bits.{bit}
-use Rattle.vectors.proofs.Octets.{bit-past}
+use Rattle.rules.proofs.Octets.{bit-past}
 use Rattle.vectors.proofs.Filling.{Filled, filled-start, filled-more, filled-all}
 use Rattle.vectors.proofs.load.Statement.{statement}
 use Rattle.vectors.proofs.load.Tie as tie
