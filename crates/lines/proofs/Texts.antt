@@ -109,6 +109,7 @@ same-line i n word limit out other e =
         let x = lifted (code n) (bit word) in
         if b1 then refusedCorrect 1 o else if b2 then refusedCorrect 2 o else if b3 then refusedCorrect 3 o
         else ranCorrect (code n) x (run (byExcess (code n)) limit x) o
+
     go : (b1 b2 b3 : Bool) → line i (answer b1 b2 b3 out) ≡ line i (answer b1 b2 b3 other)
     go true b2 b3 = refl
     go false true b3 = refl

@@ -1,10 +1,9 @@
 // The log of a recording: a line of five numbers for each word that is corrected.
 ghost use mathlib.Core.Path.{_≡_};
-ghost use mathlib.Core.Bool.{true, _&&_};
+ghost use mathlib.Core.Bool.{true};
 ghost use mathlib.Core.List.{_∷_, [], _++_};
-ghost use Prim.Native.Nat.{_+_, _-_, _*_, _≤_, _<_, _^_};
-ghost use lib.Dec.{leb};
-ghost use lib.ListN.{length, take, getD};
+ghost use Prim.Native.Nat.{_+_, _-_, _*_, _/_, _≤_, _<_, _^_};
+ghost use lib.ListN.{length, take};
 ghost use Rattle.rules.specs.Codes.{code as codeOf};
 ghost use Rattle.rules.specs.Calls.{offered};
 ghost use Rattle.codes.specs.Answers.{asCorrected};
@@ -74,7 +73,15 @@ fn least(a: usize, b: usize) -> usize
 }
 
 // Corrects a word into out, and writes its line.
-fn write_word(code: u8, limit: u16, index: u64, word: &[u8], out: &mut [u8], text: &mut [u8], at: usize) -> usize
+fn write_word(
+    code: u8,
+    limit: u16,
+    index: u64,
+    word: &[u8],
+    out: &mut [u8],
+    text: &mut [u8],
+    at: usize,
+) -> usize
     requires { ⌜ (length (now out) ≡ codeOf code .wordOctets) × (at + 64 ≤ length (now text)) ⌝ }
     ensures { λ r. ⌜ (r ≤ at + 64) × (take r (now (text .exit)) ≡ take at (now (text .entry)) ++ wordLine code limit index (now (word .entry))) ⌝ }
 {
@@ -83,7 +90,14 @@ fn write_word(code: u8, limit: u16, index: u64, word: &[u8], out: &mut [u8], tex
 }
 
 // Corrects the words of a part of a recording, one after another, and writes their lines: answers where the text ends.
-pub fn write(code: u8, limit: u16, index: u64, words: &[u8], out: &mut [u8], text: &mut [u8]) -> usize
+pub fn write(
+    code: u8,
+    limit: u16,
+    index: u64,
+    words: &[u8],
+    out: &mut [u8],
+    text: &mut [u8],
+) -> usize
     requires { ⌜ (offered code ≡ true) × (length (now out) ≡ codeOf code .wordOctets) × (4 * length (now words) + 64 ≤ length (now text)) × (index + length (now words) < 2 ^ 64) ⌝ }
     ensures { λ r. ⌜ (r ≤ length (now (text .exit))) × (take r (now (text .exit)) ≡ linesOf code limit index (now (words .entry)) (wordsOf code (now (words .entry)))) ⌝ }
 {
@@ -94,20 +108,26 @@ pub fn write(code: u8, limit: u16, index: u64, words: &[u8], out: &mut [u8], tex
     while k < count {
         let at = k * size;
         let stop = least(at + size, words.len());
-        end = write_word(code, limit, index + k as u64, &words[at..stop], out, text, end);
+        end = write_word(
+            code,
+            limit,
+            index + k as u64,
+            &words[at..stop],
+            out,
+            text,
+            end,
+        );
         k += 1;
     }
     end
 }
 
-// Whether a recording starts as one: with a code that is offered, and a limit.
-pub fn starts(head: &[u8]) -> bool
-    ensures { λ r. ⌜ r ≡ (leb 3 (length (now (head .entry))) && offered (getD (now (head .entry)) 0 0)) ⌝ }
+// How many whole words 64 KiB hold.
+pub fn words_held(code: u8) -> usize
+    requires { ⌜ offered code ≡ true ⌝ }
+    ensures { λ r. ⌜ (r ≡ 65536 / codeOf code .wordOctets) × (0 < r) × (r * codeOf code .wordOctets ≤ 65536) ⌝ }
 {
-    if head.len() < 3 {
-        return false;
-    }
-    received::is_offered(head[0])
+    65536 / received::word_octets(code)
 }
 
 // The limit, high octet first.

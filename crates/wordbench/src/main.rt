@@ -9,7 +9,14 @@ use libc::STDIN_FILENO;
 use libc::STDOUT_FILENO;
 
 // One block of words: whether it was read whole and its lines are written.
-fn block(code: u8, limit: u16, index: u64, words: &mut [u8], out: &mut [u8], text: &mut [u8]) -> bool
+fn block(
+    code: u8,
+    limit: u16,
+    index: u64,
+    words: &mut [u8],
+    out: &mut [u8],
+    text: &mut [u8],
+) -> bool
     requires { ⌜ (offered code ≡ true) × (length (now out) ≡ codeOf code .wordOctets) × (4 * length (now words) + 64 ≤ length (now text)) × (index + length (now words) < 2 ^ 64) ⌝ }
 {
     let n = io::read_full(STDIN_FILENO, words);
@@ -27,25 +34,45 @@ fn blocks(code: u8, limit: u16, each: u64, words: &mut [u8], out: &mut [u8], tex
     }
 }
 
+fn out_buffer() -> [u8; 1022]
+    ensures { λ r. ⌜ 1022 ≡ length r ⌝ }
+{
+    [0; 1022]
+}
+
+fn text_buffer() -> [u8; 262208]
+    ensures { λ r. ⌜ 262208 ≡ length r ⌝ }
+{
+    [0; 262208]
+}
+
 // All words, in blocks of at most 64 KiB.
 fn all(code: u8, limit: u16)
     requires { ⌜ offered code ≡ true ⌝ }
 {
-    let mut words = [0u8; 65536];
-    let mut out = [0u8; 1022];
-    let mut text = [0u8; 262208];
+    let mut words = io::large_buffer();
+    let mut out = out_buffer();
+    let mut text = text_buffer();
+    let each = lines::words_held(code);
     let size = received::word_octets(code);
-    let each = 65536 / size;
     let full = each * size;
-    blocks(code, limit, each as u64, &mut words[..full], &mut out[..size], &mut text);
+    blocks(
+        code,
+        limit,
+        each as u64,
+        &mut words[..full],
+        &mut out[..size],
+        &mut text,
+    );
 }
 
 fn main() {
     io::write_all(STDOUT_FILENO, b"word answer flips first last\n");
     let mut head = [0u8; 3];
     let n = io::read_full(STDIN_FILENO, &mut head);
-    if lines::starts(&head[..n]) {
-        all(head[0], lines::limit(head[1], head[2]));
+    let code = head[0];
+    if n == 3 && received::is_offered(code) {
+        all(code, lines::limit(head[1], head[2]));
     } else {
         io::write_all(STDOUT_FILENO, b"0 1 0 0 0\n");
     }

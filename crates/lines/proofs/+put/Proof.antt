@@ -73,7 +73,7 @@ put-returns t c =
     let k : a .at < length (a .text .now) = omega (arith, digit-long (a .n) h) in (
       omega (arith, digit-long (a .n) h),
       one-more (a .text .now) (take (a .at) (a .text .now)) [] (a .at) (c .glyph .result) k (sym (append-nil _))
-      ∙ ap (λ (l : List ℕ). take (a .at) (a .text .now) ++ l) (ap (λ v. v ∷ []) (c .glyph .ensures) ∙ sym (decimal-digit (a .n) h)),
+          ∙ ap (λ (l : List ℕ). take (a .at) (a .text .now) ++ l) (ap (λ v. v ∷ []) (c .glyph .ensures) ∙ sym (decimal-digit (a .n) h)),
     )
 
 -- src/lib.rt:42:9
@@ -144,7 +144,7 @@ put-returns-2 t c =
     let k : w .result < length (w .last .1 .0) = omega (arith, more-long (a .n) h) in (
       omega (arith, more-long (a .n) h),
       one-more (w .last .1 .0) (take (a .at) (a .text .now)) (decimal (a .n / 10)) (w .result) (c .glyph2 .result) k (w .ensures .1)
-      ∙ ap (λ (l : List ℕ). take (a .at) (a .text .now) ++ l) (ap (λ v. decimal (a .n / 10) ++ (v ∷ [])) (c .glyph2 .ensures) ∙ sym (decimal-more (a .n) h)),
+          ∙ ap (λ (l : List ℕ). take (a .at) (a .text .now) ++ l) (ap (λ v. decimal (a .n / 10) ++ (v ∷ [])) (c .glyph2 .ensures) ∙ sym (decimal-more (a .n) h)),
     )
 
 pub +put-spec : {M : Type 1} → statement M

@@ -104,7 +104,7 @@ loop-again c =
     let b = starts (c .before .before .before .before .before .before .before .before .before) in
     let at = h .k * z .result in
     let e : take (l .result - at) (drop at ws) ≡ word (s .args .code) ws (h .k) =
-        piece ws at (z .result) (l .result) (l .ensures) ∙ ap (λ m. take m (drop (h .k * m) ws)) (z .ensures .0) in (
+    piece ws at (z .result) (l .result) (l .ensures) ∙ ap (λ m. take m (drop (h .k * m) ws)) (z .ensures .0) in (
       omega arith,
       omega arith,
       omega (arith, b .0, b .1),

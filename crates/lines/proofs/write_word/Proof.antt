@@ -42,7 +42,7 @@ returns c =
     let z : List ℕ = replicate (code (a .code) .wordOctets) 0 in (
       p .ensures .0,
       p .ensures .1
-      ∙ ap (λ (l : List ℕ). take (a .at) (a .text .now) ++ l) (
+          ∙ ap (λ (l : List ℕ). take (a .at) (a .text .now) ++ l) (
           ap (λ r. line (a .index) r) (g .ensures) ∙ same-line (a .index) (a .code) (a .word .now) (a .limit) (a .out .now) z (s .pre .0 ∙ sym (length-replicate (code (a .code) .wordOctets) 0))
           ),
     )
