@@ -1,11 +1,18 @@
 // The calls for C and Rust. A slice is handed over as a pointer and its length; the records are those of the calls.
 ghost use mathlib.Core.Path.{_≡_};
 ghost use lib.ListN.{length};
-ghost use Rattle.rules.specs.Calls.{checkAnswer, openAnswer, correctAnswer, stepAnswer};
-ghost use Rattle.codes.specs.Answers.{asChecked, asCorrected, asStepped};
+ghost use Rattle.rules.specs.Calls.{encodeAnswer, checkAnswer, openAnswer, correctAnswer, stepAnswer};
+ghost use Rattle.codes.specs.Answers.{asEncoded, asChecked, asCorrected, asStepped};
 use codes::Checked;
 use codes::Corrected;
 use codes::Stepped;
+
+#[no_mangle]
+pub extern "C" fn pandoricchia_encode(code: u8, information: &[u8], word: &mut [u8]) -> u8
+    ensures { λ r. ⌜ asEncoded r (now (word .exit)) ≡ encodeAnswer code (now (information .entry)) (now (word .entry)) ⌝ }
+{
+    codes::encode(code, information, word)
+}
 
 #[no_mangle]
 pub extern "C" fn pandoricchia_check(code: u8, word: &[u8]) -> Checked

@@ -1,3 +1,5 @@
 pub mod Refusals
+pub mod Encoding
 pub mod Judging
 pub mod Correcting
+pub mod Outcomes

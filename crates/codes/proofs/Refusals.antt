@@ -13,10 +13,10 @@ use Rattle.rules.specs.Calls.{offered, unlike, checkAnswer, openAnswer, refused
 use Rattle.rules.proofs.Answers.{if-yes, if-long}
 
 -- a test that fails, and a length that differs
-out-of : {A : Type 0} (b : Bool) (a r : A) → b ≡ false → (if not b then a else r) ≡ a
+pub out-of : {A : Type 0} (b : Bool) (a r : A) → b ≡ false → (if not b then a else r) ≡ a
 out-of b a r e = ap (λ b. if not b then a else r) e
 
-other : {A : Type 0} (octets : List ℕ) (long : ℕ) (a r : A) → (length octets ≡ long → ⊥) → (if unlike octets long then a else r) ≡ a
+pub other : {A : Type 0} (octets : List ℕ) (long : ℕ) (a r : A) → (length octets ≡ long → ⊥) → (if unlike octets long then a else r) ≡ a
 other octets long a r d = ap (λ b. if not b then a else r) (ne-eqb (length octets) long d)
 
 module _ (n : ℕ) where

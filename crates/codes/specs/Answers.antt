@@ -1,10 +1,13 @@
 -- The calls' results as the definition's answers.
 use mathlib.Core.List.{List}
 use Prim.Native.Nat.{ℕ}
-use Rattle.rules.specs.Calls.{Checked as CheckedAnswer, Opened as OpenedAnswer, Corrected as CorrectedAnswer, Stepped as SteppedAnswer}
+use Rattle.rules.specs.Calls.{Encoded as EncodedAnswer, Checked as CheckedAnswer, Opened as OpenedAnswer, Corrected as CorrectedAnswer, Stepped as SteppedAnswer}
 use Rattle.codes.specs.declared.Checked.{Checked}
 use Rattle.codes.specs.declared.Corrected.{Corrected}
 use Rattle.codes.specs.declared.Stepped.{Stepped}
+
+abbrev pub asEncoded : ℕ → List ℕ → EncodedAnswer
+asEncoded number out = record { number = number; out = out }
 
 abbrev pub asChecked : Checked → CheckedAnswer
 asChecked r = record { number = r .number; broken = r .broken }

@@ -1,6 +1,6 @@
 // The calls. Each takes any code number, any lengths and any contents; what it refuses it refuses by number, and writes nothing.
 ghost use mathlib.Core.Path.{_≡_};
-ghost use mathlib.Core.Bool.{true};
+ghost use mathlib.Core.Bool.{true, false};
 ghost use mathlib.Core.List.{List};
 ghost use Prim.Native.Nat.{ℕ};
 ghost use lib.Dec.{ltb};
@@ -8,14 +8,14 @@ ghost use lib.ListN.{length};
 ghost use Rattle.rules.specs.Bits.{bit, count};
 ghost use Rattle.rules.specs.Codes.{code as codeOf};
 ghost use Rattle.rules.specs.Checks.{broken};
-ghost use Rattle.rules.specs.Encoding.{codeword};
+ghost use Rattle.rules.specs.Encoding.{lifted, encoded, codeword};
 ghost use Rattle.rules.specs.Flipping.{Run};
-ghost use Rattle.rules.specs.Calls.{offered, judged, checkAnswer, openAnswer, correctAnswer, stepAnswer};
+ghost use Rattle.rules.specs.Calls.{offered, written, sixSet, judged, encodeAnswer, checkAnswer, openAnswer, correctAnswer, stepAnswer};
 ghost use Rattle.rules.proofs.Answers.{ranFrom, steppedFrom};
 ghost use Rattle.layout.specs.declared.Shape.{Shape};
 ghost use Rattle.vectors.specs.Vectors.{wbit};
 ghost use Rattle.received.specs.Measured.{Measured};
-ghost use Rattle.codes.specs.Answers.{asChecked, asOpened, asCorrected, asStepped};
+ghost use Rattle.codes.specs.Answers.{asEncoded, asChecked, asOpened, asCorrected, asStepped};
 
 #[repr(C)]
 pub struct Checked {
@@ -91,6 +91,49 @@ fn is_codeword(code: u8, y: &[u64], s: &[u64]) -> bool
         }
     }
     true
+}
+
+// Whether one of the six last bits of code 4's information is set.
+fn six_set(code: u8, information: &[u8]) -> bool
+    requires { ⌜ (code ≡ 4 → length (now information) ≡ 895) ⌝ }
+    ensures { λ r. ⌜ r ≡ sixSet code (now (information .entry)) ⌝ }
+{
+    if code == 4 {
+        information[894] % 64 != 0
+    } else {
+        false
+    }
+}
+
+// The encoding of information of the right length, whose spare bits are 0, into a word of the right length.
+fn encode_taken(code: u8, information: &[u8], word: &mut [u8])
+    requires { ⌜ (offered code ≡ true) × (length (now information) ≡ codeOf code .informationOctets) × (length (now word) ≡ codeOf code .wordOctets) × (sixSet code (now information) ≡ false) ⌝ }
+    ensures { λ _. ⌜ now (word .exit) ≡ written (codeOf code) (encoded (codeOf code) (lifted (codeOf code) (bit (now (information .entry))))) ⌝ }
+{
+    let mut y = [0u64; 130];
+    received::take(code, information, &mut y);
+    generators::encode(code, &mut y);
+    received::write(code, &mut y, word);
+}
+
+// Information in, word out.
+pub fn encode(code: u8, information: &[u8], word: &mut [u8]) -> u8
+    ensures { λ r. ⌜ asEncoded r (now (word .exit)) ≡ encodeAnswer code (now (information .entry)) (now (word .entry)) ⌝ }
+{
+    if !received::is_offered(code) {
+        return 1;
+    }
+    if information.len() != received::information_octets(code) {
+        return 2;
+    }
+    if word.len() != received::word_octets(code) {
+        return 3;
+    }
+    if six_set(code, information) {
+        return 4;
+    }
+    encode_taken(code, information, word);
+    0
 }
 
 // How many checks are broken.

@@ -1,3 +1,4 @@
+-- `codes::copy`: what is copied so far agrees. Assumes nothing.
 use mathlib.Core.Path.{_≡_, refl, ap, ap₂, sym, _∙_}
 use mathlib.Core.List.{List, _∷_, [], _++_}
 use Prim.Native.Nat.{ℕ, _≤_, _<_, _-_}
@@ -8,8 +9,6 @@ use lib.ListN.{length, take, set, getD, length-set}
 use lib.Seq.{take-suc-set, take-suc, take-length}
 use Rattle.codes.proofs.copy.Statement.{statement}
 use Rattle.codes.proofs.copy.Tie as tie
-use Rattle.codes.proofs.copy.Reads as reads
-use Rattle.codes.proofs.copy.Lts as lts
 
 abbrev Inv-loop : tie.InvT-loop
 Inv-loop word out₀ i₀ out i = (i ≤ length word) × (length out ≡ length out₀) × (take i out ≡ take i word)

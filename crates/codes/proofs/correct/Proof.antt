@@ -1,3 +1,4 @@
+-- `codes::correct`: refusals in the order of their numbers, then the run. Assumes nothing.
 use mathlib.Core.Path.{_≡_, sym, ap, _∙_}
 use borrow.Author.Tests.{not-true, not-false}
 use Rattle.rules.proofs.Answers.{correct-taken}
@@ -6,27 +7,18 @@ use Rattle.codes.proofs.Refusals.{correct-one, correct-two, correct-thr
 use borrow.Author.Needs.{needs}
 use Rattle.codes.proofs.correct.Statement.{statement}
 use Rattle.codes.proofs.correct.Tie as tie
-use Rattle.codes.proofs.correct.Reads as reads
-use Rattle.codes.proofs.correct.Lts as lts
-use Rattle.codes.proofs.correct_taken.Reads as correct-taken-reads
-use Rattle.received.proofs.is_offered.Reads as is-offered-reads
-use Rattle.received.proofs.word_octets.Reads as word-octets-reads
 
--- src/lib.rt:187:9
 is-offered-requires : tie.Need-is-offered-requires
 is-offered-requires c κs = search needs
 
--- src/lib.rt:188:9
 returns : tie.Need-returns
 returns c =
     let a = c .before .before .before .before in
     sym (correct-one (a .args .code) (a .args .word .now) (a .args .limit) (a .args .out .now) (sym (c .before .is-offered .ensures) ∙ not-true _ (c .if1 .taken)))
 
--- src/lib.rt:195:22
 word-octets-requires : tie.Need-word-octets-requires
 word-octets-requires c κs = sym (c .before .is-offered .ensures) ∙ not-false _ (c .if1 .left)
 
--- src/lib.rt:196:9
 returns-2 : tie.Need-returns-2
 returns-2 c =
     let w = c .before in
@@ -34,13 +26,11 @@ returns-2 c =
     let a = e .before .before .before .before in
     sym (correct-two (a .args .code) (a .args .word .now) (a .args .limit) (a .args .out .now) (sym (e .before .is-offered .ensures) ∙ not-false _ (e .if1 .left)) (λ q. c .if2 .taken (q ∙ sym (w .word-octets .ensures .0))))
 
--- src/lib.rt:203:21
 word-octets-requires-2 : tie.Need-word-octets-requires-2
 word-octets-requires-2 c κs =
     let e = c .before .before in
     sym (e .before .is-offered .ensures) ∙ not-false _ (e .if1 .left)
 
--- src/lib.rt:204:9
 returns-3 : tie.Need-returns-3
 returns-3 c =
     let v = c .before in
@@ -49,7 +39,6 @@ returns-3 c =
     let a = e .before .before .before .before in
     sym (correct-three (a .args .code) (a .args .word .now) (a .args .limit) (a .args .out .now) (sym (e .before .is-offered .ensures) ∙ not-false _ (e .if1 .left)) (v .before .if2 .left ∙ w .word-octets .ensures .0) (λ q. c .if3 .taken (q ∙ sym (v .word-octets2 .ensures .0))))
 
--- src/lib.rt:211:5
 correct-taken-requires : tie.Need-correct-taken-requires
 correct-taken-requires c κs =
     let v = c .before .before in
@@ -57,11 +46,9 @@ correct-taken-requires c κs =
     let e = w .before in
     (sym (e .before .is-offered .ensures) ∙ not-false _ (e .if1 .left), v .before .if2 .left ∙ w .word-octets .ensures .0, c .before .if3 .left ∙ v .word-octets2 .ensures .0)
 
--- src/lib.rt:184:1
 same-length : tie.Need-same-length
 same-length c = search needs
 
--- src/lib.rt:184:1
 returns-4 : tie.Need-returns-4
 returns-4 c =
     let k = c .before .before in

@@ -1,3 +1,4 @@
+-- `codes::correct_taken`: the run's numbers, its judgement and its word. Assumes nothing.
 use Rattle.rules.specs.Bits.{bit}
 use Rattle.rules.specs.Encoding.{lifted}
 use Rattle.rules.specs.Flipping.{byExcess, run}
@@ -7,51 +8,34 @@ use Rattle.codes.proofs.Correcting.{blocks-some, holding, ran-number, r
 use borrow.Author.Needs.{needs}
 use Rattle.codes.proofs.correct_taken.Statement.{statement}
 use Rattle.codes.proofs.correct_taken.Tie as tie
-use Rattle.codes.proofs.correct_taken.Reads as reads
-use Rattle.codes.proofs.correct_taken.Lts as lts
-use Rattle.codes.proofs.judge.Reads as judge-reads
-use Rattle.received.proofs.measure.Reads as measure-reads
-use Rattle.received.proofs.write.Reads as write-reads
-use Rattle.runs.proofs.run.Reads as run-reads
-use Rattle.syndromes.proofs.broken.Reads as broken-reads
 
--- src/lib.rt:167:44
 slice-aggregate-measure : tie.Need-slice-aggregate-measure
 slice-aggregate-measure c = search needs
 
--- src/lib.rt:167:52
 slice-aggregate-measure-2 : tie.Need-slice-aggregate-measure-2
 slice-aggregate-measure-2 c = search needs
 
--- src/lib.rt:167:60
 slice-aggregate-measure-3 : tie.Need-slice-aggregate-measure-3
 slice-aggregate-measure-3 c = search needs
 
--- src/lib.rt:167:9
 measure-requires : tie.Need-measure-requires
 measure-requires c κs = search needs
 
--- src/lib.rt:168:35
 slice-aggregate-broken : tie.Need-slice-aggregate-broken
 slice-aggregate-broken c = search needs
 
--- src/lib.rt:168:9
 broken-requires : tie.Need-broken-requires
 broken-requires c κs = search needs
 
--- src/lib.rt:169:25
 slice-aggregate-run : tie.Need-slice-aggregate-run
 slice-aggregate-run c = search needs
 
--- src/lib.rt:169:33
 slice-aggregate-run-2 : tie.Need-slice-aggregate-run-2
 slice-aggregate-run-2 c = search needs
 
--- src/lib.rt:169:41
 slice-aggregate-run-3 : tie.Need-slice-aggregate-run-3
 slice-aggregate-run-3 c = search needs
 
--- src/lib.rt:169:9
 run-requires : tie.Need-run-requires
 run-requires c κs =
     let m = c .before .before .before .before .before .before .before .before in
@@ -59,35 +43,27 @@ run-requires c κs =
     let e = m .measure .ensures in
     (e .lends .fit, search needs, search needs, blocks-some (a .args .code) (a .args .word .now) _ _ _ _ e, holding (a .args .code) (a .args .word .now) _ _ _ _ e)
 
--- src/lib.rt:170:34
 slice-aggregate-broken-2 : tie.Need-slice-aggregate-broken-2
 slice-aggregate-broken-2 c = search needs
 
--- src/lib.rt:170:9
 broken-requires-2 : tie.Need-broken-requires-2
 broken-requires-2 c κs = search needs
 
--- src/lib.rt:171:30
 slice-aggregate-judge : tie.Need-slice-aggregate-judge
 slice-aggregate-judge c = search needs
 
--- src/lib.rt:171:9
 judge-requires : tie.Need-judge-requires
 judge-requires c κs = search needs
 
--- src/lib.rt:173:31
 slice-aggregate-write : tie.Need-slice-aggregate-write
 slice-aggregate-write c = search needs
 
--- src/lib.rt:173:9
 write-requires : tie.Need-write-requires
 write-requires c κs = search needs
 
--- src/lib.rt:160:1
 same-length : tie.Need-same-length
 same-length c = search needs
 
--- src/lib.rt:160:1
 returns : tie.Need-returns
 returns c =
     let j = c .before .before .before .before .before .before .before in
@@ -106,7 +82,6 @@ returns c =
     (ran-number n word _ _ _ _ e (a .args .limit) (g .run .result) _ _ to) (ran-word n word _ _ _ _ e (a .args .limit) (g .run .result) _ _ to) (ran-met n word _ _ _ _ e (a .args .limit) (g .run .result) _ _ to))
     (a .args .out .now) _ (wrote-word _ _ _ _ (c .before .before .before .before .before .before .if1 .taken) (c .before .before .before .write .ensures))
 
--- src/lib.rt:160:1
 returns-2 : tie.Need-returns-2
 returns-2 c =
     let j = c .before in

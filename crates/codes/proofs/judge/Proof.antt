@@ -1,3 +1,4 @@
+-- `codes::judge`: each number by the tests that led to it. Assumes nothing.
 use mathlib.Core.Path.{_≡_, refl, sym, ap, _∙_}
 use native.Mathlib.Omega.{arith}
 use mathlib.Core.Bool.{false}
@@ -7,26 +8,18 @@ use Rattle.codes.proofs.Judging.{judged-other, unsent-five, unsent-whol
 use borrow.Author.Needs.{needs}
 use Rattle.codes.proofs.judge.Statement.{statement}
 use Rattle.codes.proofs.judge.Tie as tie
-use Rattle.codes.proofs.judge.Reads as reads
-use Rattle.codes.proofs.judge.Lts as lts
-use Rattle.codes.proofs.unsent_set.Reads as unsent-set-reads
-use Rattle.ownparity.proofs.own_parity.Reads as own-parity-reads
 
--- src/lib.rt:57:9
 returns : tie.Need-returns
 returns c = λ r e w q. sym e ∙ judged-other _ (c .before .before .pre .0) r (λ z. c .if1 .taken (sym e ∙ z))
 
--- src/lib.rt:60:9
 returns-2 : tie.Need-returns-2
 returns-2 c =
     let a = c .before .before .before in
     λ r e w q. by-telecommand (a .args .code) (a .pre .0) (a .args .number) (wbit (a .args .y .now)) (c .before .if1 .left) r e w q (c .if2 .taken)
 
--- src/lib.rt:63:12
 unsent-set-requires : tie.Need-unsent-set-requires
 unsent-set-requires c κs = search needs
 
--- src/lib.rt:64:13
 returns-3 : tie.Need-returns-3
 returns-3 c =
     let a = c .before .before .before .before .before .before in
@@ -35,11 +28,9 @@ returns-3 c =
     by-unsent (a .args .code) (a .pre .0) (a .args .number) (wbit (a .args .y .now)) (u .before .before .before .if1 .left) r e w q
     (u .before .if3 .taken) (sym (u .unsent-set .ensures) ∙ c .if4 .taken)
 
--- src/lib.rt:67:8
 own-parity-requires : tie.Need-own-parity-requires
 own-parity-requires c κs = search needs
 
--- src/lib.rt:52:1
 returns-4 : tie.Need-returns-4
 returns-4 c =
     let j = c .before .before in
@@ -52,7 +43,6 @@ returns-4 c =
     (j .if3 .came))
     _ (c .before .own-parity .ensures) (c .if5 .taken)
 
--- src/lib.rt:52:1
 returns-5 : tie.Need-returns-5
 returns-5 c =
     let j = c .before .before in

@@ -1,3 +1,4 @@
+-- `codes::step`: refusals in the order of their numbers, then one step. Assumes nothing.
 use mathlib.Core.Path.{_≡_, sym, ap, _∙_}
 use borrow.Author.Tests.{not-true, not-false}
 use Rattle.rules.proofs.Answers.{step-taken}
@@ -5,36 +6,26 @@ use Rattle.codes.proofs.Refusals.{but, step-one, step-five, step-two, s
 use borrow.Author.Needs.{needs}
 use Rattle.codes.proofs.step.Statement.{statement}
 use Rattle.codes.proofs.step.Tie as tie
-use Rattle.codes.proofs.step.Reads as reads
-use Rattle.codes.proofs.step.Lts as lts
-use Rattle.codes.proofs.step_taken.Reads as step-taken-reads
-use Rattle.received.proofs.is_offered.Reads as is-offered-reads
-use Rattle.received.proofs.word_octets.Reads as word-octets-reads
 
--- src/lib.rt:255:9
 is-offered-requires : tie.Need-is-offered-requires
 is-offered-requires c κs = search needs
 
--- src/lib.rt:256:9
 returns : tie.Need-returns
 returns c =
     let a = c .before .before .before .before in
     sym (step-one (a .args .code) (a .args .word .now) (a .args .out .now) (sym (c .before .is-offered .ensures) ∙ not-true _ (c .if1 .taken)))
 
--- src/lib.rt:264:9
 returns-2 : tie.Need-returns-2
 returns-2 c =
     let e = c .before in
     let a = e .before .before .before .before in
     sym (step-five (a .args .code) (a .args .word .now) (a .args .out .now) (sym (e .before .is-offered .ensures) ∙ not-false _ (e .if1 .left)) (c .if2 .taken))
 
--- src/lib.rt:271:22
 word-octets-requires : tie.Need-word-octets-requires
 word-octets-requires c κs =
     let e = c .before in
     sym (e .before .is-offered .ensures) ∙ not-false _ (e .if1 .left)
 
--- src/lib.rt:272:9
 returns-3 : tie.Need-returns-3
 returns-3 c =
     let w = c .before in
@@ -42,13 +33,11 @@ returns-3 c =
     let a = e .before .before .before .before in
     sym (step-two (a .args .code) (a .args .word .now) (a .args .out .now) (sym (e .before .is-offered .ensures) ∙ not-false _ (e .if1 .left)) (w .before .if2 .left) (λ q. c .if3 .taken (q ∙ sym (w .word-octets .ensures .0))))
 
--- src/lib.rt:279:21
 word-octets-requires-2 : tie.Need-word-octets-requires-2
 word-octets-requires-2 c κs =
     let e = c .before .before .before in
     sym (e .before .is-offered .ensures) ∙ not-false _ (e .if1 .left)
 
--- src/lib.rt:280:9
 returns-4 : tie.Need-returns-4
 returns-4 c =
     let v = c .before in
@@ -57,7 +46,6 @@ returns-4 c =
     let a = e .before .before .before .before in
     sym (step-three (a .args .code) (a .args .word .now) (a .args .out .now) (sym (e .before .is-offered .ensures) ∙ not-false _ (e .if1 .left)) (w .before .if2 .left) (v .before .if3 .left ∙ w .word-octets .ensures .0) (λ q. c .if4 .taken (q ∙ sym (v .word-octets2 .ensures .0))))
 
--- src/lib.rt:287:5
 step-taken-requires : tie.Need-step-taken-requires
 step-taken-requires c κs =
     let v = c .before .before in
@@ -65,11 +53,9 @@ step-taken-requires c κs =
     let e = w .before .before in
     (sym (e .before .is-offered .ensures) ∙ not-false _ (e .if1 .left), v .before .if3 .left ∙ w .word-octets .ensures .0, c .before .if4 .left ∙ v .word-octets2 .ensures .0)
 
--- src/lib.rt:252:1
 same-length : tie.Need-same-length
 same-length c = search needs
 
--- src/lib.rt:252:1
 returns-5 : tie.Need-returns-5
 returns-5 c =
     let k = c .before .before in

@@ -1,3 +1,4 @@
+-- `codes::step_taken`: quiet, stuck, or one flip. Assumes nothing.
 use mathlib.Core.Path.{_≡_, sym, ap, ap₂, _∙_}
 use mathlib.Core.Bool.{true, false}
 use native.Mathlib.Omega.{arith}
@@ -16,39 +17,25 @@ use Rattle.codes.proofs.Correcting.{blocks-some, holding, stepped-is, s
 use borrow.Author.Needs.{needs}
 use Rattle.codes.proofs.step_taken.Statement.{statement}
 use Rattle.codes.proofs.step_taken.Tie as tie
-use Rattle.codes.proofs.step_taken.Reads as reads
-use Rattle.codes.proofs.step_taken.Lts as lts
-use Rattle.codes.proofs.copy.Reads as copy-reads
-use Rattle.received.proofs.measure.Reads as measure-reads
-use Rattle.received.proofs.write.Reads as write-reads
-use Rattle.runs.proofs.next.Reads as next-reads
-use Rattle.vectors.proofs.turn_over.Reads as turn-over-reads
 
--- src/lib.rt:222:44
 slice-aggregate-measure : tie.Need-slice-aggregate-measure
 slice-aggregate-measure c = search needs
 
--- src/lib.rt:222:52
 slice-aggregate-measure-2 : tie.Need-slice-aggregate-measure-2
 slice-aggregate-measure-2 c = search needs
 
--- src/lib.rt:222:60
 slice-aggregate-measure-3 : tie.Need-slice-aggregate-measure-3
 slice-aggregate-measure-3 c = search needs
 
--- src/lib.rt:222:9
 measure-requires : tie.Need-measure-requires
 measure-requires c κs = search needs
 
--- src/lib.rt:223:27
 slice-aggregate-next : tie.Need-slice-aggregate-next
 slice-aggregate-next c = search needs
 
--- src/lib.rt:223:31
 slice-aggregate-next-2 : tie.Need-slice-aggregate-next-2
 slice-aggregate-next-2 c = search needs
 
--- src/lib.rt:223:9
 next-requires : tie.Need-next-requires
 next-requires c κs =
     let m = c .before .before .before .before .before in
@@ -56,15 +43,12 @@ next-requires c κs =
     let e = m .measure .ensures in
     (e .lends .fit, search needs, blocks-some (a .args .code) (a .args .word .now) _ _ _ _ e, holding (a .args .code) (a .args .word .now) _ _ _ _ e)
 
--- src/lib.rt:225:9
 copy-requires : tie.Need-copy-requires
 copy-requires c κs = search needs
 
--- src/lib.rt:226:9
 same-length : tie.Need-same-length
 same-length c = search needs
 
--- src/lib.rt:226:9
 returns : tie.Need-returns
 unfolding nextStep
 returns c =
@@ -75,7 +59,6 @@ returns c =
     ap (λ z. record { number = 0; quiet = true; bit = 0; excess = pos 0; out = z }) (c .before .before .copy .ensures)
     ∙ stepped-is (a .args .code) (a .args .word .now) _ _ _ _ e (a .args .out .now) (x .next .result) quiet (x .next .ensures .1) (comes-quiet (x .next .result) (c .before .before .before .before .if1 .taken))
 
--- src/lib.rt:234:9
 returns-2 : tie.Need-returns-2
 unfolding nextStep
 returns-2 c =
@@ -84,27 +67,21 @@ returns-2 c =
     let a = m .before .before .before .before .before .before in
     stepped-is (a .args .code) (a .args .word .now) _ _ _ _ (m .measure .ensures) (a .args .out .now) (x .next .result) stuck (x .next .ensures .1) (comes-stuck (x .next .result) (c .before .before .if1 .left) (c .if2 .taken))
 
--- src/lib.rt:241:24
 slice-aggregate-turn-over : tie.Need-slice-aggregate-turn-over
 slice-aggregate-turn-over c = search needs
 
--- src/lib.rt:241:5
 turn-over-requires : tie.Need-turn-over-requires
 turn-over-requires c κs = search needs
 
--- src/lib.rt:242:27
 slice-aggregate-write : tie.Need-slice-aggregate-write
 slice-aggregate-write c = search needs
 
--- src/lib.rt:242:5
 write-requires : tie.Need-write-requires
 write-requires c κs = search needs
 
--- src/lib.rt:246:14
 cast-t30 : tie.Need-cast-t30
 cast-t30 c = search needs
 
--- src/lib.rt:247:17
 cast-t31 : tie.Need-cast-t31
 cast-t31 c =
     let x = c .before .before .before .before .before .before .before .before .before .before .before .before .before .before in
@@ -117,11 +94,9 @@ cast-t31 c =
     let l = small-excess (code n) _ _ (e .lends .lent) (pb n (a .pre .0) .some) _ (x .next .result .bit) (x .next .result .excess) (x .next .ensures .1 (code n) (e .lends .lent) _ (e .held) ∙ f) in
     record { sfits = lt-of-le-of-lt l (lit< tt) }
 
--- src/lib.rt:215:1
 same-length-2 : tie.Need-same-length-2
 same-length-2 c = search needs
 
--- src/lib.rt:215:1
 returns-3 : tie.Need-returns-3
 unfolding nextStep
 returns-3 c =

@@ -1,8 +1,7 @@
+-- `received::is_offered`: the two tests are the definition's. Assumes nothing.
 use borrow.Author.Tests.{le-leb, lt-leb}
 use Rattle.received.proofs.is_offered.Statement.{statement}
 use Rattle.received.proofs.is_offered.Tie as tie
-use Rattle.received.proofs.is_offered.Reads as reads
-use Rattle.received.proofs.is_offered.Lts as lts
 
 returns : tie.Need-returns
 returns c = simp (le-leb _ _ (c .if1 .taken))

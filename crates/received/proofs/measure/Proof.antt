@@ -1,3 +1,4 @@
+-- `received::measure`: the table lent, the word taken, and its syndrome. Assumes nothing.
 use mathlib.Core.Path.{_≡_, refl, sym, ap, _∙_}
 use native.Mathlib.Omega.{arith}
 use Rattle.rules.specs.Codes.{code}
@@ -5,41 +6,29 @@ use Rattle.received.proofs.Handed.{offered-low, offered-high, word-few}
 use borrow.Author.Needs.{needs}
 use Rattle.received.proofs.measure.Statement.{statement}
 use Rattle.received.proofs.measure.Tie as tie
-use Rattle.received.proofs.measure.Reads as reads
-use Rattle.received.proofs.measure.Lts as lts
-use Rattle.received.proofs.take.Reads as take-reads
-use Rattle.syndromes.proofs.syndrome.Reads as syndrome-reads
-use Rattle.tables.proofs.lend.Reads as lend-reads
 
--- src/lib.rt:71:9
 lend-requires : tie.Need-lend-requires
 lend-requires c κs =
     let a = c .before .before .before .before .before in
     (offered-low (a .args .code) (a .pre .0), offered-high (a .args .code) (a .pre .0), search needs)
 
--- src/lib.rt:72:5
 take-requires : tie.Need-take-requires
 take-requires c κs =
     let a = c .before .before .before .before .before .before .before .before .before in
     (a .pre .0, omega (arith, word-few (a .args .code) (a .pre .0), a .pre .1), search needs)
 
--- src/lib.rt:73:5
 syndrome-requires : tie.Need-syndrome-requires
 syndrome-requires c κs = search needs
 
--- src/lib.rt:67:1
 same-length : tie.Need-same-length
 same-length c = search needs
 
--- src/lib.rt:67:1
 same-length-2 : tie.Need-same-length-2
 same-length-2 c = search needs
 
--- src/lib.rt:67:1
 same-length-3 : tie.Need-same-length-3
 same-length-3 c = search needs
 
--- src/lib.rt:67:1
 returns : tie.Need-returns
 returns c =
     let s = c .before .before in

@@ -1,3 +1,4 @@
+-- `received::take`: code 5 is lifted by 18 bits, the others are taken as they are. Assumes nothing.
 use mathlib.Core.Path.{_≡_, refl, sym, ap, _∙_}
 use native.Mathlib.Omega.{arith}
 use lib.Dec.{lit<}
@@ -8,27 +9,19 @@ use Rattle.received.proofs.Handed.{taken-whole, taken-five}
 use borrow.Author.Needs.{needs}
 use Rattle.received.proofs.take.Statement.{statement}
 use Rattle.received.proofs.take.Tie as tie
-use Rattle.received.proofs.take.Reads as reads
-use Rattle.received.proofs.take.Lts as lts
-use Rattle.vectors.proofs.lift.Reads as lift-reads
-use Rattle.vectors.proofs.load.Reads as load-reads
 
--- src/lib.rt:47:5
 load-requires : tie.Need-load-requires
 load-requires c κs = search needs
 
--- src/lib.rt:49:9
 lift-requires : tie.Need-lift-requires
 lift-requires c κs =
     let d = c .before .before .before .before in
     let a = d .before .before .before .before in
     (lit< tt, λ n l. ap (λ w. w n) (d .load .ensures) ∙ bit-past (a .args .octets .now) n (omega arith))
 
--- src/lib.rt:43:1
 same-length : tie.Need-same-length
 same-length c = search needs
 
--- src/lib.rt:43:1
 returns : tie.Need-returns
 returns c =
     let d = c .before .before in
@@ -36,11 +29,9 @@ returns c =
     let a = b .before .before .before .before in
     d .lift .ensures ∙ ap (later 18) (b .load .ensures) ∙ sym (taken-five (a .args .code) (omega arith) (bit (a .args .octets .now)))
 
--- src/lib.rt:43:1
 same-length-2 : tie.Need-same-length-2
 same-length-2 c = search needs
 
--- src/lib.rt:43:1
 returns-2 : tie.Need-returns-2
 returns-2 c =
     let b = c .before .before .before in

@@ -1,3 +1,4 @@
+-- `received::write`: code 5 is trimmed and sent from bit 18 on, the others from bit 0. Assumes nothing.
 use mathlib.Core.Path.{_≡_, refl, sym, ap, _∙_}
 use native.Mathlib.Omega.{arith}
 use lib.ListN.{length}
@@ -7,36 +8,26 @@ use Rattle.received.proofs.Handed.{word-few, written-whole, written-fiv
 use borrow.Author.Needs.{needs}
 use Rattle.received.proofs.write.Statement.{statement}
 use Rattle.received.proofs.write.Tie as tie
-use Rattle.received.proofs.write.Reads as reads
-use Rattle.received.proofs.write.Lts as lts
-use Rattle.vectors.proofs.store.Reads as store-reads
-use Rattle.vectors.proofs.trim.Reads as trim-reads
 
--- src/lib.rt:59:9
 trim-requires : tie.Need-trim-requires
 trim-requires c κs = search needs
 
--- src/lib.rt:60:9
 store-requires : tie.Need-store-requires
 store-requires c κs =
     let a = c .before .before .before .before .before .before .before .before .before in
     omega (arith, word-few (a .args .code) (a .pre .0), a .pre .2)
 
--- src/lib.rt:62:9
 store-requires-2 : tie.Need-store-requires-2
 store-requires-2 c κs =
     let a = c .before .before .before .before .before in
     omega (arith, word-few (a .args .code) (a .pre .0), a .pre .2)
 
--- src/lib.rt:54:1
 same-length : tie.Need-same-length
 same-length c = search needs
 
--- src/lib.rt:54:1
 same-length-2 : tie.Need-same-length-2
 same-length-2 c = search needs
 
--- src/lib.rt:54:1
 returns : tie.Need-returns
 returns c =
     let d = c .before .before in
@@ -46,15 +37,12 @@ returns c =
     ∙ ap (λ w. octets (length (a .args .out .now)) (from 18 w)) (t .trim .ensures)
     ∙ written-five (a .args .code) (length (a .args .out .now)) (omega arith) (a .pre .2) (wbit (a .args .y .now))
 
--- src/lib.rt:54:1
 same-length-3 : tie.Need-same-length-3
 same-length-3 c = search needs
 
--- src/lib.rt:54:1
 same-length-4 : tie.Need-same-length-4
 same-length-4 c = search needs
 
--- src/lib.rt:54:1
 returns-2 : tie.Need-returns-2
 returns-2 c =
     let d = c .before .before in

@@ -1,3 +1,4 @@
+-- `runs::next`: what comes next, from the count of broken checks and the best score. Assumes nothing.
 use mathlib.Core.Path.{sym, _∙_}
 use native.Mathlib.Omega.{arith}
 use borrow.Author.Needs.{needs}
@@ -5,37 +6,27 @@ use Rattle.rules.proofs.Choosing.{quiet-next}
 use Rattle.runs.proofs.Turning.{some-bits, top-lt, next-stuck, next-flip}
 use Rattle.runs.proofs.next.Statement.{statement}
 use Rattle.runs.proofs.next.Tie as tie
-use Rattle.runs.proofs.next.Reads as reads
-use Rattle.runs.proofs.next.Lts as lts
-use Rattle.choice.proofs.choose.Reads as choose-reads
-use Rattle.syndromes.proofs.broken.Reads as broken-reads
 
--- src/lib.rt:31:9
 broken-requires : tie.Need-broken-requires
 broken-requires c κs = search needs
 
--- src/lib.rt:33:9
 returns : tie.Need-returns
 returns c =
     let a = c .before .before .before .before in
     (some-bits (a .args .sh) (a .pre .0) (a .pre .2), λ k l x e. quiet-next k x (sym (c .before .broken .ensures k _ _ x (a .pre .0) l e) ∙ c .if1 .taken))
 
--- src/lib.rt:40:9
 choose-requires : tie.Need-choose-requires
 choose-requires c κs = search needs
 
--- src/lib.rt:42:9
 returns-2 : tie.Need-returns-2
 returns-2 c =
     let b = c .before .before .before .before in
     let a = b .before .before .before in
     (some-bits (a .args .sh) (a .pre .0) (a .pre .2), λ k l x e. next-stuck l x (c .before .before .choose .ensures k l x e) (λ q. c .before .before .before .if1 .left (b .broken .ensures k _ _ x (a .pre .0) l e ∙ q)) (c .if2 .taken))
 
--- src/lib.rt:53:17
 sub-t7 : tie.Need-sub-t7
 sub-t7 c = search needs
 
--- src/lib.rt:27:1
 returns-3 : tie.Need-returns-3
 returns-3 c =
     let d = c .before .before .before in

@@ -1,3 +1,4 @@
+-- `runs::run`: the loop has come to the run's word after so many flips, for every code that is lent. Assumes nothing.
 use mathlib.Core.Path.{_≡_, refl, sym, _∙_, ap}
 use Prim.Native.Nat.{ℕ, _-_, _≤_}
 use native.Mathlib.Omega.{arith}
@@ -10,10 +11,6 @@ use Rattle.runs.specs.Turns.{Holding, Going}
 use Rattle.runs.proofs.Turning.{going-start, ends-quiet, ends-stuck, ends-limit, goes-on, comes-quiet, comes-stuck, comes-flip}
 use Rattle.runs.proofs.run.Statement.{statement}
 use Rattle.runs.proofs.run.Tie as tie
-use Rattle.runs.proofs.run.Reads as reads
-use Rattle.runs.proofs.run.Lts as lts
-use Rattle.runs.proofs.next.Reads as next-reads
-use Rattle.syndromes.proofs.flip.Reads as flip-reads
 
 abbrev Inv-loop : tie.InvT-loop
 Inv-loop y₀ s₀ h sh limit most flips₀ y s flips =
@@ -26,65 +23,53 @@ Inv-loop y₀ s₀ h sh limit most flips₀ y s flips =
 abbrev μ-loop : tie.MeasureT-loop
 μ-loop y₀ s₀ h sh limit most flips₀ y s flips = limit - flips
 
--- src/lib.rt:64:5
 loop-holds : tie.Need-loop-holds Inv-loop μ-loop
 loop-holds c =
     let a = c .before .before .before in
     (a .pre .1, a .pre .2, omega arith, a .pre .4, λ k l e. going-start k (a .args .sh) (a .args .limit) _ _ e)
 
--- src/lib.rt:65:13
 next-requires : tie.Need-next-requires Inv-loop μ-loop
 next-requires c κs =
     let i = c .before .loop .inv in
     let a = c .before .before .before .before .before in
     (a .pre .0, i .1, a .pre .3, i .3)
 
--- src/lib.rt:67:13
 same-length : tie.Need-same-length Inv-loop μ-loop
 same-length c = search needs
 
--- src/lib.rt:67:13
 same-length-2 : tie.Need-same-length-2 Inv-loop μ-loop
 same-length-2 c = search needs
 
--- src/lib.rt:67:13
 returns : tie.Need-returns Inv-loop μ-loop
 returns c =
     let t = c .before .next in
     let i = c .before .before .before .loop .inv in
     λ k l e. ends-quiet k _ _ _ _ _ _ (i .4 k l e) (t .ensures .1 k l _ (i .4 k l e .held) ∙ comes-quiet (t .result) (c .if1 .taken))
 
--- src/lib.rt:73:13
 same-length-3 : tie.Need-same-length-3 Inv-loop μ-loop
 same-length-3 c = search needs
 
--- src/lib.rt:73:13
 same-length-4 : tie.Need-same-length-4 Inv-loop μ-loop
 same-length-4 c = search needs
 
--- src/lib.rt:73:13
 returns-2 : tie.Need-returns-2 Inv-loop μ-loop
 returns-2 c =
     let t = c .before .before .before .next in
     let i = c .before .before .before .before .before .loop .inv in
     λ k l e. ends-stuck k _ _ _ _ _ _ (i .4 k l e) (t .ensures .1 k l _ (i .4 k l e .held) ∙ comes-stuck (t .result) (c .before .before .if1 .left) (c .if2 .taken))
 
--- src/lib.rt:79:13
 same-length-5 : tie.Need-same-length-5 Inv-loop μ-loop
 same-length-5 c = search needs
 
--- src/lib.rt:79:13
 same-length-6 : tie.Need-same-length-6 Inv-loop μ-loop
 same-length-6 c = search needs
 
--- src/lib.rt:79:13
 returns-3 : tie.Need-returns-3 Inv-loop μ-loop
 returns-3 c =
     let t = c .before .before .before .before .next in
     let i = c .before .before .before .before .before .before .loop .inv in
     λ k l e. ends-limit k _ _ _ _ _ _ (i .4 k l e) _ _ (t .ensures .1 k l _ (i .4 k l e .held) ∙ comes-flip (t .result) (c .before .before .before .if1 .left) (c .before .if2 .left)) (c .if3 .taken)
 
--- src/lib.rt:84:9
 flip-requires : tie.Need-flip-requires Inv-loop μ-loop
 flip-requires c κs =
     let d = c .before .before in
@@ -93,15 +78,12 @@ flip-requires c κs =
     let a = l .before .before .before .before in
     (a .pre .0, l .loop .inv .0, l .loop .inv .1, t .ensures .0)
 
--- src/lib.rt:85:9
 add-flips : tie.Need-add-flips Inv-loop μ-loop
 add-flips c = omega arith
 
--- src/lib.rt:64:5
 loop-less : tie.Need-loop-less Inv-loop μ-loop
 loop-less c = omega arith
 
--- src/lib.rt:64:5
 loop-again : tie.Need-loop-again Inv-loop μ-loop
 loop-again c =
     let f = c .before .before .before .before in

@@ -1,3 +1,4 @@
+-- `tables::lend`: each code's places and shape. Assumes nothing.
 use mathlib.Core.Path.{refl}
 use borrow.Author.Needs.{needs}
 use native.Mathlib.Omega.{arith}
@@ -5,58 +6,40 @@ use Rattle.tables.specs.Flat.{places16, places32, places64, places511, f
 use Rattle.tables.proofs.Lending.{lends1, lends2, lends3, near-lends, lends-as}
 use Rattle.tables.proofs.lend.Statement.{statement}
 use Rattle.tables.proofs.lend.Tie as tie
-use Rattle.tables.proofs.lend.Reads as reads
-use Rattle.tables.proofs.lend.Lts as lts
-use Rattle.tables.proofs.lend16.Reads as lend16-reads
-use Rattle.tables.proofs.lend32.Reads as lend32-reads
-use Rattle.tables.proofs.lend511.Reads as lend511-reads
-use Rattle.tables.proofs.lend64.Reads as lend64-reads
 
--- src/lib.rt:245:9
 lend16-requires : tie.Need-lend16-requires
 lend16-requires c κs = search needs
 
--- src/lib.rt:246:9
 same-length : tie.Need-same-length
 same-length c = search needs
 
--- src/lib.rt:246:9
 returns : tie.Need-returns
 returns c = lends-as _ 1 _ (flat8 places16) _ (omega arith) (c .before .before .lend16 .ensures) lends1
 
--- src/lib.rt:254:9
 lend32-requires : tie.Need-lend32-requires
 lend32-requires c κs = search needs
 
--- src/lib.rt:255:9
 same-length-2 : tie.Need-same-length-2
 same-length-2 c = search needs
 
--- src/lib.rt:255:9
 returns-2 : tie.Need-returns-2
 returns-2 c = lends-as _ 2 _ (flat8 places32) _ (omega arith) (c .before .before .lend32 .ensures) lends2
 
--- src/lib.rt:263:9
 lend64-requires : tie.Need-lend64-requires
 lend64-requires c κs = search needs
 
--- src/lib.rt:264:9
 same-length-3 : tie.Need-same-length-3
 same-length-3 c = search needs
 
--- src/lib.rt:264:9
 returns-3 : tie.Need-returns-3
 returns-3 c = lends-as _ 3 _ (flat8 places64) _ (omega arith) (c .before .before .lend64 .ensures) lends3
 
--- src/lib.rt:271:5
 lend511-requires : tie.Need-lend511-requires
 lend511-requires c κs = search needs
 
--- src/lib.rt:240:1
 same-length-4 : tie.Need-same-length-4
 same-length-4 c = search needs
 
--- src/lib.rt:240:1
 returns-4 : tie.Need-returns-4
 returns-4 c = lends-as _ _ _ (flat16 places511) _ refl (c .before .before .lend511 .ensures) (near-lends _ (omega arith) (omega arith) (λ e. omega arith) (λ e. omega arith) (λ e. omega arith))
 

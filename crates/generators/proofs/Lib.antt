@@ -1,0 +1,3 @@
+pub mod Filling
+pub mod Lending
+pub mod Printing

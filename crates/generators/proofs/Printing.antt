@@ -1,0 +1,69 @@
+-- The constants are the codes' generator tables: each is compared with the definition's print by one computed test. Assumes nothing.
+use mathlib.Core.Path.{_≡_, sym, ap, _∙_, subst}
+use mathlib.Core.Bool.{Bool, true}
+use mathlib.Core.List.{List, [], _∷_}
+use Prim.Native.Nat.{ℕ, zero, suc, _+_, _-_, _*_, _≤_}
+use native.Mathlib.Decide.{ℕ-discrete}
+use native.Mathlib.Omega.{arith}
+use lib.Dec.{T, eqb, leb, eqb→eq, leb→le}
+use lib.ListN.{length, getD}
+use Rattle.rules.specs.Bits.{Word}
+use Rattle.rules.specs.Codes.{Code, code, bits, information}
+use Rattle.rules.specs.Encoding.{encoded}
+use Rattle.rules.specs.Calls.{offered}
+use Rattle.rules.specs.Identity.{below}
+use Rattle.rules.proofs.Sums.{and-l, and-r, below-at}
+use Rattle.vectors.specs.Vectors.{upTo}
+use Rattle.generators.specs.Words.{wordOf, printedWord, Prints}
+
+-- the words of a number, of a row of numbers, and of a table
+abbrev wordsOf : ℕ → ℕ → ℕ → List ℕ
+wordsOf words number zero = []
+wordsOf words number (suc n) = wordOf words number (words - suc n) ∷ wordsOf words number n
+
+abbrev rowWords : ℕ → List ℕ → List (List ℕ)
+rowWords words [] = []
+rowWords words (number ∷ row) = wordsOf words number words ∷ rowWords words row
+
+abbrev pub tableWords : ℕ → List (List ℕ) → List (List (List ℕ))
+tableWords words [] = []
+tableWords words (row ∷ table) = rowWords words row ∷ tableWords words table
+
+-- the test of a list, laid flat, by the table's words
+abbrev pub sameWords : {A : Type 0} → (A → ℕ → ℕ) → A → ℕ → ℕ → ℕ → List (List ℕ) → Bool
+sameWords flat l n words parts table = below n (λ i. eqb (flat l i) (printedWord words parts table i))
+
+-- a constant h that is the list l
+pub prints : {A : Type 0} (c : Code) (size words inform parts : ℕ) (flat : A → ℕ → ℕ) (h l : A)
+    → h ≡ l → T (sameWords flat l (inform * parts * words) words parts (c .generator))
+    → c .size ≡ size → size ≤ c .printed → length (c .generator) ≡ inform → length (getD (c .parity) 0 []) ≡ inform + parts
+    → Prints c size words inform parts flat h
+prints c size words inform parts flat h l e t m d j b = record {
+  size-is = m;
+  digits = d;
+  inform-are = j;
+  blocks-are = b;
+  words-are = λ i less. ap (λ z. flat z i) e ∙ eqb→eq (flat l i) (printedWord words parts (c .generator) i) (below-at (inform * parts * words) (λ k. eqb (flat l k) (printedWord words parts (c .generator) k)) t i less);
+}
+
+-- the codes after the third
+pub near : (P : ℕ → Type 0) (n : ℕ) → offered n ≡ true → (n ≡ 1 → ⊥) → (n ≡ 2 → ⊥) → (n ≡ 3 → ⊥) → P 4 → P 5 → P n
+near P n o d1 d2 d3 four five = go (ℕ-discrete n 4)
+  where
+    known : T (offered n)
+    known = subst T (sym o) tt
+
+    go : Dec (n ≡ 4) → P n
+    go (yes e) = subst P (sym e) four
+    go (no d) =
+        let low : 1 ≤ n = leb→le 1 n (and-l (leb 1 n) (leb n 5) known) in
+        let high : n ≤ 5 = leb→le n 5 (and-r (leb 1 n) (leb n 5) known) in
+        let e : n ≡ 5 = omega arith in
+        subst P (sym e) five
+
+-- what is required of a word, and what is ensured
+abbrev pub Given : Word → ℕ → Type 0
+Given x n = x ≡ upTo (information (code n)) x
+
+abbrev pub Gives : Word → Word → ℕ → Type 0
+Gives x y n = y ≡ upTo (bits (code n)) (encoded (code n) x)
