@@ -60,14 +60,30 @@ fn group(octets: &[u8], at: usize) -> u64
     }
 }
 
+// The words that the octets fill whole.
+fn load_whole(octets: &[u8], ws: &mut [u64])
+    requires { ⌜ length (now octets) ≤ 8 * length (now ws) ⌝ }
+    ensures { λ r. ⌜ wbit (now (ws .exit)) ≡ joined (64 * (length (now (octets .entry)) / 8)) (bit (now (octets .entry))) (wbit (now (ws .entry))) ⌝ }
+{
+    let whole = octets.len() / 8;
+    let mut k = 0;
+    while k < whole {
+        ws[k] = gathered(octets, 8 * k, 8);
+        k += 1;
+    }
+}
+
 // The octets as a vector; the words after them become 0.
 pub fn load(octets: &[u8], ws: &mut [u64])
     requires { ⌜ length (now octets) ≤ 8 * length (now ws) ⌝ }
     ensures { λ r. ⌜ wbit (now (ws .exit)) ≡ bit (now (octets .entry)) ⌝ }
 {
-    let mut k = 0;
+    load_whole(octets, ws);
+    let mut k = octets.len() / 8;
+    let mut v = group(octets, 8 * k);
     while k < ws.len() {
-        ws[k] = group(octets, 8 * k);
+        ws[k] = v;
+        v = 0;
         k += 1;
     }
 }
