@@ -6,13 +6,6 @@
 
 #include <string.h>
 
-/* With ONE_ENGINE the engine is compiled once, for every shape, as the library's is; else for each shape by itself. */
-#ifdef ONE_ENGINE
-#define ENGINE static __attribute__((noinline))
-#else
-#define ENGINE static inline __attribute__((always_inline))
-#endif
-
 #define LEAF static inline __attribute__((always_inline))
 
 enum { HELD = 130, SYNDROME = 16 };
@@ -135,7 +128,7 @@ LEAF void add_turned(const uint64_t *d, unsigned s, uint64_t *sum, unsigned word
         sum[k] ^= funnel(d[s / 64 + k], d[s / 64 + k + 1], s % 64);
 }
 
-ENGINE void syndrome(const uint64_t *y, const uint16_t *h, struct shape sh, uint64_t *s)
+static void syndrome(const uint64_t *y, const uint16_t *h, struct shape sh, uint64_t *s)
 {
     memset(s, 0, SYNDROME * sizeof *s);
     for (unsigned b = 0; b < sh.blocks; b++) {
@@ -186,7 +179,7 @@ LEAF struct best best_part(const uint64_t *d, const unsigned *starts, unsigned n
 }
 
 /* The bit of greatest excess, which is the score less 8. */
-ENGINE struct best choose(const uint64_t *s, const uint16_t *h, struct shape sh)
+static struct best choose(const uint64_t *s, const uint16_t *h, struct shape sh)
 {
     uint64_t d[4 * 17];
     unsigned room = 2 * sh.words + 1;
@@ -221,7 +214,7 @@ LEAF void flip(uint64_t *y, uint64_t *s, const uint16_t *h, struct shape sh, uns
         }
 }
 
-ENGINE uint8_t run(uint64_t *y, uint64_t *s, const uint16_t *h, struct shape sh, uint16_t limit, uint32_t *flips)
+static uint8_t run(uint64_t *y, uint64_t *s, const uint16_t *h, struct shape sh, uint16_t limit, uint32_t *flips)
 {
     for (*flips = 0;; ++*flips) {
         if (broken(s) == 0)
@@ -250,7 +243,7 @@ static bool own_parity(const uint64_t *y)
 }
 
 /* Adds the printed rows for the information bits, and puts each part of the parity after them. */
-ENGINE void put_parity(uint64_t *y, const uint64_t *g, struct shape sh, unsigned inform, unsigned parts)
+static void put_parity(uint64_t *y, const uint64_t *g, struct shape sh, unsigned inform, unsigned parts)
 {
     for (unsigned p = 0; p < parts; p++) {
         uint64_t u[12] = {0};

@@ -12,7 +12,10 @@ fn funnel(a: u64, b: u64, t: usize) -> u64
     requires { ⌜ t < 64 ⌝ }
     ensures { λ r. ⌜ Holds r (from t (wbit (a ∷ b ∷ []))) ⌝ }
 {
-    (a << t) | ((b >> 1) >> (63 - t))
+    if t == 0 {
+        return a;
+    }
+    (a << t) | (b >> (64 - t))
 }
 
 // The 64 bits from bit t of word q on.
