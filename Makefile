@@ -1,10 +1,16 @@
-# `make test` is the gate. `make lib` writes target/staticlib/libpandoricchia.a. `make compare N=..` compares the library
-# with the judge on N inputs of each call under each telecommand code, and N / 10 of each near-Earth one; SEED=.. repeats
-# a campaign. `make bench` counts the instructions of each call.
-.PHONY: test lib compare bench
+# `make run` proves and builds the bench program and runs it on a sample (SAMPLE=.. for another recording). `make test`
+# is the gate. `make lib` writes target/staticlib/libpandoricchia.a. `make compare N=..` compares the library with the
+# judge on N inputs of each call under each telecommand code, and N / 10 of each near-Earth one; SEED=.. repeats a
+# campaign. `make bench` counts the instructions of each call.
+.PHONY: run test lib compare bench
 CC ?= cc
 N ?= 20000
+SAMPLE ?= samples/code5.bin
 ARCHIVE = target/staticlib/libpandoricchia.a
+
+run:
+	rt check wordbench
+	target/bin/wordbench < $(SAMPLE)
 
 test:
 	.ci/run
