@@ -150,7 +150,9 @@ fn show_corrected(a: codes::Corrected) {
 }
 
 // A word of code 4 as code 5 sends it: without its first 18 bits, and with two zeros at the end.
-fn shorten(word: &[u8], sent: &mut [u8]) {
+fn shorten(word: &[u8], sent: &mut [u8])
+    requires { ⌜ length (now sent) < 65536 ⌝ }
+{
     let mut i: usize = 0;
     while i < sent.len() {
         sent[i] = (octet(word, i + 2) << 2) | (octet(word, i + 3) >> 6);
