@@ -40,7 +40,8 @@ enum pandoricchia_number {
 };
 
 /* Encode: information in, word out. Returns 0 to 4. */
-uint8_t pandoricchia_encode(uint8_t code, const uint8_t *info, size_t info_len, uint8_t *word, size_t word_len);
+uint8_t pandoricchia_encode(uint8_t code, const uint8_t *information, size_t information_len, uint8_t *word,
+                            size_t word_len);
 
 typedef struct pandoricchia_checked {
     uint8_t number;   /* 0 to 2 */
@@ -49,11 +50,11 @@ typedef struct pandoricchia_checked {
 
 /* Check: counts the broken checks; for code 5 with the unsent bits 0 and the last two bits unread. A word without a
  * broken check is a codeword in codes 1 to 3, but need not be one in codes 4 and 5. */
-pandoricchia_checked pandoricchia_check(uint8_t code, const uint8_t *word, size_t len);
+pandoricchia_checked pandoricchia_check(uint8_t code, const uint8_t *word, size_t word_len);
 
 /* Open, codes 1, 2, 3 and 5: for a codeword, how many of its leading octets are its information; 0 where the call is
  * refused. Nothing is copied. The number, 0 to 2 or 9, is always written. */
-size_t pandoricchia_open(uint8_t code, const uint8_t *word, size_t len, uint8_t *number);
+size_t pandoricchia_open(uint8_t code, const uint8_t *word, size_t word_len, uint8_t *number);
 
 typedef struct pandoricchia_corrected {
     uint8_t number;  /* 0 to 3 or 5 to 8 */
@@ -66,7 +67,7 @@ typedef struct pandoricchia_corrected {
  * several the lowest bit; again and again, until no check is broken (quiet), or no bit has an excess above 0, or limit
  * flips are made. On 0 out is a codeword. Refusals 1 to 3 return all other values as 0, refusals 5 to 8 the flips made
  * and the true counts. */
-pandoricchia_corrected pandoricchia_correct(uint8_t code, const uint8_t *word, size_t len, uint16_t limit,
+pandoricchia_corrected pandoricchia_correct(uint8_t code, const uint8_t *word, size_t word_len, uint16_t limit,
                                             uint8_t *out, size_t out_len);
 
 typedef struct pandoricchia_stepped {
@@ -77,7 +78,8 @@ typedef struct pandoricchia_stepped {
 } pandoricchia_stepped;
 
 /* Step, codes 1 to 4: one flip of correct's run. */
-pandoricchia_stepped pandoricchia_step(uint8_t code, const uint8_t *word, size_t len, uint8_t *out, size_t out_len);
+pandoricchia_stepped pandoricchia_step(uint8_t code, const uint8_t *word, size_t word_len, uint8_t *out,
+                                          size_t out_len);
 
 #ifdef __cplusplus
 }

@@ -58,8 +58,11 @@ module _ (u v : ℕ) (x y : Word) (hu : Holds u x) (hv : Holds v y) where
 -- ---- two words from bit t on
 
 module _ (a b t : ℕ) (ht : t < 64) (hb : b < 2 ^ 64) where
-  pub funnel-holds : Holds (bitOr ((a * 2 ^ t) % 2 ^ 64) (b / 2 / 2 ^ (63 - t))) (from t (wbit (a ∷ b ∷ [])))
-  funnel-holds i hi = place-or ((a * 2 ^ t) % 2 ^ 64) (b / 2 / 2 ^ (63 - t)) j ∙ ⊎-elim second first (le-or-lt 64 (t + i))
+  pub funnel-none : t ≡ 0 → Holds a (from t (wbit (a ∷ b ∷ [])))
+  funnel-none e i hi = sym (word-at (a ∷ b ∷ []) (t + i) 0 i hi (omega arith))
+
+  pub funnel-holds : Holds (bitOr ((a * 2 ^ t) % 2 ^ 64) (b / 2 ^ (64 - t))) (from t (wbit (a ∷ b ∷ [])))
+  funnel-holds i hi = place-or ((a * 2 ^ t) % 2 ^ 64) (b / 2 ^ (64 - t)) j ∙ ⊎-elim second first (le-or-lt 64 (t + i))
     where
       j : ℕ
       j = 64 - suc i
@@ -67,21 +70,21 @@ module _ (a b t : ℕ) (ht : t < 64) (hb : b < 2 ^ 64) where
       front : place ((a * 2 ^ t) % 2 ^ 64) j ≡ place (a * 2 ^ t) j
       front = place-cut (a * 2 ^ t) 64 j (omega arith)
 
-      back : place (b / 2 / 2 ^ (63 - t)) j ≡ place b (1 + (63 - t + j))
-      back = place-down (b / 2) (63 - t) j ∙ place-down b 1 (63 - t + j)
+      back : place (b / 2 ^ (64 - t)) j ≡ place b (64 - t + j)
+      back = place-down b (64 - t) j
 
-      first : t + i < 64 → (place ((a * 2 ^ t) % 2 ^ 64) j || place (b / 2 / 2 ^ (63 - t)) j) ≡ wbit (a ∷ b ∷ []) (t + i)
+      first : t + i < 64 → (place ((a * 2 ^ t) % 2 ^ 64) j || place (b / 2 ^ (64 - t)) j) ≡ wbit (a ∷ b ∷ []) (t + i)
       first h =
           let k = 64 - suc (t + i) in
           let e : j ≡ t + k = omega arith in
-          ap₂ _||_ (front ∙ ap (place (a * 2 ^ t)) e ∙ place-up a t k) (back ∙ place-above b 64 (1 + (63 - t + j)) hb (omega arith))
+          ap₂ _||_ (front ∙ ap (place (a * 2 ^ t)) e ∙ place-up a t k) (back ∙ place-above b 64 (64 - t + j) hb (omega arith))
           ∙ or-none (place a k)
           ∙ sym (word-at (a ∷ b ∷ []) (t + i) 0 (t + i) h (omega arith))
 
-      second : 64 ≤ t + i → (place ((a * 2 ^ t) % 2 ^ 64) j || place (b / 2 / 2 ^ (63 - t)) j) ≡ wbit (a ∷ b ∷ []) (t + i)
+      second : 64 ≤ t + i → (place ((a * 2 ^ t) % 2 ^ 64) j || place (b / 2 ^ (64 - t)) j) ≡ wbit (a ∷ b ∷ []) (t + i)
       second h =
           let l = t + i - 64 in
-          let e : 1 + (63 - t + j) ≡ 64 - suc l = omega arith in
+          let e : 64 - t + j ≡ 64 - suc l = omega arith in
           ap₂ _||_ (front ∙ place-below a t j (omega arith)) (back ∙ ap (place b) e)
           ∙ sym (word-at (a ∷ b ∷ []) (t + i) 1 l (omega arith) (omega arith))
 

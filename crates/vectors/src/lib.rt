@@ -12,7 +12,10 @@ fn funnel(a: u64, b: u64, t: usize) -> u64
     requires { ⌜ t < 64 ⌝ }
     ensures { λ r. ⌜ Holds r (from t (wbit (a ∷ b ∷ []))) ⌝ }
 {
-    (a << t) | ((b >> 1) >> (63 - t))
+    if t == 0 {
+        return a;
+    }
+    (a << t) | (b >> (64 - t))
 }
 
 // The 64 bits from bit t of word q on.
@@ -60,14 +63,30 @@ fn group(octets: &[u8], at: usize) -> u64
     }
 }
 
+// The words that the octets fill whole.
+fn load_whole(octets: &[u8], ws: &mut [u64])
+    requires { ⌜ length (now octets) ≤ 8 * length (now ws) ⌝ }
+    ensures { λ r. ⌜ wbit (now (ws .exit)) ≡ joined (64 * (length (now (octets .entry)) / 8)) (bit (now (octets .entry))) (wbit (now (ws .entry))) ⌝ }
+{
+    let whole = octets.len() / 8;
+    let mut k = 0;
+    while k < whole {
+        ws[k] = gathered(octets, 8 * k, 8);
+        k += 1;
+    }
+}
+
 // The octets as a vector; the words after them become 0.
 pub fn load(octets: &[u8], ws: &mut [u64])
     requires { ⌜ length (now octets) ≤ 8 * length (now ws) ⌝ }
     ensures { λ r. ⌜ wbit (now (ws .exit)) ≡ bit (now (octets .entry)) ⌝ }
 {
-    let mut k = 0;
+    load_whole(octets, ws);
+    let mut k = octets.len() / 8;
+    let mut v = group(octets, 8 * k);
     while k < ws.len() {
-        ws[k] = group(octets, 8 * k);
+        ws[k] = v;
+        v = 0;
         k += 1;
     }
 }
@@ -115,19 +134,32 @@ fn word(y: &[u64], q: usize) -> u64
     if q < y.len() { y[q] } else { 0 }
 }
 
-// Word k of the m bits of v twice over: before, at, or behind the place where they begin again.
-fn double_word(v: &[u64], m: usize, k: usize) -> u64
-    requires { ⌜ (k < 2 ^ 57) × (wbit (now v) ≡ upTo m (wbit (now v))) ⌝ }
-    ensures { λ r. ⌜ Holds r (from (64 * k) (twice m (wbit (now (v .entry))))) ⌝ }
+// The words before the place where the m bits of v begin again.
+fn double_front(v: &[u64], m: usize, d: &mut [u64])
+    requires { ⌜ (wbit (now v) ≡ upTo m (wbit (now v))) × (m ≤ 64 * length (now d)) ⌝ }
+    ensures { λ r. ⌜ wbit (now (d .exit)) ≡ joined (64 * (m / 64)) (twice m (wbit (now (v .entry)))) (wbit (now (d .entry))) ⌝ }
 {
-    let p = 64 * k;
-    if m <= p {
-        let q = (p - m) / 64;
-        funnel(word(v, q), word(v, q + 1), (p - m) % 64)
-    } else if m - p < 64 {
-        word(v, k) | (word(v, 0) >> (m - p))
-    } else {
-        word(v, k)
+    let q = m / 64;
+    let mut k = 0;
+    while k < q {
+        d[k] = word(v, k);
+        k += 1;
+    }
+}
+
+// The words behind it, from word first on, each across two neighbours of v.
+fn double_behind(v: &[u64], m: usize, first: usize, d: &mut [u64])
+    requires { ⌜ (wbit (now v) ≡ upTo m (wbit (now v))) × (m ≤ 64 * first) × (64 * first < m + 64) × (2 * m ≤ 64 * length (now d)) × (length (now d) ≤ 2 ^ 57) ⌝ }
+    ensures { λ r. ⌜ wbit (now (d .exit)) ≡ joined (64 * first) (wbit (now (d .entry))) (twice m (wbit (now (v .entry)))) ⌝ }
+{
+    let t = 64 * first - m;
+    let mut a = word(v, 0);
+    let mut k = first;
+    while k < d.len() {
+        let b = word(v, k - first + 1);
+        d[k] = funnel(a, b, t);
+        a = b;
+        k += 1;
     }
 }
 
@@ -136,11 +168,14 @@ pub fn double(v: &[u64], m: usize, d: &mut [u64])
     requires { ⌜ (wbit (now v) ≡ upTo m (wbit (now v))) × (2 * m ≤ 64 * length (now d)) × (length (now d) ≤ 2 ^ 57) ⌝ }
     ensures { λ r. ⌜ wbit (now (d .exit)) ≡ twice m (wbit (now (v .entry))) ⌝ }
 {
-    let mut k = 0;
-    while k < d.len() {
-        d[k] = double_word(v, m, k);
-        k += 1;
+    double_front(v, m, d);
+    let q = m / 64;
+    if m % 64 == 0 {
+        double_behind(v, m, q, d);
+        return;
     }
+    d[q] = word(v, q) | (word(v, 0) >> (m % 64));
+    double_behind(v, m, q + 1, d);
 }
 
 // Adds the w words of d from bit s on to those of acc from word at on.

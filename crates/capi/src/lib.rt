@@ -1,0 +1,50 @@
+// The calls for C and Rust. A slice is handed over as a pointer and its length; the records are those of the calls.
+ghost use mathlib.Core.Path.{_≡_};
+ghost use lib.ListN.{length};
+ghost use Rattle.rules.specs.Calls.{encodeAnswer, checkAnswer, openAnswer, correctAnswer, stepAnswer};
+ghost use Rattle.codes.specs.Answers.{asEncoded, asChecked, asCorrected, asStepped};
+use codes::Checked;
+use codes::Corrected;
+use codes::Stepped;
+
+#[no_mangle]
+pub extern "C" fn pandoricchia_encode(code: u8, information: &[u8], word: &mut [u8]) -> u8
+    ensures { λ r. ⌜ asEncoded r (now (word .exit)) ≡ encodeAnswer code (now (information .entry)) (now (word .entry)) ⌝ }
+{
+    codes::encode(code, information, word)
+}
+
+#[no_mangle]
+pub extern "C" fn pandoricchia_check(code: u8, word: &[u8]) -> Checked
+    ensures { λ r. ⌜ asChecked r ≡ checkAnswer code (now (word .entry)) ⌝ }
+{
+    codes::check(code, word)
+}
+
+// How many octets open lends back: a returned reference has no form in C.
+#[no_mangle]
+pub extern "C" fn pandoricchia_open(code: u8, word: &[u8], number: &mut u8) -> usize
+    ensures { λ r. ⌜ (now (number .exit) ≡ openAnswer code (now (word .entry)) .number) × (r ≡ length (openAnswer code (now (word .entry)) .part)) ⌝ }
+{
+    let part = codes::open(code, word, number);
+    part.len()
+}
+
+#[no_mangle]
+pub extern "C" fn pandoricchia_correct(
+    code: u8,
+    word: &[u8],
+    limit: u16,
+    out: &mut [u8],
+) -> Corrected
+    ensures { λ r. ⌜ asCorrected r (now (out .exit)) ≡ correctAnswer code (now (word .entry)) limit (now (out .entry)) ⌝ }
+{
+    codes::correct(code, word, limit, out)
+}
+
+#[no_mangle]
+pub extern "C" fn pandoricchia_step(code: u8, word: &[u8], out: &mut [u8]) -> Stepped
+    ensures { λ r. ⌜ asStepped r (now (out .exit)) ≡ stepAnswer code (now (word .entry)) (now (out .entry)) ⌝ }
+{
+    codes::step(code, word, out)
+}

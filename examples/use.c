@@ -1,0 +1,64 @@
+/* Encodes eight octets, spoils a bit of the word, corrects it and opens it.
+ *
+ *     make lib
+ *     cc -Iinclude -o target/use examples/use.c target/staticlib/libpandoricchia.a && target/use
+ */
+#include "pandoricchia.h"
+
+#include <stdio.h>
+#include <stdlib.h>
+
+enum { CODE = 1, INFORMATION = 8, WORD = 16, LIMIT = 10 };
+
+static void print_octets(const char *name, const uint8_t *octets, size_t len)
+{
+    printf("%-12s", name);
+    for (size_t i = 0; i < len; i++)
+        printf(" %02X", octets[i]);
+    printf("\n");
+}
+
+/* A call that is refused ends the program with its number. */
+static void demand_done(const char *call, uint8_t number)
+{
+    if (number != PANDORICCHIA_DONE) {
+        printf("%s is refused with number %u\n", call, number);
+        exit(EXIT_FAILURE);
+    }
+}
+
+int main(void)
+{
+    const uint8_t information[INFORMATION] = {'T', 'U', 'R', 'N', ' ', 'O', 'F', 'F'};
+    uint8_t word[WORD], out[WORD], number;
+
+    print_octets("information", information, INFORMATION);
+    demand_done("encode", pandoricchia_encode(CODE, information, INFORMATION, word, WORD));
+    print_octets("word", word, WORD);
+
+    /* Bit 21 is wrong. Bit 0 is the most significant bit of octet 0. */
+    word[21 / 8] ^= 0x80 >> 21 % 8;
+    print_octets("received", word, WORD);
+
+    pandoricchia_checked checked = pandoricchia_check(CODE, word, WORD);
+    demand_done("check", checked.number);
+    printf("check: %u checks are broken\n", checked.broken);
+
+    /* A word with a broken check does not open. */
+    size_t part = pandoricchia_open(CODE, word, WORD, &number);
+    printf("open: number %u, %zu octets\n", number, part);
+
+    pandoricchia_stepped stepped = pandoricchia_step(CODE, word, WORD, out, WORD);
+    demand_done("step", stepped.number);
+    printf("step: would flip bit %u, of excess %d\n", stepped.bit, stepped.excess);
+
+    pandoricchia_corrected corrected = pandoricchia_correct(CODE, word, WORD, LIMIT, out, WORD);
+    demand_done("correct", corrected.number);
+    printf("correct: %u flips, broken checks %u before and %u after\n", corrected.flips, corrected.first, corrected.last);
+    print_octets("corrected", out, WORD);
+
+    part = pandoricchia_open(CODE, out, WORD, &number);
+    demand_done("open", number);
+    print_octets("opened", out, part);
+    return EXIT_SUCCESS;
+}

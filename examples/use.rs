@@ -1,0 +1,61 @@
+// Encodes eight octets, spoils a bit of the word, corrects it and opens it.
+//
+//     make lib
+//     rustc -o target/use examples/use.rs -L target/staticlib -l static=pandoricchia && target/use
+#[path = "../include/pandoricchia.rs"]
+#[allow(dead_code)]
+mod pandoricchia;
+
+const CODE: u8 = 1;
+const LIMIT: u16 = 10;
+
+fn print_octets(name: &str, octets: &[u8]) {
+    let printed: Vec<String> = octets.iter().map(|octet| format!(" {octet:02X}")).collect();
+    println!("{name:<12}{}", printed.concat());
+}
+
+// A call that is refused ends the program with its number.
+fn demand_done(call: &str, number: u8) {
+    if number != pandoricchia::DONE {
+        println!("{call} is refused with number {number}");
+        std::process::exit(1);
+    }
+}
+
+fn main() {
+    let information = b"TURN OFF";
+    let mut word = [0; 16];
+    let mut out = [0; 16];
+
+    print_octets("information", information);
+    demand_done("encode", pandoricchia::encode(CODE, information, &mut word));
+    print_octets("word", &word);
+
+    // Bit 21 is wrong. Bit 0 is the most significant bit of octet 0.
+    word[21 / 8] ^= 0x80 >> (21 % 8);
+    print_octets("received", &word);
+
+    let checked = pandoricchia::check(CODE, &word);
+    demand_done("check", checked.number);
+    println!("check: {} checks are broken", checked.broken);
+
+    // A word with a broken check does not open.
+    match pandoricchia::open(CODE, &word) {
+        Ok(part) => println!("open: number 0, {} octets", part.len()),
+        Err(number) => println!("open: number {number}, 0 octets"),
+    }
+
+    let stepped = pandoricchia::step(CODE, &word, &mut out);
+    demand_done("step", stepped.number);
+    println!("step: would flip bit {}, of excess {}", stepped.bit, stepped.excess);
+
+    let corrected = pandoricchia::correct(CODE, &word, LIMIT, &mut out);
+    demand_done("correct", corrected.number);
+    println!("correct: {} flips, broken checks {} before and {} after", corrected.flips, corrected.first, corrected.last);
+    print_octets("corrected", &out);
+
+    match pandoricchia::open(CODE, &out) {
+        Ok(part) => print_octets("opened", part),
+        Err(number) => demand_done("open", number),
+    }
+}

@@ -1,0 +1,86 @@
+//! Pandoricchia from Rust: encoding, checking, opening and correcting words of five CCSDS LDPC codes. What the codes, the
+//! lengths and the numbers are stands in `pandoricchia.h`. Every call answers for every code number and every length; one
+//! that returns any other number than `DONE` has written nothing.
+//!
+//!     #[path = "include/pandoricchia.rs"]
+//!     mod pandoricchia;
+//!
+//! and `rustc -L target/staticlib -l static=pandoricchia`.
+
+pub const DONE: u8 = 0;
+pub const CODE: u8 = 1;
+pub const INPUT_LENGTH: u8 = 2;
+pub const OUTPUT_LENGTH: u8 = 3;
+pub const LAST_SIX: u8 = 4;
+pub const STUCK: u8 = 5;
+pub const LIMIT: u8 = 6;
+pub const UNSENT: u8 = 7;
+pub const PARITY: u8 = 8;
+pub const NO_CODEWORD: u8 = 9;
+
+#[repr(C)]
+#[derive(Clone, Copy, Debug, PartialEq, Eq)]
+pub struct Checked {
+    pub number: u8,
+    pub broken: u32,
+}
+
+#[repr(C)]
+#[derive(Clone, Copy, Debug, PartialEq, Eq)]
+pub struct Corrected {
+    pub number: u8,
+    pub flips: u32,
+    pub first: u32,
+    pub last: u32,
+}
+
+#[repr(C)]
+#[derive(Clone, Copy, Debug, PartialEq, Eq)]
+pub struct Stepped {
+    pub number: u8,
+    pub quiet: bool,
+    pub bit: u32,
+    pub excess: i8,
+}
+
+extern "C" {
+    fn pandoricchia_encode(code: u8, information: *const u8, information_len: usize, word: *mut u8, word_len: usize) -> u8;
+    fn pandoricchia_check(code: u8, word: *const u8, word_len: usize) -> Checked;
+    fn pandoricchia_open(code: u8, word: *const u8, word_len: usize, number: *mut u8) -> usize;
+    fn pandoricchia_correct(code: u8, word: *const u8, word_len: usize, limit: u16, out: *mut u8, out_len: usize) -> Corrected;
+    fn pandoricchia_step(code: u8, word: *const u8, word_len: usize, out: *mut u8, out_len: usize) -> Stepped;
+}
+
+// Why each call is safe: a slice's pointer and length name octets that are the caller's for as long as the call lasts, and
+// an output, being lent mutably, overlaps no input.
+
+/// Information in, word out. Gives the number, 0 to 4.
+#[must_use]
+pub fn encode(code: u8, information: &[u8], word: &mut [u8]) -> u8 {
+    unsafe { pandoricchia_encode(code, information.as_ptr(), information.len(), word.as_mut_ptr(), word.len()) }
+}
+
+/// Counts the broken checks.
+#[must_use]
+pub fn check(code: u8, word: &[u8]) -> Checked {
+    unsafe { pandoricchia_check(code, word.as_ptr(), word.len()) }
+}
+
+/// The information octets of a codeword, lent back as a part of it; or the number, 1, 2 or 9.
+pub fn open(code: u8, word: &[u8]) -> Result<&[u8], u8> {
+    let mut number = 0;
+    let part = unsafe { pandoricchia_open(code, word.as_ptr(), word.len(), &mut number) };
+    if number == DONE { Ok(&word[..part]) } else { Err(number) }
+}
+
+/// Flips the bit of greatest excess until no check is broken, or no bit has an excess above 0, or the limit is reached.
+#[must_use]
+pub fn correct(code: u8, word: &[u8], limit: u16, out: &mut [u8]) -> Corrected {
+    unsafe { pandoricchia_correct(code, word.as_ptr(), word.len(), limit, out.as_mut_ptr(), out.len()) }
+}
+
+/// One flip of correct's run.
+#[must_use]
+pub fn step(code: u8, word: &[u8], out: &mut [u8]) -> Stepped {
+    unsafe { pandoricchia_step(code, word.as_ptr(), word.len(), out.as_mut_ptr(), out.len()) }
+}

@@ -1,0 +1,149 @@
+/* Calls of the library, of the judge and of the same algorithm in C, to be counted or timed.
+ *
+ *     bench WHO CALL CODE WRONG TURNS    WHO is library, judge or fast; WRONG a number of wrong bits, or random
+ *     bench time CALL CODE WRONG         nanoseconds a call of each, turn and turn about
+ *
+ * A turn is one call for each of a few words, which are the same at every run. Prints flips a word, or the times.
+ */
+#include "fast.h"
+#include "judge.h"
+#include "pandoricchia.h"
+
+#include <stdio.h>
+#include <stdlib.h>
+#include <string.h>
+#include <time.h>
+
+enum { WORDS = 4, LONGEST = 1022 };
+
+static const size_t word_octets[] = {0, 16, 32, 64, 1022, 1020};
+static const size_t info_octets[] = {0, 8, 16, 32, 895, 892};
+static const unsigned covered_bits[] = {0, 128, 256, 512, 8176, 8158};
+
+static const char *const names[] = {"library", "judge", "fast"};
+
+static uint64_t state = 1;
+
+/* splitmix64 */
+static uint64_t draw(void)
+{
+    uint64_t z = (state += 0x9E3779B97F4A7C15);
+    z = (z ^ z >> 30) * 0xBF58476D1CE4E5B9;
+    z = (z ^ z >> 27) * 0x94D049BB133111EB;
+    return z ^ z >> 31;
+}
+
+static uint8_t information[WORDS][LONGEST], word[WORDS][LONGEST], out[LONGEST];
+static unsigned long flips;
+
+static void prepare(uint8_t code, const char *wrong)
+{
+    for (unsigned w = 0; w < WORDS; w++) {
+        for (size_t i = 0; i < LONGEST; i++) {
+            information[w][i] = (uint8_t)draw();
+            word[w][i] = (uint8_t)draw();
+        }
+        if (code == 4)
+            information[w][894] &= 0xC0;
+        if (strcmp(wrong, "random") == 0)
+            continue;
+        pandoricchia_encode(code, information[w], info_octets[code], word[w], word_octets[code]);
+        uint8_t done[LONGEST] = {0};
+        for (int left = atoi(wrong); left > 0;) {
+            unsigned bit = (unsigned)(draw() % covered_bits[code]);
+            uint8_t mask = (uint8_t)(0x80 >> bit % 8);
+            if (done[bit / 8] & mask)
+                continue;
+            done[bit / 8] |= mask;
+            word[w][bit / 8] ^= mask;
+            left--;
+        }
+    }
+}
+
+/* One call, of whichever kind, by whomever. What it answers is added up, so that none is left out. */
+static unsigned long ask(unsigned who, char call, uint8_t code, unsigned w)
+{
+    const uint8_t *i = information[w], *x = word[w];
+    size_t il = info_octets[code], l = word_octets[code];
+    uint8_t number;
+    switch (call) {
+    case 'e':
+        return who == 0   ? pandoricchia_encode(code, i, il, out, l)
+               : who == 1 ? judge_encode(code, i, il, out, l)
+                          : fast_encode(code, i, il, out, l);
+    case 'h':
+        return who == 0   ? pandoricchia_check(code, x, l).broken
+               : who == 1 ? judge_check(code, x, l).broken
+                          : fast_check(code, x, l).broken;
+    case 'o':
+        return who == 0   ? pandoricchia_open(code, x, l, &number)
+               : who == 1 ? judge_open(code, x, l, &number)
+                          : fast_open(code, x, l, &number);
+    case 'c':
+        return who == 0   ? pandoricchia_correct(code, x, l, 65535, out, l).flips
+               : who == 1 ? judge_correct(code, x, l, 65535, out, l).flips
+                          : fast_correct(code, x, l, 65535, out, l).flips;
+    default:
+        return who == 0   ? pandoricchia_step(code, x, l, out, l).bit
+               : who == 1 ? judge_step(code, x, l, out, l).bit
+                          : fast_step(code, x, l, out, l).bit;
+    }
+}
+
+static unsigned long turns(unsigned who, char call, uint8_t code, unsigned long n)
+{
+    unsigned long sum = 0;
+    for (; n > 0; n--)
+        for (unsigned w = 0; w < WORDS; w++)
+            sum += ask(who, call, code, w);
+    return sum;
+}
+
+static double seconds(void)
+{
+    struct timespec t;
+    clock_gettime(CLOCK_MONOTONIC, &t);
+    return (double)t.tv_sec + (double)t.tv_nsec * 1e-9;
+}
+
+/* The least of several times, each long enough to be measured. */
+static void print_times(char call, uint8_t code)
+{
+    double least[3] = {1e9, 1e9, 1e9};
+    for (unsigned round = 0; round < 5; round++) {
+        for (unsigned who = 0; who < 3; who++) {
+            double start = seconds(), spent = 0;
+            unsigned long n = 0, more = 1;
+            while (spent < 0.005) {
+                flips += turns(who, call, code, more);
+                n += more;
+                more *= 2;
+                spent = seconds() - start;
+            }
+            double each = spent * 1e9 / (double)(n * WORDS);
+            least[who] = each < least[who] ? each : least[who];
+        }
+    }
+    printf("%.1f %.1f %.1f\n", least[0], least[1], least[2]);
+}
+
+int main(int argc, char **argv)
+{
+    if (argc < 5)
+        return 2;
+    char call = argv[2][0] == 'c' && argv[2][1] == 'h' ? 'h' : argv[2][0];
+    uint8_t code = (uint8_t)atoi(argv[3]);
+    prepare(code, argv[4]);
+    if (strcmp(argv[1], "time") == 0) {
+        print_times(call, code);
+        return flips == 0xFFFFFFFF;
+    }
+    unsigned who = 0;
+    while (who < 2 && strcmp(argv[1], names[who]) != 0)
+        who++;
+    turns(who, call, code, 1);
+    unsigned long sum = turns(who, call, code, (unsigned long)atol(argv[5]));
+    printf("%.2f\n", (double)sum / (WORDS * atof(argv[5])));
+    return 0;
+}

@@ -1,0 +1,397 @@
+/* The library's own algorithm, written for speed in C: a word in 64-bit words, a block doubled so that every rotation of
+ * it is a window, a syndrome that is kept along a run, counts of broken checks for 64 bits at once. The benchmark holds
+ * the library to it. tables.h has the library's own tables. */
+#include "fast.h"
+#include "tables.h"
+
+#include <string.h>
+
+#define LEAF static inline __attribute__((always_inline))
+
+enum { HELD = 130, SYNDROME = 16 };
+
+struct shape {
+    unsigned size, words, blocks, rows;
+};
+
+struct best {
+    unsigned score, bit;
+};
+
+/* The 64 bits of a and then b from bit t on. */
+LEAF uint64_t funnel(uint64_t a, uint64_t b, unsigned t)
+{
+    return a << t | b >> 1 >> (63 - t);
+}
+
+LEAF uint64_t window(const uint64_t *y, unsigned p)
+{
+    return funnel(y[p / 64], y[p / 64 + 1], p % 64);
+}
+
+LEAF unsigned ones(uint64_t v)
+{
+    v -= v >> 1 & 0x5555555555555555;
+    v = (v & 0x3333333333333333) + (v >> 2 & 0x3333333333333333);
+    v = (v + (v >> 4)) & 0x0F0F0F0F0F0F0F0F;
+    return (unsigned)(v * 0x0101010101010101 >> 56);
+}
+
+LEAF unsigned broken(const uint64_t *s)
+{
+    unsigned n = 0;
+    for (unsigned k = 0; k < SYNDROME; k++)
+        n += ones(s[k]);
+    return n;
+}
+
+/* The octets, and two words of zeros after them. */
+LEAF void load(const uint8_t *octets, size_t len, uint64_t *y)
+{
+    size_t k = 0;
+    for (; k < len / 8; k++) {
+        uint64_t v;
+        memcpy(&v, octets + 8 * k, 8);
+        y[k] = __builtin_bswap64(v);
+    }
+    uint64_t last = 0;
+    for (size_t i = 8 * k; i < len; i++)
+        last |= (uint64_t)octets[i] << (56 - 8 * (i % 8));
+    y[k] = last;
+    y[k + 1] = y[k + 2] = 0;
+}
+
+LEAF void store(const uint64_t *y, unsigned from, uint8_t *out, size_t len)
+{
+    size_t k = 0;
+    for (; k < len / 8; k++) {
+        uint64_t v = __builtin_bswap64(funnel(y[k], y[k + 1], from));
+        memcpy(out + 8 * k, &v, 8);
+    }
+    uint64_t last = funnel(y[k], y[k + 1], from);
+    for (size_t i = 8 * k; i < len; i++)
+        out[i] = (uint8_t)(last >> (56 - 8 * (i % 8)));
+}
+
+LEAF void take(uint8_t code, const uint8_t *octets, size_t len, uint64_t *y)
+{
+    load(octets, len, y);
+    if (code == 5)
+        for (size_t k = len / 8 + 1; k > 0; k--)
+            y[k] = funnel(y[k - 1], y[k], 64 - 18);
+    if (code == 5)
+        y[0] >>= 18;
+}
+
+LEAF void give(uint8_t code, uint64_t *y, uint8_t *out, size_t len)
+{
+    if (code == 5)
+        y[127] &= ~UINT64_C(0xFFFF);
+    store(y, code == 5 ? 18 : 0, out, len);
+}
+
+/* Clears what the last word of M bits has after them. */
+LEAF uint64_t front(uint64_t v, unsigned size)
+{
+    return v & ~UINT64_C(0) << (63 - (size - 1) % 64);
+}
+
+LEAF void cut(const uint64_t *y, unsigned p, struct shape sh, uint64_t *v)
+{
+    for (unsigned k = 0; k < sh.words; k++)
+        v[k] = funnel(y[p / 64 + k], y[p / 64 + k + 1], p % 64);
+    v[sh.words - 1] = front(v[sh.words - 1], sh.size);
+}
+
+/* The M bits of v twice over, in twice the words and one more. */
+LEAF void twice(const uint64_t *v, struct shape sh, uint64_t *d)
+{
+    unsigned q = sh.size / 64, t = sh.size % 64;
+    for (unsigned k = 0; k < sh.words; k++)
+        d[k] = v[k];
+    for (unsigned k = sh.words; k <= 2 * sh.words; k++)
+        d[k] = 0;
+    if (t == 0) {
+        for (unsigned k = 0; k < sh.words; k++)
+            d[q + k] = v[k];
+    } else {
+        d[q] |= v[0] >> t;
+        for (unsigned k = 1; k < sh.words; k++)
+            d[q + k] = funnel(v[k - 1], v[k], 64 - t);
+        d[q + sh.words] = v[sh.words - 1] << (64 - t);
+    }
+}
+
+LEAF void add_turned(const uint64_t *d, unsigned s, uint64_t *sum, unsigned words)
+{
+    for (unsigned k = 0; k < words; k++)
+        sum[k] ^= funnel(d[s / 64 + k], d[s / 64 + k + 1], s % 64);
+}
+
+static void syndrome(const uint64_t *y, const uint16_t *h, struct shape sh, uint64_t *s)
+{
+    memset(s, 0, SYNDROME * sizeof *s);
+    for (unsigned b = 0; b < sh.blocks; b++) {
+        uint64_t v[8], d[17];
+        cut(y, b * sh.size, sh, v);
+        twice(v, sh, d);
+        for (unsigned r = 0; r < sh.rows; r++)
+            for (unsigned e = 0; e < 2; e++) {
+                unsigned shift = h[2 * (r * sh.blocks + b) + e];
+                if (shift < sh.size)
+                    add_turned(d, shift, s + r * sh.words, sh.words);
+            }
+    }
+    for (unsigned r = 0; r < sh.rows; r++)
+        s[r * sh.words + sh.words - 1] = front(s[r * sh.words + sh.words - 1], sh.size);
+}
+
+/* The best of 64 bits from bit at of a block on, and the best so far. */
+LEAF struct best best_part(const uint64_t *d, const unsigned *starts, unsigned n, unsigned first, unsigned at,
+                           unsigned valid, struct best best)
+{
+    uint64_t one = 0, two = 0, four = 0, mask = ~UINT64_C(0) << (64 - valid);
+    for (unsigned e = 0; e < n; e++) {
+        uint64_t x = window(d, starts[e] + at), carry = one & x;
+        four ^= two & carry;
+        two ^= carry;
+        one ^= x;
+    }
+    unsigned count = 0;
+    if (mask & four) {
+        mask &= four;
+        count = 4;
+    }
+    if (mask & two) {
+        mask &= two;
+        count += 2;
+    }
+    if (mask & one) {
+        mask &= one;
+        count += 1;
+    }
+    unsigned score = 2 * count + 8 - n;
+    if (best.score < score) {
+        best.score = score;
+        best.bit = first + at + (unsigned)__builtin_clzll(mask);
+    }
+    return best;
+}
+
+/* The bit of greatest excess, which is the score less 8. */
+static struct best choose(const uint64_t *s, const uint16_t *h, struct shape sh)
+{
+    uint64_t d[4 * 17];
+    unsigned room = 2 * sh.words + 1;
+    struct best best = {0, 0};
+    for (unsigned r = 0; r < sh.rows; r++)
+        twice(s + r * sh.words, sh, d + r * room);
+    for (unsigned b = 0; b < sh.blocks; b++) {
+        unsigned starts[8], n = 0;
+        for (unsigned r = 0; r < sh.rows; r++)
+            for (unsigned e = 0; e < 2; e++) {
+                unsigned shift = h[2 * (r * sh.blocks + b) + e];
+                if (shift < sh.size)
+                    starts[n++] = 64 * room * r + (sh.size - shift);
+            }
+        for (unsigned at = 0; at < sh.size && best.score < 8 + n; at += 64)
+            best = best_part(d, starts, n, b * sh.size, at, sh.size - at < 64 ? sh.size - at : 64, best);
+    }
+    return best;
+}
+
+LEAF void flip(uint64_t *y, uint64_t *s, const uint16_t *h, struct shape sh, unsigned bit)
+{
+    unsigned b = bit / sh.size, k = bit % sh.size;
+    y[bit / 64] ^= UINT64_C(1) << (63 - bit % 64);
+    for (unsigned r = 0; r < sh.rows; r++)
+        for (unsigned e = 0; e < 2; e++) {
+            unsigned shift = h[2 * (r * sh.blocks + b) + e];
+            if (shift < sh.size) {
+                unsigned i = k >= shift ? k - shift : k + sh.size - shift;
+                s[r * sh.words + i / 64] ^= UINT64_C(1) << (63 - i % 64);
+            }
+        }
+}
+
+static uint8_t run(uint64_t *y, uint64_t *s, const uint16_t *h, struct shape sh, uint16_t limit, uint32_t *flips)
+{
+    for (*flips = 0;; ++*flips) {
+        if (broken(s) == 0)
+            return 0;
+        struct best best = choose(s, h, sh);
+        if (best.score <= 8)
+            return 5;
+        if (*flips >= limit)
+            return 6;
+        flip(y, s, h, sh, best.bit);
+    }
+}
+
+/* Whether the parity of a quiet near-Earth word is the encoder's: see the crate ownparity. */
+static bool own_parity(const uint64_t *y)
+{
+    unsigned odd = 0;
+    for (unsigned b = 0; b < 16; b++) {
+        uint64_t fold = 0, v[8];
+        cut(y, 511 * b, (struct shape){511, 8, 16, 2}, v);
+        for (unsigned k = 0; k < 8; k++)
+            fold ^= v[k];
+        odd = 2 * odd + (ones(fold) & 1);
+    }
+    return ((ones(odd & 0x06E6) | ones(odd & 0x0D7D)) & 1) == 0;
+}
+
+/* Adds the printed rows for the information bits, and puts each part of the parity after them. */
+static void put_parity(uint64_t *y, const uint64_t *g, struct shape sh, unsigned inform, unsigned parts)
+{
+    for (unsigned p = 0; p < parts; p++) {
+        uint64_t u[12] = {0};
+        for (unsigned j = 0; j < inform; j++) {
+            uint64_t row[9], d[17];
+            const uint64_t *printed = g + (j * parts + p) * sh.words;
+            for (unsigned k = 0; k < sh.words; k++)
+                row[k] = printed[k];
+            row[sh.words] = 0;
+            cut(row, 64 * sh.words - sh.size, sh, row);
+            twice(row, sh, d);
+            for (unsigned t = 0; t < sh.size; t += 64) {
+                uint64_t v = window(y, j * sh.size + t);
+                if (sh.size - t < 64)
+                    v = front(v, sh.size);
+                for (; v != 0; v &= ~(UINT64_C(1) << 63 >> __builtin_clzll(v)))
+                    add_turned(d, sh.size - t - (unsigned)__builtin_clzll(v), u + 1, sh.words);
+            }
+        }
+        u[sh.words] = front(u[sh.words], sh.size);
+        unsigned at = (inform + p) * sh.size;
+        add_turned(u, 64 - at % 64, y + at / 64, sh.words + 1);
+    }
+}
+
+static const unsigned word_octets[] = {0, 16, 32, 64, 1022, 1020};
+static const unsigned info_octets[] = {0, 8, 16, 32, 895, 892};
+
+static bool offered(uint8_t code)
+{
+    return code >= 1 && code <= 5;
+}
+
+/* DO(table, generator, shape, information blocks, parity parts) for the code. */
+#define FOR_CODE(code, DO)                                                             \
+    switch (code) {                                                                    \
+    case 1:                                                                            \
+        DO(PARITY16[0][0], GENERATOR16[0], ((struct shape){16, 1, 8, 4}), 4, 4);       \
+        break;                                                                         \
+    case 2:                                                                            \
+        DO(PARITY32[0][0], GENERATOR32[0], ((struct shape){32, 1, 8, 4}), 4, 4);       \
+        break;                                                                         \
+    case 3:                                                                            \
+        DO(PARITY64[0][0], GENERATOR64[0], ((struct shape){64, 1, 8, 4}), 4, 4);       \
+        break;                                                                         \
+    default:                                                                           \
+        DO(PARITY511[0][0], GENERATOR511[0][0], ((struct shape){511, 8, 16, 2}), 14, 2); \
+    }
+
+uint8_t fast_encode(uint8_t code, const uint8_t *information, size_t information_len, uint8_t *word, size_t word_len)
+{
+    if (!offered(code))
+        return 1;
+    if (information_len != info_octets[code])
+        return 2;
+    if (word_len != word_octets[code])
+        return 3;
+    if (code == 4 && (information[894] & 0x3F) != 0)
+        return 4;
+    uint64_t y[HELD];
+    take(code, information, information_len, y);
+    for (size_t k = information_len / 8 + 2; k < word_len / 8 + 3; k++)
+        y[k] = 0;
+#define PUT(h, g, sh, inform, parts) put_parity(y, g, sh, inform, parts)
+    FOR_CODE(code, PUT)
+    give(code, y, word, word_len);
+    return 0;
+}
+
+#define MEASURE(h, g, sh, inform, parts) syndrome(y, h, sh, s)
+
+struct judge_checked fast_check(uint8_t code, const uint8_t *word, size_t len)
+{
+    if (!offered(code))
+        return (struct judge_checked){1, 0};
+    if (len != word_octets[code])
+        return (struct judge_checked){2, 0};
+    uint64_t y[HELD], s[SYNDROME];
+    take(code, word, len, y);
+    FOR_CODE(code, MEASURE)
+    return (struct judge_checked){0, broken(s)};
+}
+
+size_t fast_open(uint8_t code, const uint8_t *word, size_t len, uint8_t *number)
+{
+    *number = !offered(code) || code == 4 ? 1 : len != word_octets[code] ? 2 : 0;
+    if (*number != 0)
+        return 0;
+    uint64_t y[HELD], s[SYNDROME];
+    take(code, word, len, y);
+    FOR_CODE(code, MEASURE)
+    if (broken(s) != 0 || (code == 5 && (!own_parity(y) || (word[1019] & 3) != 0))) {
+        *number = 9;
+        return 0;
+    }
+    return info_octets[code];
+}
+
+struct judge_corrected fast_correct(uint8_t code, const uint8_t *word, size_t len, uint16_t limit, uint8_t *out,
+                                    size_t out_len)
+{
+    struct judge_corrected answer = {0};
+    answer.number = !offered(code) ? 1 : len != word_octets[code] ? 2 : out_len != word_octets[code] ? 3 : 0;
+    if (answer.number != 0)
+        return answer;
+    uint64_t y[HELD], s[SYNDROME];
+    take(code, word, len, y);
+#define RUN(h, g, sh, inform, parts) \
+    syndrome(y, h, sh, s);           \
+    answer.first = broken(s);        \
+    answer.number = run(y, s, h, sh, limit, &answer.flips)
+    FOR_CODE(code, RUN)
+    answer.last = broken(s);
+    if (answer.number == 0 && code == 5 && y[0] >> 46 != 0)
+        answer.number = 7;
+    if (answer.number == 0 && code >= 4 && !own_parity(y))
+        answer.number = 8;
+    if (answer.number == 0)
+        give(code, y, out, out_len);
+    return answer;
+}
+
+struct judge_stepped fast_step(uint8_t code, const uint8_t *word, size_t len, uint8_t *out, size_t out_len)
+{
+    struct judge_stepped answer = {0};
+    answer.number = !offered(code) || code == 5 ? 1 : len != word_octets[code] ? 2 : out_len != word_octets[code] ? 3 : 0;
+    if (answer.number != 0)
+        return answer;
+    uint64_t y[HELD], s[SYNDROME];
+    struct best best = {0, 0};
+    take(code, word, len, y);
+#define STEP(h, g, sh, inform, parts) \
+    syndrome(y, h, sh, s);            \
+    answer.quiet = broken(s) == 0;    \
+    if (!answer.quiet)                \
+    best = choose(s, h, sh)
+    FOR_CODE(code, STEP)
+    if (answer.quiet) {
+        memcpy(out, word, len);
+        return answer;
+    }
+    if (best.score <= 8) {
+        answer.number = 5;
+        return answer;
+    }
+    y[best.bit / 64] ^= UINT64_C(1) << (63 - best.bit % 64);
+    give(code, y, out, out_len);
+    answer.bit = best.bit;
+    answer.excess = (int8_t)(best.score - 8);
+    return answer;
+}
