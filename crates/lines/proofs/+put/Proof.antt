@@ -1,7 +1,7 @@
 -- `put` calls itself for a tenth of the number.
-use mathlib.Core.Path.{_≡_, refl, sym, ap, _∙_, subst}
+use mathlib.Core.Path.{sym, ap, _∙_, subst}
 use mathlib.Core.List.{List, [], _∷_, _++_, append-nil}
-use Prim.Native.Nat.{ℕ, _+_, _/_, _%_, _<_, _≤_}
+use Prim.Native.Nat.{ℕ, _+_, _/_, _<_, _≤_}
 use native.Mathlib.Omega.{arith}
 use lib.ListN.{length, take, length-set}
 use Rattle.lines.specs.Log.{decimal}
@@ -24,7 +24,6 @@ put-at t = and 1 put-kinds.ps (is 1 put-kinds.ps μ-put t) put.Pre
 abbrev put-below : ℕ → In 1 put-kinds.ps
 put-below t = and 1 put-kinds.ps (falls 1 put-kinds.ps _<_ μ-put t) put.Pre
 
--- src/lib.rt:39:20
 put-glyph-requires : (t : ℕ) → put-lts.Need-glyph-requires (
   glyph-reads.Asked,
   glyph-reads.Learnt,
@@ -33,7 +32,6 @@ put-glyph-requires : (t : ℕ) → put-lts.Need-glyph-requires (
 ) (put-at t) put.Post
 put-glyph-requires t c κs = omega arith
 
--- src/lib.rt:39:9
 put-slice-write-text : (t : ℕ) → put-lts.Need-slice-write-text (
   glyph-reads.Asked,
   glyph-reads.Learnt,
@@ -42,7 +40,6 @@ put-slice-write-text : (t : ℕ) → put-lts.Need-slice-write-text (
 ) (put-at t) put.Post
 put-slice-write-text t c = omega (arith, digit-long (c .before .before .before .args .n) (c .before .if1 .taken))
 
--- src/lib.rt:40:16
 put-add-result : (t : ℕ) → put-lts.Need-add-result (
   glyph-reads.Asked,
   glyph-reads.Learnt,
@@ -51,7 +48,6 @@ put-add-result : (t : ℕ) → put-lts.Need-add-result (
 ) (put-at t) put.Post
 put-add-result t c = omega (arith, digit-long (c .before .before .before .args .n) (c .before .if1 .taken))
 
--- src/lib.rt:40:9
 put-same-length : (t : ℕ) → put-lts.Need-same-length (
   glyph-reads.Asked,
   glyph-reads.Learnt,
@@ -60,7 +56,6 @@ put-same-length : (t : ℕ) → put-lts.Need-same-length (
 ) (put-at t) put.Post
 put-same-length t c = simp length-set
 
--- src/lib.rt:40:9
 put-returns : (t : ℕ) → put-lts.Need-returns (
   glyph-reads.Asked,
   glyph-reads.Learnt,
@@ -76,7 +71,6 @@ put-returns t c =
           ∙ ap (λ (l : List ℕ). take (a .at) (a .text .now) ++ l) (ap (λ v. v ∷ []) (c .glyph .ensures) ∙ sym (decimal-digit (a .n) h)),
     )
 
--- src/lib.rt:42:9
 put-put-requires : (t : ℕ) → put-lts.Need-put-requires (
   glyph-reads.Asked,
   glyph-reads.Learnt,
@@ -88,7 +82,6 @@ put-put-requires t c κs =
     let h : 10 ≤ a .n = omega arith in
     (subst (λ j. a .n / 10 < j) (c .before .before .before .pre .0) (omega arith), omega (arith, more-long (a .n) h))
 
--- src/lib.rt:43:17
 put-glyph-requires-2 : (t : ℕ) → put-lts.Need-glyph-requires-2 (
   glyph-reads.Asked,
   glyph-reads.Learnt,
@@ -97,7 +90,6 @@ put-glyph-requires-2 : (t : ℕ) → put-lts.Need-glyph-requires-2 (
 ) (put-at t) put.Post
 put-glyph-requires-2 t c κs = omega arith
 
--- src/lib.rt:43:5
 put-slice-write-text-2 : (t : ℕ) → put-lts.Need-slice-write-text-2 (
   glyph-reads.Asked,
   glyph-reads.Learnt,
@@ -109,7 +101,6 @@ put-slice-write-text-2 t c =
     let h : 10 ≤ a .n = omega arith in
     omega (arith, more-long (a .n) h)
 
--- src/lib.rt:44:5
 put-add-result-2 : (t : ℕ) → put-lts.Need-add-result-2 (
   glyph-reads.Asked,
   glyph-reads.Learnt,
@@ -121,7 +112,6 @@ put-add-result-2 t c =
     let h : 10 ≤ a .n = omega arith in
     omega (arith, more-long (a .n) h)
 
--- src/lib.rt:34:1
 put-same-length-2 : (t : ℕ) → put-lts.Need-same-length-2 (
   glyph-reads.Asked,
   glyph-reads.Learnt,
@@ -130,7 +120,6 @@ put-same-length-2 : (t : ℕ) → put-lts.Need-same-length-2 (
 ) (put-at t) put.Post
 put-same-length-2 t c = simp length-set (omega arith)
 
--- src/lib.rt:34:1
 put-returns-2 : (t : ℕ) → put-lts.Need-returns-2 (
   glyph-reads.Asked,
   glyph-reads.Learnt,

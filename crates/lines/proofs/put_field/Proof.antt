@@ -5,27 +5,19 @@ use Rattle.lines.proofs.Texts.{one-more}
 use borrow.Author.Needs.{needs}
 use Rattle.lines.proofs.put_field.Statement.{statement}
 use Rattle.lines.proofs.put_field.Tie as tie
-use Rattle.lines.proofs.put_field.Reads as reads
-use Rattle.lines.proofs.put_field.Lts as lts
-use Rattle.lines.proofs.put.Reads as put-reads
 
--- src/lib.rt:52:9
 put-requires : tie.Need-put-requires
 put-requires c κs = search needs
 
--- src/lib.rt:53:5
 slice-write-text : tie.Need-slice-write-text
 slice-write-text c = search needs
 
--- src/lib.rt:54:5
 add-result : tie.Need-add-result
 add-result c = search needs
 
--- src/lib.rt:48:1
 same-length : tie.Need-same-length
 same-length c = search needs
 
--- src/lib.rt:48:1
 returns : tie.Need-returns
 returns c =
     let a = c .before .before .before .before .before .args in

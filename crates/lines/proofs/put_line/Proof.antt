@@ -1,61 +1,44 @@
-use mathlib.Core.Path.{_≡_, refl, _∙_}
-use mathlib.Core.List.{List, [], _++_}
+use mathlib.Core.Path.{_∙_}
+use mathlib.Core.List.{[], _++_}
 use lib.ListN.{take}
 use native.Mathlib.Omega.{arith}
 use Rattle.codes.specs.Answers.{asCorrected}
 use Rattle.lines.specs.Log.{field}
-use Prim.Native.Nat.{_<_, _^_}
 use Rattle.lines.proofs.Texts.{long8, long32, long64, one-field, line-joined}
 use borrow.Author.Needs.{needs}
 use Rattle.lines.proofs.put_line.Statement.{statement}
 use Rattle.lines.proofs.put_line.Tie as tie
-use Rattle.lines.proofs.put_line.Reads as reads
-use Rattle.lines.proofs.put_line.Lts as lts
-use Rattle.lines.proofs.octet.Reads as octet-reads
-use Rattle.lines.proofs.put_field.Reads as put-field-reads
-use Rattle.lines.proofs.wide.Reads as wide-reads
 
--- src/lib.rt:62:9
 put-field-requires : tie.Need-put-field-requires
 put-field-requires c κs = omega (arith, long64 (c .before .before .args .index) (omega arith))
 
--- src/lib.rt:63:27
 octet-requires : tie.Need-octet-requires
 octet-requires c κs = search needs
 
--- src/lib.rt:63:9
 put-field-requires-2 : tie.Need-put-field-requires-2
 put-field-requires-2 c κs = omega (arith, long64 (c .before .before .before .before .before .before .before .args .index) (omega arith), long8 (c .before .octet .result) (c .before .octet .ensures .1))
 
--- src/lib.rt:64:27
 wide-requires : tie.Need-wide-requires
 wide-requires c κs = search needs
 
--- src/lib.rt:64:9
 put-field-requires-3 : tie.Need-put-field-requires-3
 put-field-requires-3 c κs = omega (arith, long64 (c .before .before .before .before .before .before .before .before .before .before .before .before .args .index) (omega arith), long8 (c .before .before .before .before .before .before .octet .result) (c .before .before .before .before .before .before .octet .ensures .1), long32 (c .before .wide .result) (c .before .wide .ensures .1))
 
--- src/lib.rt:65:26
 wide-requires-2 : tie.Need-wide-requires-2
 wide-requires-2 c κs = search needs
 
--- src/lib.rt:65:9
 put-field-requires-4 : tie.Need-put-field-requires-4
 put-field-requires-4 c κs = omega (arith, long64 (c .before .before .before .before .before .before .before .before .before .before .before .before .before .before .before .before .before .args .index) (omega arith), long8 (c .before .before .before .before .before .before .before .before .before .before .before .octet .result) (c .before .before .before .before .before .before .before .before .before .before .before .octet .ensures .1), long32 (c .before .before .before .before .before .before .wide .result) (c .before .before .before .before .before .before .wide .ensures .1), long32 (c .before .wide2 .result) (c .before .wide2 .ensures .1))
 
--- src/lib.rt:66:15
 wide-requires-3 : tie.Need-wide-requires-3
 wide-requires-3 c κs = search needs
 
--- src/lib.rt:66:5
 put-field-requires-5 : tie.Need-put-field-requires-5
 put-field-requires-5 c κs = omega (arith, long64 (c .before .before .before .before .before .before .before .before .before .before .before .before .before .before .before .before .before .before .before .before .before .before .args .index) (omega arith), long8 (c .before .before .before .before .before .before .before .before .before .before .before .before .before .before .before .before .octet .result) (c .before .before .before .before .before .before .before .before .before .before .before .before .before .before .before .before .octet .ensures .1), long32 (c .before .before .before .before .before .before .before .before .before .before .before .wide .result) (c .before .before .before .before .before .before .before .before .before .before .before .wide .ensures .1), long32 (c .before .before .before .before .before .before .wide2 .result) (c .before .before .before .before .before .before .wide2 .ensures .1), long32 (c .before .wide3 .result) (c .before .wide3 .ensures .1))
 
--- src/lib.rt:58:1
 same-length : tie.Need-same-length
 same-length c = search needs
 
--- src/lib.rt:58:1
 returns : tie.Need-returns
 returns c =
     let f5 = c .before .before .put-field5 in

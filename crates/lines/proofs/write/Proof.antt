@@ -30,68 +30,52 @@ starts c =
     let h : 16 ≤ c .before .before .word-octets .result = omega (arith, at-least (s .args .code) (s .pre .0)) in
     starts-before (length (s .args .words .now)) (c .before .before .word-octets .result) (c .before .loop .k) h (omega arith)
 
--- src/lib.rt:89:9
 word-octets-requires : tie.Need-word-octets-requires Inv-loop μ-loop
 word-octets-requires c κs = c .before .before .before .pre .0
 
--- src/lib.rt:90:33
 sub-count : tie.Need-sub-count Inv-loop μ-loop
 sub-count c = omega (arith, at-least (c .before .before .before .before .args .code) (c .before .before .before .before .pre .0))
 
--- src/lib.rt:90:18
 add-count : tie.Need-add-count Inv-loop μ-loop
 add-count c = omega (arith, at-least (c .before .before .before .before .args .code) (c .before .before .before .before .pre .0))
 
--- src/lib.rt:90:17
 div-count : tie.Need-div-count Inv-loop μ-loop
 div-count c = omega (arith, at-least (c .before .before .before .before .args .code) (c .before .before .before .before .pre .0))
 
--- src/lib.rt:93:5
 loop-holds : tie.Need-loop-holds Inv-loop μ-loop
 unfolding lines
 loop-holds c = (omega arith, omega arith, omega arith, refl, refl, refl)
 
--- src/lib.rt:94:18
 mul-at : tie.Need-mul-at Inv-loop μ-loop
 mul-at c = omega (arith, starts c .0)
 
--- src/lib.rt:95:26
 add-least : tie.Need-add-least Inv-loop μ-loop
 add-least c = omega (arith, starts c .0)
 
--- src/lib.rt:95:13
 least-requires : tie.Need-least-requires Inv-loop μ-loop
 least-requires c κs = tt
 
--- src/lib.rt:96:39
 add-write-word : tie.Need-add-write-word Inv-loop μ-loop
 add-write-word c = omega (arith, starts (c .before) .0, starts (c .before) .1)
 
--- src/lib.rt:96:57
 sub-write-word : tie.Need-sub-write-word Inv-loop μ-loop
 sub-write-word c = omega (arith, starts (c .before) .0)
 
--- src/lib.rt:96:57
 part-write-word-start : tie.Need-part-write-word-start Inv-loop μ-loop
 part-write-word-start c = omega (arith, starts (c .before) .0)
 
--- src/lib.rt:96:57
 part-write-word-end : tie.Need-part-write-word-end Inv-loop μ-loop
 part-write-word-end c = search needs
 
--- src/lib.rt:96:9
 write-word-requires : tie.Need-write-word-requires Inv-loop μ-loop
 write-word-requires c κs = (c .before .before .before .before .before .loop .inv .3 ∙ c .before .before .before .before .before .before .before .before .before .before .pre .1, omega (arith, starts (c .before .before .before .before) .0, starts (c .before .before .before .before) .1))
 
--- src/lib.rt:97:9
 add-k : tie.Need-add-k Inv-loop μ-loop
 add-k c = omega (arith, starts (c .before .before .before .before .before .before .before .before .before) .0, starts (c .before .before .before .before .before .before .before .before .before) .1)
 
--- src/lib.rt:93:5
 loop-less : tie.Need-loop-less Inv-loop μ-loop
 loop-less c = omega arith
 
--- src/lib.rt:93:5
 loop-again : tie.Need-loop-again Inv-loop μ-loop
 unfolding lines
 loop-again c =
@@ -113,15 +97,12 @@ loop-again c =
       rw add-one (w .ensures .1 ∙ ap₂ (λ (p q : List ℕ). p ++ q) (h .inv .5) (ap (λ o. wordLine (s .args .code) (s .args .limit) (s .args .index + h .k) o) e)),
     )
 
--- src/lib.rt:85:1
 same-length : tie.Need-same-length Inv-loop μ-loop
 same-length c = search needs
 
--- src/lib.rt:85:1
 same-length-2 : tie.Need-same-length-2 Inv-loop μ-loop
 same-length-2 c = search needs
 
--- src/lib.rt:85:1
 returns : tie.Need-returns Inv-loop μ-loop
 returns c =
     let s = c .before .before .before .before .before .before .args in

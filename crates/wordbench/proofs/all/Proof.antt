@@ -1,4 +1,4 @@
-use mathlib.Core.Path.{_≡_, sym, subst, _∙_}
+use mathlib.Core.Path.{sym, subst, _∙_}
 use Prim.Native.Nat.{_*_, _≤_}
 use native.Mathlib.Nat.{mul-le-mul-left}
 use native.Mathlib.Omega.{arith}
@@ -17,23 +17,18 @@ use Rattle.wordbench.proofs.blocks.Reads as blocks-reads
 use Rattle.wordbench.proofs.out_buffer.Reads as out-buffer-reads
 use Rattle.wordbench.proofs.text_buffer.Reads as text-buffer-reads
 
--- src/main.rt:46:21
 large-buffer-requires : tie.Need-large-buffer-requires
 large-buffer-requires c κs = search needs
 
--- src/main.rt:47:19
 out-buffer-requires : tie.Need-out-buffer-requires
 out-buffer-requires c κs = search needs
 
--- src/main.rt:48:20
 text-buffer-requires : tie.Need-text-buffer-requires
 text-buffer-requires c κs = search needs
 
--- src/main.rt:49:9
 words-held-requires : tie.Need-words-held-requires
 words-held-requires c κs = search needs
 
--- src/main.rt:50:9
 word-octets-requires : tie.Need-word-octets-requires
 word-octets-requires c κs = search needs
 
@@ -59,31 +54,24 @@ fits c =
     let l : 1 ≤ z .result = omega (arith, at-least (c .before .before .before .before .before .args .code) (c .before .before .before .before .before .pre)) in
     (f, omega (arith, f, mul-le-mul-left (h .result) l))
 
--- src/main.rt:51:16
 mul-full : tie.Need-mul-full
 mul-full c = omega (arith, fits c .0)
 
--- src/main.rt:52:38
 array-borrow-prefix-words : tie.Need-array-borrow-prefix-words
 array-borrow-prefix-words c = omega (arith, fits c .0)
 
--- src/main.rt:52:38
 slice-aggregate-blocks : tie.Need-slice-aggregate-blocks
 slice-aggregate-blocks c = simp length-take (omega (arith, fits (c .before) .0))
 
--- src/main.rt:52:58
 array-borrow-prefix-out : tie.Need-array-borrow-prefix-out
 array-borrow-prefix-out c = search needs
 
--- src/main.rt:52:58
 slice-aggregate-blocks-2 : tie.Need-slice-aggregate-blocks-2
 slice-aggregate-blocks-2 c = simp length-take (omega arith)
 
--- src/main.rt:52:76
 slice-aggregate-blocks-3 : tie.Need-slice-aggregate-blocks-3
 slice-aggregate-blocks-3 c = search needs
 
--- src/main.rt:52:5
 blocks-requires : tie.Need-blocks-requires
 blocks-requires c κs =
     let d = c .before .before .before in
@@ -92,7 +80,6 @@ blocks-requires c κs =
     let out = length-take-le (d .word-octets .result) (d .before .before .before .out-buffer .result) (omega arith) in
     (c .before .before .before .before .before .before .before .before .pre, d .before .words-held .ensures .1, fits d .1, omega (arith, words, fits d .0), out ∙ d .word-octets .ensures .0, omega (arith, words, fits d .0))
 
--- src/main.rt:43:1
 returns : tie.Need-returns
 returns c = search needs
 
