@@ -1,5 +1,5 @@
--- The constants are the codes' generator tables: each is compared with the definition's print by one computed test. Assumes nothing.
-use mathlib.Core.Path.{_≡_, sym, ap, _∙_, subst}
+-- The constants are the codes' generator tables: a constant is the table's words, and their order is compared by one computed test. Assumes nothing.
+use mathlib.Core.Path.{_≡_, sym, subst}
 use mathlib.Core.Bool.{Bool, true}
 use mathlib.Core.List.{List, [], _∷_}
 use Prim.Native.Nat.{ℕ, zero, suc, _+_, _-_, _*_, _≤_}
@@ -29,21 +29,20 @@ abbrev pub tableWords : ℕ → List (List ℕ) → List (List (List ℕ))
 tableWords words [] = []
 tableWords words (row ∷ table) = rowWords words row ∷ tableWords words table
 
--- the test of a list, laid flat, by the table's words
+-- the test of a constant's words, laid flat, by the table's
 abbrev pub sameWords : {A : Type 0} → (A → ℕ → ℕ) → A → ℕ → ℕ → ℕ → List (List ℕ) → Bool
-sameWords flat l n words parts table = below n (λ i. eqb (flat l i) (printedWord words parts table i))
+sameWords flat h n words parts table = below n (λ i. eqb (flat h i) (printedWord words parts table i))
 
--- a constant h that is the list l
-pub prints : {A : Type 0} (c : Code) (size words inform parts : ℕ) (flat : A → ℕ → ℕ) (h l : A)
-    → h ≡ l → T (sameWords flat l (inform * parts * words) words parts (c .generator))
+pub prints : {A : Type 0} (c : Code) (size words inform parts : ℕ) (flat : A → ℕ → ℕ) (h : A)
+    → T (sameWords flat h (inform * parts * words) words parts (c .generator))
     → c .size ≡ size → size ≤ c .printed → length (c .generator) ≡ inform → length (getD (c .parity) 0 []) ≡ inform + parts
     → Prints c size words inform parts flat h
-prints c size words inform parts flat h l e t m d j b = record {
+prints c size words inform parts flat h t m d j b = record {
   size-is = m;
   digits = d;
   inform-are = j;
   blocks-are = b;
-  words-are = λ i less. ap (λ z. flat z i) e ∙ eqb→eq (flat l i) (printedWord words parts (c .generator) i) (below-at (inform * parts * words) (λ k. eqb (flat l k) (printedWord words parts (c .generator) k)) t i less);
+  words-are = λ i l. eqb→eq (flat h i) (printedWord words parts (c .generator) i) (below-at (inform * parts * words) (λ k. eqb (flat h k) (printedWord words parts (c .generator) k)) t i l);
 }
 
 -- the codes after the third

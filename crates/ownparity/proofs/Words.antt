@@ -16,7 +16,7 @@ use Rattle.rules.proofs.Blocks.{sum-blocks}
 use Rattle.vectors.specs.Vectors.{wbit, upTo}
 use Rattle.vectors.proofs.Places.{digit-xor, digit-and, digit-zero}
 use Rattle.vectors.proofs.Filling.{word-holds}
-use Rattle.vectors.proofs.Octets.{number-digit}
+use Rattle.rules.proofs.Octets.{digit-number}
 use Rattle.vectors.proofs.Counts.{count-upTo, ones-count}
 
 -- ---- counts
@@ -82,7 +82,7 @@ pub shared-odd : (w u v r : ℕ) (x : Word) → v ≡ number w x → u < 2 ^ w �
 shared-odd w u v r x e h odd =
     odd w (lt-of-le-of-lt (and-le-l u v) h)
     ∙ ap tally (sum-same w (digit w (bitAnd u v)) (λ i. digit w u i && x i) (λ i l.
-    digit-and w u v i ∙ ap (λ z. digit w u i && z) (ap (λ z. digit w z i) e ∙ number-digit w x i l)))
+    digit-and w u v i ∙ ap (λ z. digit w u i && z) (ap (λ z. digit w z i) e ∙ digit-number w x i l)))
 
 pub neither : (a b : Bool) → eqb (tally a + tally b) 0 ≡ (not b && (not a && true))
 neither true true = refl

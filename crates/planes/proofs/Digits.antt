@@ -14,62 +14,6 @@ use lib.Dec.{eqb, ltb, lit≤}
 use lib.Pow.{pow-pos, pow-mono, pow-add, shr-shr, shl-shr, high, low, ones-lt, ones-split}
 use Rattle.rules.specs.Bits.{digit, tally, _⊕_}
 
--- ---- two numbers bit by bit
-
-pub tally-le : (b : Bool) → tally b ≤ 1
-tally-le true = lit≤ tt
-tally-le false = lit≤ tt
-
-tally-eqb : (b : Bool) → eqb (tally b) 1 ≡ b
-tally-eqb true = refl
-tally-eqb false = refl
-
-odd : (n : ℕ) → n < 2 → n ≡ tally (eqb n 1)
-odd zero h = refl
-odd (suc zero) h = refl
-odd (suc (suc n)) h = absurd (omega arith)
-
--- An operation that works digit by digit, as f does on numbers below 2, works on bits as g does.
-module _ (op f : ℕ → ℕ → ℕ) (g : Bool → Bool → Bool)
-    (shr : (a b k : ℕ) → op a b / 2 ^ k ≡ op (a / 2 ^ k) (b / 2 ^ k))
-    (step : (a b : ℕ) → op a b ≡ op (a / 2) (b / 2) * 2 + f (a % 2) (b % 2))
-    (table : (a b : Bool) → f (tally a) (tally b) ≡ tally (g a b)) where
-  digit-by : (w a b i : ℕ) → digit w (op a b) i ≡ g (digit w a i) (digit w b i)
-  digit-by w a b i =
-      let k = w - suc i in
-      let p = a / 2 ^ k in
-      let q = b / 2 ^ k in
-      let r = g (digit w a i) (digit w b i) in
-      ap (λ (n : ℕ). eqb (n % 2) 1)
-      (shr a b k
-      ∙ step p q
-      ∙ ap (λ (n : ℕ). op (p / 2) (q / 2) * 2 + n)
-      (ap₂ f (odd (p % 2) (mod-lt p (zero-lt-suc 1))) (odd (q % 2) (mod-lt q (zero-lt-suc 1))) ∙ table (digit w a i) (digit w b i)))
-      ∙ ap (λ (n : ℕ). eqb n 1) (digits-mod (op (p / 2) (q / 2)) (omega (arith, tally-le r)))
-      ∙ tally-eqb r
-
-pub digit-xor : (w a b i : ℕ) → digit w (bitXor a b) i ≡ digit w a i ⊕ digit w b i
-digit-xor = digit-by bitXor differ _⊕_ xor-shr xor-step table
-  where
-    table : (a b : Bool) → differ (tally a) (tally b) ≡ tally (a ⊕ b)
-    table true true = refl
-    table true false = refl
-    table false true = refl
-    table false false = refl
-
-pub digit-and : (w a b i : ℕ) → digit w (bitAnd a b) i ≡ (digit w a i && digit w b i)
-digit-and = digit-by bitAnd min _&&_ and-shr and-step table
-  where
-    table : (a b : Bool) → min (tally a) (tally b) ≡ tally (a && b)
-    table true true = refl
-    table true false = refl
-    table false true = refl
-    table false false = refl
-
-pub digit-zero : (w i : ℕ) → digit w 0 i ≡ false
-digit-zero w i = ap (λ (n : ℕ). eqb (n % 2) 1) (zero-div (2 ^ (w - suc i)))
-
--- A half adder: the sum's digit and the carry.
 pub half : (a x : Bool) → tally (a ⊕ x) + 2 * tally (a && x) ≡ tally a + tally x
 half true true = refl
 half true false = refl

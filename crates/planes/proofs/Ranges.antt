@@ -12,7 +12,7 @@ use Rattle.planes.specs.declared.Planes.{Planes}
 use Rattle.planes.specs.declared.Best.{Best}
 use Rattle.planes.specs.Counts.{value}
 use Rattle.planes.specs.Ranges.{Top, greaterOf}
-use Rattle.planes.proofs.Digits.{tally-le}
+use Rattle.rules.proofs.Counting.{tally-le}
 
 pub later : (b : Best) (score bit : ℕ) → b .score < score → greaterOf b score bit ≡ record { score = score; bit = bit }
 later b score bit l = ap (λ (t : Bool). if t then record { score = score; bit = bit } else b) (lt-ltb (b .score) score l)

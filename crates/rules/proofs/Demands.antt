@@ -91,10 +91,10 @@ module _ (c : Code) (w : Whole c) where
   pub past-word : (word : List ℕ) → length word ≡ c .wordOctets → (n : ℕ) → 8 * c .wordOctets ≤ n → bit word n ≡ false
   past-word word lw n h = bit-past word n (omega (arith, lw))
 
-telecommand-whole : (n : ℕ) → T (telecommanded n) → T (offered n && not (eqb n 5))
+pub telecommand-whole : (n : ℕ) → T (telecommanded n) → T (offered n && not (eqb n 5))
 telecommand-whole = three (λ n. T (offered n && not (eqb n 5))) tt tt tt
 
-telecommand-offered : (n : ℕ) → T (telecommanded n) → T (offered n)
+pub telecommand-offered : (n : ℕ) → T (telecommanded n) → T (offered n)
 telecommand-offered = three (λ n. T (offered n)) tt tt tt
 
 not-six : (n : ℕ) → T (telecommanded n) → (info : List ℕ) → sixSet n info ≡ false

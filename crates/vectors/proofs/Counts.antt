@@ -1,42 +1,18 @@
 -- Counts of the bits that are set. Assumes nothing.
 use mathlib.Core.Path.{_≡_, refl, sym, ap, ap₂, _∙_}
-use mathlib.Core.Bool.{false}
 use mathlib.Core.List.{List}
 use Prim.Native.Nat.{ℕ, zero, suc, _+_, _-_, _*_, _/_, _^_, _≤_, _<_}
-use native.Mathlib.Nat.{pow-suc, add-zero, add-suc, add-assoc}
+use native.Mathlib.Nat.{pow-suc, add-zero}
 use native.Mathlib.Omega.{arith}
-use lib.Dec.{lit≤}
 use lib.Arith.{lt-one}
 use lib.Count.{ones, ones-step}
 use lib.ListN.{getD}
-use Rattle.rules.specs.Bits.{Word, digit, tally, count}
+use Rattle.rules.specs.Bits.{Word, digit, count}
+use Rattle.rules.proofs.Counting.{count-same, count-add, count-none as none-set}
 use Rattle.vectors.specs.Vectors.{wbit, upTo, from}
-use Rattle.vectors.proofs.Places.{tally-lt, digit-half, digit-odd}
+use Rattle.vectors.proofs.Places.{digit-half, digit-odd}
 use Rattle.vectors.proofs.Filling.{word-holds}
 use Rattle.vectors.proofs.Spans.{upTo-below, upTo-above}
-
-pub count-same : (n : ℕ) (x y : Word) → ((i : ℕ) → i < n → x i ≡ y i) → count n x ≡ count n y
-unfolding count
-count-same zero x y e = refl
-count-same (suc n) x y e = ap₂ _+_ (count-same n x y (λ i h. e i (omega arith))) (ap tally (e n (omega arith)))
-
-pub count-add : (m n : ℕ) (x : Word) → count (m + n) x ≡ count m x + count n (from m x)
-unfolding count
-count-add m zero x = ap (λ (k : ℕ). count k x) (add-zero m) ∙ sym (add-zero (count m x))
-count-add m (suc n) x =
-    ap (λ (k : ℕ). count k x) (add-suc m n)
-    ∙ ap (λ (k : ℕ). k + tally (x (m + n))) (count-add m n x)
-    ∙ add-assoc (count m x) (count n (from m x)) (tally (x (m + n)))
-
-pub count-le : (n : ℕ) (x : Word) → count n x ≤ n
-unfolding count
-count-le zero x = lit≤ tt
-count-le (suc n) x = omega (arith, count-le n x, tally-lt (x n))
-
-pub count-zero : (n : ℕ) (x : Word) → ((i : ℕ) → i < n → x i ≡ false) → count n x ≡ 0
-unfolding count
-count-zero zero x e = refl
-count-zero (suc n) x e = ap₂ _+_ (count-zero n x (λ i h. e i (omega arith))) (ap tally (e n (omega arith)))
 
 -- Zeros behind the first m bits count nothing.
 pub count-upTo : (m n : ℕ) (x : Word) → m ≤ n → count n (upTo m x) ≡ count m x
@@ -45,7 +21,7 @@ count-upTo m n x h =
     ap (λ (k : ℕ). count k (upTo m x)) e
     ∙ count-add m (n - m) (upTo m x)
     ∙ ap₂ _+_ (count-same m (upTo m x) x (λ i l. upTo-below m i x l))
-    (count-zero (n - m) (from m (upTo m x)) (λ i l. upTo-above m (m + i) x (omega arith)))
+    (none-set (n - m) (from m (upTo m x)) (λ i l. upTo-above m (m + i) x (omega arith)))
     ∙ add-zero (count m x)
 
 -- The ones of a number are counted by its digits.

@@ -11,118 +11,16 @@ use lib.Arith.{digits-lt}
 use lib.Pow.{pow-add, pow-mono}
 use lib.ListN.{getD, length}
 use Rattle.rules.specs.Bits.{Word, digit, bit, tally, number, octets}
+use Rattle.rules.proofs.Octets.{length-octets, bit-octets, octets-lt, bit-past}
 use Rattle.vectors.specs.Vectors.{Holds, upTo, from, joined}
 use Rattle.vectors.proofs.Places.{tally-lt, tally-odd, le-or-lt, place, place-front, place-behind, place-zero, place-cut, place-up, place-down, place-below}
 use Rattle.vectors.proofs.Cells.{cell-at, cell-past, same-cells, joined-below, joined-above}
 use Rattle.vectors.proofs.Spans.{upTo-below, upTo-above}
 
--- ---- the number written with the first bits of a word
-
-pub number-lt : (w : ℕ) (x : Word) → number w x < 2 ^ w
-unfolding number
-number-lt zero x = lit< tt
-number-lt (suc w) x = omega (arith, number-lt w x, tally-lt (x w), pow-suc 2 w)
-
-pub number-digit : (w : ℕ) (x : Word) (i : ℕ) → i < w → digit w (number w x) i ≡ x i
-unfolding number
-number-digit zero x i h = absurd (omega arith)
-number-digit (suc w) x i h = ⊎-elim last (λ l. before l (number-digit w x i l)) (le-or-lt w i)
-  where
-    n : ℕ
-    n = number w x
-
-    b : ℕ
-    b = tally (x w)
-
-    two : 2 * n + b ≡ n * 2 ^ 1 + b
-    two = omega arith
-
-    before : i < w → digit w n i ≡ x i → digit (suc w) (2 * n + b) i ≡ x i
-    before l known =
-        let e : suc w - suc i ≡ 1 + (w - suc i) = omega arith in
-        ap (λ (k : ℕ). place k (suc w - suc i)) two
-        ∙ ap (place (n * 2 ^ 1 + b)) e
-        ∙ place-front n b 1 (tally-lt (x w)) (w - suc i)
-        ∙ known
-
-    last : w ≤ i → digit (suc w) (2 * n + b) i ≡ x i
-    last l =
-        let e : suc w - suc i ≡ 0 = omega arith in
-        let same : w ≡ i = omega arith in
-        let odd : (2 * n + b) % 2 ≡ b % 2 = omega arith in
-        ap (place (2 * n + b)) e
-        ∙ ap (λ (k : ℕ). eqb (k % 2) 1) (div-one (2 * n + b))
-        ∙ ap (λ (k : ℕ). eqb k 1) odd
-        ∙ tally-odd (x w)
-        ∙ ap x same
-
--- ---- octets
-
-pub length-octets : (n : ℕ) (x : Word) → length (octets n x) ≡ n
-unfolding octets
-length-octets zero x = refl
-length-octets (suc n) x = ap suc (length-octets n (λ k. x (8 + k)))
-
-pub octet-lt : (n : ℕ) (x : Word) (i : ℕ) → getD (octets n x) i 0 < 2 ^ 8
-unfolding octets
-octet-lt zero x i = lit< tt
-octet-lt (suc n) x zero = number-lt 8 x
-octet-lt (suc n) x (suc i) = octet-lt n (λ k. x (8 + k)) i
-
--- The octets of a word have its bits.
-pub bit-octets : (n : ℕ) (x : Word) → bit (octets n x) ≡ upTo (8 * n) x
-unfolding octets
-bit-octets zero x = fun-ext (λ k. place-zero (8 - suc (k % 8)) ∙ sym (upTo-above (8 * 0) k x (omega arith)))
-bit-octets (suc n) x = fun-ext (λ k. ⊎-elim (behind (bit-octets n rest) k) (front k) (le-or-lt 8 k))
-  where
-    rest : Word
-    rest k = x (8 + k)
-
-    all : List ℕ
-    all = number 8 x ∷ octets n rest
-
-    front : (k : ℕ) → k < 8 → bit all k ≡ upTo (8 * suc n) x k
-    front k h =
-        let q : k / 8 ≡ 0 = omega arith in
-        let r : k % 8 ≡ k = omega arith in
-        ap (λ (i : ℕ). digit 8 (getD all i 0) (k % 8)) q
-        ∙ ap (digit 8 (number 8 x)) r
-        ∙ number-digit 8 x k h
-        ∙ sym (upTo-below (8 * suc n) k x (omega arith))
-
-    behind : bit (octets n rest) ≡ upTo (8 * n) rest → (k : ℕ) → 8 ≤ k → bit all k ≡ upTo (8 * suc n) x k
-    behind known k h =
-        let d = k - 8 in
-        let e : k ≡ 8 + d = omega arith in
-        let q : k / 8 ≡ suc (d / 8) = omega arith in
-        let r : k % 8 ≡ d % 8 = omega arith in
-        ap (λ (i : ℕ). digit 8 (getD all i 0) (k % 8)) q
-        ∙ ap (digit 8 (getD (octets n rest) (d / 8) 0)) r
-        ∙ ap (λ (y : Word). y d) known
-        ∙ ⊎-elim
-        (λ (l : 8 * n ≤ d). upTo-above (8 * n) d rest l ∙ sym (upTo-above (8 * suc n) k x (omega arith)))
-        (λ (l : d < 8 * n). upTo-below (8 * n) d rest l ∙ ap x (sym e) ∙ sym (upTo-below (8 * suc n) k x (omega arith)))
-        (le-or-lt (8 * n) d)
-
 -- A list of octets is known by its length and its bits.
 pub octets-of : (o : List ℕ) (n : ℕ) (x : Word) → length o ≡ n → ((i : ℕ) → getD o i 0 < 2 ^ 8) → bit o ≡ upTo (8 * n) x → o ≡ octets n x
 octets-of o n x e h b =
-    same-cells 8 (lit< tt) o (octets n x) (e ∙ sym (length-octets n x)) h (octet-lt n x) (b ∙ sym (bit-octets n x))
-
-pub bit-past : (o : List ℕ) (n : ℕ) → 8 * length o ≤ n → bit o n ≡ false
-bit-past o n h = cell-past 8 (lit< tt) o n h
-
-pub bits-upTo : (o : List ℕ) → bit o ≡ upTo (8 * length o) (bit o)
-bits-upTo o =
-    fun-ext
-    (λ k.
-    ⊎-elim
-    (λ (h : 8 * length o ≤ k). bit-past o k h ∙ sym (upTo-above (8 * length o) k (bit o) h))
-    (λ (h : k < 8 * length o). sym (upTo-below (8 * length o) k (bit o) h))
-    (le-or-lt (8 * length o) k))
-
-pub octets-bit : (o : List ℕ) → ((i : ℕ) → getD o i 0 < 2 ^ 8) → octets (length o) (bit o) ≡ o
-octets-bit o h = sym (octets-of o (length o) (bit o) refl h (bits-upTo o))
+    same-cells 8 (lit< tt) o (octets n x) (e ∙ sym (length-octets n x)) h (octets-lt n x) (b ∙ sym (fun-ext (bit-octets n x)))
 
 -- ---- octets gathered into a number
 

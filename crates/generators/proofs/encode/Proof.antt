@@ -22,8 +22,8 @@ same-length c = search needs
 returns : tie.Need-returns
 unfolding code code1 parity16 generator16
 returns c =
-    let arm = c .before .before .before .before .before in
-    subst (Gives _ _) (sym (arm .if1 .taken)) (c .before .before .encode4 .ensures (code 1) (prints (code 1) 16 1 4 4 flat4 _ generator16 refl tt refl (lit≤ tt) refl refl))
+    subst (Gives _ _) (sym (c .before .before .before .before .before .if1 .taken))
+    (c .before .before .encode4 .ensures (code 1) (prints (code 1) 16 1 4 4 flat4 generator16 tt refl (lit≤ tt) refl refl))
 
 encode4-requires-2 : tie.Need-encode4-requires-2
 unfolding code code2 generator32
@@ -37,8 +37,8 @@ same-length-2 c = search needs
 returns-2 : tie.Need-returns-2
 unfolding code code2 parity32 generator32
 returns-2 c =
-    let arm = c .before .before .before .before .before in
-    subst (Gives _ _) (sym (arm .if2 .taken)) (c .before .before .encode42 .ensures (code 2) (prints (code 2) 32 1 4 4 flat4 _ generator32 refl tt refl (lit≤ tt) refl refl))
+    subst (Gives _ _) (sym (c .before .before .before .before .before .if2 .taken))
+    (c .before .before .encode42 .ensures (code 2) (prints (code 2) 32 1 4 4 flat4 generator32 tt refl (lit≤ tt) refl refl))
 
 encode4-requires-3 : tie.Need-encode4-requires-3
 unfolding code code3 generator64
@@ -52,8 +52,8 @@ same-length-3 c = search needs
 returns-3 : tie.Need-returns-3
 unfolding code code3 parity64 generator64
 returns-3 c =
-    let arm = c .before .before .before .before .before in
-    subst (Gives _ _) (sym (arm .if3 .taken)) (c .before .before .encode43 .ensures (code 3) (prints (code 3) 64 1 4 4 flat4 _ generator64 refl tt refl (lit≤ tt) refl refl))
+    subst (Gives _ _) (sym (c .before .before .before .before .before .if3 .taken))
+    (c .before .before .encode43 .ensures (code 3) (prints (code 3) 64 1 4 4 flat4 generator64 tt refl (lit≤ tt) refl refl))
 
 encode28-requires : tie.Need-encode28-requires
 unfolding code code4 code5 generator511
@@ -79,8 +79,8 @@ returns-4 c =
     (arm .before .before .if1 .left)
     (arm .before .if2 .left)
     (arm .if3 .left)
-    (by (code 4) (prints (code 4) 511 8 14 2 flat28 _ (tableWords 8 generator511) refl tt refl (lit≤ tt) refl refl))
-    (by (code 5) (prints (code 5) 511 8 14 2 flat28 _ (tableWords 8 generator511) refl tt refl (lit≤ tt) refl refl))
+    (by (code 4) (prints (code 4) 511 8 14 2 flat28 (tableWords 8 generator511) tt refl (lit≤ tt) refl refl))
+    (by (code 5) (prints (code 5) 511 8 14 2 flat28 (tableWords 8 generator511) tt refl (lit≤ tt) refl refl))
 
 pub encode-spec : {M : Type 1} → statement M
 encode-spec =

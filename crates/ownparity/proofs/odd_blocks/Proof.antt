@@ -4,7 +4,8 @@ use Prim.Native.Nat.{ℕ, _+_, _-_, _*_, _^_, _≤_, _<_}
 use native.Mathlib.Omega.{arith}
 use Rattle.rules.specs.Bits.{number}
 use Rattle.vectors.specs.Vectors.{wbit}
-use Rattle.vectors.proofs.Octets.{number-lt, fits}
+use Rattle.rules.proofs.Octets.{number-lt}
+use Rattle.vectors.proofs.Octets.{fits}
 use Rattle.ownparity.specs.Odd.{oddBlock}
 use Rattle.ownparity.proofs.Words.{number-start, number-more}
 use Rattle.ownparity.proofs.odd_blocks.Statement.{statement}

@@ -4,7 +4,9 @@ use mathlib.Core.Bool.{_&&_}
 use native.Mathlib.Omega.{arith}
 use Rattle.rules.specs.Bits.{digit}
 use Rattle.planes.specs.Counts.{value}
-use Rattle.planes.proofs.Digits.{tally-le, half, digit-xor, digit-and}
+use Rattle.rules.proofs.Counting.{tally-le}
+use Rattle.vectors.proofs.Places.{digit-xor, digit-and}
+use Rattle.planes.proofs.Digits.{half}
 use Rattle.planes.proofs.add.Statement.{statement}
 use Rattle.planes.proofs.add.Tie as tie
 

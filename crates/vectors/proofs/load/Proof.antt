@@ -5,9 +5,10 @@ use native.Mathlib.Omega.{arith}
 use lib.ListN.{length}
 use borrow.Author.Needs.{needs}
 use Rattle.rules.specs.Bits.{Word, bit}
+use Rattle.rules.proofs.Octets.{bit-past}
 use Rattle.vectors.specs.Vectors.{wbit, Holds, from}
 use Rattle.vectors.proofs.Cells.{joined-below}
-use Rattle.vectors.proofs.Octets.{bit-past, no-group}
+use Rattle.vectors.proofs.Octets.{no-group}
 use Rattle.vectors.proofs.Filling.{Filled, filled-from, filled-more, filled-all}
 use Rattle.vectors.proofs.load.Statement.{statement}
 use Rattle.vectors.proofs.load.Tie as tie

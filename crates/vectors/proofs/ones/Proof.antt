@@ -6,7 +6,8 @@ use lib.Count.{ones-le}
 use lib.ListN.{length, getD}
 use Rattle.rules.specs.Bits.{count}
 use Rattle.vectors.specs.Vectors.{wbit}
-use Rattle.vectors.proofs.Counts.{count-le, count-word, count-none}
+use Rattle.rules.proofs.Counting.{count-le}
+use Rattle.vectors.proofs.Counts.{count-word, count-none}
 use Rattle.vectors.proofs.ones.Statement.{statement}
 use Rattle.vectors.proofs.ones.Tie as tie
 

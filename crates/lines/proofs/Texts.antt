@@ -1,0 +1,117 @@
+-- Numbers and lines as text.
+use mathlib.Core.Path.{_≡_, refl, sym, ap, ap₂, _∙_, subst}
+use mathlib.Core.Bool.{Bool, true, false, not}
+use mathlib.Core.List.{List, [], _∷_, _++_, append-assoc}
+use Prim.Native.Nat.{ℕ, zero, suc, _+_, _-_, _*_, _/_, _%_, _^_, _≤_, _<_}
+use native.Mathlib.Nat.{pow-suc, div-lt-iff-lt-mul}
+use native.Mathlib.Numerals.{add-one}
+use native.Mathlib.Omega.{arith}
+use lib.Dec.{ltb, eqb}
+use lib.ListN.{length, take, set, length-append}
+use lib.Seq.{take-suc-set}
+use borrow.Author.Tests.{ltb-true, ltb-false, lt-ltb, le-ltb}
+use Rattle.rules.specs.Bits.{bit, if_then_else_}
+use Rattle.rules.specs.Codes.{code}
+use Rattle.rules.specs.Encoding.{lifted}
+use Rattle.rules.specs.Flipping.{byExcess, run}
+use Rattle.rules.specs.Calls.{offered, unlike, Corrected, refusedCorrect, ranCorrect, correctAnswer}
+use Rattle.lines.specs.Log.{digits, decimal, field, line}
+
+-- ---- the digits of a number
+
+-- one digit, or those of a tenth and one more
+abbrev spelled : ℕ → List ℕ → List ℕ
+spelled n front = if ltb n 10 then ((48 + n) ∷ []) else front ++ ((48 + n % 10) ∷ [])
+
+spelled-same : (n : ℕ) (a b : List ℕ) → (10 ≤ n → a ≡ b) → spelled n a ≡ spelled n b
+spelled-same n a b f = go (ltb n 10) refl
+  where
+    go : (t : Bool) → ltb n 10 ≡ t → (if t then ((48 + n) ∷ []) else a ++ ((48 + n % 10) ∷ [])) ≡ (if t then ((48 + n) ∷ []) else b ++ ((48 + n % 10) ∷ []))
+    go true e = refl
+    go false e = ap (λ (l : List ℕ). l ++ ((48 + n % 10) ∷ [])) (f (ltb-false n 10 e))
+
+digits-enough : (m k n : ℕ) → n ≤ m → n ≤ k → digits m n ≡ digits k n
+unfolding digits
+digits-enough zero zero n a b = refl
+digits-enough zero (suc k) zero a b = refl
+digits-enough zero (suc k) (suc n) a b = absurd (omega arith)
+digits-enough (suc m) zero zero a b = refl
+digits-enough (suc m) zero (suc n) a b = absurd (omega arith)
+digits-enough (suc m) (suc k) n a b = spelled-same n (digits m (n / 10)) (digits k (n / 10)) (λ h. digits-enough m k (n / 10) (omega arith) (omega arith))
+
+pub decimal-digit : (n : ℕ) → n < 10 → decimal n ≡ (48 + n) ∷ []
+unfolding digits
+decimal-digit zero h = refl
+decimal-digit (suc n) h = rw (lt-ltb (suc n) 10 h)
+
+pub decimal-more : (n : ℕ) → 10 ≤ n → decimal n ≡ decimal (n / 10) ++ ((48 + n % 10) ∷ [])
+unfolding digits
+decimal-more zero h = absurd (omega arith)
+decimal-more (suc n) h =
+    spelled-same (suc n) (digits n (suc n / 10)) (decimal (suc n / 10)) (λ l. digits-enough n (suc n / 10) (suc n / 10) (omega arith) (omega arith))
+    ∙ rw (le-ltb (suc n) 10 h)
+
+pub digit-long : (n : ℕ) → n < 10 → length (decimal n) ≡ 1
+digit-long n h = ap length (decimal-digit n h)
+
+pub more-long : (n : ℕ) → 10 ≤ n → length (decimal n) ≡ length (decimal (n / 10)) + 1
+more-long n h = ap length (decimal-more n h) ∙ length-append (decimal (n / 10)) ((48 + n % 10) ∷ [])
+
+decimal-longer : (k n : ℕ) → (10 ≤ n → length (decimal (n / 10)) ≤ k) → length (decimal n) ≤ suc k
+decimal-longer k n f = go (ltb n 10) refl
+  where
+    go : (t : Bool) → ltb n 10 ≡ t → length (decimal n) ≤ suc k
+    go true e = omega (arith, digit-long n (ltb-true n 10 e))
+    go false e =
+        let h = ltb-false n 10 e in
+        omega (arith, f h, more-long n h)
+
+-- as many digits as the power of ten that lies above
+pub decimal-long : (k n : ℕ) → n < 10 ^ suc k → length (decimal n) ≤ suc k
+decimal-long zero n h = decimal-longer 0 n (λ l. absurd (omega arith))
+decimal-long (suc k) n h = decimal-longer (suc k) n (λ l. decimal-long k (n / 10) (div-lt-iff-lt-mul (omega arith) .1 (rw pow-suc at h)))
+
+pub long8 : (n : ℕ) → n < 2 ^ 8 → length (decimal n) ≤ 3
+long8 n h = decimal-long 2 n (omega arith)
+
+pub long32 : (n : ℕ) → n < 2 ^ 32 → length (decimal n) ≤ 10
+long32 n h = decimal-long 9 n (omega arith)
+
+pub long64 : (n : ℕ) → n < 2 ^ 64 → length (decimal n) ≤ 20
+long64 n h = decimal-long 19 n (omega arith)
+
+-- ---- text behind text
+
+pub one-more : (t p x : List ℕ) (end v : ℕ) → end < length t → take end t ≡ p ++ x → take (end + 1) (set t end v) ≡ p ++ (x ++ (v ∷ []))
+one-more t p x end v h e = rw add-one (take-suc-set t end v h ∙ ap (λ (l : List ℕ). l ++ (v ∷ [])) e ∙ append-assoc p x (v ∷ []))
+
+-- ---- a line
+
+-- one field more
+pub one-field : (t a p : List ℕ) (n m end : ℕ) → t ≡ a ++ field n end → n ≡ m → a ≡ p → t ≡ p ++ field m end
+one-field t a p n m end e f g = cc
+
+pub line-joined : (p : List ℕ) (i : ℕ) (a : Corrected)
+    → ((((p ++ field i 32) ++ field (a .number) 32) ++ field (a .flips) 32) ++ field (a .first) 32) ++ field (a .last) 10 ≡ p ++ line i a
+unfolding line
+line-joined p i a = simp append-assoc
+
+-- a line does not show what the output was
+pub same-line : (i n : ℕ) (word : List ℕ) (limit : ℕ) (out other : List ℕ) → length out ≡ length other
+    → line i (correctAnswer n word limit out) ≡ line i (correctAnswer n word limit other)
+unfolding line correctAnswer ranCorrect
+same-line i n word limit out other e =
+    ap (λ (long : ℕ). line i (answer (not (offered n)) (unlike word (code n .wordOctets)) (not (eqb long (code n .wordOctets))) out)) e
+    ∙ go (not (offered n)) (unlike word (code n .wordOctets)) (unlike other (code n .wordOctets))
+  where
+    answer : Bool → Bool → Bool → List ℕ → Corrected
+    answer b1 b2 b3 o =
+        let x = lifted (code n) (bit word) in
+        if b1 then refusedCorrect 1 o else if b2 then refusedCorrect 2 o else if b3 then refusedCorrect 3 o
+        else ranCorrect (code n) x (run (byExcess (code n)) limit x) o
+
+    go : (b1 b2 b3 : Bool) → line i (answer b1 b2 b3 out) ≡ line i (answer b1 b2 b3 other)
+    go true b2 b3 = refl
+    go false true b3 = refl
+    go false false true = refl
+    go false false false = refl

@@ -1,0 +1,57 @@
+-- Numbers that a code never gives: for the telecommand codes a run that ends quiet is never refused.
+use mathlib.Core.Path.{_≡_, refl, sym, ap, ap₂, _∙_, subst}
+use mathlib.Core.Bool.{Bool, true, false, not}
+use mathlib.Core.List.{List}
+use Prim.Native.Nat.{ℕ, _<_}
+use native.Mathlib.Nat.{not-suc-le-zero}
+use native.Mathlib.Omega.{arith}
+use lib.Dec.{T, eqb, ltb}
+use borrow.Author.Tests.{eq-eqb, ne-eqb, eqb-true, eqb-false}
+use Rattle.rules.specs.Bits.{Word, bit, count, if_then_else_}
+use Rattle.rules.specs.Codes.{Code, code}
+use Rattle.rules.specs.Checks.{broken}
+use Rattle.rules.specs.Encoding.{lifted, sent, codeword}
+use Rattle.rules.specs.Flipping.{quiet, byExcess, Run, run}
+use Rattle.rules.specs.Calls.{judged, ranCorrect, correctAnswer}
+use Rattle.rules.proofs.Runs.{run-ends, End, ends-quiet, ends-stuck, ends-limit}
+use Rattle.rules.proofs.Choosing.{next-quiet}
+use Rattle.rules.proofs.Codewords.{own-codeword}
+use Rattle.rules.proofs.Answers.{published, correct-cases}
+use Rattle.rules.proofs.Demands.{telecommanded, telecommand-offered, telecommand-whole, whole, met-own-telecommand}
+use Rattle.rules.proofs.Corrections.{judged-done}
+
+module _ (n : ℕ) (t : T (telecommanded n)) (limit : ℕ) (x : Word) where
+  abbrev theRun : Run
+  theRun = run (byExcess (code n)) limit x
+
+  done : theRun .number ≡ 0 → byExcess (code n) (theRun .word) ≡ quiet → judged (code n) theRun ≡ 0
+  done e w =
+      judged-done (code n) theRun e
+      (λ k h. absurd (not-suc-le-zero (subst (λ u. k < u) (whole n (telecommand-whole n t) .unsent) h)))
+      (own-codeword (code n) (published n (telecommand-offered n t)) (theRun .word)
+      (met-own-telecommand n t (theRun .word) (next-quiet (code n) (theRun .word) w))
+      (λ k h. absurd (not-suc-le-zero (subst (λ u. k < u) (whole n (telecommand-whole n t) .unsent) h))))
+
+  -- 0, 5 or 6, as the run has it
+  few-numbers : (k : ℕ) → judged (code n) theRun ≡ k → (k ≡ 7 → ⊥) × (k ≡ 8 → ⊥)
+  few-numbers k e = go (run-ends (byExcess (code n)) limit x)
+    where
+      other : (m : ℕ) → theRun .number ≡ m → (m ≡ 0 → ⊥) → judged (code n) theRun ≡ m
+      other m f d =
+          ap (λ b. if not b then theRun .number else if ltb 0 (count (code n .unsent) (theRun .word)) then 7 else if not (codeword (code n) (sent (code n) (theRun .word))) then 8 else 0)
+          (ne-eqb (theRun .number) 0 (λ q. d (sym f ∙ q)))
+          ∙ f
+
+      go : End (byExcess (code n)) limit theRun → (k ≡ 7 → ⊥) × (k ≡ 8 → ⊥)
+      go (ends-quiet f w) = let z = done f w in ((λ q. omega arith), (λ q. omega arith))
+      go (ends-stuck f w) = let z = other 5 f (λ q. omega arith) in ((λ q. omega arith), (λ q. omega arith))
+      go (ends-limit f l b ex w) = let z = other 6 f (λ q. omega arith) in ((λ q. omega arith), (λ q. omega arith))
+
+-- correct gives neither 7 nor 8 for codes 1 to 3
+pub telecommand-numbers : (n : ℕ) → T (telecommanded n) → (word : List ℕ) (limit : ℕ) (out : List ℕ)
+    → (correctAnswer n word limit out .number ≡ 7 → ⊥) × (correctAnswer n word limit out .number ≡ 8 → ⊥)
+unfolding ranCorrect
+telecommand-numbers n t word limit out =
+    correct-cases n word limit out (λ r. (r .number ≡ 7 → ⊥) × (r .number ≡ 8 → ⊥))
+    ((λ q. omega arith), (λ q. omega arith)) ((λ q. omega arith), (λ q. omega arith)) ((λ q. omega arith), (λ q. omega arith))
+    (λ off lw lo. few-numbers n t limit (lifted (code n) (bit word)) _ refl)
