@@ -71,7 +71,7 @@ fn load_whole(octets: &[u8], ws: &mut [u64])
     let whole = octets.len() / 8;
     let mut k = 0;
     while k < whole {
-        ws[k] = gathered(octets, 8 * k, 8);
+        ws[k] = group(octets, 8 * k);
         k += 1;
     }
 }

@@ -20,11 +20,11 @@ loop-holds c =
     let a = c .before .before .args in
     (omega arith, filled-start (a .ws .now) (bit (a .octets .now)))
 
-mul-gathered : tie.Need-mul-gathered Inv-loop μ-loop
-mul-gathered c = omega arith
+mul-group : tie.Need-mul-group Inv-loop μ-loop
+mul-group c = omega arith
 
-gathered-requires : tie.Need-gathered-requires Inv-loop μ-loop
-gathered-requires c κs = (omega arith, omega arith)
+group-requires : tie.Need-group-requires Inv-loop μ-loop
+group-requires c κs = omega arith
 
 mul-ws : tie.Need-mul-ws Inv-loop μ-loop
 mul-ws c = omega arith
@@ -43,7 +43,7 @@ loop-again c =
     let a = c .before .before .before .before .before .args in
     let l = c .before .before .loop in
     let x = bit (a .octets .now) in
-    (omega arith, filled-more (a .ws .now) x (l .ws) (l .k) (l .inv .1) (c .gathered .result) (omega arith) (λ i hi. c .gathered .ensures .1 i hi ∙ ap x (omega arith)))
+    (omega arith, filled-more (a .ws .now) x (l .ws) (l .k) (l .inv .1) (c .group .result) (omega arith) (λ i hi. c .group .ensures i hi ∙ ap x (omega arith)))
 
 same-length : tie.Need-same-length Inv-loop μ-loop
 same-length c = c .before .loop .inv .1 .long
@@ -62,8 +62,8 @@ load-whole-spec =
     Inv-loop
     μ-loop
     loop-holds
-    mul-gathered
-    gathered-requires
+    mul-group
+    group-requires
     mul-ws
     slice-write-ws
     add-k
