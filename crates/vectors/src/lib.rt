@@ -93,9 +93,12 @@ pub fn load(octets: &[u8], ws: &mut [u64])
 
 // The first t bits of v.
 pub fn front(v: u64, t: usize) -> u64
-    requires { ⌜ t < 64 ⌝ }
+    requires { ⌜ t ≤ 64 ⌝ }
     ensures { λ r. ⌜ Holds r (upTo t (digit 64 v)) ⌝ }
 {
+    if t == 64 {
+        return v;
+    }
     v ^ ((v << t) >> t)
 }
 
