@@ -1,16 +1,21 @@
 -- Counts of the bits that are set. Assumes nothing.
 use mathlib.Core.Path.{_≡_, refl, sym, ap, ap₂, _∙_}
+use mathlib.Core.Bool.{Bool, true, false, not, _||_, true≢false}
+use mathlib.Core.Logic.{⊎-elim}
 use mathlib.Core.List.{List}
 use Prim.Native.Nat.{ℕ, zero, suc, _+_, _-_, _*_, _/_, _^_, _≤_, _<_}
-use native.Mathlib.Nat.{pow-suc, add-zero}
+use native.Mathlib.Nat.{pow-suc, add-zero, pos-of-ne-zero}
 use native.Mathlib.Omega.{arith}
 use lib.Arith.{lt-one}
+use lib.Bits.{bitOr, or-lt}
 use lib.Count.{ones, ones-step}
+use lib.Dec.{eqb, ltb, lit<}
 use lib.ListN.{getD}
+use borrow.Author.Tests.{lt-ltb, le-ltb, eq-eqb, ne-eqb}
 use Rattle.rules.specs.Bits.{Word, digit, count}
-use Rattle.rules.proofs.Counting.{count-same, count-add, count-none as none-set}
+use Rattle.rules.proofs.Counting.{count-same, count-add, none-counted, count-none as none-set}
 use Rattle.vectors.specs.Vectors.{wbit, upTo, from}
-use Rattle.vectors.proofs.Places.{digit-half, digit-odd}
+use Rattle.vectors.proofs.Places.{eq-or-not, digit-half, digit-odd, digit-or, digit-zero, same-digits}
 use Rattle.vectors.proofs.Filling.{word-holds}
 use Rattle.vectors.proofs.Spans.{upTo-below, upTo-above}
 
@@ -46,3 +51,55 @@ count-word ws k h =
 pub count-none : (x : Word) → 0 ≡ count 0 x
 unfolding count
 count-none x = refl
+
+-- ---- whether any is set
+
+no-ones : (v : ℕ) → v < 2 ^ 64 → ones v ≡ 0 → v ≡ 0
+no-ones v h e =
+    same-digits 64 v 0 h (lit< tt) (λ i hi. none-counted 64 (digit 64 v) (sym (ones-count 64 v h) ∙ e) i hi ∙ sym (digit-zero 64 i))
+
+neither : (p q : Bool) → (p || q) ≡ false → (p ≡ false) × (q ≡ false)
+neither true q e = absurd (true≢false e)
+neither false q e = (refl, e)
+
+or-zero : (u v : ℕ) → u < 2 ^ 64 → v < 2 ^ 64 → bitOr u v ≡ 0 → (u ≡ 0) × (v ≡ 0)
+or-zero u v hu hv e = (
+  same-digits 64 u 0 hu (lit< tt) (λ i hi. none i .0 ∙ sym (digit-zero 64 i)),
+  same-digits 64 v 0 hv (lit< tt) (λ i hi. none i .1 ∙ sym (digit-zero 64 i)),
+)
+  where
+    none : (i : ℕ) → (digit 64 u i ≡ false) × (digit 64 v i ≡ false)
+    none i = neither (digit 64 u i) (digit 64 v i) (sym (digit-or 64 u v i) ∙ ap (λ (n : ℕ). digit 64 n i) e ∙ digit-zero 64 i)
+
+-- v is 0 just if the first k words are.
+pub record Seen (ws : List ℕ) (v k : ℕ) : Type 0 where
+  pub small : v < 2 ^ 64
+  pub none : v ≡ 0 → count (64 * k) (wbit ws) ≡ 0
+  pub zero : count (64 * k) (wbit ws) ≡ 0 → v ≡ 0
+
+pub seen-none : (ws : List ℕ) → Seen ws 0 0
+seen-none ws = record { small = lit< tt; none = λ e. sym (count-none (wbit ws)); zero = λ e. refl }
+
+pub seen-more : (ws : List ℕ) (v k : ℕ) → getD ws k 0 < 2 ^ 64 → Seen ws v k → Seen ws (bitOr v (getD ws k 0)) (k + 1)
+unfolding ones
+seen-more ws v k hw s = record {
+  small = or-lt 64 v w hv hw;
+  none = λ e. count-word ws k hw ∙ ap₂ _+_ (s .none (or-zero v w hv hw e .0)) (ap ones (or-zero v w hv hw e .1));
+  zero = λ e. ap₂ bitOr (s .zero (omega (arith, count-word ws k hw))) (no-ones w hw (omega (arith, count-word ws k hw)));
+}
+  where
+    w : ℕ
+    w = getD ws k 0
+
+    hv : v < 2 ^ 64
+    hv = s .small
+
+pub seen-all : (ws : List ℕ) (v k : ℕ) → Seen ws v k → not (eqb v 0) ≡ ltb 0 (count (64 * k) (wbit ws))
+seen-all ws v k s =
+    ⊎-elim
+    (λ (e : v ≡ 0). ap not (eq-eqb v 0 e) ∙ sym (le-ltb 0 n (omega (arith, s .none e))))
+    (λ (d : v ≡ 0 → ⊥). ap not (ne-eqb v 0 d) ∙ sym (lt-ltb 0 n (pos-of-ne-zero (λ e. d (s .zero e)))))
+    (eq-or-not v 0)
+  where
+    n : ℕ
+    n = count (64 * k) (wbit ws)

@@ -1,6 +1,6 @@
 -- Octets of words and words of octets. Assumes nothing.
-use mathlib.Core.Path.{_≡_, refl, sym, ap, _∙_, subst, fun-ext}
-use mathlib.Core.Bool.{false}
+use mathlib.Core.Path.{_≡_, refl, sym, ap, ap₂, _∙_, subst, fun-ext}
+use mathlib.Core.Bool.{false, _||_}
 use mathlib.Core.Logic.{⊎-elim}
 use mathlib.Core.List.{List, _∷_}
 use Prim.Native.Nat.{ℕ, zero, suc, _+_, _-_, _*_, _/_, _%_, _^_, _≤_, _<_}
@@ -8,12 +8,13 @@ use native.Mathlib.Nat.{pow-suc, div-one, lt-of-lt-of-le}
 use native.Mathlib.Omega.{arith}
 use lib.Dec.{eqb, lit<}
 use lib.Arith.{digits-lt}
+use lib.Bits.{bitOr}
 use lib.Pow.{pow-add, pow-mono}
 use lib.ListN.{getD, length}
 use Rattle.rules.specs.Bits.{Word, digit, bit, tally, number, octets}
 use Rattle.rules.proofs.Octets.{length-octets, bit-octets, octets-lt, bit-past}
 use Rattle.vectors.specs.Vectors.{Holds, upTo, from, joined}
-use Rattle.vectors.proofs.Places.{tally-lt, tally-odd, le-or-lt, place, place-front, place-behind, place-zero, place-cut, place-up, place-down, place-below}
+use Rattle.vectors.proofs.Places.{tally-lt, tally-odd, le-or-lt, or-none, place, place-or, place-above, place-front, place-behind, place-zero, place-cut, place-up, place-down, place-below}
 use Rattle.vectors.proofs.Cells.{cell-at, cell-past, same-cells, joined-below, joined-above}
 use Rattle.vectors.proofs.Spans.{upTo-below, upTo-above}
 
@@ -57,6 +58,29 @@ octet-more o at n v hb g = (
         ap (place (v * 2 ^ 8 + b)) e
         ∙ place-behind v b 8 hb (8 - suc j) (omega arith)
         ∙ sym (ap (bit o) k ∙ cell-at 8 (lit< tt) o (at + n) j hj)
+
+-- Two halves of four octets make a word.
+pub two-halves : (o : List ℕ) (at u v : ℕ) → Gathered o at 4 u → Gathered o (at + 4) 4 v → Holds (bitOr ((u * 2 ^ 32) % 2 ^ 64) v) (from (8 * at) (bit o))
+two-halves o at u v g k i hi = place-or ((u * 2 ^ 32) % 2 ^ 64) v j ∙ ⊎-elim second first (le-or-lt 32 i)
+  where
+    j : ℕ
+    j = 64 - suc i
+
+    front : place ((u * 2 ^ 32) % 2 ^ 64) j ≡ place (u * 2 ^ 32) j
+    front = place-cut (u * 2 ^ 32) 64 j (omega arith)
+
+    first : i < 32 → (place ((u * 2 ^ 32) % 2 ^ 64) j || place v j) ≡ bit o (8 * at + i)
+    first h =
+        let e : j ≡ 32 + (32 - suc i) = omega arith in
+        ap₂ _||_ (front ∙ ap (place (u * 2 ^ 32)) e ∙ place-up u 32 (32 - suc i) ∙ g .1 i h) (place-above v 32 j (k .0) (omega arith))
+        ∙ or-none (bit o (8 * at + i))
+
+    second : 32 ≤ i → (place ((u * 2 ^ 32) % 2 ^ 64) j || place v j) ≡ bit o (8 * at + i)
+    second h =
+        let l = i - 32 in
+        let e : j ≡ 32 - suc l = omega arith in
+        let n : 8 * (at + 4) + l ≡ 8 * at + i = omega arith in
+        ap₂ _||_ (front ∙ place-below u 32 j (omega arith)) (ap (place v) e ∙ k .1 l (omega arith) ∙ ap (bit o) n)
 
 -- The last octets stand in front, and zeros follow.
 pub short-group : (o : List ℕ) (at n v : ℕ) → at + n ≡ length o → n ≤ 8 → Gathered o at n v

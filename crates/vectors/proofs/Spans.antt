@@ -1,5 +1,5 @@
 -- What shifts and sums of words of 64 bits hold. Assumes nothing.
-use mathlib.Core.Path.{_≡_, sym, ap, ap₂, _∙_, fun-ext}
+use mathlib.Core.Path.{_≡_, refl, sym, ap, ap₂, _∙_, fun-ext}
 use mathlib.Core.Bool.{Bool, false, not, _&&_, _||_}
 use mathlib.Core.Logic.{⊎-elim}
 use mathlib.Core.List.{List, [], _∷_}
@@ -8,7 +8,7 @@ use native.Mathlib.Nat.{mod-lt, mod-eq-of-lt, one-mul, add-comm}
 use lib.Arith.{digits-mod}
 use native.Mathlib.Omega.{arith}
 use lib.Dec.{ltb, eqb}
-use lib.Pow.{pow-pos}
+use lib.Pow.{pow-pos, shr-shr}
 use lib.Bits.{bitXor, bitAnd, bitOr}
 use lib.ListN.{getD, length, set}
 use borrow.Author.Tests.{lt-ltb, le-ltb, le-leb, lt-leb, ne-eqb}
@@ -171,7 +171,7 @@ module _ (v : List ℕ) (m k : ℕ) (short : wbit v ≡ upTo m (wbit v)) where
       ∙ sym (joined-above m (64 * k + i) x (λ n. x (n - m)) (omega arith))
 
   -- at it: s bits in front, and the first ones after them
-  pub twice-at : (a b s : ℕ) → a ≡ getD v k 0 → b ≡ getD v 0 0 → b < 2 ^ 64 → s < 64 → m ≡ 64 * k + s → Holds (bitOr a (b / 2 ^ s)) (from (64 * k) (twice m x))
+  pub twice-at : (a b s : ℕ) → a ≡ getD v k 0 → b ≡ getD v 0 0 → b < 2 ^ 64 → s ≤ 64 → m ≡ 64 * k + s → Holds (bitOr a (b / 2 ^ s)) (from (64 * k) (twice m x))
   twice-at a b s ea eb hb hs e i hi =
       place-or a (b / 2 ^ s) (64 - suc i)
       ∙ ap₂ _||_ (ap (λ (z : ℕ). digit 64 z i) ea ∙ word-holds v k i hi) (place-down b s (64 - suc i))
@@ -194,6 +194,51 @@ module _ (v : List ℕ) (m k : ℕ) (short : wbit v ≡ upTo m (wbit v)) where
 
   pub twice-past : (n : ℕ) → 2 * m ≤ n → twice m x n ≡ false
   twice-past n h = joined-above m n x (λ i. x (i - m)) (omega arith) ∙ none-from (n - m) (omega arith)
+
+-- ---- one word, and two
+
+pub one-word : (v : ℕ) (x : Word) → Holds v x → ((n : ℕ) → 64 ≤ n → x n ≡ false) → wbit (v ∷ []) ≡ x
+one-word v x hv none =
+    fun-ext
+    (λ n.
+    ⊎-elim
+    (λ (h : 64 ≤ n). word-past (v ∷ []) n h ∙ sym (none n h))
+    (λ (h : n < 64). word-at (v ∷ []) n 0 n h (omega arith) ∙ hv n h)
+    (le-or-lt 64 n))
+
+two-words : (u v : ℕ) (x : Word) → Holds u (from (64 * 0) x) → Holds v (from (64 * 1) x) → ((n : ℕ) → 128 ≤ n → x n ≡ false) → wbit (u ∷ v ∷ []) ≡ x
+two-words u v x hu hv none = fun-ext (λ n. ⊎-elim (λ (h : 128 ≤ n). word-past (u ∷ v ∷ []) n h ∙ sym (none n h)) (inside n) (le-or-lt 128 n))
+  where
+    inside : (n : ℕ) → n < 128 → wbit (u ∷ v ∷ []) n ≡ x n
+    inside n l =
+        ⊎-elim
+        (λ (h : 64 ≤ n).
+        let e : 64 * 1 + (n - 64) ≡ n = omega arith in
+        word-at (u ∷ v ∷ []) n 1 (n - 64) (omega arith) (omega arith) ∙ hv (n - 64) (omega arith) ∙ ap x e)
+        (λ (h : n < 64).
+        let e : 64 * 0 + n ≡ n = omega arith in
+        word-at (u ∷ v ∷ []) n 0 n h (omega arith) ∙ hu n h ∙ ap x e)
+        (le-or-lt 64 n)
+
+-- the m bits of one word twice over, in two
+pub word-doubled : (v b m : ℕ) (x : Word) → 1 ≤ m → m ≤ 64 → v < 2 ^ 64 → Holds b (from (64 - m) (wbit (v ∷ 0 ∷ []))) → Holds v (upTo m x)
+    → wbit (bitOr v (v / 2 / 2 ^ (m - 1)) ∷ b ∷ []) ≡ twice m (upTo m x)
+word-doubled v b m x some held hv hb hx =
+    ap (λ (z : ℕ). wbit (bitOr v z ∷ b ∷ [])) (shr-shr v 1 (m - 1) ∙ ap (λ (k : ℕ). v / 2 ^ k) whole)
+    ∙ two-words (bitOr v (v / 2 ^ m)) b (twice m (wbit (v ∷ [])))
+    (twice-at (v ∷ []) m 0 short v v m refl refl hv held (omega arith))
+    (twice-behind (v ∷ []) m 1 short b v 0 0 (64 - m) refl refl (omega arith) (omega arith) hb)
+    (λ n h. twice-past (v ∷ []) m 0 short n (omega arith))
+    ∙ ap (twice m) same
+  where
+    whole : 1 + (m - 1) ≡ m
+    whole = omega arith
+
+    same : wbit (v ∷ []) ≡ upTo m x
+    same = one-word v (upTo m x) hx (λ n h. upTo-above m n x (omega arith))
+
+    short : wbit (v ∷ []) ≡ upTo m (wbit (v ∷ []))
+    short = upTo-again m x (wbit (v ∷ [])) same
 
 -- m bits twice over, read from bit s on, are the m bits turned by s
 pub twice-turned : (m s n : ℕ) (x : Word) → s < m → n < m → twice m x (s + n) ≡ x ((n + s) % m)
@@ -228,6 +273,25 @@ added-word u v x y at w j hj hu hv i hi =
     xor-holds u v (from (64 * (at + j)) x) (from (64 * j) y) hu hv i hi
     ∙ ap (λ (n : ℕ). x (64 * (at + j) + i) ⊕ y n) e
     ∙ sym (added-inside x y (64 * at) (64 * (at + w)) (64 * (at + j) + i) (omega arith) (omega arith))
+
+-- one word, to which 64 bits are added
+pub added-one : (ws : List ℕ) (v at : ℕ) (x : Word) → at < length ws → Holds v x → wbit (set ws at (bitXor (getD ws at 0) v)) ≡ added (wbit ws) (64 * at) (64 * (at + 1)) x
+added-one ws v at x h hv =
+    word-stored ws at y z (joined-start (64 * at) y z (λ n l. sym (added-before z x (64 * at) (64 * (at + 1)) n l))) (bitXor (getD ws at 0) v) h sum
+    ∙ joined-end (64 * (at + 1)) y z (λ n l. sym (added-after z x (64 * at) (64 * (at + 1)) n (omega arith) l))
+  where
+    z : Word
+    z = wbit ws
+
+    y : Word
+    y = added z (64 * at) (64 * (at + 1)) x
+
+    sum : Holds (bitXor (getD ws at 0) v) (from (64 * at) y)
+    sum i hi =
+        let e : i ≡ 64 * at + i - 64 * at = omega arith in
+        xor-holds (getD ws at 0) v (from (64 * at) z) x (word-holds ws at) hv i hi
+        ∙ ap (λ (n : ℕ). z (64 * at + i) ⊕ x n) e
+        ∙ sym (added-inside z x (64 * at) (64 * (at + 1)) (64 * at + i) (omega arith) (omega arith))
 
 -- ---- one bit turned over
 

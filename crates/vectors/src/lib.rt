@@ -3,12 +3,13 @@ ghost use mathlib.Core.Path.{_≡_};
 ghost use mathlib.Core.List.{[], _∷_};
 ghost use mathlib.Core.Bool.{false};
 ghost use Prim.Native.Nat.{ℕ, _+_, _-_, _*_, _/_, _%_, _^_, _<_, _≤_};
+ghost use lib.Dec.{ltb};
 ghost use lib.ListN.{length, getD};
-ghost use Rattle.rules.specs.Bits.{bit, digit, octets, count, flipped};
+ghost use Rattle.rules.specs.Bits.{Word, bit, digit, octets, count, flipped};
 ghost use Rattle.vectors.specs.Vectors.{wbit, Holds, upTo, from, later, joined, twice, added};
 
 // The 64 bits of a and then b from bit t on.
-fn funnel(a: u64, b: u64, t: usize) -> u64
+pub fn funnel(a: u64, b: u64, t: usize) -> u64
     requires { ⌜ t < 64 ⌝ }
     ensures { λ r. ⌜ Holds r (from t (wbit (a ∷ b ∷ []))) ⌝ }
 {
@@ -48,19 +49,24 @@ fn gathered(octets: &[u8], at: usize, n: usize) -> u64
     number
 }
 
-// The 64 bits from octet at on; past the last octet every bit is 0.
-fn group(octets: &[u8], at: usize) -> u64
-    requires { ⌜ at < 2 ^ 63 ⌝ }
+// The 64 bits of the eight octets from octet at on: in two halves the compiler knows them as one load.
+fn eight(octets: &[u8], at: usize) -> u64
+    requires { ⌜ at + 8 ≤ length (now octets) ⌝ }
     ensures { λ r. ⌜ Holds r (from (8 * at) (bit (now (octets .entry)))) ⌝ }
 {
-    if at + 8 <= octets.len() {
-        gathered(octets, at, 8)
-    } else if at < octets.len() {
-        let n = octets.len() - at;
-        gathered(octets, at, n) << (64 - 8 * n)
-    } else {
-        0
+    (gathered(octets, at, 4) << 32) | gathered(octets, at + 4, 4)
+}
+
+// The last octets, fewer than eight, from octet at on, and zeros behind them.
+fn last(octets: &[u8], at: usize) -> u64
+    requires { ⌜ (at ≤ length (now octets)) × (length (now octets) < at + 8) ⌝ }
+    ensures { λ r. ⌜ Holds r (from (8 * at) (bit (now (octets .entry)))) ⌝ }
+{
+    let n = octets.len() - at;
+    if n == 0 {
+        return 0;
     }
+    gathered(octets, at, n) << (64 - 8 * n)
 }
 
 // The words that the octets fill whole.
@@ -71,7 +77,7 @@ fn load_whole(octets: &[u8], ws: &mut [u64])
     let whole = octets.len() / 8;
     let mut k = 0;
     while k < whole {
-        ws[k] = group(octets, 8 * k);
+        ws[k] = eight(octets, 8 * k);
         k += 1;
     }
 }
@@ -83,7 +89,7 @@ pub fn load(octets: &[u8], ws: &mut [u64])
 {
     load_whole(octets, ws);
     let mut k = octets.len() / 8;
-    let mut v = group(octets, 8 * k);
+    let mut v = last(octets, 8 * k);
     while k < ws.len() {
         ws[k] = v;
         v = 0;
@@ -181,6 +187,31 @@ pub fn double(v: &[u64], m: usize, d: &mut [u64])
     double_behind(v, m, q + 1, d);
 }
 
+// Two words, one after the other.
+pub struct Pair {
+    pub first: u64,
+    pub second: u64,
+}
+
+// The m bits of v twice over, where a word holds them; the double shift to the right may be one by 64.
+pub fn double_word(v: u64, m: usize) -> Pair
+    requires { ⌜ (1 ≤ m) × (m ≤ 64) ⌝ }
+    ensures { λ r. ⌜ ((x : Word) → Holds v (upTo m x) → wbit (r .first ∷ r .second ∷ []) ≡ twice m (upTo m x)) ⌝ }
+{
+    Pair {
+        first: v | ((v >> 1) >> (m - 1)),
+        second: funnel(v, 0, 64 - m),
+    }
+}
+
+// Adds the 64 bits of v to word at of acc.
+pub fn add_word(v: u64, acc: &mut [u64], at: usize)
+    requires { ⌜ at < length (now acc) ⌝ }
+    ensures { λ r. ⌜ ((x : Word) → Holds v x → wbit (now (acc .exit)) ≡ added (wbit (now (acc .entry))) (64 * at) (64 * (at + 1)) x) ⌝ }
+{
+    acc[at] ^= v;
+}
+
 // Adds the w words of d from bit s on to those of acc from word at on.
 pub fn add_turned(d: &[u64], s: usize, acc: &mut [u64], at: usize, w: usize)
     requires { ⌜ (at + w ≤ length (now acc)) × (s / 64 + w < length (now d)) ⌝ }
@@ -207,6 +238,19 @@ pub fn ones(ws: &[u64]) -> usize
         k += 1;
     }
     n
+}
+
+// Whether a bit is set.
+pub fn any(ws: &[u64]) -> bool
+    ensures { λ r. ⌜ r ≡ ltb 0 (count (64 * length (now (ws .entry))) (wbit (now (ws .entry)))) ⌝ }
+{
+    let mut v: u64 = 0;
+    let mut k = 0;
+    while k < ws.len() {
+        v |= ws[k];
+        k += 1;
+    }
+    v != 0
 }
 
 // Turns bit n over.

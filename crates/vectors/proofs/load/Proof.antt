@@ -26,11 +26,11 @@ abbrev μ-loop : tie.MeasureT-loop
 load-whole-requires : tie.Need-load-whole-requires Inv-loop μ-loop
 load-whole-requires c κs = search needs
 
-mul-group : tie.Need-mul-group Inv-loop μ-loop
-mul-group c = omega arith
+mul-last : tie.Need-mul-last Inv-loop μ-loop
+mul-last c = omega arith
 
-group-requires : tie.Need-group-requires Inv-loop μ-loop
-group-requires c κs = omega arith
+last-requires : tie.Need-last-requires Inv-loop μ-loop
+last-requires c κs = omega arith
 
 loop-holds : tie.Need-loop-holds Inv-loop μ-loop
 loop-holds c =
@@ -40,7 +40,7 @@ loop-holds c =
     let w = c .before .before .before .load-whole in (
       search needs,
       omega arith,
-      λ i hi. c .group .ensures i hi ∙ ap x (omega arith),
+      λ i hi. c .last .ensures i hi ∙ ap x (omega arith),
       filled-from _ x k (λ n h. ap (λ (y : Word). y n) (w .ensures) ∙ joined-below (64 * k) n x (wbit (a .ws .now)) h),
     )
 
@@ -84,8 +84,8 @@ load-spec =
     Inv-loop
     μ-loop
     load-whole-requires
-    mul-group
-    group-requires
+    mul-last
+    last-requires
     loop-holds
     mul-ws
     slice-write-ws

@@ -20,11 +20,11 @@ loop-holds c =
     let a = c .before .before .args in
     (omega arith, filled-start (a .ws .now) (bit (a .octets .now)))
 
-mul-group : tie.Need-mul-group Inv-loop μ-loop
-mul-group c = omega arith
+mul-eight : tie.Need-mul-eight Inv-loop μ-loop
+mul-eight c = omega arith
 
-group-requires : tie.Need-group-requires Inv-loop μ-loop
-group-requires c κs = omega arith
+eight-requires : tie.Need-eight-requires Inv-loop μ-loop
+eight-requires c κs = omega arith
 
 mul-ws : tie.Need-mul-ws Inv-loop μ-loop
 mul-ws c = omega arith
@@ -43,7 +43,7 @@ loop-again c =
     let a = c .before .before .before .before .before .args in
     let l = c .before .before .loop in
     let x = bit (a .octets .now) in
-    (omega arith, filled-more (a .ws .now) x (l .ws) (l .k) (l .inv .1) (c .group .result) (omega arith) (λ i hi. c .group .ensures i hi ∙ ap x (omega arith)))
+    (omega arith, filled-more (a .ws .now) x (l .ws) (l .k) (l .inv .1) (c .eight .result) (omega arith) (λ i hi. c .eight .ensures i hi ∙ ap x (omega arith)))
 
 same-length : tie.Need-same-length Inv-loop μ-loop
 same-length c = c .before .loop .inv .1 .long
@@ -62,8 +62,8 @@ load-whole-spec =
     Inv-loop
     μ-loop
     loop-holds
-    mul-group
-    group-requires
+    mul-eight
+    eight-requires
     mul-ws
     slice-write-ws
     add-k
