@@ -1,15 +1,15 @@
 -- The syndrome as it is held: how it is made, counted, and changed by a flip. Assumes nothing.
 use mathlib.Core.Path.{_≡_, refl, sym, ap, ap₂, _∙_, fun-ext}
-use mathlib.Core.Bool.{Bool, true, false, _&&_, and-false}
+use mathlib.Core.Bool.{Bool, true, false, not, _&&_, and-false}
 use mathlib.Core.Logic.{⊎-elim}
 use mathlib.Core.List.{List}
 use Prim.Native.Nat.{ℕ, zero, suc, _+_, _-_, _*_, _/_, _%_, _≤_, _<_}
 use native.Mathlib.Nat.{mod-lt, mul-comm, zero-mul, suc-mul, add-zero}
 use native.Mathlib.Numerals.{add-one}
 use native.Mathlib.Omega.{arith}
-use lib.Dec.{ltb}
+use lib.Dec.{eqb, ltb}
 use lib.Arith.{digits-div, digits-mod}
-use borrow.Author.Tests.{ne-eqb}
+use borrow.Author.Tests.{lt-ltb, le-ltb, eq-eqb, ne-eqb}
 use Rattle.rules.specs.Bits.{Word, _⊕_, sum, count, flipped}
 use Rattle.rules.specs.Codes.{Code}
 use Rattle.rules.specs.Checks.{check, broken}
@@ -159,3 +159,10 @@ laid-count h sh fit c lent x n long =
     ap (count n) (laid-rows c sh x)
     ∙ count-rowed (wide sh) (sh .size) (sh .rows) (wide-some h sh fit) (fit .held) (check c x) n (omega (arith, fit .room))
     ∙ ap (λ (z : ℕ). count z (check c x)) (sym (lent .checks-are))
+
+pub none-test : (n : ℕ) → not (ltb 0 n) ≡ eqb n 0
+none-test n =
+    ⊎-elim
+    (λ (l : 1 ≤ n). ap not (lt-ltb 0 n l) ∙ sym (ne-eqb n 0 (λ e. omega arith)))
+    (λ (l : n < 1). ap not (le-ltb 0 n (omega arith)) ∙ sym (eq-eqb n 0 (omega arith)))
+    (le-or-lt 1 n)

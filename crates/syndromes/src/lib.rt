@@ -1,14 +1,16 @@
 // The syndrome of a word, row after row, for whatever table is lent.
 use layout::Shape;
+use vectors::Pair;
 ghost use mathlib.Core.Path.{_≡_};
 ghost use mathlib.Core.Bool.{false};
 ghost use mathlib.Core.List.{List};
 ghost use Prim.Native.Nat.{ℕ, _+_, _-_, _*_, _/_, _%_, _<_, _≤_};
+ghost use lib.Dec.{eqb};
 ghost use lib.ListN.{length, getD};
 ghost use Rattle.rules.specs.Bits.{Word, flipped};
 ghost use Rattle.rules.specs.Codes.{Code};
 ghost use Rattle.rules.specs.Checks.{broken};
-ghost use Rattle.vectors.specs.Vectors.{wbit, added};
+ghost use Rattle.vectors.specs.Vectors.{wbit, both, added};
 ghost use Rattle.layout.specs.Lent.{Fit, Lent, placeOf, laid};
 ghost use Rattle.syndromes.specs.Rows.{plus, rowed, within, wide, entry, spread, doubled, turned, summed, covering};
 
@@ -76,6 +78,66 @@ fn add_blocks(y: &[u64], h: &[u16], sh: Shape, part: &mut [u64], d: &mut [u64], 
     }
 }
 
+// The same for blocks that one word holds, doubled in two.
+fn add_narrow_entry(d: Pair, s: usize, sh: Shape, acc: &mut [u64], r: usize)
+    requires { ⌜ (sh .words ≡ 1) × (sh .size ≤ wide sh) × (r < length (now acc)) ⌝ }
+    ensures { λ q. ⌜ wbit (now (acc .exit)) ≡ added (wbit (now (acc .entry))) (wide sh * r) (wide sh * (r + 1)) (entry (sh .size) (turned (both d)) s) ⌝ }
+{
+    if s < sh.size {
+        vectors::add_word(vectors::funnel(d.first, d.second, s), acc, r);
+    }
+}
+
+// Adds it to row r, turned by each of its shifts there.
+fn add_narrow_row(d: Pair, h: &[u16], sh: Shape, b: usize, acc: &mut [u64], r: usize)
+    requires { ⌜ Fit (now h) sh × (sh .words ≡ 1) × (b < sh .blocks) × (r < sh .rows) × (length (now acc) ≡ 16) ⌝ }
+    ensures { λ q. ⌜ wbit (now (acc .exit)) ≡ added (wbit (now (acc .entry))) (wide sh * r) (wide sh * (r + 1)) (spread sh (now (h .entry)) b (turned (both d)) r) ⌝ }
+{
+    let p = read_places(h, sh, b, r);
+    add_narrow_entry(d, p.first, sh, acc, r);
+    add_narrow_entry(d, p.second, sh, acc, r);
+}
+
+// Adds it to every row.
+fn add_narrow_block(d: Pair, h: &[u16], sh: Shape, b: usize, acc: &mut [u64])
+    requires { ⌜ Fit (now h) sh × (sh .words ≡ 1) × (b < sh .blocks) × (length (now acc) ≡ 16) ⌝ }
+    ensures { λ q. ⌜ wbit (now (acc .exit)) ≡ plus (wbit (now (acc .entry))) (rowed (wide sh) (sh .rows) (spread sh (now (h .entry)) b (turned (both d)))) ⌝ }
+{
+    let mut r = 0;
+    while r < sh.rows {
+        add_narrow_row(d, h, sh, b, acc, r);
+        r += 1;
+    }
+}
+
+// Adds every block of y to the rows.
+fn add_narrow_blocks(y: &[u64], h: &[u16], sh: Shape, acc: &mut [u64])
+    requires { ⌜ Fit (now h) sh × (sh .words ≡ 1) × (length (now y) ≡ 130) × (length (now acc) ≡ 16) × (wbit (now acc) ≡ (λ n. false)) ⌝ }
+    ensures { λ q. ⌜ wbit (now (acc .exit)) ≡ rowed (wide sh) (sh .rows) (summed sh (now (h .entry)) (wbit (now (y .entry))) (sh .blocks)) ⌝ }
+{
+    let mut b = 0;
+    while b < sh.blocks {
+        let v = vectors::front(vectors::window(y, b * sh.size), sh.size);
+        add_narrow_block(vectors::double_word(v, sh.size), h, sh, b, acc);
+        b += 1;
+    }
+}
+
+// Adds every block of y to the rows, of whatever width.
+fn add_all(y: &[u64], h: &[u16], sh: Shape, acc: &mut [u64])
+    requires { ⌜ Fit (now h) sh × (length (now y) ≡ 130) × (length (now acc) ≡ 16) × (wbit (now acc) ≡ (λ n. false)) ⌝ }
+    ensures { λ q. ⌜ wbit (now (acc .exit)) ≡ rowed (wide sh) (sh .rows) (summed sh (now (h .entry)) (wbit (now (y .entry))) (sh .blocks)) ⌝ }
+{
+    if sh.words == 1 {
+        add_narrow_blocks(y, h, sh, acc);
+        return;
+    }
+    let mut part = [0u64; 8];
+    let mut d = [0u64; 16];
+    let words = sh.words;
+    add_blocks(y, h, sh, &mut part[..words], &mut d[..2 * words], acc);
+}
+
 // Clears what is past bit M of row r, where it does not fill its last word.
 fn trim_row(s: &mut [u64], sh: Shape, r: usize)
     requires { ⌜ (1 ≤ sh .size) × (sh .size ≤ wide sh) × (wide sh < sh .size + 64) × ((r + 1) * sh .words ≤ length (now s)) ⌝ }
@@ -105,11 +167,8 @@ pub fn syndrome(y: &[u64], h: &[u16], sh: Shape, s: &mut [u64])
     requires { ⌜ Fit (now h) sh × (length (now y) ≡ 130) × (length (now s) ≡ 16) ⌝ }
     ensures { λ q. ⌜ ((c : Code) → Lent c (now (h .entry)) sh → wbit (now (s .exit)) ≡ laid c sh (wbit (now (y .entry)))) ⌝ }
 {
-    let mut part = [0u64; 8];
-    let mut d = [0u64; 16];
-    let words = sh.words;
     vectors::clear(s);
-    add_blocks(y, h, sh, &mut part[..words], &mut d[..2 * words], s);
+    add_all(y, h, sh, s);
     trim_rows(s, sh);
 }
 
@@ -119,6 +178,14 @@ pub fn broken(s: &[u64]) -> u32
     ensures { λ n. ⌜ ((c : Code) (h : List ℕ) (sh : Shape) (x : Word) → Fit h sh → Lent c h sh → wbit (now (s .entry)) ≡ laid c sh x → n ≡ broken c x) ⌝ }
 {
     vectors::ones(s) as u32
+}
+
+// Whether no check is broken.
+pub fn is_quiet(s: &[u64]) -> bool
+    requires { ⌜ length (now s) ≡ 16 ⌝ }
+    ensures { λ n. ⌜ ((c : Code) (h : List ℕ) (sh : Shape) (x : Word) → Fit h sh → Lent c h sh → wbit (now (s .entry)) ≡ laid c sh x → n ≡ eqb (broken c x) 0) ⌝ }
+{
+    !vectors::any(s)
 }
 
 // Turns the check of row r over that covers bit k by the shift e; a number that is M or more is no shift.

@@ -1,15 +1,20 @@
 -- Vectors of bits in words of 64, and what is made of a word's bits.
 use mathlib.Core.Path.{_≡_}
 use mathlib.Core.Bool.{not, _&&_}
-use mathlib.Core.List.{List}
+use mathlib.Core.List.{List, [], _∷_}
 use Prim.Native.Nat.{ℕ, _+_, _-_, _/_, _%_, _<_}
 use lib.Dec.{leb, ltb}
 use lib.ListN.{getD}
 use Rattle.rules.specs.Bits.{Word, digit, _⊕_, if_then_else_}
+use Rattle.vectors.specs.declared.Pair.{Pair}
 
 -- Bit n stands in word n / 64, and bit 0 is the most significant bit of word 0. Past the last word every bit is 0.
 unfoldable pub wbit : List ℕ → Word
 wbit ws n = digit 64 (getD ws (n / 64) 0) (n % 64)
+
+-- The bits of two words, one after the other.
+abbrev pub both : Pair → Word
+both p = wbit (p .first ∷ p .second ∷ [])
 
 -- The 64 bits of a number are the first 64 of a word.
 abbrev pub Holds : ℕ → Word → Type 0

@@ -6,7 +6,7 @@ ghost use Prim.Native.Nat.{ℕ, _+_, _-_, _*_, _/_, _%_, _^_, _<_, _≤_};
 ghost use lib.Dec.{ltb};
 ghost use lib.ListN.{length, getD};
 ghost use Rattle.rules.specs.Bits.{Word, bit, digit, octets, count, flipped};
-ghost use Rattle.vectors.specs.Vectors.{wbit, Holds, upTo, from, later, joined, twice, added};
+ghost use Rattle.vectors.specs.Vectors.{wbit, both, Holds, upTo, from, later, joined, twice, added};
 
 // The 64 bits of a and then b from bit t on.
 pub fn funnel(a: u64, b: u64, t: usize) -> u64
@@ -196,7 +196,7 @@ pub struct Pair {
 // The m bits of v twice over, where a word holds them; the double shift to the right may be one by 64.
 pub fn double_word(v: u64, m: usize) -> Pair
     requires { ⌜ (1 ≤ m) × (m ≤ 64) ⌝ }
-    ensures { λ r. ⌜ ((x : Word) → Holds v (upTo m x) → wbit (r .first ∷ r .second ∷ []) ≡ twice m (upTo m x)) ⌝ }
+    ensures { λ r. ⌜ ((x : Word) → Holds v (upTo m x) → both r ≡ twice m (upTo m x)) ⌝ }
 {
     Pair {
         first: v | ((v >> 1) >> (m - 1)),

@@ -15,26 +15,8 @@ use Rattle.syndromes.proofs.syndrome.Tie as tie
 clear-requires : tie.Need-clear-requires
 clear-requires c κs = search needs
 
-array-borrow-prefix-part : tie.Need-array-borrow-prefix-part
-array-borrow-prefix-part c = search needs
-
-slice-aggregate-add-blocks : tie.Need-slice-aggregate-add-blocks
-slice-aggregate-add-blocks c = sym (length-front (c .before .before .before .before .before .before .before .before .args .sh .words) (replicate 8 0) (omega arith))
-
-mul-d : tie.Need-mul-d
-mul-d c = search needs
-
-array-borrow-prefix-d : tie.Need-array-borrow-prefix-d
-array-borrow-prefix-d c = search needs
-
-slice-aggregate-add-blocks-2 : tie.Need-slice-aggregate-add-blocks-2
-slice-aggregate-add-blocks-2 c = sym (length-front (2 * c .before .before .before .before .before .before .before .before .before .args .sh .words) (replicate 16 0) (omega arith))
-
-add-blocks-requires : tie.Need-add-blocks-requires
-add-blocks-requires c κs =
-    let a = c .before .before .before .before .before .before .before .before .before .before .args in
-    let pre = c .before .before .before .before .before .before .before .before .before .before .pre in
-    (pre .0, pre .1, length-front (a .sh .words) (replicate 8 0) (omega arith), length-front (2 * a .sh .words) (replicate 16 0) (omega arith), search needs, c .before .before .before .before .before .clear .ensures)
+add-all-requires : tie.Need-add-all-requires
+add-all-requires c κs = search needs
 
 trim-rows-requires : tie.Need-trim-rows-requires
 trim-rows-requires c κs = search needs
@@ -44,26 +26,15 @@ same-length c = search needs
 
 returns : tie.Need-returns
 returns c code lent =
-    let a = c .before .before .before .before .before .before .before .before .before .before .before .before .before .before .before .before .before .before .before .args in
-    let fit = c .before .before .before .before .before .before .before .before .before .before .before .before .before .before .before .before .before .before .before .pre .0 in
+    let s = c .before .before .before .before .before .before .before .before .before .before .before .before .before .before .before in
+    let a = s .args in
+    let fit = s .pre .0 in
     let w = wide (a .sh) in
     let y = wbit (a .y .now) in
     c .before .before .trim-rows .ensures
-    ∙ ap (within w (a .sh .size) (a .sh .rows)) (c .before .before .before .before .before .before .before .before .add-blocks .ensures)
+    ∙ ap (within w (a .sh .size) (a .sh .rows)) (c .before .before .before .before .before .before .add-all .ensures)
     ∙ within-rowed w (a .sh .size) (a .sh .rows) (wide-some (a .h .now) (a .sh) fit) (summed (a .sh) (a .h .now) y (a .sh .blocks))
     ∙ laid-summed (a .h .now) (a .sh) fit code lent y
 
 pub syndrome-spec : {M : Type 1} → statement M
-syndrome-spec =
-    tie.close
-    (tie.spec
-    clear-requires
-    array-borrow-prefix-part
-    slice-aggregate-add-blocks
-    mul-d
-    array-borrow-prefix-d
-    slice-aggregate-add-blocks-2
-    add-blocks-requires
-    trim-rows-requires
-    same-length
-    returns)
+syndrome-spec = tie.close (tie.spec clear-requires add-all-requires trim-rows-requires same-length returns)
