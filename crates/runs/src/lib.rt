@@ -28,8 +28,7 @@ pub fn next(s: &[u64], h: &[u16], sh: Shape) -> Turn
     requires { ⌜ Fit (now h) sh × (length (now s) ≡ 16) × (1 ≤ sh .blocks) × Holding (now h) sh (wbit (now s)) ⌝ }
     ensures { λ r. ⌜ (r .bit < sh .blocks * sh .size) × ((c : Code) → Lent c (now (h .entry)) sh → (x : Word) → wbit (now (s .entry)) ≡ laid c sh x → byExcess c x ≡ comesNext r) ⌝ }
 {
-    let broken = syndromes::broken(s);
-    if broken == 0 {
+    if syndromes::is_quiet(s) {
         return Turn {
             number: 0,
             quiet: true,
