@@ -1,6 +1,6 @@
 // Words as they are handed over: their lengths, octets in, octets out, and the syndrome of what was received.
 ghost use mathlib.Core.Path.{_≡_};
-ghost use mathlib.Core.Bool.{true};
+ghost use mathlib.Core.Bool.{true, false};
 ghost use Prim.Native.Nat.{_*_, _≤_};
 ghost use lib.ListN.{length};
 ghost use Rattle.rules.specs.Bits.{Word, bit};
@@ -46,9 +46,9 @@ pub fn information_octets(code: u8) -> usize
     }
 }
 
-// The bits that the checks are over, from octets that are handed in; code 5 has 18 zero bits in front.
+// The bits that the checks are over, from octets that are handed in, into a vector of zeros; code 5 has 18 zero bits in front.
 pub fn take(code: u8, octets: &[u8], y: &mut [u64])
-    requires { ⌜ (offered code ≡ true) × (length (now octets) ≤ 1022) × (length (now y) ≡ 130) ⌝ }
+    requires { ⌜ (offered code ≡ true) × (length (now octets) ≤ 1022) × (length (now y) ≡ 130) × (wbit (now y) ≡ (λ n. false)) ⌝ }
     ensures { λ _. ⌜ wbit (now (y .exit)) ≡ lifted (codeOf code) (bit (now (octets .entry))) ⌝ }
 {
     vectors::load(octets, y);
@@ -70,9 +70,9 @@ pub fn write(code: u8, y: &mut [u64], out: &mut [u8])
     }
 }
 
-// The word, its parity table and its syndrome.
+// The word, its parity table and its syndrome; y and s are handed over as zeros.
 pub fn measure(code: u8, word: &[u8], t: &mut [u16], y: &mut [u64], s: &mut [u64]) -> Shape
-    requires { ⌜ (offered code ≡ true) × (length (now word) ≡ codeOf code .wordOctets) × (length (now t) ≡ 64) × (length (now y) ≡ 130) × (length (now s) ≡ 16) ⌝ }
+    requires { ⌜ (offered code ≡ true) × (length (now word) ≡ codeOf code .wordOctets) × (length (now t) ≡ 64) × (length (now y) ≡ 130) × (length (now s) ≡ 16) × (wbit (now y) ≡ (λ n. false)) × (wbit (now s) ≡ (λ n. false)) ⌝ }
     ensures { λ r. ⌜ Measured code (now (word .entry)) (now (t .exit)) (wbit (now (y .exit))) (wbit (now (s .exit))) r ⌝ }
 {
     let sh = tables::lend(code, t);

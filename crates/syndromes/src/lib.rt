@@ -162,12 +162,11 @@ fn trim_rows(s: &mut [u64], sh: Shape)
     }
 }
 
-// The syndrome of y.
+// The syndrome of y, made from zeros.
 pub fn syndrome(y: &[u64], h: &[u16], sh: Shape, s: &mut [u64])
-    requires { ⌜ Fit (now h) sh × (length (now y) ≡ 130) × (length (now s) ≡ 16) ⌝ }
+    requires { ⌜ Fit (now h) sh × (length (now y) ≡ 130) × (length (now s) ≡ 16) × (wbit (now s) ≡ (λ n. false)) ⌝ }
     ensures { λ q. ⌜ ((c : Code) → Lent c (now (h .entry)) sh → wbit (now (s .exit)) ≡ laid c sh (wbit (now (y .entry)))) ⌝ }
 {
-    vectors::clear(s);
     add_all(y, h, sh, s);
     trim_rows(s, sh);
 }

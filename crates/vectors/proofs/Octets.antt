@@ -13,9 +13,9 @@ use lib.Pow.{pow-add, pow-mono}
 use lib.ListN.{getD, length}
 use Rattle.rules.specs.Bits.{Word, digit, bit, tally, number, octets}
 use Rattle.rules.proofs.Octets.{length-octets, bit-octets, octets-lt, bit-past}
-use Rattle.vectors.specs.Vectors.{Holds, upTo, from, joined}
+use Rattle.vectors.specs.Vectors.{wbit, Holds, upTo, from, joined}
 use Rattle.vectors.proofs.Places.{tally-lt, tally-odd, le-or-lt, or-none, place, place-or, place-above, place-front, place-behind, place-zero, place-cut, place-up, place-down, place-below}
-use Rattle.vectors.proofs.Cells.{cell-at, cell-past, same-cells, joined-below, joined-above}
+use Rattle.vectors.proofs.Cells.{cell-at, cell-past, same-cells, joined-below, joined-above, joined-end}
 use Rattle.vectors.proofs.Spans.{upTo-below, upTo-above}
 
 -- A list of octets is known by its length and its bits.
@@ -97,6 +97,10 @@ short-group o at n v e hn g i hi =
 
 pub no-group : (o : List ℕ) (at : ℕ) → length o ≤ at → Holds 0 (from (8 * at) (bit o))
 no-group o at h i hi = place-zero (64 - suc i) ∙ sym (bit-past o (8 * at + i) (omega arith))
+
+-- Octets in front of zeros.
+pub zeros-behind : (o ws : List ℕ) (k : ℕ) → wbit ws ≡ (λ n. false) → length o ≤ 8 * k → joined (64 * k) (bit o) (wbit ws) ≡ bit o
+zeros-behind o ws k zeros h = joined-end (64 * k) (bit o) (wbit ws) (λ n l. ap (λ (y : Word). y n) zeros ∙ sym (bit-past o n (omega arith)))
 
 -- ---- octets of a number put into a list
 

@@ -82,18 +82,15 @@ fn load_whole(octets: &[u8], ws: &mut [u64])
     }
 }
 
-// The octets as a vector; the words after them become 0.
+// The octets, put in front of a vector of zeros.
 pub fn load(octets: &[u8], ws: &mut [u64])
-    requires { ⌜ length (now octets) ≤ 8 * length (now ws) ⌝ }
+    requires { ⌜ (length (now octets) ≤ 8 * length (now ws)) × (wbit (now ws) ≡ (λ n. false)) ⌝ }
     ensures { λ r. ⌜ wbit (now (ws .exit)) ≡ bit (now (octets .entry)) ⌝ }
 {
     load_whole(octets, ws);
-    let mut k = octets.len() / 8;
-    let mut v = last(octets, 8 * k);
-    while k < ws.len() {
-        ws[k] = v;
-        v = 0;
-        k += 1;
+    let k = octets.len() / 8;
+    if k < ws.len() {
+        ws[k] = last(octets, 8 * k);
     }
 }
 

@@ -15,7 +15,7 @@ lend-requires c κs =
 take-requires : tie.Need-take-requires
 take-requires c κs =
     let a = c .before .before .before .before .before .before .before .before .before in
-    (a .pre .0, omega (arith, word-few (a .args .code) (a .pre .0), a .pre .1), search needs)
+    (a .pre .0, omega (arith, word-few (a .args .code) (a .pre .0), a .pre .1), search needs, a .pre .5)
 
 syndrome-requires : tie.Need-syndrome-requires
 syndrome-requires c κs = search needs

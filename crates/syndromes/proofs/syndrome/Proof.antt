@@ -12,9 +12,6 @@ use borrow.Author.Needs.{needs}
 use Rattle.syndromes.proofs.syndrome.Statement.{statement}
 use Rattle.syndromes.proofs.syndrome.Tie as tie
 
-clear-requires : tie.Need-clear-requires
-clear-requires c κs = search needs
-
 add-all-requires : tie.Need-add-all-requires
 add-all-requires c κs = search needs
 
@@ -26,7 +23,7 @@ same-length c = search needs
 
 returns : tie.Need-returns
 returns c code lent =
-    let s = c .before .before .before .before .before .before .before .before .before .before .before .before .before .before .before in
+    let s = c .before .before .before .before .before .before .before .before .before .before .before in
     let a = s .args in
     let fit = s .pre .0 in
     let w = wide (a .sh) in
@@ -37,4 +34,4 @@ returns c code lent =
     ∙ laid-summed (a .h .now) (a .sh) fit code lent y
 
 pub syndrome-spec : {M : Type 1} → statement M
-syndrome-spec = tie.close (tie.spec clear-requires add-all-requires trim-rows-requires same-length returns)
+syndrome-spec = tie.close (tie.spec add-all-requires trim-rows-requires same-length returns)
