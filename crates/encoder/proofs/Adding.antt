@@ -37,16 +37,10 @@ pub sum-more : (x : Word) (a e n : ℕ) (f : ℕ → Word) → added (added x a 
 unfolding sum
 sum-more x a e n f = added-twice x a e (sums f n) (f n) ∙ ap (λ (m : ℕ). added x a e (sums f m)) (sym (add-one n))
 
--- one more bit of a block: nothing is added for a 0
+-- one more bit of a block that is set
 module _ (x : Word) (a e M : ℕ) (y d : Word) (n : ℕ) where
   abbrev term : ℕ → Word
   term t k = y t && d (M - t + k)
-
-  pub turns-none : y n ≡ false → added x a e (turns M y d n) ≡ added x a e (turns M y d (n + 1))
-  turns-none h =
-      added-none (added x a e (turns M y d n)) a e
-      ∙ ap (added (added x a e (turns M y d n)) a e) (fun-ext (λ k. sym (ap (λ (b : Bool). b && d (M - n + k)) h)))
-      ∙ sum-more x a e n term
 
   pub turns-one : y n ≡ true → added (added x a e (turns M y d n)) a e (from (M - n) d) ≡ added x a e (turns M y d (n + 1))
   turns-one h =
