@@ -104,9 +104,11 @@ loop-again c =
       mod-lt ((l .rest * 2 ^ i) % 2 ^ 64 * 2) (pow-pos 64),
       λ k hk. next-rest (l .rest) m n v (l .inv .4) i (omega arith) k hk ∙ ap (λ (p : ℕ). upTo m v (p + k)) later,
       λ x z h was.
-          c .before .before .add-turned .ensures
-          ∙ ap (λ (y : Word). added y 64 e (from (M - (l .t + i)) d)) (l .inv .5 x z h was ∙ ap (added z 64 e) (turns-skip M x d (l .t) i (λ q hq. held x h q (omega arith) ∙ w .clear q hq)))
-          ∙ turns-one z 64 e M x d (l .t + i) (held x h i (omega arith) ∙ w .here)
+          turns-one z 64 e M x d (l .t + i)
+          (c .before .before .add-turned .ensures)
+          (omega arith)
+          (l .inv .5 x z h was ∙ ap (added z 64 e) (turns-skip M x d (l .t) i (λ q hq. held x h q (omega arith) ∙ w .clear q hq)))
+          (held x h i (omega arith) ∙ w .here)
           ∙ ap (λ (p : ℕ). added z 64 e (turns M x d p)) (add-assoc (l .t) i 1),
     )
 
