@@ -83,3 +83,7 @@ all-places (suc n) f (v ∷ t) e h = ap₂ (λ a b. a ∷ b) (h 0 (zero-lt-suc n
 
 pub filled-all : (n : ℕ) (f : ℕ → ℕ) (t : List ℕ) (i : ℕ) → Filled n f t i → n ≤ i → t ≡ listed n f
 filled-all n f t i d h = all-places n f t (d .long) (λ j l. d .places j (omega arith))
+
+-- a constant whose entries are those of the print g is laid flat as g is
+pub flat-as : (flat : List (List (List ℕ)) → List ℕ) (g : List (List (List ℕ))) {t : List ℕ} {h : List (List (List ℕ))} → t ≡ flat h → h ≡ g → t ≡ flat g
+flat-as flat g e same = e ∙ ap flat same
