@@ -1,5 +1,5 @@
 -- How the sums grow, and how a part is put in its place. Assumes nothing.
-use mathlib.Core.Path.{_≡_, sym, ap, _∙_, fun-ext}
+use mathlib.Core.Path.{_≡_, sym, ap, ap₂, _∙_, fun-ext}
 use mathlib.Core.Bool.{Bool, true, false, _&&_}
 use mathlib.Core.Logic.{⊎-elim}
 use Prim.Native.Nat.{ℕ, zero, suc, _+_, _-_, _*_, _/_, _%_, _≤_, _<_}
@@ -37,20 +37,16 @@ pub sum-more : (x : Word) (a e n : ℕ) (f : ℕ → Word) → added (added x a 
 unfolding sum
 sum-more x a e n f = added-twice x a e (sums f n) (f n) ∙ ap (λ (m : ℕ). added x a e (sums f m)) (sym (add-one n))
 
--- one more bit of a block: nothing is added for a 0
+-- a bit that is set adds the doubled row from bit M - n on
 module _ (x : Word) (a e M : ℕ) (y d : Word) (n : ℕ) where
   abbrev term : ℕ → Word
   term t k = y t && d (M - t + k)
 
-  pub turns-none : y n ≡ false → added x a e (turns M y d n) ≡ added x a e (turns M y d (n + 1))
-  turns-none h =
-      added-none (added x a e (turns M y d n)) a e
-      ∙ ap (added (added x a e (turns M y d n)) a e) (fun-ext (λ k. sym (ap (λ (b : Bool). b && d (M - n + k)) h)))
-      ∙ sum-more x a e n term
-
-  pub turns-one : y n ≡ true → added (added x a e (turns M y d n)) a e (from (M - n) d) ≡ added x a e (turns M y d (n + 1))
-  turns-one h =
-      ap (added (added x a e (turns M y d n)) a e) (fun-ext (λ k. sym (ap (λ (b : Bool). b && d (M - n + k)) h)))
+  pub turns-one : {s : ℕ} {v w : Word} → w ≡ added v a e (from s d) → s ≡ M - n → v ≡ added x a e (turns M y d n) → y n ≡ true → w ≡ added x a e (turns M y d (n + 1))
+  turns-one {s} {v} {w} grows here was set =
+      grows
+      ∙ ap₂ (λ (u : Word) (i : ℕ). added u a e (from i d)) was here
+      ∙ ap (added (added x a e (turns M y d n)) a e) (fun-ext (λ k. sym (ap (λ (b : Bool). b && d (M - n + k)) set)))
       ∙ sum-more x a e n term
 
 -- a run of bits that are 0 adds nothing

@@ -1,3 +1,4 @@
 pub mod Adding
+pub mod Firsts
 pub mod Bounds
 pub mod Parity

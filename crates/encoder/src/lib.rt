@@ -4,7 +4,7 @@ ghost use mathlib.Core.Path.{_≡_};
 ghost use mathlib.Core.Bool.{false};
 ghost use Prim.Native.Nat.{ℕ, _+_, _-_, _*_, _/_, _%_, _<_, _≤_};
 ghost use lib.ListN.{length};
-ghost use Rattle.rules.specs.Bits.{Word, digit};
+ghost use Rattle.rules.specs.Bits.{Word};
 ghost use Rattle.rules.specs.Codes.{Code, bits};
 ghost use Rattle.rules.specs.Encoding.{encoded};
 ghost use Rattle.vectors.specs.Vectors.{wbit, Holds, upTo, from, added};
@@ -20,26 +20,19 @@ fn double_row(g: &[u64], sh: Shape, number: usize, row: &mut [u64], d: &mut [u64
     vectors::double(row, sh.size, d);
 }
 
-// Whether bit i of v is set.
-fn has(v: u64, i: usize) -> bool
-    requires { ⌜ i < 64 ⌝ }
-    ensures { λ r. ⌜ r ≡ digit 64 v i ⌝ }
-{
-    (v >> (63 - i)) % 2 == 1
-}
-
 // Adds the doubled row to the part that u holds from word 1 on, turned for each bit that is set from bit first to before bit last of a block.
-// v begins with these bits.
+// v begins with these bits. Goes from one set bit to the next.
 fn add_bits(v: u64, first: usize, last: usize, d: &[u64], sh: Shape, u: &mut [u64])
     requires { ⌜ (first ≤ last) × (last ≤ sh .size) × (last ≤ first + 64) × (sh .size ≤ 64 * sh .words) × (sh .words ≤ 8) × (length (now d) ≡ 2 * sh .words + 1) × (length (now u) ≡ 12) ⌝ }
     ensures { λ r. ⌜ ((x z : Word) → Holds v (from first x) → wbit (now (u .entry)) ≡ added z 64 (64 * (1 + sh .words)) (turns (sh .size) x (wbit (now (d .entry))) first) → wbit (now (u .exit)) ≡ added z 64 (64 * (1 + sh .words)) (turns (sh .size) x (wbit (now (d .entry))) last)) ⌝ }
 {
+    let mut rest = vectors::front(v, last - first);
     let mut t = first;
-    while t < last {
-        if has(v, t - first) {
-            vectors::add_turned(d, sh.size - t, u, 1, sh.words);
-        }
-        t += 1;
+    while rest != 0 {
+        let i = u64::leading_zeros(rest) as usize;
+        vectors::add_turned(d, sh.size - (t + i), u, 1, sh.words);
+        rest = (rest << i) << 1;
+        t += i + 1;
     }
 }
 

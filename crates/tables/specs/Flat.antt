@@ -1,7 +1,7 @@
 -- The constants' places as lists, how they are laid flat, and the shape of each code.
 use mathlib.Core.Path.{_≡_}
 use mathlib.Core.List.{List, [], _∷_}
-use Prim.Native.Nat.{ℕ, zero, suc, _+_, _*_, _/_, _%_}
+use Prim.Native.Nat.{ℕ, zero, suc, _+_, _*_, _/_, _%_, _≤_, _<_}
 use lib.Dec.{eqb}
 use lib.ListN.{getD}
 use Rattle.rules.specs.Bits.{if_then_else_}
@@ -52,6 +52,16 @@ listed (suc n) f = f 0 ∷ listed n (λ i. f (suc i))
 
 abbrev pub placeAt : List (List (List ℕ)) → ℕ → ℕ → ℕ → ℕ
 placeAt h r b k = getD (getD (getD h r []) b []) k 0
+
+-- The places of a row, block after block.
+abbrev pub rowPlace : List (List ℕ) → ℕ → ℕ
+rowPlace h i = getD (getD h (i / 2) []) (i % 2) 0
+
+-- t′ is t with the first n places of a row from place `at` on.
+pub record RowLaid (h : List (List ℕ)) (n at : ℕ) (t t′ : List ℕ) : Type 0 where
+  pub before : (j : ℕ) → j < at → getD t′ j 0 ≡ getD t j 0
+  pub row : (j : ℕ) → j < n → getD t′ (at + j) 0 ≡ rowPlace h j
+  pub after : (j : ℕ) → at + n ≤ j → getD t′ j 0 ≡ getD t j 0
 
 unfoldable pub flat8 : List (List (List ℕ)) → List ℕ
 flat8 h = listed 64 (λ i. placeAt h (i / 16) (i / 2 % 8) (i % 2))

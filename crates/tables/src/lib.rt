@@ -1,8 +1,8 @@
 // The parity tables as nested constants, rows of blocks of shift pairs, and how they are lent to the engine.
 ghost use mathlib.Core.Path.{_≡_};
-ghost use Prim.Native.Nat.{_≤_};
+ghost use Prim.Native.Nat.{_+_, _≤_};
 ghost use lib.ListN.{length};
-ghost use Rattle.tables.specs.Flat.{flat8, flat16, places16, places32, places64, places511, Lends};
+ghost use Rattle.tables.specs.Flat.{RowLaid, flat8, flat16, places16, places32, places64, places511, Lends};
 use layout::Shape;
 
 // No entry: a number that is no shift of any table.
@@ -180,15 +180,41 @@ const PARITY511: [[[u16; 2]; 16]; 2] = [
     ],
 ];
 
+// A row of eight blocks, from place at on.
+fn flatten_row8(h: &[[u16; 2]; 8], t: &mut [u16], at: usize)
+    requires { ⌜ at + 16 ≤ length (now t) ⌝ }
+    ensures { λ _. ⌜ RowLaid (now (h .entry)) 16 at (now (t .entry)) (now (t .exit)) ⌝ }
+{
+    let mut b: usize = 0;
+    while b < 8 {
+        t[at + 2 * b] = h[b][0];
+        t[at + 2 * b + 1] = h[b][1];
+        b += 1;
+    }
+}
+
 // Four rows of eight blocks, one place after another.
 fn flatten8(h: &[[[u16; 2]; 8]; 4], t: &mut [u16])
     requires { ⌜ length (now t) ≡ 64 ⌝ }
     ensures { λ _. ⌜ now (t .exit) ≡ flat8 (now (h .entry)) ⌝ }
 {
-    let mut i: usize = 0;
-    while i < 64 {
-        t[i] = h[i / 16][i / 2 % 8][i % 2];
-        i += 1;
+    let mut r: usize = 0;
+    while r < 4 {
+        flatten_row8(&h[r], t, 16 * r);
+        r += 1;
+    }
+}
+
+// A row of 16 blocks, from place at on.
+fn flatten_row16(h: &[[u16; 2]; 16], t: &mut [u16], at: usize)
+    requires { ⌜ at + 32 ≤ length (now t) ⌝ }
+    ensures { λ _. ⌜ RowLaid (now (h .entry)) 32 at (now (t .entry)) (now (t .exit)) ⌝ }
+{
+    let mut b: usize = 0;
+    while b < 16 {
+        t[at + 2 * b] = h[b][0];
+        t[at + 2 * b + 1] = h[b][1];
+        b += 1;
     }
 }
 
@@ -197,10 +223,10 @@ fn flatten16(h: &[[[u16; 2]; 16]; 2], t: &mut [u16])
     requires { ⌜ length (now t) ≡ 64 ⌝ }
     ensures { λ _. ⌜ now (t .exit) ≡ flat16 (now (h .entry)) ⌝ }
 {
-    let mut i: usize = 0;
-    while i < 64 {
-        t[i] = h[i / 32][i / 2 % 16][i % 2];
-        i += 1;
+    let mut r: usize = 0;
+    while r < 2 {
+        flatten_row16(&h[r], t, 32 * r);
+        r += 1;
     }
 }
 

@@ -1,63 +1,53 @@
--- `tables::flatten16`: place i of the flat list is the entry that it is for. Assumes nothing.
-use mathlib.Core.Path.{_≡_, refl}
-use Prim.Native.Nat.{ℕ, _-_, _/_, _%_}
+-- `tables::flatten16`: row after row, the places of the flat list are the entries that they are for. Assumes nothing.
+use Prim.Native.Nat.{_+_, _-_, _*_, _/_, _%_}
 use native.Mathlib.Omega.{arith}
 use borrow.Author.Needs.{needs}
 use Rattle.tables.specs.Flat.{placeAt, flat16}
-use Rattle.tables.proofs.Listed.{Filled, filled-more, filled-all}
+use Rattle.tables.proofs.Listed.{Filled, filled-row, filled-all, row-place}
 use Rattle.tables.proofs.flatten16.Statement.{statement}
 use Rattle.tables.proofs.flatten16.Tie as tie
 
 abbrev Inv-loop : tie.InvT-loop
-Inv-loop h t₀ i₀ t i = Filled 64 (λ j. placeAt h (j / 32) (j / 2 % 16) (j % 2)) t i
+Inv-loop h t₀ r₀ t r = Filled 64 (λ j. placeAt h (j / 32) (j / 2 % 16) (j % 2)) t (32 * r)
 
 abbrev μ-loop : tie.MeasureT-loop
-μ-loop h t₀ i₀ t i = 64 - i
+μ-loop h t₀ r₀ t r = 2 - r
 
 loop-holds : tie.Need-loop-holds Inv-loop μ-loop
 loop-holds c = record { below = omega arith; long = search needs; places = λ j l. absurd (omega arith) }
 
-mul-t : tie.Need-mul-t Inv-loop μ-loop
-mul-t c = search needs
+mul-flatten-row16 : tie.Need-mul-flatten-row16 Inv-loop μ-loop
+mul-flatten-row16 c = search needs
 
-mul-t-2 : tie.Need-mul-t-2 Inv-loop μ-loop
-mul-t-2 c = search needs
+index-1-flatten-row16 : tie.Need-index-1-flatten-row16 Inv-loop μ-loop
+index-1-flatten-row16 c = search needs
 
-mul-t-3 : tie.Need-mul-t-3 Inv-loop μ-loop
-mul-t-3 c = search needs
+mul-flatten-row16-2 : tie.Need-mul-flatten-row16-2 Inv-loop μ-loop
+mul-flatten-row16-2 c = search needs
 
-index-1-t : tie.Need-index-1-t Inv-loop μ-loop
-index-1-t c = search needs
+flatten-row16-requires : tie.Need-flatten-row16-requires Inv-loop μ-loop
+flatten-row16-requires c κs = search needs
 
-index-2-t : tie.Need-index-2-t Inv-loop μ-loop
-index-2-t c = search needs
-
-index-3-t : tie.Need-index-3-t Inv-loop μ-loop
-index-3-t c = search needs
-
-mul-t-4 : tie.Need-mul-t-4 Inv-loop μ-loop
-mul-t-4 c = search needs
-
-slice-write-t : tie.Need-slice-write-t Inv-loop μ-loop
-slice-write-t c = search needs
-
-add-i : tie.Need-add-i Inv-loop μ-loop
-add-i c = search needs
+add-r : tie.Need-add-r Inv-loop μ-loop
+add-r c = search needs
 
 loop-less : tie.Need-loop-less Inv-loop μ-loop
 loop-less c = search needs
 
 loop-again : tie.Need-loop-again Inv-loop μ-loop
 loop-again c =
-    let k = c .before .before .loop in
-    filled-more 64 _ (k .t) (k .i) _ (k .inv) (omega arith) refl
+    let h = c .before .before .before .before .before .before .before .before .args .h .now in
+    let l = c .before .before .before .before .before .before .loop in
+    let laid = c .before .before .flatten-row16 in
+    filled-row 64 32 (l .r) (λ j. placeAt h (j / 32) (j / 2 % 16) (j % 2)) h (l .t) (laid .last .1 .0) (l .inv) (laid .ensures) (omega arith) (laid .kept .1 .0) (omega arith)
+    (λ j hj. row-place h (l .r) ((32 * l .r + j) / 32) ((32 * l .r + j) / 2 % 16) ((32 * l .r + j) % 2) j (omega arith) (omega arith) (omega arith))
 
 same-length : tie.Need-same-length Inv-loop μ-loop
 same-length c = search needs
 
 returns : tie.Need-returns Inv-loop μ-loop
 unfolding flat16
-returns c = filled-all 64 _ (c .before .loop .t) (c .before .loop .i) (c .before .loop .inv) (omega arith)
+returns c = filled-all 64 (λ j. placeAt (c .before .before .before .args .h .now) (j / 32) (j / 2 % 16) (j % 2)) (c .before .loop .t) (32 * c .before .loop .r) (c .before .loop .inv) (omega arith)
 
 pub flatten16-spec : {M : Type 1} → statement M
 flatten16-spec =
@@ -66,15 +56,11 @@ flatten16-spec =
     Inv-loop
     μ-loop
     loop-holds
-    mul-t
-    mul-t-2
-    mul-t-3
-    index-1-t
-    index-2-t
-    index-3-t
-    mul-t-4
-    slice-write-t
-    add-i
+    mul-flatten-row16
+    index-1-flatten-row16
+    mul-flatten-row16-2
+    flatten-row16-requires
+    add-r
     loop-less
     loop-again
     same-length

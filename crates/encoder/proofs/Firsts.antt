@@ -1,0 +1,91 @@
+-- The bits of a word from one that is set to the next. Assumes nothing.
+use mathlib.Core.Path.{_≡_, sym, ap, _∙_}
+use mathlib.Core.Bool.{true, false, false≢true}
+use mathlib.Core.Logic.{⊎-elim}
+use Prim.Native.Nat.{ℕ, suc, _+_, _-_, _*_, _/_, _%_, _^_, _≤_, _<_}
+use native.Mathlib.Nat.{pow-suc, div-eq-of-lt-le}
+use native.Mathlib.Omega.{arith}
+use lib.Count.{leadingZeros, leading-top}
+use lib.Dec.{eqb}
+use Rattle.rules.specs.Bits.{Word, digit}
+use Rattle.vectors.specs.Vectors.{Holds, upTo, from}
+use Rattle.vectors.proofs.Places.{le-or-lt, place, place-up, place-below, place-above, place-cut, digit-zero}
+use Rattle.vectors.proofs.Spans.{upTo-below, upTo-above}
+
+-- bit i of a number is the first that is set
+record First (v i : ℕ) : Type 0 where
+  inside : i < 64
+  here : digit 64 v i ≡ true
+  clear : (q : ℕ) → q < i → digit 64 v q ≡ false
+
+first-digit : (v : ℕ) → 0 < v → v < 2 ^ 64 → First v (leadingZeros 64 v)
+first-digit v some small =
+    let t = leading-top 64 v some small in
+    let j = t .0 in
+    let e : leadingZeros 64 v + suc j ≡ 64 = t .1 in
+    let d : 64 - suc (leadingZeros 64 v) ≡ j = omega arith in
+    let one : v / 2 ^ j ≡ 1 = div-eq-of-lt-le (2 ^ j) (omega (arith, t .2)) (omega (arith, pow-suc 2 j, t .3)) in
+    record {
+      inside = omega arith;
+      here = ap (place v) d ∙ ap (λ (n : ℕ). eqb (n % 2) 1) one;
+      clear = λ q hq. place-above v (suc j) (64 - suc q) (t .3) (omega arith);
+    }
+
+-- bits shifted out in front leave those after them, where none stand behind bit 63
+shift-holds : (v s : ℕ) (x : Word) → Holds v x → ((n : ℕ) → 64 ≤ n → x n ≡ false) → Holds ((v * 2 ^ s) % 2 ^ 64) (from s x)
+shift-holds v s x h none i hi = place-cut (v * 2 ^ s) 64 j (omega arith) ∙ ⊎-elim out kept (le-or-lt 64 (s + i))
+  where
+    j : ℕ
+    j = 64 - suc i
+
+    kept : s + i < 64 → place (v * 2 ^ s) j ≡ x (s + i)
+    kept l =
+        let e : j ≡ s + (64 - suc (s + i)) = omega arith in
+        ap (place (v * 2 ^ s)) e ∙ place-up v s (64 - suc (s + i)) ∙ h (s + i) l
+
+    out : 64 ≤ s + i → place (v * 2 ^ s) j ≡ x (s + i)
+    out l = place-below v s j (omega arith) ∙ sym (none (s + i) l)
+
+-- bit n + i is the next one of x that is set, from bit n to before bit m
+pub record Next (x : Word) (m n i : ℕ) : Type 0 where
+  pub inside : i < 64
+  pub before : n + i < m
+  pub here : x (n + i) ≡ true
+  pub clear : (q : ℕ) → q < i → x (n + q) ≡ false
+
+-- r begins with the bits from bit n to before bit m, and has no others
+module _ (r m n : ℕ) (x : Word) (held : Holds r (from n (upTo m x))) where
+  pub next-set : (r ≡ 0 → ⊥) → r < 2 ^ 64 → Next x m n (leadingZeros 64 r)
+  next-set some small = record {
+    inside = f .inside;
+    before = l;
+    here = sym (upTo-below m (n + i) x l) ∙ set;
+    clear = λ q hq. sym (upTo-below m (n + q) x (omega (arith, l))) ∙ sym (held q (omega (arith, f .inside))) ∙ f .clear q hq;
+  }
+    where
+      i : ℕ
+      i = leadingZeros 64 r
+
+      f : First r i
+      f = first-digit r (omega (arith, some)) small
+
+      set : upTo m x (n + i) ≡ true
+      set = sym (held i (f .inside)) ∙ f .here
+
+      l : n + i < m
+      l = ⊎-elim (λ (h : m ≤ n + i). absurd (false≢true (sym (upTo-above m (n + i) x h) ∙ set))) (λ (h : n + i < m). h) (le-or-lt m (n + i))
+
+  -- bit n + i shifted out, with all before it
+  pub next-rest : (i : ℕ) → m ≤ n + 64 → Holds ((((r * 2 ^ i) % 2 ^ 64) * 2) % 2 ^ 64) (from (n + (i + 1)) (upTo m x))
+  next-rest i short k hk =
+      let y : Word = from n (upTo m x) in
+      let e : n + (i + (1 + k)) ≡ n + (i + 1) + k = omega arith in
+      shift-holds ((r * 2 ^ i) % 2 ^ 64) 1 (from i y)
+      (shift-holds r i y held (λ q hq. upTo-above m (n + q) x (omega arith)))
+      (λ q hq. upTo-above m (n + (i + q)) x (omega arith))
+      k hk
+      ∙ ap (upTo m x) e
+
+  -- nothing is left
+  pub next-none : r ≡ 0 → m ≤ n + 64 → (q : ℕ) → n + q < m → x (n + q) ≡ false
+  next-none e short q hq = sym (upTo-below m (n + q) x hq) ∙ sym (held q (omega arith)) ∙ ap (λ (v : ℕ). digit 64 v q) e ∙ digit-zero 64 q

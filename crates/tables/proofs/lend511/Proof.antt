@@ -1,0 +1,19 @@
+-- `tables::lend511`: the constant is the table's places. Assumes nothing.
+use mathlib.Core.Path.{refl}
+use borrow.Author.Needs.{needs}
+use Rattle.tables.specs.Flat.{places511, flat16}
+use Rattle.tables.proofs.Listed.{flat-as}
+use Rattle.tables.proofs.lend511.Statement.{statement}
+use Rattle.tables.proofs.lend511.Tie as tie
+
+flatten16-requires : tie.Need-flatten16-requires
+flatten16-requires c κs = search needs
+
+same-length : tie.Need-same-length
+same-length c = search needs
+
+returns : tie.Need-returns
+returns c = flat-as flat16 places511 (c .before .before .flatten16 .ensures) refl
+
+pub lend511-spec : {M : Type 1} → statement M
+lend511-spec = tie.close (tie.spec flatten16-requires same-length returns)
