@@ -6,6 +6,7 @@ use Rattle.rules.specs.Checks.{broken}
 use Rattle.rules.proofs.Answers.{check-taken}
 use Rattle.received.proofs.Handed.{is-offered}
 use Rattle.codes.proofs.Refusals.{check-one, check-two}
+use Rattle.vectors.proofs.Filling.{zero-words}
 use borrow.Author.Needs.{needs}
 use Rattle.codes.proofs.check.Statement.{statement}
 use Rattle.codes.proofs.check.Tie as tie
@@ -37,7 +38,7 @@ slice-aggregate-measure-3 c = search needs
 measure-requires : tie.Need-measure-requires
 measure-requires c κs =
     let k = c .before .before .before in
-    (sym (k .before .before .before .is-offered .ensures) ∙ not-false _ (k .before .before .if1 .left), k .if2 .left ∙ k .before .word-octets .ensures .0, refl, refl, refl)
+    (sym (k .before .before .before .is-offered .ensures) ∙ not-false _ (k .before .before .if1 .left), k .if2 .left ∙ k .before .word-octets .ensures .0, refl, refl, refl, zero-words 130, zero-words 16)
 
 slice-aggregate-broken : tie.Need-slice-aggregate-broken
 slice-aggregate-broken c = search needs

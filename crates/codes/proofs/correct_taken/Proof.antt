@@ -5,6 +5,7 @@ use Rattle.rules.specs.Flipping.{byExcess, run}
 use mathlib.Core.Path.{_≡_, refl, sym, ap, _∙_}
 use Rattle.rules.specs.Codes.{code}
 use Rattle.codes.proofs.Correcting.{blocks-some, holding, ran-number, ran-word, ran-met, corrected-is, wrote-word, wrote-none}
+use Rattle.vectors.proofs.Filling.{zero-words}
 use borrow.Author.Needs.{needs}
 use Rattle.codes.proofs.correct_taken.Statement.{statement}
 use Rattle.codes.proofs.correct_taken.Tie as tie
@@ -19,7 +20,10 @@ slice-aggregate-measure-3 : tie.Need-slice-aggregate-measure-3
 slice-aggregate-measure-3 c = search needs
 
 measure-requires : tie.Need-measure-requires
-measure-requires c κs = search needs
+measure-requires c κs =
+    let y = zero-words 130 in
+    let s = zero-words 16 in
+    search needs
 
 slice-aggregate-broken : tie.Need-slice-aggregate-broken
 slice-aggregate-broken c = search needs

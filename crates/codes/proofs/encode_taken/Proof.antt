@@ -6,6 +6,7 @@ use Rattle.rules.specs.Encoding.{encoded}
 use Rattle.rules.specs.Calls.{written}
 use Rattle.vectors.specs.Vectors.{upTo}
 use Rattle.codes.proofs.Encoding.{few-information, information-only, written-upTo}
+use Rattle.vectors.proofs.Filling.{zero-words}
 use borrow.Author.Needs.{needs}
 use Rattle.codes.proofs.encode_taken.Statement.{statement}
 use Rattle.codes.proofs.encode_taken.Tie as tie
@@ -16,7 +17,7 @@ slice-aggregate-take c = search needs
 take-requires : tie.Need-take-requires
 take-requires c κs =
     let a = c .before .before .before in
-    (a .pre .0, omega (arith, a .pre .1, few-information (a .args .code) (a .pre .0)), refl)
+    (a .pre .0, omega (arith, a .pre .1, few-information (a .args .code) (a .pre .0)), refl, zero-words 130)
 
 slice-aggregate-encode : tie.Need-slice-aggregate-encode
 slice-aggregate-encode c = search needs

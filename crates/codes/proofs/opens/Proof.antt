@@ -1,4 +1,5 @@
 -- `codes::opens`: a measured word is tested. Assumes nothing.
+use Rattle.vectors.proofs.Filling.{zero-words}
 use borrow.Author.Needs.{needs}
 use Rattle.codes.proofs.opens.Statement.{statement}
 use Rattle.codes.proofs.opens.Tie as tie
@@ -13,7 +14,10 @@ slice-aggregate-measure-3 : tie.Need-slice-aggregate-measure-3
 slice-aggregate-measure-3 c = search needs
 
 measure-requires : tie.Need-measure-requires
-measure-requires c κs = search needs
+measure-requires c κs =
+    let y = zero-words 130 in
+    let s = zero-words 16 in
+    search needs
 
 slice-aggregate-is-codeword : tie.Need-slice-aggregate-is-codeword
 slice-aggregate-is-codeword c = search needs

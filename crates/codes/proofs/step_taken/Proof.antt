@@ -14,6 +14,7 @@ use Rattle.rules.specs.Flipping.{quiet, stuck, flip}
 use Rattle.runs.proofs.Turning.{comes-quiet, comes-stuck, comes-flip}
 use Rattle.codes.proofs.Judging.{pb}
 use Rattle.codes.proofs.Correcting.{blocks-some, holding, stepped-is, small-excess}
+use Rattle.vectors.proofs.Filling.{zero-words}
 use borrow.Author.Needs.{needs}
 use Rattle.codes.proofs.step_taken.Statement.{statement}
 use Rattle.codes.proofs.step_taken.Tie as tie
@@ -28,7 +29,10 @@ slice-aggregate-measure-3 : tie.Need-slice-aggregate-measure-3
 slice-aggregate-measure-3 c = search needs
 
 measure-requires : tie.Need-measure-requires
-measure-requires c κs = search needs
+measure-requires c κs =
+    let y = zero-words 130 in
+    let s = zero-words 16 in
+    search needs
 
 slice-aggregate-next : tie.Need-slice-aggregate-next
 slice-aggregate-next c = search needs
