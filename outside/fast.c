@@ -37,12 +37,20 @@ LEAF unsigned ones(uint64_t v)
     return (unsigned)(v * 0x0101010101010101 >> 56);
 }
 
-LEAF unsigned broken(const uint64_t *s)
+LEAF unsigned broken(const uint64_t *s, struct shape sh)
 {
     unsigned n = 0;
-    for (unsigned k = 0; k < SYNDROME; k++)
+    for (unsigned k = 0; k < sh.rows * sh.words; k++)
         n += ones(s[k]);
     return n;
+}
+
+LEAF bool quiet(const uint64_t *s, struct shape sh)
+{
+    uint64_t any = 0;
+    for (unsigned k = 0; k < sh.rows * sh.words; k++)
+        any |= s[k];
+    return any == 0;
 }
 
 /* The octets, and two words of zeros after them. */
@@ -217,7 +225,7 @@ LEAF void flip(uint64_t *y, uint64_t *s, const uint16_t *h, struct shape sh, uns
 static uint8_t run(uint64_t *y, uint64_t *s, const uint16_t *h, struct shape sh, uint16_t limit, uint32_t *flips)
 {
     for (*flips = 0;; ++*flips) {
-        if (broken(s) == 0)
+        if (quiet(s, sh))
             return 0;
         struct best best = choose(s, h, sh);
         if (best.score <= 8)
@@ -313,7 +321,9 @@ uint8_t fast_encode(uint8_t code, const uint8_t *information, size_t information
     return 0;
 }
 
-#define MEASURE(h, g, sh, inform, parts) syndrome(y, h, sh, s)
+#define MEASURE(h, g, sh, inform, parts) \
+    syndrome(y, h, sh, s);               \
+    wrong = broken(s, sh)
 
 struct judge_checked fast_check(uint8_t code, const uint8_t *word, size_t len)
 {
@@ -322,9 +332,10 @@ struct judge_checked fast_check(uint8_t code, const uint8_t *word, size_t len)
     if (len != word_octets[code])
         return (struct judge_checked){2, 0};
     uint64_t y[HELD], s[SYNDROME];
+    unsigned wrong;
     take(code, word, len, y);
     FOR_CODE(code, MEASURE)
-    return (struct judge_checked){0, broken(s)};
+    return (struct judge_checked){0, wrong};
 }
 
 size_t fast_open(uint8_t code, const uint8_t *word, size_t len, uint8_t *number)
@@ -333,9 +344,10 @@ size_t fast_open(uint8_t code, const uint8_t *word, size_t len, uint8_t *number)
     if (*number != 0)
         return 0;
     uint64_t y[HELD], s[SYNDROME];
+    unsigned wrong;
     take(code, word, len, y);
     FOR_CODE(code, MEASURE)
-    if (broken(s) != 0 || (code == 5 && (!own_parity(y) || (word[1019] & 3) != 0))) {
+    if (wrong != 0 || (code == 5 && (!own_parity(y) || (word[1019] & 3) != 0))) {
         *number = 9;
         return 0;
     }
@@ -353,10 +365,10 @@ struct judge_corrected fast_correct(uint8_t code, const uint8_t *word, size_t le
     take(code, word, len, y);
 #define RUN(h, g, sh, inform, parts) \
     syndrome(y, h, sh, s);           \
-    answer.first = broken(s);        \
-    answer.number = run(y, s, h, sh, limit, &answer.flips)
+    answer.first = broken(s, sh);    \
+    answer.number = run(y, s, h, sh, limit, &answer.flips); \
+    answer.last = broken(s, sh)
     FOR_CODE(code, RUN)
-    answer.last = broken(s);
     if (answer.number == 0 && code == 5 && y[0] >> 46 != 0)
         answer.number = 7;
     if (answer.number == 0 && code >= 4 && !own_parity(y))
@@ -377,7 +389,7 @@ struct judge_stepped fast_step(uint8_t code, const uint8_t *word, size_t len, ui
     take(code, word, len, y);
 #define STEP(h, g, sh, inform, parts) \
     syndrome(y, h, sh, s);            \
-    answer.quiet = broken(s) == 0;    \
+    answer.quiet = quiet(s, sh);      \
     if (!answer.quiet)                \
     best = choose(s, h, sh)
     FOR_CODE(code, STEP)
