@@ -389,23 +389,25 @@ size_t judge_open(uint8_t code, const uint8_t *word, size_t len, uint8_t *number
     return codeword ? c->info_octets : 0;
 }
 
+/* What is refused of a word in and a word out before a bit is read: the code, then the lengths. */
+static uint8_t refused(uint8_t code, size_t len, size_t out_len)
+{
+    if (!offered(code))
+        return 1;
+    const struct code *c = code_of(code);
+    if (len != c->word_octets)
+        return 2;
+    return out_len != c->word_octets ? 3 : 0;
+}
+
 struct judge_corrected judge_correct(uint8_t code, const uint8_t *word, size_t len, uint16_t limit, uint8_t *out,
                                      size_t out_len)
 {
     struct judge_corrected answer = {0};
-    if (!offered(code)) {
-        answer.number = 1;
+    answer.number = refused(code, len, out_len);
+    if (answer.number != 0)
         return answer;
-    }
     const struct code *c = code_of(code);
-    if (len != c->word_octets) {
-        answer.number = 2;
-        return answer;
-    }
-    if (out_len != c->word_octets) {
-        answer.number = 3;
-        return answer;
-    }
     unsigned char x[MOST_BITS], broken[MOST_CHECKS];
     lift(c, word, c->bits, x);
     answer.first = check_all(c, x, broken);
@@ -443,19 +445,10 @@ struct judge_corrected judge_correct(uint8_t code, const uint8_t *word, size_t l
 struct judge_stepped judge_step(uint8_t code, const uint8_t *word, size_t len, uint8_t *out, size_t out_len)
 {
     struct judge_stepped answer = {0};
-    if (!offered(code) || code == 5) {
-        answer.number = 1;
+    answer.number = code == 5 ? 1 : refused(code, len, out_len);
+    if (answer.number != 0)
         return answer;
-    }
     const struct code *c = code_of(code);
-    if (len != c->word_octets) {
-        answer.number = 2;
-        return answer;
-    }
-    if (out_len != c->word_octets) {
-        answer.number = 3;
-        return answer;
-    }
     unsigned char x[MOST_BITS], broken[MOST_CHECKS];
     lift(c, word, c->bits, x);
     if (check_all(c, x, broken) == 0) {
