@@ -11,7 +11,7 @@ use lib.ListN.{getD, length, take, List·getD-append}
 use lib.Seq.{length-take-le, getD-append-add, getD-take}
 use Rattle.rules.specs.Bits.{Word, digit}
 use Rattle.vectors.specs.Vectors.{wbit, upTo, from, twice}
-use Rattle.vectors.proofs.Places.{le-or-lt}
+use Rattle.rules.proofs.Orders.{le-or-lt}
 use Rattle.vectors.proofs.Cells.{joined-below, joined-above}
 use Rattle.vectors.proofs.Spans.{upTo-below}
 use Rattle.layout.specs.declared.Shape.{Shape}

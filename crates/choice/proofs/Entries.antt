@@ -14,11 +14,10 @@ use lib.ListN.{getD, length, set, length-set}
 use lib.Seq.{getD-set-same, getD-set-other}
 use Rattle.rules.specs.Bits.{Word, count, tally, if_then_else_}
 use Rattle.rules.proofs.Blocks.{countOf}
-use Rattle.rules.proofs.Counting.{count-same, tally-le}
+use Rattle.rules.proofs.Counting.{count-same, count-next, tally-le}
 use Rattle.layout.specs.declared.Shape.{Shape}
 use Rattle.layout.specs.Lent.{kept, total, placeOf, shiftsOf}
 use Rattle.choice.specs.Reading.{Noted, Listed, asked}
-use Rattle.choice.proofs.Hits.{count-more}
 
 -- Inside a list its default does not matter.
 pub any-default : (l : List ℕ) (i a b : ℕ) → i < length l → getD l i a ≡ getD l i b
@@ -69,7 +68,7 @@ module _ (l l′ : List ℕ) (n n′ s m row end : ℕ) (f : Word → ℕ) where
       one = record {
         near = λ e h. pick e h (ℕ-discrete e n);
         each = λ g.
-            count-more n (λ e. g (getD (set l n v) e 0))
+            count-next n (λ e. g (getD (set l n v) e 0))
             ∙ ap₂ _+_ (count-same n _ _ (λ e h. ap g (other e h)) ∙ was .each g) (ap (λ k. tally (g k)) here ∙ sym (add-zero (tally (g v))));
       }
         where

@@ -10,18 +10,14 @@ use native.Mathlib.Numerals.{add-one}
 use native.Mathlib.Omega.{arith}
 use lib.ListN.{getD}
 use Rattle.rules.specs.Bits.{Word, digit, count, tally}
-use Rattle.rules.proofs.Counting.{count-le}
+use Rattle.rules.proofs.Counting.{count-le, count-next}
 use Rattle.planes.specs.declared.Planes.{Planes}
 use Rattle.planes.specs.Counts.{value}
 use Rattle.planes.specs.declared.Best.{Best}
 use Rattle.planes.specs.Ranges.{Top, greaterOf}
 use Rattle.planes.proofs.Ranges.{Running, running-more, top-most}
-use Rattle.vectors.proofs.Places.{le-or-lt}
+use Rattle.rules.proofs.Orders.{le-or-lt}
 use Rattle.choice.specs.Reading.{hits, Scored}
-
-pub count-more : (n : ℕ) (x : Word) → count (n + 1) x ≡ count n x + tally (x n)
-unfolding count
-count-more n x = ap (λ k. count k x) (add-one n)
 
 -- A row more is within all rows.
 pub within : (r n w : ℕ) → r < n → r * w + w ≤ n * w
@@ -35,7 +31,7 @@ hit-more d starts e at p q seen i few was sees adds =
     let same : getD starts e 0 + at + i ≡ getD starts e 0 + (at + i) = omega arith in
     adds (omega (arith, count-le e bit))
     ∙ ap₂ _+_ was (ap tally (sees ∙ ap d same))
-    ∙ sym (count-more e bit)
+    ∙ sym (count-next e bit)
 
 -- The greatest of v counts, as a score, against the best so far.
 module _ (g : ℕ → ℕ) (first at v : ℕ) (d : Word) (starts : List ℕ) (n : ℕ) (scored : Scored g first (at + v) d starts n) where

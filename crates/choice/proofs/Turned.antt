@@ -16,14 +16,10 @@ use Rattle.rules.proofs.Blocks.{countOf}
 use Rattle.rules.proofs.Flips.{brokenOf}
 use Rattle.layout.specs.declared.Shape.{Shape}
 use Rattle.layout.specs.Lent.{kept, entries, total, placeOf, shiftsOf, Lent, laid, score}
+use Rattle.layout.proofs.Lending.{total-same}
 use Rattle.choice.specs.Reading.{Twice, hits, Scored, Starts}
 
 -- ---- sums over rows and over entries
-
-pub total-same : (n : ℕ) (f g : ℕ → ℕ) → ((r : ℕ) → r < n → f r ≡ g r) → total n f ≡ total n g
-unfolding total
-total-same zero f g e = refl
-total-same (suc n) f g e = ap₂ _+_ (total-same n f g (λ r h. e r (omega arith))) (e n (omega arith))
 
 -- Every entry is below M.
 kept-same : (m s : ℕ) (rest : List ℕ) (f g : Word) → ((k : ℕ) → k < m → f k ≡ g k) → countOf rest f ≡ countOf rest g → countOf (kept m s rest) f ≡ countOf (kept m s rest) g

@@ -8,19 +8,12 @@ use native.Mathlib.Numerals.{add-one}
 use native.Mathlib.Omega.{arith}
 use lib.Dec.{ltb, leb}
 use Rattle.rules.specs.Bits.{Word, _⊕_, sum}
-use Rattle.rules.proofs.Sums.{⊕-false, ⊕-assoc, and-⊕}
+use Rattle.rules.proofs.Sums.{⊕-false}
 use Rattle.vectors.specs.Vectors.{upTo, from, added}
-use Rattle.vectors.proofs.Places.{le-or-lt, and-none, xor-none}
-use Rattle.vectors.proofs.Spans.{upTo-below, upTo-above, added-before, added-after, added-inside}
+use Rattle.rules.proofs.Orders.{le-or-lt}
+use Rattle.vectors.proofs.Places.{and-none, xor-none}
+use Rattle.vectors.proofs.Spans.{upTo-below, upTo-above, added-before, added-after, added-inside, added-twice}
 use Rattle.encoder.specs.Rows.{turns}
-
--- what is added twice at one place is added in one sum
-pub added-twice : (x : Word) (a e : ℕ) (y z : Word) → added (added x a e y) a e z ≡ added x a e (λ k. y k ⊕ z k)
-added-twice x a e y z =
-    fun-ext
-    (λ n.
-    let t = leb a n && ltb n e in
-    ⊕-assoc (x n) (t && y (n - a)) (t && z (n - a)) ∙ ap (λ (p : Bool). x n ⊕ p) (sym (and-⊕ t (y (n - a)) (z (n - a)))))
 
 pub added-none : (x : Word) (a e : ℕ) → x ≡ added x a e (λ k. false)
 added-none x a e = fun-ext (λ n. sym (ap (λ (p : Bool). x n ⊕ p) (and-none (leb a n && ltb n e)) ∙ xor-none (x n)))

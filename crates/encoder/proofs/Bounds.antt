@@ -5,13 +5,9 @@ use Prim.Native.Nat.{ℕ, _+_, _*_, _≤_, _<_}
 use native.Mathlib.Nat.{mul-le-mul, mul-le-mul-left, mul-le-mul-right, mul-comm, mul-suc}
 use native.Mathlib.Omega.{arith}
 use lib.Arith.{digits-lt}
-use lib.ListN.{length, take, length-take}
+use lib.ListN.{length}
 use Rattle.layout.specs.declared.Shape.{Shape}
 use Rattle.encoder.specs.Rows.{RowsFit}
-
--- the front of a list
-pub length-front : (n : ℕ) (l : List ℕ) → n ≤ length l → length (take n l) ≡ n
-length-front n l h = simp length-take (omega arith)
 
 module _ (g : List ℕ) (sh : Shape) (inform parts : ℕ) (fit : RowsFit g sh inform parts) where
   pub numbers-few : inform * parts ≤ 56

@@ -1,4 +1,4 @@
 pub mod Adding
-pub mod Firsts
+pub mod Nexts
 pub mod Bounds
 pub mod Parity

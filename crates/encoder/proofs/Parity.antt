@@ -14,7 +14,7 @@ use Rattle.rules.proofs.Sums.{sum-same}
 use Rattle.rules.proofs.Blocks.{sum-blocks}
 use Rattle.rules.proofs.Codewords.{parity-same, encoded-information, encoded-parity}
 use Rattle.vectors.specs.Vectors.{wbit, upTo, from, twice, added}
-use Rattle.vectors.proofs.Places.{le-or-lt}
+use Rattle.rules.proofs.Orders.{le-or-lt}
 use Rattle.vectors.proofs.Cells.{joined-above}
 use Rattle.vectors.proofs.Spans.{upTo-below, upTo-above, twice-turned, added-before, added-after, added-inside}
 use Rattle.layout.specs.declared.Shape.{Shape}

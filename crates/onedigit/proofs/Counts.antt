@@ -1,27 +1,17 @@
 -- Counting one more, the places that a count goes over, and a table that is as it was.
-use mathlib.Core.Path.{_≡_, refl, sym, ap, ap₂, _∙_}
-use mathlib.Core.Bool.{Bool, true, false}
-use Prim.Native.Nat.{ℕ, zero, suc, _+_, _*_, _/_, _≤_, _<_}
+use mathlib.Core.Path.{_≡_, sym, ap, ap₂, _∙_}
+use mathlib.Core.Bool.{Bool}
+use Prim.Native.Nat.{ℕ, _+_, _*_, _/_, _≤_, _<_}
 use native.Mathlib.Nat.{div-lt-iff-lt-mul, mul-le-mul}
-use native.Mathlib.Numerals.{add-one}
 use native.Mathlib.Omega.{arith}
 use mathlib.Core.List.{List}
-use lib.Dec.{lit≤}
 use lib.ListN.{getD, set}
 use lib.Seq.{set-set, set-getD}
 use Rattle.rules.specs.Bits.{count, tally}
-
-pub tally-le : (b : Bool) → tally b ≤ 1
-tally-le true = lit≤ tt
-tally-le false = lit≤ tt
+use Rattle.rules.proofs.Counting.{count-next}
 
 pub count-more : (t : ℕ) (f : ℕ → Bool) {n r : ℕ} {b : Bool} → n ≡ count t f → b ≡ f t → r ≡ tally b → n + r ≡ count (t + 1) f
-unfolding count
-count-more t f {n} {r} {b} e p q = ap₂ (λ (x y : ℕ). x + y) e (q ∙ ap tally p) ∙ ap (λ (x : ℕ). count x f) (sym (add-one t))
-
-pub count-none : (f : ℕ → Bool) → 0 ≡ count 0 f
-unfolding count
-count-none f = refl
+count-more t f {n} {r} {b} e p q = ap₂ (λ (x y : ℕ). x + y) e (q ∙ ap tally p) ∙ sym (count-next t f)
 
 -- What is put back.
 pub put-back : (l : List ℕ) (i x : ℕ) → set (set l i x) i (getD l i 0) ≡ l
@@ -35,8 +25,3 @@ pub product-fits : {n k : ℕ} → n < 65536 → k ≤ 65536 → n * k ≤ 65535
 product-fits {n} {k} h l =
     let m : n ≤ 65535 = omega arith in
     mul-le-mul m l
-
-pub count-le : (n : ℕ) (f : ℕ → Bool) → count n f ≤ n
-unfolding count
-count-le zero f = lit≤ tt
-count-le (suc n) f = omega (arith, count-le n f, tally-le (f n))

@@ -14,7 +14,8 @@ use Rattle.rules.specs.Bits.{Word, digit, tally, number, _⊕_, sum, count}
 use Rattle.rules.proofs.Sums.{sum-linear, sum-same, sum-none}
 use Rattle.rules.proofs.Blocks.{sum-blocks}
 use Rattle.vectors.specs.Vectors.{wbit, upTo}
-use Rattle.vectors.proofs.Places.{digit-xor, digit-and, digit-zero}
+use Rattle.rules.proofs.Octets.{digit-zero}
+use Rattle.vectors.proofs.Places.{digit-xor, digit-and}
 use Rattle.vectors.proofs.Filling.{word-holds}
 use Rattle.rules.proofs.Octets.{digit-number}
 use Rattle.vectors.proofs.Counts.{count-upTo, ones-count}

@@ -20,30 +20,6 @@ half true false = refl
 half false true = refl
 half false false = refl
 
--- ---- the first bit that is set
-
--- Bit i of a number is its first that is set.
-pub record First (w x i : ℕ) : Type 0 where
-  pub inside : i < w
-  pub here : digit w x i ≡ true
-  pub clear : (q : ℕ) → q < i → digit w x q ≡ false
-
-pub first-digit : (w x : ℕ) → 0 < x → x < 2 ^ w → First w x (leadingZeros w x)
-first-digit w x some small =
-    let t = leading-top w x some small in
-    let j = t .0 in
-    let z = leadingZeros w x in
-    let e : z + suc j ≡ w = t .1 in
-    let d : w - suc z ≡ j = omega arith in
-    let one : x / 2 ^ j ≡ 1 = div-eq-of-lt-le (2 ^ j) (omega (arith, t .2)) (omega (arith, pow-suc 2 j, t .3)) in
-    record {
-      inside = omega arith;
-      here = ap (λ (n : ℕ). eqb (x / 2 ^ n % 2) 1) d ∙ ap (λ (n : ℕ). eqb (n % 2) 1) one;
-      clear = λ q hq.
-          let l : suc j ≤ w - suc q = omega arith in
-          ap (λ (n : ℕ). eqb (n % 2) 1) (div-eq-of-lt (lt-of-lt-of-le (t .3) (pow-mono l)));
-    }
-
 -- ---- the first v of w places: all ones, shifted up by w - v
 
 odd-ones : (i : ℕ) → (2 ^ suc i - 1) % 2 ≡ 1

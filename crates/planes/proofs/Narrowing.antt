@@ -15,8 +15,9 @@ use Rattle.planes.specs.Counts.{value}
 use Rattle.planes.specs.Masks.{Narrow}
 use Rattle.planes.specs.Ranges.{Top}
 use Rattle.rules.proofs.Counting.{tally-le}
-use Rattle.vectors.proofs.Places.{digit-and, digit-zero}
-use Rattle.planes.proofs.Digits.{First}
+use Rattle.rules.proofs.Octets.{digit-zero}
+use Rattle.vectors.proofs.Places.{digit-and}
+use Rattle.vectors.proofs.Firsts.{First}
 
 -- At a place of the mask (a), the plane (b) has a zero, or the narrowed mask has a one.
 plane-zero : (a b : Bool) → (a && b) ≡ false → a ≡ true → tally b ≡ 0

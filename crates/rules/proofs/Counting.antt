@@ -33,6 +33,15 @@ tally-split true false = refl
 tally-split false true = refl
 tally-split false false = refl
 
+-- nothing yet, and one more
+pub count-start : (f : ℕ → Bool) → 0 ≡ count 0 f
+unfolding count
+count-start f = refl
+
+pub count-next : (n : ℕ) (f : ℕ → Bool) → count (n + 1) f ≡ count n f + tally (f n)
+unfolding count
+count-next n f = ap (λ k. count k f) (add-one n)
+
 pub count-same : (n : ℕ) (f g : ℕ → Bool) → ((i : ℕ) → i < n → f i ≡ g i) → count n f ≡ count n g
 unfolding count
 count-same zero f g h = refl

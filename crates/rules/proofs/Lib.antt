@@ -1,3 +1,4 @@
+pub mod Orders
 pub mod Sums
 pub mod Cyclic
 pub mod Counting

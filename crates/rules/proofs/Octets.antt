@@ -27,7 +27,7 @@ odd v true = let e : (2 * v + 1) % 2 ≡ 1 = omega arith in ap (λ z. eqb z 1) e
 odd v false = let e : (2 * v + 0) % 2 ≡ 0 = omega arith in ap (λ z. eqb z 1) e
 
 -- the bits but the last are those of half the number
-digit-half : (w v k : ℕ) → k < w → digit (suc w) v k ≡ digit w (v / 2) k
+pub digit-half : (w v k : ℕ) → k < w → digit (suc w) v k ≡ digit w (v / 2) k
 digit-half w v k h =
     ap (λ z. eqb (v / 2 ^ z % 2) 1) (omega arith)
     ∙ ap (λ z. eqb (z % 2) 1) (ap (λ z. v / 2 ^ z) (sym (one-add (w - suc k))) ∙ sym (shr-shr v 1 (w - suc k)))
@@ -69,7 +69,7 @@ unfolding number
 number-lt zero x = le-refl 1
 number-lt (suc w) x = omega (arith, number-lt w x, pow-suc 2 w, tally-le (x w))
 
-digit-zero : (w k : ℕ) → digit w 0 k ≡ false
+pub digit-zero : (w k : ℕ) → digit w 0 k ≡ false
 digit-zero w k = ap (λ z. eqb (z % 2) 1) (zero-div (2 ^ (w - suc k)))
 
 -- ---- octets

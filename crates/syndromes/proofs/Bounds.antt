@@ -5,14 +5,10 @@ use Prim.Native.Nat.{ℕ, _+_, _*_, _≤_, _<_}
 use native.Mathlib.Nat.{mul-le-mul, mul-le-mul-right}
 use native.Mathlib.Omega.{arith}
 use lib.Arith.{digits-lt}
-use lib.ListN.{length, take, length-take}
+use lib.ListN.{length}
 use Rattle.layout.specs.Lent.{Fit, placeOf}
 use Rattle.layout.specs.declared.Shape.{Shape}
 use Rattle.syndromes.specs.Rows.{wide}
-
--- the front of a list
-pub length-front : (n : ℕ) (l : List ℕ) → n ≤ length l → length (take n l) ≡ n
-length-front n l h = simp length-take (omega arith)
 
 module _ (h : List ℕ) (sh : Shape) (fit : Fit h sh) where
   pub row-room : (r : ℕ) → r < sh .rows → (r + 1) * sh .words ≤ 16

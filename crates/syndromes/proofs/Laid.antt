@@ -17,13 +17,15 @@ use Rattle.rules.specs.Identity.{over}
 use Rattle.rules.proofs.Sums.{over-linear, sum-same}
 use Rattle.rules.proofs.Counting.{count-same, count-none, count-add}
 use Rattle.vectors.specs.Vectors.{upTo}
-use Rattle.vectors.proofs.Places.{le-or-lt}
+use Rattle.rules.proofs.Orders.{le-or-lt}
+use Rattle.vectors.proofs.Cells.{low}
+use Rattle.vectors.proofs.Counts.{count-upTo}
 use Rattle.vectors.proofs.Spans.{upTo-below, upTo-above}
 use Rattle.layout.specs.Lent.{Fit, Lent, laid, shiftsOf, placeOf}
 use Rattle.layout.specs.declared.Shape.{Shape}
 use Rattle.syndromes.specs.Rows.{plus, rowed, wide, spread, doubled, turned, summed, covering}
 use Rattle.syndromes.proofs.Bounds.{wide-some}
-use Rattle.syndromes.proofs.Rowwise.{row-below, rowed-inside, rowed-past, rowed-plus, rowed-same}
+use Rattle.syndromes.proofs.Rowwise.{rowed-inside, rowed-past, rowed-plus, rowed-same}
 use Rattle.syndromes.proofs.Shifts.{over-same, turned-is}
 
 -- check i of row r
@@ -103,23 +105,7 @@ module _ (h : List ℕ) (sh : Shape) (fit : Fit h sh) where
             ∙ sym (upTo-below (sh .size) i (checkOf c sh y r) l))
             (le-or-lt (sh .size) i)
 
--- what is cut off at bit m is so still
-pub upTo-again : (m : ℕ) (x y : Word) → x ≡ upTo m y → x ≡ upTo m x
-upTo-again m x y e = e ∙ fun-ext (λ n. sym (ap (λ (z : Word). upTo m z n) e ∙ again (ltb n m) (y n)))
-  where
-    again : (p q : Bool) → (p && (p && q)) ≡ (p && q)
-    again true q = refl
-    again false q = refl
-
 -- ---- counted
-
-count-upTo : (m w : ℕ) (y : Word) → m ≤ w → count w (upTo m y) ≡ count m y
-count-upTo m w y h =
-    let e : w ≡ m + (w - m) = omega arith in
-    ap (λ (n : ℕ). count n (upTo m y)) e
-    ∙ count-add m (w - m) (upTo m y)
-    ∙ ap₂ _+_ (count-same m (upTo m y) y (λ i l. upTo-below m i y l)) (count-none (w - m) (λ i. upTo m y (m + i)) (λ i l. upTo-above m (m + i) y (omega arith)))
-    ∙ add-zero (count m y)
 
 module _ (w m K : ℕ) (some : 0 < w) (held : m ≤ w) (g : Word) where
   abbrev rows : ℕ → Word
@@ -151,7 +137,7 @@ module _ (w m K : ℕ) (some : 0 < w) (held : m ≤ w) (g : Word) where
       past : (i : ℕ) → i < n - K * w → rowed w K rows (K * w + i) ≡ false
       past i l =
           rowed-past w some K rows (K * w + i)
-          (⊎-elim (λ k. k) (λ k. absurd (omega (arith, row-below w some K (K * w + i) k, mul-comm w K))) (le-or-lt K ((K * w + i) / w)))
+          (⊎-elim (λ k. k) (λ k. absurd (omega (arith, low w some (K * w + i) K k, mul-comm w K))) (le-or-lt K ((K * w + i) / w)))
 
 pub laid-count : (h : List ℕ) (sh : Shape) → Fit h sh → (c : Code) → Lent c h sh → (x : Word) (n : ℕ) → 1024 ≤ n → count n (laid c sh x) ≡ broken c x
 unfolding broken

@@ -12,31 +12,12 @@ use borrow.Author.Tests.{lt-ltb, le-ltb}
 use Rattle.rules.specs.Bits.{Word, _⊕_}
 use Rattle.rules.proofs.Sums.{⊕-false, ⊕-assoc, and-⊕}
 use Rattle.vectors.specs.Vectors.{wbit, added}
-use Rattle.vectors.proofs.Places.{le-or-lt, eq-or-not}
+use Rattle.rules.proofs.Orders.{le-or-lt, eq-or-not}
+use Rattle.vectors.proofs.Cells.{split, low, high}
 use Rattle.vectors.proofs.Spans.{added-before, added-after, added-inside}
 use Rattle.syndromes.specs.Rows.{plus, rowed}
 
-pub added-twice : (x : Word) (a e : ℕ) (y z : Word) → added (added x a e y) a e z ≡ added x a e (plus y z)
-added-twice x a e y z =
-    fun-ext
-    (λ n.
-    let t = leb a n && ltb n e in
-    ⊕-assoc (x n) (t && y (n - a)) (t && z (n - a)) ∙ ap (λ (p : Bool). x n ⊕ p) (sym (and-⊕ t (y (n - a)) (z (n - a)))))
-
 module _ (w : ℕ) (some : 0 < w) where
-  -- a bit by its row and its place there
-  pub in-row : (k n : ℕ) → n / w ≡ k → n ≡ w * k + n % w
-  in-row k n e = sym (div-add-mod' n w) ∙ ap (λ (q : ℕ). q + n % w) (mul-comm (n / w) w ∙ ap (λ (q : ℕ). w * q) e)
-
-  pub row-below : (k n : ℕ) → n / w < k → n < w * k
-  row-below k n h = subst (λ (z : ℕ). n < z) (mul-comm k w) (div-lt-iff-lt-mul some .0 h)
-
-  pub row-from : (k n : ℕ) → k ≤ n / w → w * k ≤ n
-  row-from k n h = ⊎-elim (λ l. l) (λ l. absurd (omega (arith, back l))) (le-or-lt (w * k) n)
-    where
-      back : n < w * k → n / w < k
-      back l = div-lt-iff-lt-mul some .1 (subst (λ (z : ℕ). n < z) (mul-comm w k) l)
-
   module _ (k : ℕ) (f : ℕ → Word) (n : ℕ) where
     pub rowed-inside : n / w < k → rowed w k f n ≡ f (n / w) (n % w)
     unfolding rowed
@@ -55,21 +36,21 @@ module _ (w : ℕ) (some : 0 < w) where
 
       here : (n : ℕ) → n / w ≡ k → added y (w * k) (w * (k + 1)) (f k) n ≡ plus x (rowed w (k + 1) f) n
       here n e =
-          let l = in-row k n e in
+          let l = split w some n k e in
           let place : n - w * k ≡ n % w = omega arith in
-          added-inside y (f k) (w * k) (w * (k + 1)) n (omega arith) (row-below (k + 1) n (omega arith))
+          added-inside y (f k) (w * k) (w * (k + 1)) n (omega arith) (low w some n (k + 1) (omega arith))
           ∙ ap₂ (λ (p q : Bool). x n ⊕ p ⊕ q) (rowed-past k f n (omega arith)) (ap (f k) place)
           ∙ ap₂ (λ (p : Bool) (r : ℕ). p ⊕ f r (n % w)) (⊕-false (x n)) (sym e)
           ∙ ap (λ (p : Bool). x n ⊕ p) (sym (rowed-inside (k + 1) f n (omega arith)))
 
       before : (n : ℕ) → n / w < k → added y (w * k) (w * (k + 1)) (f k) n ≡ plus x (rowed w (k + 1) f) n
       before n h =
-          added-before y (f k) (w * k) (w * (k + 1)) n (row-below k n h)
+          added-before y (f k) (w * k) (w * (k + 1)) n (low w some n k h)
           ∙ ap (λ (p : Bool). x n ⊕ p) (rowed-inside k f n h ∙ sym (rowed-inside (k + 1) f n (omega arith)))
 
       after : (n : ℕ) → k < n / w → added y (w * k) (w * (k + 1)) (f k) n ≡ plus x (rowed w (k + 1) f) n
       after n h =
-          added-after y (f k) (w * k) (w * (k + 1)) n (row-from k n (le-of-lt h)) (row-from (k + 1) n (omega arith))
+          added-after y (f k) (w * k) (w * (k + 1)) n (high w some n k (le-of-lt h)) (high w some n (k + 1) (omega arith))
           ∙ ap (λ (p : Bool). x n ⊕ p) (rowed-past k f n (le-of-lt h) ∙ sym (rowed-past (k + 1) f n (omega arith)))
 
       other : (n : ℕ) → (n / w ≡ k → ⊥) → added y (w * k) (w * (k + 1)) (f k) n ≡ plus x (rowed w (k + 1) f) n

@@ -13,13 +13,13 @@ use Rattle.rules.specs.Bits.{Word, _⊕_, flipped, if_then_else_}
 use Rattle.rules.specs.Identity.{over}
 use Rattle.rules.proofs.Sums.{⊕-false}
 use Rattle.vectors.specs.Vectors.{added, upTo, from, twice}
-use Rattle.vectors.proofs.Places.{le-or-lt, same-test}
+use Rattle.rules.proofs.Orders.{le-or-lt}
+use Rattle.vectors.proofs.Places.{same-test}
 use Rattle.vectors.proofs.Cells.{joined-below, joined-above}
-use Rattle.vectors.proofs.Spans.{added-before, added-after, added-inside, upTo-below}
+use Rattle.vectors.proofs.Spans.{added-before, added-after, added-inside, added-twice, upTo-below}
 use Rattle.layout.specs.Lent.{kept, entries, placeOf}
 use Rattle.layout.specs.declared.Shape.{Shape}
 use Rattle.syndromes.specs.Rows.{entry, spread, doubled, turned}
-use Rattle.syndromes.proofs.Rowwise.{added-twice}
 
 module _ (M : ℕ) (g : ℕ → Word) (s : ℕ) where
   pub entry-is : s < M → g s ≡ entry M g s

@@ -12,12 +12,13 @@ use lib.Arith.{digits-div, digits-mod}
 use borrow.Author.Tests.{lt-ltb, le-ltb}
 use Rattle.rules.specs.Bits.{Word, digit}
 use Rattle.vectors.specs.Vectors.{wbit, Holds, upTo}
-use Rattle.vectors.proofs.Places.{le-or-lt, eq-or-not}
+use Rattle.rules.proofs.Orders.{le-or-lt, eq-or-not}
 use Rattle.vectors.proofs.Cells.{joined-start, joined-end}
 use Rattle.vectors.proofs.Filling.{word-holds, word-stored}
 use Rattle.vectors.proofs.Spans.{upTo-below, upTo-above}
 use Rattle.syndromes.specs.Rows.{rowed, within}
-use Rattle.syndromes.proofs.Rowwise.{in-row, row-below, rowed-inside, rowed-past}
+use Rattle.vectors.proofs.Cells.{split, low}
+use Rattle.syndromes.proofs.Rowwise.{rowed-inside, rowed-past}
 
 or-true : (p : Bool) → (p || true) ≡ true
 or-true true = refl
@@ -69,7 +70,7 @@ module _ (w m : ℕ) (some : 0 < w) (x : Word) where
       where
         here : n / w ≡ k → within w m k x n ≡ within w m (k + 1) x n
         here e =
-            let l : n % w < m = ⊎-elim (λ (a : n < 64 * q). omega (arith, in-row w some k n e)) (λ (a : 64 * (q + 1) ≤ n). absurd (omega (arith, row-below w some (k + 1) n (omega arith)))) out in
+            let l : n % w < m = ⊎-elim (λ (a : n < 64 * q). omega (arith, split w some n k e)) (λ (a : 64 * (q + 1) ≤ n). absurd (omega (arith, low w some n (k + 1) (omega arith)))) out in
             within-kept w m k x n l ∙ sym (within-kept w m (k + 1) x n l)
 
     at : (i : ℕ) → i < 64 → digit 64 v i ≡ within w m (k + 1) x (64 * q + i)

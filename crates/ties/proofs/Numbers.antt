@@ -1,23 +1,16 @@
 -- The bits of a number of several words.
 use mathlib.Core.Path.{_≡_, refl, sym, ap, _∙_}
-use mathlib.Core.Logic.{_⊎_, inl, inr, ⊎-elim}
+use mathlib.Core.Logic.{⊎-elim}
 use mathlib.Core.List.{List}
 use Prim.Native.Nat.{ℕ, zero, suc, _+_, _-_, _*_, _/_, _%_, _^_, _≤_, _<_}
-use native.Mathlib.Nat.{mul-assoc, add-comm, add-mul-div-right, mul-add-mod-self-right, pow-suc, div-eq-of-lt, div-lt-iff-lt-mul, zero-mul, zero-add, add-zero, lt-of-not-le}
-use native.Mathlib.Decide.{decLe}
+use native.Mathlib.Nat.{mul-assoc, add-comm, add-mul-div-right, mul-add-mod-self-right, pow-suc, div-eq-of-lt, div-lt-iff-lt-mul, zero-mul, zero-add, add-zero}
 use native.Mathlib.Omega.{arith}
 use lib.Pow.{pow-pos, pow-add, shr-shr, high}
 use lib.Dec.{eqb, ltb}
 use lib.ListN.{getD}
 use borrow.Author.Tests.{eq-eqb, ne-eqb, lt-ltb, le-ltb}
+use Rattle.rules.proofs.Orders.{le-or-lt}
 use Rattle.ties.specs.Flat.{joined}
-
-pub le-or-lt : (a b : ℕ) → (a ≤ b) ⊎ (b < a)
-le-or-lt a b = pick (decLe a b)
-  where
-    pick : Dec (a ≤ b) → (a ≤ b) ⊎ (b < a)
-    pick (yes h) = inl h
-    pick (no n) = inr (lt-of-not-le n)
 
 -- The places of the last word do not see the words in front of it; the others do not see the last word.
 last-word : (x y k : ℕ) → k < 64 → (x * 2 ^ 64 + y) / 2 ^ k % 2 ≡ y / 2 ^ k % 2

@@ -12,7 +12,8 @@ use lib.Seq.{getD-set-same, getD-set-other, ext-getD}
 use borrow.Author.Tests.{lt-ltb, le-ltb}
 use Rattle.rules.specs.Bits.{Word, digit, if_then_else_}
 use Rattle.vectors.specs.Vectors.{joined}
-use Rattle.vectors.proofs.Places.{le-or-lt, eq-or-not, place-zero, same-digits}
+use Rattle.rules.proofs.Orders.{le-or-lt, eq-or-not}
+use Rattle.vectors.proofs.Places.{place-zero, same-digits}
 
 -- Bit n of a list of numbers of w bits: `bit` at w = 8, `wbit` at w = 64.
 abbrev pub cell : ℕ → List ℕ → Word
@@ -43,13 +44,13 @@ module _ (w : ℕ) (some : 0 < w) where
       ∙ ap (λ (n : ℕ). digit w (getD xs n 0) ((q * w + i) % w)) (digits-div q hi)
       ∙ ap (digit w (getD xs q 0)) (digits-mod q hi)
 
-  split : (n q : ℕ) → n / w ≡ q → n ≡ w * q + n % w
+  pub split : (n q : ℕ) → n / w ≡ q → n ≡ w * q + n % w
   split n q e = sym (div-add-mod' n w) ∙ ap (λ (k : ℕ). k + n % w) (ap (λ (k : ℕ). k * w) e ∙ mul-comm q w)
 
-  low : (n q : ℕ) → n / w < q → n < w * q
+  pub low : (n q : ℕ) → n / w < q → n < w * q
   low n q h = subst (λ (k : ℕ). n < k) (mul-comm q w) (div-lt-iff-lt-mul some .0 h)
 
-  high : (n q : ℕ) → q ≤ n / w → w * q ≤ n
+  pub high : (n q : ℕ) → q ≤ n / w → w * q ≤ n
   high n q h = ⊎-elim (λ k. k) (λ k. absurd (omega (arith, back k))) (le-or-lt (w * q) n)
     where
       back : n < w * q → n / w < q

@@ -13,9 +13,11 @@ use lib.Dec.{eqb, ltb, lit<}
 use lib.ListN.{getD}
 use borrow.Author.Tests.{lt-ltb, le-ltb, eq-eqb, ne-eqb}
 use Rattle.rules.specs.Bits.{Word, digit, count}
-use Rattle.rules.proofs.Counting.{count-same, count-add, none-counted, count-none as none-set}
+use Rattle.rules.proofs.Counting.{count-start, count-same, count-add, none-counted, count-none}
 use Rattle.vectors.specs.Vectors.{wbit, upTo, from}
-use Rattle.vectors.proofs.Places.{eq-or-not, digit-half, digit-odd, digit-or, digit-zero, same-digits}
+use Rattle.rules.proofs.Orders.{eq-or-not}
+use Rattle.rules.proofs.Octets.{digit-half, digit-zero}
+use Rattle.vectors.proofs.Places.{digit-odd, digit-or, same-digits}
 use Rattle.vectors.proofs.Filling.{word-holds}
 use Rattle.vectors.proofs.Spans.{upTo-below, upTo-above}
 
@@ -26,7 +28,7 @@ count-upTo m n x h =
     ap (λ (k : ℕ). count k (upTo m x)) e
     ∙ count-add m (n - m) (upTo m x)
     ∙ ap₂ _+_ (count-same m (upTo m x) x (λ i l. upTo-below m i x l))
-    (none-set (n - m) (from m (upTo m x)) (λ i l. upTo-above m (m + i) x (omega arith)))
+    (count-none (n - m) (from m (upTo m x)) (λ i l. upTo-above m (m + i) x (omega arith)))
     ∙ add-zero (count m x)
 
 -- The ones of a number are counted by its digits.
@@ -35,7 +37,7 @@ unfolding ones count
 ones-count zero v h = ap ones (lt-one h)
 ones-count (suc w) v h =
     let halves =
-    ones-count w (v / 2) (omega (arith, pow-suc 2 w)) ∙ count-same w (digit w (v / 2)) (digit (suc w) v) (λ i l. digit-half w v i l) in
+    ones-count w (v / 2) (omega (arith, pow-suc 2 w)) ∙ count-same w (digit w (v / 2)) (digit (suc w) v) (λ i l. sym (digit-half w v i l)) in
     omega (arith, ones-step v, digit-odd w v)
 
 -- one word more
@@ -47,10 +49,6 @@ count-word ws k h =
     ∙ count-add (64 * k) 64 (wbit ws)
     ∙ ap (λ (n : ℕ). count (64 * k) (wbit ws) + n)
     (sym (ones-count 64 v h ∙ count-same 64 (digit 64 v) (from (64 * k) (wbit ws)) (word-holds ws k)))
-
-pub count-none : (x : Word) → 0 ≡ count 0 x
-unfolding count
-count-none x = refl
 
 -- ---- whether any is set
 
@@ -78,7 +76,7 @@ pub record Seen (ws : List ℕ) (v k : ℕ) : Type 0 where
   pub zero : count (64 * k) (wbit ws) ≡ 0 → v ≡ 0
 
 pub seen-none : (ws : List ℕ) → Seen ws 0 0
-seen-none ws = record { small = lit< tt; none = λ e. sym (count-none (wbit ws)); zero = λ e. refl }
+seen-none ws = record { small = lit< tt; none = λ e. sym (count-start (wbit ws)); zero = λ e. refl }
 
 pub seen-more : (ws : List ℕ) (v k : ℕ) → getD ws k 0 < 2 ^ 64 → Seen ws v k → Seen ws (bitOr v (getD ws k 0)) (k + 1)
 unfolding ones

@@ -8,7 +8,8 @@ use lib.Dec.{lit<}
 use lib.ListN.{getD, length, set, replicate, length-set}
 use Rattle.rules.specs.Bits.{Word, digit}
 use Rattle.vectors.specs.Vectors.{wbit, Holds, from, joined}
-use Rattle.vectors.proofs.Places.{place, digit-zero}
+use Rattle.rules.proofs.Octets.{digit-zero}
+use Rattle.vectors.proofs.Places.{place}
 use Rattle.vectors.proofs.Cells.{cell-at, cell-past, unread, stored, same-cells, joined-start, joined-end}
 
 pub word-at : (ws : List ℕ) (n q i : ℕ) → i < 64 → n ≡ 64 * q + i → wbit ws n ≡ digit 64 (getD ws q 0) i

@@ -1,4 +1,5 @@
 pub mod Places
+pub mod Firsts
 pub mod Cells
 pub mod Filling
 pub mod Spans

@@ -14,7 +14,8 @@ use lib.ListN.{getD, length}
 use Rattle.rules.specs.Bits.{Word, digit, bit, tally, number, octets}
 use Rattle.rules.proofs.Octets.{length-octets, bit-octets, octets-lt, bit-past}
 use Rattle.vectors.specs.Vectors.{wbit, Holds, upTo, from, joined}
-use Rattle.vectors.proofs.Places.{tally-lt, tally-odd, le-or-lt, or-none, place, place-or, place-above, place-front, place-behind, place-zero, place-cut, place-up, place-down, place-below}
+use Rattle.rules.proofs.Orders.{le-or-lt}
+use Rattle.vectors.proofs.Places.{tally-lt, tally-odd, or-none, place, place-or, place-above, place-front, place-behind, place-zero, place-cut, place-up, place-down, place-below}
 use Rattle.vectors.proofs.Cells.{cell-at, cell-past, same-cells, joined-below, joined-above, joined-end}
 use Rattle.vectors.proofs.Spans.{upTo-below, upTo-above}
 

@@ -1,10 +1,9 @@
 -- The binary digits of a number by their places, 0 the least; and by their numbers in a width, 0 the most significant. Assumes nothing.
 use mathlib.Core.Path.{_≡_, refl, sym, ap, ap₂, _∙_}
 use mathlib.Core.Bool.{Bool, true, false, _&&_, _||_}
-use mathlib.Core.Logic.{_⊎_, inl, inr, ⊎-elim}
+use mathlib.Core.Logic.{⊎-elim}
 use Prim.Native.Nat.{ℕ, zero, suc, min, max, _+_, _-_, _*_, _/_, _%_, _^_, _≤_, _<_}
-use native.Mathlib.Nat.{mod-lt, div-eq-of-lt, div-self, div-one, zero-div, zero-lt-suc, pow-suc, mul-mod-left, lt-of-not-le, lt-of-lt-of-le, mul-assoc}
-use native.Mathlib.Decide.{decLe, ℕ-discrete}
+use native.Mathlib.Nat.{mod-lt, div-eq-of-lt, div-self, div-one, zero-div, zero-lt-suc, pow-suc, mul-mod-left, lt-of-lt-of-le, mul-assoc}
 use native.Mathlib.Omega.{arith}
 use lib.Dec.{eqb, lit<}
 use lib.Arith.{lt-one}
@@ -12,20 +11,8 @@ use lib.Pow.{pow-pos, pow-mono, pow-lt, pow-add, shr-shr, shl-shr, field, mod-mo
 use lib.Bits.{bitXor, bitAnd, bitOr, differ, xor-step, and-step, or-step, xor-shr, and-shr, or-shr, or-shifted}
 use borrow.Author.Tests.{eq-eqb, ne-eqb}
 use Rattle.rules.specs.Bits.{digit, tally, _⊕_}
-
-pub le-or-lt : (a b : ℕ) → (a ≤ b) ⊎ (b < a)
-le-or-lt a b = go (decLe a b)
-  where
-    go : Dec (a ≤ b) → (a ≤ b) ⊎ (b < a)
-    go (yes h) = inl h
-    go (no n) = inr (lt-of-not-le n)
-
-pub eq-or-not : (a b : ℕ) → (a ≡ b) ⊎ (a ≡ b → ⊥)
-eq-or-not a b = go (ℕ-discrete a b)
-  where
-    go : Dec (a ≡ b) → (a ≡ b) ⊎ (a ≡ b → ⊥)
-    go (yes h) = inl h
-    go (no n) = inr n
+use Rattle.rules.proofs.Orders.{le-or-lt, eq-or-not}
+use Rattle.rules.proofs.Octets.{digit-half}
 
 pub same-test : (a b c d : ℕ) → (a ≡ b → c ≡ d) → (c ≡ d → a ≡ b) → eqb a b ≡ eqb c d
 same-test a b c d to back =
@@ -194,9 +181,6 @@ module _ (w u v i : ℕ) where
   pub digit-and : digit w (bitAnd u v) i ≡ (digit w u i && digit w v i)
   digit-and = place-and u v (w - suc i)
 
-pub digit-zero : (w i : ℕ) → digit w 0 i ≡ false
-digit-zero w i = place-zero (w - suc i)
-
 pub digit-ones : (w i : ℕ) → i < w → digit w (2 ^ w - 1) i ≡ true
 digit-ones w i h = place-ones w (w - suc i) (omega arith)
 
@@ -205,12 +189,7 @@ pub digit-power : (w k i : ℕ) → k < w → i < w → digit w (2 ^ (w - suc k)
 digit-power w k i hk hi =
     place-power (w - suc k) (w - suc i) ∙ same-test (w - suc k) (w - suc i) i k (λ e. omega arith) (λ e. omega arith)
 
--- A digit more: the others are those of the half, and it is the odd one.
-pub digit-half : (w v i : ℕ) → i < w → digit w (v / 2) i ≡ digit (suc w) v i
-digit-half w v i h =
-    let e : 1 + (w - suc i) ≡ suc w - suc i = omega arith in
-    place-down v 1 (w - suc i) ∙ ap (place v) e
-
+-- A digit more is the odd one.
 pub digit-odd : (w v : ℕ) → v % 2 ≡ tally (digit (suc w) v w)
 digit-odd w v =
     let e : 0 ≡ suc w - suc w = omega arith in
@@ -223,7 +202,7 @@ pub same-digits : (w u v : ℕ) → u < 2 ^ w → v < 2 ^ w → ((i : ℕ) → i
 same-digits zero u v hu hv e = lt-one hu ∙ sym (lt-one hv)
 same-digits (suc w) u v hu hv e =
     let halves : u / 2 ≡ v / 2 =
-    same-digits w (u / 2) (v / 2) (half u hu) (half v hv) (λ i h. digit-half w u i h ∙ e i (omega arith) ∙ sym (digit-half w v i h)) in
+    same-digits w (u / 2) (v / 2) (half u hu) (half v hv) (λ i h. sym (digit-half w u i h) ∙ e i (omega arith) ∙ digit-half w v i h) in
     let odds : u % 2 ≡ v % 2 = digit-odd w u ∙ ap tally (e w (omega arith)) ∙ sym (digit-odd w v) in
     omega arith
   where

@@ -7,14 +7,16 @@ use Prim.Native.Nat.{ℕ, suc, _+_, _-_, _*_, _/_, _%_, _^_, _≤_, _<_}
 use native.Mathlib.Nat.{mod-lt, mod-eq-of-lt, one-mul, add-comm}
 use lib.Arith.{digits-mod}
 use native.Mathlib.Omega.{arith}
-use lib.Dec.{ltb, eqb}
+use lib.Dec.{ltb, leb, eqb}
 use lib.Pow.{pow-pos, shr-shr}
 use lib.Bits.{bitXor, bitAnd, bitOr}
 use lib.ListN.{getD, length, set}
 use borrow.Author.Tests.{lt-ltb, le-ltb, le-leb, lt-leb, ne-eqb}
 use Rattle.rules.specs.Bits.{Word, digit, flipped, _⊕_}
+use Rattle.rules.proofs.Sums.{⊕-assoc, and-⊕}
 use Rattle.vectors.specs.Vectors.{wbit, Holds, upTo, from, later, joined, twice, added}
-use Rattle.vectors.proofs.Places.{or-none, and-none, xor-none, xor-same, digit-or, digit-and, digit-xor, digit-power, le-or-lt, place, place-or, place-xor, place-up, place-down, place-below, place-above, place-cut, place-zero, same-test}
+use Rattle.rules.proofs.Orders.{le-or-lt}
+use Rattle.vectors.proofs.Places.{or-none, and-none, xor-none, xor-same, digit-or, digit-and, digit-xor, digit-power, place, place-or, place-xor, place-up, place-down, place-below, place-above, place-cut, place-zero, same-test}
 use Rattle.vectors.proofs.Cells.{joined-below, joined-above, joined-start, joined-end}
 use Rattle.vectors.proofs.Filling.{word-at, word-holds, word-past, word-stored}
 
@@ -264,6 +266,14 @@ module _ (x y : Word) (a e n : ℕ) where
 
   pub added-inside : a ≤ n → n < e → added x a e y n ≡ x n ⊕ y (n - a)
   added-inside h l = ap₂ (λ (b c : Bool). x n ⊕ ((b && c) && y (n - a))) (le-leb a n h) (lt-ltb n e l)
+
+-- what is added twice at one place is added in one sum
+pub added-twice : (x : Word) (a e : ℕ) (y z : Word) → added (added x a e y) a e z ≡ added x a e (λ k. y k ⊕ z k)
+added-twice x a e y z =
+    fun-ext
+    (λ n.
+    let t = leb a n && ltb n e in
+    ⊕-assoc (x n) (t && y (n - a)) (t && z (n - a)) ∙ ap (λ (p : Bool). x n ⊕ p) (sym (and-⊕ t (y (n - a)) (z (n - a)))))
 
 -- word at + j, to which a word of y is added
 pub added-word : (u v : ℕ) (x y : Word) (at w j : ℕ) → j < w → Holds u (from (64 * (at + j)) x) → Holds v (from (64 * j) y)

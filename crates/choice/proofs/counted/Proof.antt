@@ -3,7 +3,7 @@ use mathlib.Core.Path.{_≡_, ap, _∙_}
 use Prim.Native.Nat.{ℕ, _+_, _-_, _≤_, _<_}
 use native.Mathlib.Omega.{arith}
 use Rattle.vectors.specs.Vectors.{wbit}
-use Rattle.vectors.proofs.Counts.{count-none}
+use Rattle.rules.proofs.Counting.{count-start}
 use Rattle.planes.specs.Counts.{value}
 use Rattle.choice.specs.Reading.{hits}
 use Rattle.choice.proofs.Hits.{hit-more}
@@ -20,7 +20,7 @@ none-requires : tie.Need-none-requires Inv-loop μ-loop
 none-requires c κs = tt
 
 loop-holds : tie.Need-loop-holds Inv-loop μ-loop
-loop-holds c = (omega arith, λ few i hi. c .none .ensures i ∙ count-none _)
+loop-holds c = (omega arith, λ few i hi. c .none .ensures i ∙ count-start _)
 
 mul-window : tie.Need-mul-window Inv-loop μ-loop
 mul-window c = omega arith

@@ -11,7 +11,7 @@ use Rattle.rules.specs.Bits.{Word, digit}
 use Rattle.vectors.specs.Vectors.{wbit, Holds, upTo, from, added}
 use Rattle.encoder.specs.Rows.{turns}
 use Rattle.encoder.proofs.Adding.{turns-skip, turns-one}
-use Rattle.encoder.proofs.Firsts.{Next, next-set, next-rest, next-none}
+use Rattle.encoder.proofs.Nexts.{Next, next-set, next-rest, next-none}
 use Rattle.encoder.proofs.add_bits.Statement.{statement}
 use Rattle.encoder.proofs.add_bits.Tie as tie
 

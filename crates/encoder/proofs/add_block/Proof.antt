@@ -8,7 +8,7 @@ use lib.ListN.{length}
 use borrow.Author.Needs.{needs}
 use Rattle.rules.specs.Bits.{digit}
 use Rattle.vectors.specs.Vectors.{wbit, from, added}
-use Rattle.vectors.proofs.Places.{digit-zero}
+use Rattle.rules.proofs.Octets.{digit-zero}
 use Rattle.encoder.specs.Rows.{turns}
 use Rattle.encoder.proofs.Adding.{sum-start, turns-skip}
 use Rattle.encoder.proofs.add_block.Statement.{statement}

@@ -3,7 +3,7 @@ use mathlib.Core.Path.{refl, sym}
 use Prim.Native.Nat.{_+_, _*_}
 use native.Mathlib.Omega.{arith}
 use lib.ListN.{replicate}
-use Rattle.encoder.proofs.Bounds.{length-front}
+use lib.Seq.{length-take-le}
 use borrow.Author.Needs.{needs}
 use Rattle.encoder.proofs.encode.Statement.{statement}
 use Rattle.encoder.proofs.encode.Tie as tie
@@ -12,7 +12,7 @@ array-borrow-prefix-row : tie.Need-array-borrow-prefix-row
 array-borrow-prefix-row c = search needs
 
 slice-aggregate-put-parts : tie.Need-slice-aggregate-put-parts
-slice-aggregate-put-parts c = sym (length-front (c .before .before .before .before .args .sh .words) (replicate 8 0) (omega arith))
+slice-aggregate-put-parts c = sym (length-take-le (c .before .before .before .before .args .sh .words) (replicate 8 0) (omega arith))
 
 mul-d : tie.Need-mul-d
 mul-d c = search needs
@@ -24,7 +24,7 @@ array-borrow-prefix-d : tie.Need-array-borrow-prefix-d
 array-borrow-prefix-d c = search needs
 
 slice-aggregate-put-parts-2 : tie.Need-slice-aggregate-put-parts-2
-slice-aggregate-put-parts-2 c = sym (length-front (2 * c .before .before .before .before .before .args .sh .words + 1) (replicate 17 0) (omega arith))
+slice-aggregate-put-parts-2 c = sym (length-take-le (2 * c .before .before .before .before .before .args .sh .words + 1) (replicate 17 0) (omega arith))
 
 slice-aggregate-put-parts-3 : tie.Need-slice-aggregate-put-parts-3
 slice-aggregate-put-parts-3 c = search needs
@@ -33,7 +33,7 @@ put-parts-requires : tie.Need-put-parts-requires
 put-parts-requires c κs =
     let words = c .before .before .before .before .before .before .args .sh .words in
     let pre = c .before .before .before .before .before .before .pre in
-    (pre .0, pre .1, pre .2, length-front words (replicate 8 0) (omega arith), length-front (2 * words + 1) (replicate 17 0) (omega arith), refl)
+    (pre .0, pre .1, pre .2, length-take-le words (replicate 8 0) (omega arith), length-take-le (2 * words + 1) (replicate 17 0) (omega arith), refl)
 
 same-length : tie.Need-same-length
 same-length c = search needs

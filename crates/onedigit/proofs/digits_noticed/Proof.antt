@@ -7,7 +7,8 @@ use lib.ListN.{length}
 use Rattle.rules.specs.Bits as bits
 use Rattle.ties.specs.Flat.{Sizes}
 use Rattle.onedigit.specs.Wrong.{digitNoticed}
-use Rattle.onedigit.proofs.Counts.{tally-le, count-none, count-more, within, product-fits}
+use Rattle.rules.proofs.Counting.{tally-le, count-start}
+use Rattle.onedigit.proofs.Counts.{count-more, within, product-fits}
 use Rattle.onedigit.proofs.digits_noticed.Statement.{statement}
 use Rattle.onedigit.proofs.digits_noticed.Tie as tie
 
@@ -45,7 +46,7 @@ loop-holds c =
       omega (arith, product-fits h l),
       omega arith,
       refl,
-      λ printed fits. count-none (digitNoticed (a .m) printed (a .rows) (a .count) (a .parts) (a .digits) (a .parity .now) (a .generator .now)),
+      λ printed fits. count-start (digitNoticed (a .m) printed (a .rows) (a .count) (a .parts) (a .digits) (a .parity .now) (a .generator .now)),
     )
 
 digit-noticed-requires : tie.Need-digit-noticed-requires Inv-loop μ-loop

@@ -8,7 +8,8 @@ use lib.ListN.{length}
 use Rattle.rules.specs.Bits as bits
 use Rattle.ties.specs.Flat.{Sizes}
 use Rattle.onedigit.specs.Wrong.{placeNoticed, entryNoticed}
-use Rattle.onedigit.proofs.Counts.{tally-le, count-none, count-more, within, product-fits}
+use Rattle.rules.proofs.Counting.{tally-le, count-start}
+use Rattle.onedigit.proofs.Counts.{count-more, within, product-fits}
 use Rattle.onedigit.proofs.entries_noticed.Statement.{statement}
 use Rattle.onedigit.proofs.entries_noticed.Tie as tie
 
@@ -42,7 +43,7 @@ loop-holds c =
       product-fits h l,
       omega arith,
       refl,
-      λ printed fits. count-none (entryNoticed (a .m) printed (a .rows) (a .count) (a .parts) (a .parity .now) (a .generator .now)),
+      λ printed fits. count-start (entryNoticed (a .m) printed (a .rows) (a .count) (a .parts) (a .parity .now) (a .generator .now)),
     )
 
 add-entry-noticed : tie.Need-add-entry-noticed Inv-loop μ-loop

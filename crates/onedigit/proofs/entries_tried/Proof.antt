@@ -5,7 +5,8 @@ use native.Mathlib.Omega.{arith}
 use lib.ListN.{length}
 use Rattle.rules.specs.Bits.{count}
 use Rattle.onedigit.specs.Wrong.{entryWrong}
-use Rattle.onedigit.proofs.Counts.{tally-le, count-none, count-more, within, product-fits}
+use Rattle.rules.proofs.Counting.{tally-le, count-start}
+use Rattle.onedigit.proofs.Counts.{count-more, within, product-fits}
 use Rattle.onedigit.proofs.entries_tried.Statement.{statement}
 use Rattle.onedigit.proofs.entries_tried.Tie as tie
 
@@ -31,7 +32,7 @@ loop-holds c =
     let a = c .before .args in
     let h : length (a .parity .now) < 65536 = omega arith in
     let l : a .m + 1 ≤ 65536 = omega arith in
-    (omega arith, product-fits h l, omega arith, count-none (entryWrong (a .m) (a .parity .now)))
+    (omega arith, product-fits h l, omega arith, count-start (entryWrong (a .m) (a .parity .now)))
 
 add-wrong-entry : tie.Need-add-wrong-entry Inv-loop μ-loop
 add-wrong-entry c = omega arith

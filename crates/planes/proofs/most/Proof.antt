@@ -7,7 +7,8 @@ use native.Mathlib.Omega.{arith}
 use lib.Count.{leadingZeros, leading-le}
 use lib.Pow.{pow-mono, pow-pos}
 use Rattle.rules.specs.Bits.{digit}
-use Rattle.planes.proofs.Digits.{first-digit, ones-shl, places}
+use Rattle.vectors.proofs.Firsts.{first-digit}
+use Rattle.planes.proofs.Digits.{ones-shl, places}
 use Rattle.planes.proofs.Narrowing.{narrowed}
 use borrow.Author.Needs.{needs}
 use Rattle.planes.proofs.most.Statement.{statement}

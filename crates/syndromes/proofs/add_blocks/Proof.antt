@@ -6,9 +6,10 @@ use lib.ListN.{length}
 use borrow.Author.Needs.{needs}
 use Rattle.rules.specs.Bits.{Word}
 use Rattle.vectors.specs.Vectors.{wbit, from, twice}
+use Rattle.vectors.proofs.Spans.{upTo-again}
 use Rattle.syndromes.specs.Rows.{plus, rowed, wide, spread, turned, summed}
 use Rattle.syndromes.proofs.Bounds.{block-room}
-use Rattle.syndromes.proofs.Laid.{summed-none, summed-more, upTo-again}
+use Rattle.syndromes.proofs.Laid.{summed-none, summed-more}
 use Rattle.syndromes.proofs.add_blocks.Statement.{statement}
 use Rattle.syndromes.proofs.add_blocks.Tie as tie
 
@@ -44,7 +45,7 @@ double-requires : tie.Need-double-requires Inv-loop μ-loop
 double-requires c κs =
     let a = c .before .before .before .before .before .before .before .before .before .before .before .before .before .before .before .args in
     let l = c .before .before .before .before .before .before .before .before .before .loop in
-    (upTo-again (a .sh .size) (wbit (c .before .before .before .before .cut .last .1 .1 .1 .0)) (from (l .b * a .sh .size) (wbit (a .y .now))) (c .before .before .before .before .cut .ensures), search needs, search needs)
+    (upTo-again (a .sh .size) (from (l .b * a .sh .size) (wbit (a .y .now))) (wbit (c .before .before .before .before .cut .last .1 .1 .1 .0)) (c .before .before .before .before .cut .ensures), search needs, search needs)
 
 add-block-requires : tie.Need-add-block-requires Inv-loop μ-loop
 add-block-requires c κs = search needs

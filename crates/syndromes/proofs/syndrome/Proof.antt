@@ -5,7 +5,7 @@ use native.Mathlib.Omega.{arith}
 use lib.ListN.{replicate}
 use Rattle.vectors.specs.Vectors.{wbit}
 use Rattle.syndromes.specs.Rows.{within, wide, summed}
-use Rattle.syndromes.proofs.Bounds.{length-front, wide-some}
+use Rattle.syndromes.proofs.Bounds.{wide-some}
 use Rattle.syndromes.proofs.Trimming.{within-rowed}
 use Rattle.syndromes.proofs.Laid.{laid-summed}
 use borrow.Author.Needs.{needs}

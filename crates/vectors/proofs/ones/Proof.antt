@@ -6,8 +6,8 @@ use lib.Count.{ones-le}
 use lib.ListN.{length, getD}
 use Rattle.rules.specs.Bits.{count}
 use Rattle.vectors.specs.Vectors.{wbit}
-use Rattle.rules.proofs.Counting.{count-le}
-use Rattle.vectors.proofs.Counts.{count-word, count-none}
+use Rattle.rules.proofs.Counting.{count-start, count-le}
+use Rattle.vectors.proofs.Counts.{count-word}
 use Rattle.vectors.proofs.ones.Statement.{statement}
 use Rattle.vectors.proofs.ones.Tie as tie
 
@@ -18,7 +18,7 @@ abbrev μ-loop : tie.MeasureT-loop
 μ-loop ws n₀ k₀ n k = length ws - k
 
 loop-holds : tie.Need-loop-holds Inv-loop μ-loop
-loop-holds c = (omega arith, count-none (wbit (c .args .ws .now)))
+loop-holds c = (omega arith, count-start (wbit (c .args .ws .now)))
 
 mul-n : tie.Need-mul-n Inv-loop μ-loop
 mul-n c = omega arith

@@ -5,31 +5,14 @@ use mathlib.Core.Logic.{⊎-elim}
 use Prim.Native.Nat.{ℕ, suc, _+_, _-_, _*_, _/_, _%_, _^_, _≤_, _<_}
 use native.Mathlib.Nat.{pow-suc, div-eq-of-lt-le}
 use native.Mathlib.Omega.{arith}
-use lib.Count.{leadingZeros, leading-top}
-use lib.Dec.{eqb}
+use lib.Count.{leadingZeros}
 use Rattle.rules.specs.Bits.{Word, digit}
 use Rattle.vectors.specs.Vectors.{Holds, upTo, from}
-use Rattle.vectors.proofs.Places.{le-or-lt, place, place-up, place-below, place-above, place-cut, digit-zero}
+use Rattle.rules.proofs.Orders.{le-or-lt}
+use Rattle.rules.proofs.Octets.{digit-zero}
+use Rattle.vectors.proofs.Places.{place, place-up, place-below, place-above, place-cut}
+use Rattle.vectors.proofs.Firsts.{First, first-digit}
 use Rattle.vectors.proofs.Spans.{upTo-below, upTo-above}
-
--- bit i of a number is the first that is set
-record First (v i : ℕ) : Type 0 where
-  inside : i < 64
-  here : digit 64 v i ≡ true
-  clear : (q : ℕ) → q < i → digit 64 v q ≡ false
-
-first-digit : (v : ℕ) → 0 < v → v < 2 ^ 64 → First v (leadingZeros 64 v)
-first-digit v some small =
-    let t = leading-top 64 v some small in
-    let j = t .0 in
-    let e : leadingZeros 64 v + suc j ≡ 64 = t .1 in
-    let d : 64 - suc (leadingZeros 64 v) ≡ j = omega arith in
-    let one : v / 2 ^ j ≡ 1 = div-eq-of-lt-le (2 ^ j) (omega (arith, t .2)) (omega (arith, pow-suc 2 j, t .3)) in
-    record {
-      inside = omega arith;
-      here = ap (place v) d ∙ ap (λ (n : ℕ). eqb (n % 2) 1) one;
-      clear = λ q hq. place-above v (suc j) (64 - suc q) (t .3) (omega arith);
-    }
 
 -- bits shifted out in front leave those after them, where none stand behind bit 63
 shift-holds : (v s : ℕ) (x : Word) → Holds v x → ((n : ℕ) → 64 ≤ n → x n ≡ false) → Holds ((v * 2 ^ s) % 2 ^ 64) (from s x)
@@ -66,8 +49,8 @@ module _ (r m n : ℕ) (x : Word) (held : Holds r (from n (upTo m x))) where
       i : ℕ
       i = leadingZeros 64 r
 
-      f : First r i
-      f = first-digit r (omega (arith, some)) small
+      f : First 64 r i
+      f = first-digit 64 r (omega (arith, some)) small
 
       set : upTo m x (n + i) ≡ true
       set = sym (held i (f .inside)) ∙ f .here
