@@ -4,7 +4,7 @@ use mathlib.Core.Bool.{Bool, true, false, _&&_, and-false}
 use mathlib.Core.Logic.{⊎-elim}
 use mathlib.Core.List.{List, [], _∷_}
 use Prim.Native.Nat.{ℕ, zero, suc, _+_, _-_, _*_, _%_, _≤_, _<_}
-use native.Mathlib.Nat.{mod-eq-of-lt, mod-eq-sub-mod, not-suc-le-zero, le-of-suc-le-suc}
+use native.Mathlib.Nat.{mod-lt, mod-eq-of-lt, mod-eq-sub-mod, not-suc-le-zero, le-of-suc-le-suc}
 use native.Mathlib.Omega.{arith}
 use lib.Dec.{ltb, leb, eqb}
 use lib.ListN.{length, getD}
@@ -16,7 +16,7 @@ use Rattle.vectors.specs.Vectors.{added, upTo, from, twice}
 use Rattle.rules.proofs.Orders.{le-or-lt}
 use Rattle.vectors.proofs.Places.{same-test}
 use Rattle.vectors.proofs.Cells.{joined-below, joined-above}
-use Rattle.vectors.proofs.Spans.{added-before, added-after, added-inside, added-twice, upTo-below}
+use Rattle.vectors.proofs.Spans.{added-before, added-after, added-inside, added-twice, twice-turned, upTo-below}
 use Rattle.layout.specs.Lent.{kept, entries, placeOf}
 use Rattle.layout.specs.declared.Shape.{Shape}
 use Rattle.syndromes.specs.Rows.{entry, spread, doubled, turned}
@@ -86,27 +86,7 @@ read-any (v ∷ h) (suc n) d e l = read-any h n d e (le-of-suc-le-suc l)
 -- ---- the doubled block turned by a shift
 
 pub turned-is : (M : ℕ) (x : Word) (b s i : ℕ) → s < M → i < M → turned (doubled M x b) s i ≡ x (b * M + (i + s) % M)
-turned-is M x b s i hs hi = ⊎-elim around straight (le-or-lt M (s + i))
-  where
-    y : Word
-    y = upTo M (from (b * M) x)
-
-    straight : s + i < M → twice M y (s + i) ≡ x (b * M + (i + s) % M)
-    straight h =
-        let l : i + s < M = omega arith in
-        let e : i + s ≡ s + i = omega arith in
-        joined-below M (s + i) y (λ n. y (n - M)) h
-        ∙ upTo-below M (s + i) (from (b * M) x) h
-        ∙ ap (λ (n : ℕ). x (b * M + n)) (sym (mod-eq-of-lt l ∙ e))
-
-    around : M ≤ s + i → twice M y (s + i) ≡ x (b * M + (i + s) % M)
-    around h =
-        let l : M ≤ i + s = omega arith in
-        let k : i + s - M < M = omega arith in
-        let e : i + s - M ≡ s + i - M = omega arith in
-        joined-above M (s + i) y (λ n. y (n - M)) h
-        ∙ upTo-below M (s + i - M) (from (b * M) x) (omega arith)
-        ∙ ap (λ (n : ℕ). x (b * M + n)) (sym (mod-eq-sub-mod l ∙ mod-eq-of-lt k ∙ e))
+turned-is M x b s i hs hi = twice-turned M s i (upTo M (from (b * M) x)) hs hi ∙ upTo-below M ((i + s) % M) (from (b * M) x) (mod-lt (i + s) (omega arith))
 
 -- ---- a single check
 

@@ -4,8 +4,7 @@ use mathlib.Core.Bool.{Bool, false, not, _&&_, _||_}
 use mathlib.Core.Logic.{⊎-elim}
 use mathlib.Core.List.{List, [], _∷_}
 use Prim.Native.Nat.{ℕ, suc, _+_, _-_, _*_, _/_, _%_, _^_, _≤_, _<_}
-use native.Mathlib.Nat.{mod-lt, mod-eq-of-lt, one-mul, add-comm}
-use lib.Arith.{digits-mod}
+use native.Mathlib.Nat.{mod-lt, mod-eq-of-lt, mod-eq-sub-mod, one-mul, add-comm}
 use native.Mathlib.Omega.{arith}
 use lib.Dec.{ltb, leb, eqb}
 use lib.Pow.{pow-pos, shr-shr}
@@ -242,18 +241,21 @@ word-doubled v b m x some held hv hb hx =
     short : wbit (v ∷ []) ≡ upTo m (wbit (v ∷ []))
     short = upTo-again m x (wbit (v ∷ [])) same
 
--- m bits twice over, read from bit s on, are the m bits turned by s
-pub twice-turned : (m s n : ℕ) (x : Word) → s < m → n < m → twice m x (s + n) ≡ x ((n + s) % m)
-twice-turned m s n x hs hn = ⊎-elim again still (le-or-lt m (s + n))
+-- m bits twice over are the m bits taken round
+pub twice-mod : (m n : ℕ) (x : Word) → n < 2 * m → twice m x n ≡ x (n % m)
+twice-mod m n x h = ⊎-elim again still (le-or-lt m n)
   where
-    still : s + n < m → twice m x (s + n) ≡ x ((n + s) % m)
-    still h = joined-below m (s + n) x (λ i. x (i - m)) h ∙ ap x (sym (mod-eq-of-lt h) ∙ ap (λ (k : ℕ). k % m) (add-comm s n))
+    still : n < m → twice m x n ≡ x (n % m)
+    still l = joined-below m n x (λ i. x (i - m)) l ∙ ap x (sym (mod-eq-of-lt l))
 
-    again : m ≤ s + n → twice m x (s + n) ≡ x ((n + s) % m)
-    again h =
-        let e : n + s ≡ 1 * m + (s + n - m) = omega arith in
-        let l : s + n - m < m = omega arith in
-        joined-above m (s + n) x (λ i. x (i - m)) h ∙ ap x (sym (ap (λ (k : ℕ). k % m) e ∙ digits-mod 1 l))
+    again : m ≤ n → twice m x n ≡ x (n % m)
+    again l =
+        let k : n - m < m = omega arith in
+        joined-above m n x (λ i. x (i - m)) l ∙ ap x (sym (mod-eq-sub-mod l ∙ mod-eq-of-lt k))
+
+-- and from bit s on they are turned by s
+pub twice-turned : (m s n : ℕ) (x : Word) → s < m → n < m → twice m x (s + n) ≡ x ((n + s) % m)
+twice-turned m s n x hs hn = twice-mod m (s + n) x (omega arith) ∙ ap (λ (k : ℕ). x (k % m)) (add-comm s n)
 
 -- ---- bits added
 
