@@ -2,5 +2,6 @@ pub mod Places
 pub mod Cells
 pub mod Filling
 pub mod Spans
+pub mod Doubling
 pub mod Octets
 pub mod Counts

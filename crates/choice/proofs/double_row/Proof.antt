@@ -53,7 +53,7 @@ double-requires : tie.Need-double-requires
 double-requires c κs =
     let a = c .before .before .before .before .before .before .before .before .before .before .args in
     let clean = upTo-again (a .m) (from (64 * a .at) (wbit (a .s .now))) _ (c .before .before .before .before .row .ensures) in
-    (clean, simp (length-take, length-drop) (omega arith), simp (length-take, length-drop) (omega arith))
+    (clean, omega arith, omega arith, simp (length-take, length-drop) (omega arith), simp (length-take, length-drop) (omega arith))
 
 same-length-2 : tie.Need-same-length-2
 same-length-2 c = search needs
