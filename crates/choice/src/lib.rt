@@ -4,7 +4,7 @@ ghost use Prim.Native.Nat.{ℕ, _+_, _-_, _*_, _^_, _<_, _≤_};
 ghost use lib.ListN.{length, getD, set};
 ghost use Rattle.rules.specs.Bits.{Word, if_then_else_};
 ghost use Rattle.rules.specs.Codes.{Code, bits};
-ghost use Rattle.vectors.specs.Vectors.{wbit, upTo, from};
+ghost use Rattle.vectors.specs.Vectors.{wbit, Holds, upTo, from};
 ghost use Rattle.planes.specs.Counts.{value};
 ghost use Rattle.planes.specs.Ranges.{Top};
 ghost use Rattle.planes.proofs.Ranges.{Running};
@@ -18,6 +18,8 @@ use planes::better;
 use planes::most;
 use planes::none;
 use vectors::double;
+use vectors::double_word;
+use vectors::front;
 use vectors::trim;
 use vectors::window;
 
@@ -139,11 +141,25 @@ fn row(s: &[u64], at: usize, words: usize, m: usize, v: &mut [u64])
     trim(v, m);
 }
 
+// The first m bits of v, twice over from word `to` of d on.
+fn double_narrow_row(v: u64, m: usize, d: &mut [u64], to: usize)
+    requires { ⌜ (1 ≤ m) × (m ≤ 64) × (to + 2 ≤ length (now d)) × (length (now d) < 2 ^ 32) ⌝ }
+    ensures { λ r. ⌜ ((s : Word) → (start : ℕ) → Holds v (from start s) → Placed s start m (wbit (now (d .entry))) (64 * to) (wbit (now (d .exit)))) ⌝ }
+{
+    let p = double_word(front(v, m), m);
+    d[to] = p.first;
+    d[to + 1] = p.second;
+}
+
 // The m bits of a row that begins with word `at`, twice over from word `to` of d on.
 fn double_row(s: &[u64], at: usize, words: usize, m: usize, v: &mut [u64], d: &mut [u64], to: usize)
     requires { ⌜ (at + words ≤ length (now s)) × (words ≤ length (now v)) × (1 ≤ m) × (m ≤ 64 * words) × (to + 2 * words ≤ length (now d)) × (length (now d) < 2 ^ 32) ⌝ }
     ensures { λ r. ⌜ Placed (wbit (now (s .entry))) (64 * at) m (wbit (now (d .entry))) (64 * to) (wbit (now (d .exit))) ⌝ }
 {
+    if words == 1 {
+        double_narrow_row(s[at], m, d, to);
+        return;
+    }
     row(s, at, words, m, v);
     let end = to + 2 * words;
     double(v, m, &mut d[to..end]);

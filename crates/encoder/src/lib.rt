@@ -12,7 +12,7 @@ ghost use Rattle.encoder.specs.Rows.{RowsFit, LentRows, doubledRow, turn
 
 // The row of a printed number, twice over; row has room for the row.
 fn double_row(g: &[u64], sh: Shape, number: usize, row: &mut [u64], d: &mut [u64])
-    requires { ⌜ (sh .size ≤ 64 * sh .words) × (64 * sh .words < sh .size + 64) × (sh .words ≤ 8) × (sh .words * number + sh .words < length (now g)) × (length (now g) ≤ 512) × (length (now row) ≡ sh .words) × (length (now d) ≡ 2 * sh .words + 1) ⌝ }
+    requires { ⌜ (1 ≤ sh .size) × (sh .size ≤ 64 * sh .words) × (64 * sh .words < sh .size + 64) × (sh .words ≤ 8) × (sh .words * number + sh .words < length (now g)) × (length (now g) ≤ 512) × (length (now row) ≡ sh .words) × (length (now d) ≡ 2 * sh .words + 1) ⌝ }
     ensures { λ r. ⌜ wbit (now (d .exit)) ≡ doubledRow (now (g .entry)) sh number ⌝ }
 {
     let at = 64 * (sh.words * number) + (64 * sh.words - sh.size);

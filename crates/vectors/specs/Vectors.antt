@@ -2,7 +2,7 @@
 use mathlib.Core.Path.{_≡_}
 use mathlib.Core.Bool.{not, _&&_}
 use mathlib.Core.List.{List, [], _∷_}
-use Prim.Native.Nat.{ℕ, _+_, _-_, _/_, _%_, _<_}
+use Prim.Native.Nat.{ℕ, _+_, _-_, _*_, _/_, _%_, _<_}
 use lib.Dec.{leb, ltb}
 use lib.ListN.{getD}
 use Rattle.rules.specs.Bits.{Word, digit, _⊕_, if_then_else_}
@@ -43,3 +43,7 @@ twice m x = joined m x (λ n. x (n - m))
 -- The bits of y, from its first on, added to those of x that stand from bit a to before bit e.
 abbrev pub added : Word → ℕ → ℕ → Word → Word
 added x a e y n = x n ⊕ ((leb a n && ltb n e) && y (n - a))
+
+-- The first k words of d are those of v, and n words behind each stand the bits that begin t bits later in v.
+abbrev pub Doubled : List ℕ → ℕ → ℕ → ℕ → List ℕ → Type 0
+Doubled v n t k d = (j : ℕ) → j < k → (getD d j 0 ≡ getD v j 0) × Holds (getD d (n + j) 0) (from (64 * j + t) (wbit v))

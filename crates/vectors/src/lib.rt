@@ -4,9 +4,9 @@ ghost use mathlib.Core.List.{[], _∷_};
 ghost use mathlib.Core.Bool.{false};
 ghost use Prim.Native.Nat.{ℕ, _+_, _-_, _*_, _/_, _%_, _^_, _<_, _≤_};
 ghost use lib.Dec.{ltb};
-ghost use lib.ListN.{length, getD};
+ghost use lib.ListN.{length};
 ghost use Rattle.rules.specs.Bits.{Word, bit, digit, octets, count, flipped};
-ghost use Rattle.vectors.specs.Vectors.{wbit, both, Holds, upTo, from, later, joined, twice, added};
+ghost use Rattle.vectors.specs.Vectors.{wbit, both, Holds, upTo, from, later, joined, twice, added, Doubled};
 
 // The 64 bits of a and then b from bit t on.
 pub fn funnel(a: u64, b: u64, t: usize) -> u64
@@ -133,55 +133,36 @@ pub fn cut(y: &[u64], p: usize, m: usize, v: &mut [u64])
     trim(v, m);
 }
 
-// Word q, or 0 past the last one.
-fn word(y: &[u64], q: usize) -> u64
-    ensures { λ r. ⌜ r ≡ getD (now (y .entry)) q 0 ⌝ }
+// The words of v that have a right neighbour among its first n, and n words behind each of them the 64 bits that begin t bits later in v.
+fn double_words(v: &[u64], n: usize, t: usize, d: &mut [u64])
+    requires { ⌜ (1 ≤ n) × (n ≤ length (now v)) × (t < 64) × (2 * n ≤ length (now d) + 1) ⌝ }
+    ensures { λ r. ⌜ Doubled (now (v .entry)) n t (n - 1) (now (d .exit)) ⌝ }
 {
-    if q < y.len() { y[q] } else { 0 }
-}
-
-// The words before the place where the m bits of v begin again.
-fn double_front(v: &[u64], m: usize, d: &mut [u64])
-    requires { ⌜ (wbit (now v) ≡ upTo m (wbit (now v))) × (m ≤ 64 * length (now d)) ⌝ }
-    ensures { λ r. ⌜ wbit (now (d .exit)) ≡ joined (64 * (m / 64)) (twice m (wbit (now (v .entry)))) (wbit (now (d .entry))) ⌝ }
-{
-    let q = m / 64;
+    let mut a = v[0];
     let mut k = 0;
-    while k < q {
-        d[k] = word(v, k);
-        k += 1;
-    }
-}
-
-// The words behind it, from word first on, each across two neighbours of v.
-fn double_behind(v: &[u64], m: usize, first: usize, d: &mut [u64])
-    requires { ⌜ (wbit (now v) ≡ upTo m (wbit (now v))) × (m ≤ 64 * first) × (64 * first < m + 64) × (2 * m ≤ 64 * length (now d)) × (length (now d) ≤ 2 ^ 57) ⌝ }
-    ensures { λ r. ⌜ wbit (now (d .exit)) ≡ joined (64 * first) (wbit (now (d .entry))) (twice m (wbit (now (v .entry)))) ⌝ }
-{
-    let t = 64 * first - m;
-    let mut a = word(v, 0);
-    let mut k = first;
-    while k < d.len() {
-        let b = word(v, k - first + 1);
-        d[k] = funnel(a, b, t);
+    while k + 1 < n {
+        let b = v[k + 1];
+        d[k] = a;
+        d[n + k] = funnel(a, b, t);
         a = b;
         k += 1;
     }
 }
 
-// The m bits of v twice over.
+// The m bits of v twice over. They stand in n words, t bits short of filling them, so they begin again t bits before word n.
 pub fn double(v: &[u64], m: usize, d: &mut [u64])
-    requires { ⌜ (wbit (now v) ≡ upTo m (wbit (now v))) × (2 * m ≤ 64 * length (now d)) × (length (now d) ≤ 2 ^ 57) ⌝ }
+    requires { ⌜ (wbit (now v) ≡ upTo m (wbit (now v))) × (1 ≤ m) × (m ≤ 64 * length (now v)) × (2 * m ≤ 64 * length (now d)) × (length (now d) ≤ 2 ^ 57) ⌝ }
     ensures { λ r. ⌜ wbit (now (d .exit)) ≡ twice m (wbit (now (v .entry))) ⌝ }
 {
-    double_front(v, m, d);
-    let q = m / 64;
-    if m % 64 == 0 {
-        double_behind(v, m, q, d);
-        return;
+    let n = (m + 63) / 64;
+    let t = 64 * n - m;
+    double_words(v, n, t, d);
+    let a = v[n - 1];
+    d[n - 1] = a | ((v[0] >> 1) >> (63 - t));
+    if 2 * n - 1 < d.len() {
+        d[2 * n - 1] = funnel(a, 0, t);
+        trim(d, 128 * n);
     }
-    d[q] = word(v, q) | (word(v, 0) >> (m % 64));
-    double_behind(v, m, q + 1, d);
 }
 
 // Two words, one after the other.

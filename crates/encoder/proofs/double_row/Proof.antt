@@ -31,7 +31,7 @@ double-requires c κs =
     let a = c .before .before .before .before .before .before .before .before .before .before .before .before .args in
     let cut = c .before .before .before .before .cut in
     let at = rowStart (a .sh) (a .number) in
-    (upTo-again (a .sh .size) (from at (wbit (a .g .now))) (wbit (cut .last .1 .1 .1 .0)) (cut .ensures), search needs, search needs)
+    (upTo-again (a .sh .size) (from at (wbit (a .g .now))) (wbit (cut .last .1 .1 .1 .0)) (cut .ensures), search needs, search needs, search needs, search needs)
 
 same-length : tie.Need-same-length
 same-length c = search needs

@@ -45,7 +45,7 @@ double-requires : tie.Need-double-requires Inv-loop μ-loop
 double-requires c κs =
     let a = c .before .before .before .before .before .before .before .before .before .before .before .before .before .before .before .args in
     let l = c .before .before .before .before .before .before .before .before .before .loop in
-    (upTo-again (a .sh .size) (from (l .b * a .sh .size) (wbit (a .y .now))) (wbit (c .before .before .before .before .cut .last .1 .1 .1 .0)) (c .before .before .before .before .cut .ensures), search needs, search needs)
+    (upTo-again (a .sh .size) (from (l .b * a .sh .size) (wbit (a .y .now))) (wbit (c .before .before .before .before .cut .last .1 .1 .1 .0)) (c .before .before .before .before .cut .ensures), search needs, search needs, search needs, search needs)
 
 add-block-requires : tie.Need-add-block-requires Inv-loop μ-loop
 add-block-requires c κs = search needs

@@ -1,44 +1,46 @@
--- `vectors::double` meets its contract: the words before the place where the bits begin again, the word at it, and those behind. Assumes nothing.
-use mathlib.Core.Path.{_≡_, sym, ap, _∙_}
-use Prim.Native.Nat.{_+_, _*_, _/_, _%_, _^_}
+-- `vectors::double` meets its contract: the words that have a right neighbour, the last in front, and the last of all. Assumes nothing.
+use mathlib.Core.Path.{_≡_, _∙_}
+use Prim.Native.Nat.{_+_, _-_, _*_, _/_, _^_}
 use native.Mathlib.Omega.{arith}
-use lib.Bits.{bitOr}
-use lib.ListN.{length-set}
 use borrow.Author.Needs.{needs}
-use Rattle.rules.specs.Bits.{Word}
-use Rattle.vectors.specs.Vectors.{wbit, twice}
-use Rattle.vectors.proofs.Cells.{joined-below, joined-start}
-use Rattle.vectors.proofs.Filling.{word-stored}
-use Rattle.vectors.proofs.Spans.{twice-at}
+use lib.Bits.{bitOr}
+use lib.ListN.{getD, length, set, length-set}
+use Rattle.vectors.proofs.Doubling.{at-stored, end-stored}
 use Rattle.vectors.proofs.double.Statement.{statement}
 use Rattle.vectors.proofs.double.Tie as tie
 
-double-front-requires : tie.Need-double-front-requires
-double-front-requires c κs = search needs
+add-n : tie.Need-add-n
+add-n c = search needs
 
-double-behind-requires : tie.Need-double-behind-requires
-double-behind-requires c κs = search needs
+mul-t : tie.Need-mul-t
+mul-t c = search needs
 
-same-length : tie.Need-same-length
-same-length c = search needs
+sub-t : tie.Need-sub-t
+sub-t c = search needs
 
-returns : tie.Need-returns
-returns c =
-    let a = c .before .before .before .before .before .before .before .before .before .before .before .args in
-    let f = c .before .before .before .before .before .before .before .double-front in
-    let x = twice (a .m) (wbit (a .v .now)) in
-    let k = 64 * (a .m / 64) in
-    c .before .before .double-behind .ensures
-    ∙ sym (joined-start k _ x (λ n h. sym (ap (λ (y : Word). y n) (f .ensures) ∙ joined-below k n x (wbit (a .d .now)) h)))
+double-words-requires : tie.Need-double-words-requires
+double-words-requires c κs = search needs
 
-word-requires : tie.Need-word-requires
-word-requires c κs = search needs
+sub-a : tie.Need-sub-a
+sub-a c = search needs
 
-word-requires-2 : tie.Need-word-requires-2
-word-requires-2 c κs = search needs
+mul-a : tie.Need-mul-a
+mul-a c = search needs
+
+shared-slice-read-a : tie.Need-shared-slice-read-a
+shared-slice-read-a c = search needs
+
+shared-slice-read-d : tie.Need-shared-slice-read-d
+shared-slice-read-d c = search needs
+
+sub-d : tie.Need-sub-d
+sub-d c = search needs
 
 shr-d : tie.Need-shr-d
 shr-d c = search needs
+
+sub-d-2 : tie.Need-sub-d-2
+sub-d-2 c = search needs
 
 mul-d : tie.Need-mul-d
 mul-d c = search needs
@@ -46,51 +48,97 @@ mul-d c = search needs
 slice-write-d : tie.Need-slice-write-d
 slice-write-d c = search needs
 
-add-double-behind : tie.Need-add-double-behind
-add-double-behind c = search needs
+mul-if1 : tie.Need-mul-if1
+mul-if1 c = search needs
 
-double-behind-requires-2 : tie.Need-double-behind-requires-2
-double-behind-requires-2 c κs =
-    let s = c .before .before .before .before .before .before .before .before .before .before in
-    (s .pre .0, omega arith, omega arith, simp length-set (omega arith), simp length-set (omega arith))
+sub-if1 : tie.Need-sub-if1
+sub-if1 c = search needs
+
+funnel-requires : tie.Need-funnel-requires
+funnel-requires c κs = search needs
+
+mul-d-2 : tie.Need-mul-d-2
+mul-d-2 c = search needs
+
+sub-d-3 : tie.Need-sub-d-3
+sub-d-3 c = search needs
+
+mul-d-3 : tie.Need-mul-d-3
+mul-d-3 c = search needs
+
+slice-write-d-2 : tie.Need-slice-write-d-2
+slice-write-d-2 c = search needs
+
+mul-trim : tie.Need-mul-trim
+mul-trim c = search needs
+
+trim-requires : tie.Need-trim-requires
+trim-requires c κs = search needs
+
+same-length : tie.Need-same-length
+same-length c =
+    let s = c .before .before .before .before .before .before .before .before .before .before .before .before .before .before in
+    let a = s .args in
+    let w = c .before .before .before .before .before .before .before .before .before .before .double-words in
+    let v = a .v .now in
+    let d = w .last .1 .1 .1 .0 in
+    let n = (a .m + 63) / 64 in
+    let t = 64 * n - a .m in
+    let p = bitOr (getD v (n - 1) 0) (getD v 0 0 / 2 / 2 ^ (63 - t)) in
+    omega (arith, c .before .d2 .given, c .before .before .before .before .before .before .before .before .before .d .given, length-set (set d (n - 1) p) (2 * n - 1) (c .before .before .before .before .funnel .result), length-set d (n - 1) p)
+
+returns : tie.Need-returns
+returns c =
+    let s = c .before .before .before .before .before .before .before .before .before .before .before .before .before .before in
+    let a = s .args in
+    let w = c .before .before .before .before .before .before .before .before .before .before .double-words in
+    let n = (a .m + 63) / 64 in
+    let u = c .before .before .before .before .funnel in
+    c .before .before .trim .ensures
+    ∙ end-stored (a .v .now) (w .last .1 .1 .1 .0) (a .m) n (64 * n - a .m) (s .pre .0) (omega arith) (omega arith) (omega arith) (w .ensures)
+    (u .result) (c .before .before .before .before .before .before .shared-slice-known3 .given 0 .fits) (omega arith) (u .ensures)
 
 same-length-2 : tie.Need-same-length-2
-same-length-2 c =
-    let m = c .before .before .before .before .before .before .before .before .before .before .before .before .before .args .m in
-    let f = c .before .before .before .before .before .before .before .before .before .double-front in
-    let a = c .before .before .before .before .before .word in
-    let b = c .before .before .before .before .word2 in
-    omega (arith, length-set (f .last .1 .1 .0) (m / 64) (bitOr (a .result) (b .result / 2 ^ (m % 64))))
+same-length-2 c = search needs
 
 returns-2 : tie.Need-returns-2
 returns-2 c =
-    let s = c .before .before .before .before .before .before .before .before .before .before .before .before .before in
+    let s = c .before .before .before .before .before .before .before .before .before in
     let a = s .args in
-    let f = c .before .before .before .before .before .before .before .before .before .double-front in
-    let p = c .before .before .before .before .before .word in
-    let q = c .before .before .before .before .word2 in
-    let x = twice (a .m) (wbit (a .v .now)) in
-    let k = a .m / 64 in
-    let y = wbit (a .d .now) in
-    let at = twice-at (a .v .now) (a .m) k (s .pre .0) (p .result) (q .result) (a .m % 64) (p .ensures) (q .ensures) (q .ok) (omega arith) (omega arith) in
-    let stored = word-stored (f .last .1 .1 .0) k x y (f .ensures) (bitOr (p .result) (q .result / 2 ^ (a .m % 64))) (omega arith) at in
-    c .before .before .double-behind2 .ensures
-    ∙ sym (joined-start (64 * (k + 1)) _ x (λ n h. sym (ap (λ (w : Word). w n) stored ∙ joined-below (64 * (k + 1)) n x y h)))
+    let w = c .before .before .before .before .before .double-words in
+    let d = w .last .1 .1 .1 .0 in
+    let n = (a .m + 63) / 64 in
+    let same : length d ≡ length (a .d .now) = c .before .before .before .before .d .given in
+    at-stored (a .v .now) d (a .m) n (64 * n - a .m) (s .pre .0) (omega arith) (omega arith) (omega arith) (w .ensures)
+    (c .before .shared-slice-known3 .given 0 .fits) (omega arith) (omega arith) (omega arith)
 
 pub double-spec : {M : Type 1} → statement M
 double-spec =
     tie.close
     (tie.spec
-    double-front-requires
-    double-behind-requires
-    same-length
-    returns
-    word-requires
-    word-requires-2
+    add-n
+    mul-t
+    sub-t
+    double-words-requires
+    sub-a
+    mul-a
+    shared-slice-read-a
+    shared-slice-read-d
+    sub-d
     shr-d
+    sub-d-2
     mul-d
     slice-write-d
-    add-double-behind
-    double-behind-requires-2
+    mul-if1
+    sub-if1
+    funnel-requires
+    mul-d-2
+    sub-d-3
+    mul-d-3
+    slice-write-d-2
+    mul-trim
+    trim-requires
+    same-length
+    returns
     same-length-2
     returns-2)
