@@ -171,7 +171,7 @@ pub struct Pair {
     pub second: u64,
 }
 
-// The m bits of v twice over, where a word holds them; the double shift to the right may be one by 64.
+// The m bits of v twice over, where one word holds them. Two shifts to the right, since m may be 64.
 pub fn double_word(v: u64, m: usize) -> Pair
     requires { ⌜ (1 ≤ m) × (m ≤ 64) ⌝ }
     ensures { λ r. ⌜ ((x : Word) → Holds v (upTo m x) → both r ≡ twice m (upTo m x)) ⌝ }
