@@ -3,14 +3,13 @@
 # judge on N inputs of each call under each telecommand code, and N / 10 of each near-Earth one; SEED=.. repeats a
 # campaign. `make bench` counts the instructions of each call.
 .PHONY: run test lib compare bench
-CC ?= cc
 N ?= 20000
 SAMPLE ?= samples/code5.bin
 ARCHIVE = target/staticlib/libpandoricchia.a
 
 run:
 	rt check wordbench
-	target/bin/wordbench < $(SAMPLE)
+	outside/run_x86 target/bin/wordbench < $(SAMPLE)
 
 test:
 	.ci/run
@@ -20,9 +19,8 @@ lib:
 	cp target/staticlib/libcapi.a $(ARCHIVE)
 
 compare: lib
-	mkdir -p target/outside
-	$(CC) -std=c11 -O2 -Wall -Wextra -Iinclude -o target/outside/compare outside/compare.c outside/judge.c $(ARCHIVE)
-	target/outside/compare $(N) $$(( $(N) / 10 )) $(SEED)
+	outside/build_c target/outside/compare outside/compare.c outside/judge.c
+	outside/run_x86 target/outside/compare $(N) $$(( $(N) / 10 )) $(SEED)
 
 bench: lib
 	outside/bench
