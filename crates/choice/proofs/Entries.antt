@@ -19,12 +19,6 @@ use Rattle.layout.specs.declared.Shape.{Shape}
 use Rattle.layout.specs.Lent.{kept, total, placeOf, shiftsOf}
 use Rattle.choice.specs.Reading.{Noted, Listed, asked}
 
--- Inside a list its default does not matter.
-pub any-default : (l : List ℕ) (i a b : ℕ) → i < length l → getD l i a ≡ getD l i b
-any-default [] i a b h = absurd (omega arith)
-any-default (x ∷ l) zero a b h = refl
-any-default (x ∷ l) (suc i) a b h = any-default l i a b (omega arith)
-
 -- A start is written where s is an entry, and none where it is not.
 module _ (s s′ m row : ℕ) (l : List ℕ) (n : ℕ) (same : s ≡ s′) where
   pub noted : s′ < m → Noted s m row l n (set l n (row + (m - s′))) (n + 1)

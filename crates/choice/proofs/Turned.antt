@@ -12,7 +12,7 @@ use lib.ListN.{getD, length}
 use Rattle.rules.specs.Bits.{Word, count, tally, if_then_else_}
 use Rattle.rules.specs.Codes.{Code}
 use Rattle.rules.specs.Checks.{check}
-use Rattle.rules.proofs.Blocks.{countOf}
+use Rattle.rules.proofs.Blocks.{countOf, count-all as entries-all}
 use Rattle.rules.proofs.Flips.{brokenOf}
 use Rattle.layout.specs.declared.Shape.{Shape}
 use Rattle.layout.specs.Lent.{kept, entries, total, placeOf, shiftsOf, Lent, laid, score}
@@ -36,10 +36,6 @@ count-all : (n : ℕ) → count n (λ e. true) ≡ n
 unfolding count
 count-all zero = refl
 count-all (suc n) = omega (arith, count-all n)
-
-list-all : (s : List ℕ) → countOf s (λ e. true) ≡ length s
-list-all [] = refl
-list-all (x ∷ s) = omega (arith, list-all s)
 
 -- ---- a check as it is held
 
@@ -68,7 +64,7 @@ module _ (c : Code) (h : List ℕ) (sh : Shape) (lent : Lent c h sh) (x d : Word
 
   module _ (b : ℕ) (hb : b < sh .blocks) (starts : List ℕ) (n : ℕ) (are : Starts h sh b starts n) where
     all : n ≡ total (sh .rows) (λ r. length (shiftsOf sh h r b))
-    all = sym (count-all n) ∙ are .each (λ p. true) ∙ total-same (sh .rows) _ _ (λ r hr. list-all (shiftsOf sh h r b))
+    all = sym (count-all n) ∙ are .each (λ p. true) ∙ total-same (sh .rows) _ _ (λ r hr. entries-all (shiftsOf sh h r b))
 
     few : n ≤ 7
     few = omega (arith, all, lent .few b hb)

@@ -18,7 +18,7 @@ use Rattle.rules.specs.Flipping.{Run}
 use Rattle.rules.specs.Calls.{offered, judged}
 use Rattle.rules.proofs.Counting.{none-counted}
 use Rattle.rules.proofs.Parity.{OwnParity}
-use Rattle.rules.proofs.Published.{Published}
+use Rattle.rules.proofs.Published.{both, Published}
 use Rattle.rules.proofs.Codewords.{agree-all, own-encoded, own-codeword, codeword-own, codeword-quiet, codeword-bit, sent-bit, sent-fill, lifted-sent-bit, lifted-sent, parity-same}
 use Rattle.rules.proofs.Answers.{published}
 use Rattle.layout.specs.declared.Shape.{Shape}
@@ -41,10 +41,6 @@ module _ (n : ℕ) (off : offered n ≡ true) where
 
   pub telecommand : n < 4 → T (telecommanded n)
   telecommand l = both (leb 1 n) (leb n 3) (le→leb 1 n (offered-low n off)) (le→leb n 3 (omega arith))
-    where
-      both : (a b : Bool) → T a → T b → T (a && b)
-      both true b s t = t
-      both false b s t = s
 
   -- ---- a word is a codeword if its parity is the encoder's and what follows the parity is 0
 

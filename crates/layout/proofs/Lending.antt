@@ -3,7 +3,7 @@ use mathlib.Core.Path.{_≡_, refl, sym, ap, ap₂, _∙_, fun-ext, subst}
 use mathlib.Core.Bool.{Bool, true, false, not, _&&_}
 use mathlib.Core.List.{List, [], _∷_}
 use Prim.Native.Nat.{ℕ, zero, suc, _+_, _-_, _*_, _/_, _%_, _≤_, _<_}
-use native.Mathlib.Nat.{zero-lt-suc, mod-lt, zero-add, add-zero, add-assoc, le-step, lt-suc-self, le-trans, le-of-eq, lt-of-le-of-lt}
+use native.Mathlib.Nat.{zero-lt-suc, not-suc-le-zero, le-of-suc-le-suc, mod-lt, zero-add, add-zero, add-assoc, le-step, lt-suc-self, le-trans, le-of-eq, lt-of-le-of-lt}
 use native.Mathlib.Omega.{arith}
 use lib.Arith.{digits-div, digits-mod, digits-lt}
 use lib.Dec.{T, eqb, leb, ltb, eqb→eq, leb→le, ltb→lt}
@@ -39,6 +39,12 @@ shapeOf m words B H = record { size = suc m; words = words; blocks = B; rows = l
 
 abbrev pub sameTable : ℕ → ℕ → ℕ → List (List (List ℕ)) → List ℕ → Bool
 sameTable m words B H h = below (length H) (λ r. below B (λ b. sameList (shiftsOf (shapeOf m words B H) h r b) (getD (getD H r []) b [])))
+
+-- what is read does not depend on what stands past the end
+pub read-any : (h : List ℕ) (n d e : ℕ) → n < length h → getD h n d ≡ getD h n e
+read-any [] n d e l = absurd (not-suc-le-zero l)
+read-any (v ∷ h) zero d e l = refl
+read-any (v ∷ h) (suc n) d e l = read-any h n d e (le-of-suc-le-suc l)
 
 -- ---- totals
 

@@ -12,17 +12,11 @@ use lib.IntN.{ℤ, pos, negsuc, subℕ}
 use lib.Signed.{ltZ, leZ, _≤ℤ_, _<ℤ_, ltZ-yes, ltZ-no, ≤ℤ-refl, clashℤ}
 use Rattle.rules.specs.Bits.{if_then_else_}
 use Rattle.rules.specs.Flipping.{greatest}
+use Rattle.rules.proofs.Orders.{ltb-iff}
 use Rattle.rules.proofs.Greatest.{Greatest, greatest-has}
 use Rattle.planes.specs.Ranges.{Top}
 
 -- ---- scores: signed numbers, all raised by the same number
-
-ltb-iff : (a b c d : ℕ) → (a < b → c < d) → (b ≤ a → d ≤ c) → ltb a b ≡ ltb c d
-ltb-iff a b c d yes-too no-too = go (decLt a b)
-  where
-    go : Dec (a < b) → ltb a b ≡ ltb c d
-    go (yes l) = lt-ltb a b l ∙ sym (lt-ltb c d (yes-too l))
-    go (no n) = let l : b ≤ a = omega (arith, lt-of-not-le n) in le-ltb a b l ∙ sym (le-ltb c d (no-too l))
 
 -- A difference, by which is less.
 less-is : (a k : ℕ) → a < k → subℕ a k ≡ negsuc (k - suc a)

@@ -33,6 +33,10 @@ abbrev pub countOf : List ℕ → (ℕ → Bool) → ℕ
 countOf [] f = 0
 countOf (s ∷ S) f = tally (f s) + countOf S f
 
+pub count-all : (S : List ℕ) → countOf S (λ s. true) ≡ length S
+count-all [] = refl
+count-all (s ∷ S) = ap (λ z. 1 + z) (count-all S) ∙ one-add (length S)
+
 -- of bit k of block b: its broken checks, and all its checks
 abbrev pub brokenIn : ℕ → List (List (List ℕ)) → (ℕ → ℕ → Bool) → ℕ → ℕ → ℕ
 brokenIn M H w b k = each H (λ row. countOf (getD row b []) (λ s. checkIn M row w ((k + (M - s)) % M)))
@@ -214,10 +218,6 @@ module _ (wordOctets informationOctets unsent m : ℕ) (H : List (List (List ℕ
   pub degree-in : (n : ℕ) → n < B * suc m → count (checks c) (λ k. covers c k n) ≡ degree H (n / suc m)
   degree-in n h = count-same (checks c) _ (λ k. covers c k n && true) (λ k l. sym (and-true (covers c k n))) ∙ cover-rows (λ row i. true) n h ∙ go H
     where
-      all : (S : List ℕ) → countOf S (λ s. true) ≡ length S
-      all [] = refl
-      all (s ∷ S) = ap (λ z. 1 + z) (all S) ∙ one-add (length S)
-
       go : (H : List (List (List ℕ))) → each H (λ row. countOf (getD row (n / suc m) []) (λ s. true)) ≡ each H (λ row. length (getD row (n / suc m) []))
       go [] = refl
-      go (row ∷ H) = ap₂ (λ a b. a + b) (all (getD row (n / suc m) [])) (go H)
+      go (row ∷ H) = ap₂ (λ a b. a + b) (count-all (getD row (n / suc m) [])) (go H)

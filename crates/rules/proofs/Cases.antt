@@ -21,7 +21,7 @@ use Rattle.rules.specs.Calls.{offered, written, Encoded, encodeAnswer, C
 use Rattle.rules.proofs.Sums.{⊕-eq, sum-none, below-at, not-true, and-l}
 use Rattle.rules.proofs.Counting.{count-none, none-counted}
 use Rattle.rules.proofs.Blocks.{blk, checkIn, check-in}
-use Rattle.rules.proofs.Octets.{Octets, length-octets, octets-lt, octets-bit, octets-same, bit-octets}
+use Rattle.rules.proofs.Octets.{zeros-at, digit-zero, Octets, length-octets, octets-lt, octets-bit, octets-same, bit-octets}
 use Rattle.rules.proofs.Flips.{degreeOf, check-flip}
 use Rattle.rules.proofs.Runs.{run-limit, run-quiet}
 use Rattle.rules.proofs.Choosing.{quiet-next, one-next, first-count}
@@ -127,12 +127,7 @@ abbrev none : Word
 none n = false
 
 bit-zeros : (k n : ℕ) → bit (replicate k 0) n ≡ false
-bit-zeros k n = ap (λ z. digit 8 z (n % 8)) (at k (n / 8)) ∙ ap (λ z. eqb (z % 2) 1) (zero-div (2 ^ (8 - suc (n % 8))))
-  where
-    at : (k i : ℕ) → _≡_ {A = ℕ} (getD (replicate k 0) i 0) 0
-    at zero i = refl
-    at (suc k) zero = refl
-    at (suc k) (suc i) = at k i
+bit-zeros k n = ap (λ z. digit 8 z (n % 8)) (zeros-at k (n / 8)) ∙ digit-zero 8 (n % 8)
 
 module _ (n : ℕ) (t : T (offered n && not (eqb n 5))) where
   off : T (offered n)
@@ -142,12 +137,7 @@ module _ (n : ℕ) (t : T (offered n && not (eqb n 5))) where
   zeros-are = lifted-whole (code n) (whole n t) (bit (replicate (code n .wordOctets) 0)) ∙ fun-ext (bit-zeros (code n .wordOctets))
 
   zeros-octets : Octets (replicate (code n .wordOctets) 0)
-  zeros-octets i = at (code n .wordOctets) i
-    where
-      at : (k i : ℕ) → getD (replicate k 0) i 0 < 256
-      at zero i = lit< tt
-      at (suc k) zero = lit< tt
-      at (suc k) (suc i) = at k i
+  zeros-octets i = subst (λ z. z < 256) (sym (zeros-at (code n .wordOctets) i)) (lit< tt)
 
   none-own : OwnParity (code n) none
   unfolding parityBit

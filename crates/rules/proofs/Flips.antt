@@ -13,6 +13,7 @@ use borrow.Author.Tests.{lt-ltb, le-ltb}
 use Rattle.rules.specs.Bits.{Word, _⊕_, sum, count, flipped, if_then_else_}
 use Rattle.rules.specs.Codes.{Code, bits, checks}
 use Rattle.rules.specs.Checks.{covers, check, broken, excess}
+use Rattle.rules.proofs.Orders.{ltb-iff}
 use Rattle.rules.proofs.Sums.{and-⊕, ⊕-assoc, ⊕-comm, ⊕-self, ⊕-false, sum-linear, pick}
 use Rattle.rules.proofs.Counting.{count-same, count-xor, count-split}
 
@@ -61,13 +62,6 @@ module _ (c : Code) (x : Word) (n : ℕ) where
 pub sub-order : (a b a′ b′ : ℕ) → ltZ (subℕ a b) (subℕ a′ b′) ≡ ltb (a + b′) (a′ + b)
 sub-order a b a′ b′ = go (ltb a b) (ltb a′ b′) refl refl
   where
-    same : (p q r s : ℕ) → (p < q → r < s) → (q ≤ p → s ≤ r) → ltb p q ≡ ltb r s
-    same p q r s f g = go (ltb p q) refl
-      where
-        go : (t : Bool) → ltb p q ≡ t → ltb p q ≡ ltb r s
-        go true e = e ∙ sym (lt-ltb r s (f (ltb→lt p q (subst T (sym e) tt))))
-        go false e = e ∙ sym (le-ltb r s (g (nltb→le p q (subst (λ t. T (not t)) (sym e) tt))))
-
     yes-lt : (p q : ℕ) → ltb p q ≡ true → p < q
     yes-lt p q e = ltb→lt p q (subst T (sym e) tt)
 
@@ -78,7 +72,7 @@ sub-order a b a′ b′ = go (ltb a b) (ltb a′ b′) refl refl
         → ltZ (mathlib.Core.Bool.cond s (negsuc (b - suc a)) (pos (a - b))) (mathlib.Core.Bool.cond t (negsuc (b′ - suc a′)) (pos (a′ - b′))) ≡ ltb (a + b′) (a′ + b)
     cases true true e f =
         let h = yes-lt a b e in let h′ = yes-lt a′ b′ f in
-        same (b′ - suc a′) (b - suc a) (a + b′) (a′ + b) (λ l. omega arith) (λ l. omega arith)
+        ltb-iff (b′ - suc a′) (b - suc a) (a + b′) (a′ + b) (λ l. omega arith) (λ l. omega arith)
     cases true false e f =
         let h = yes-lt a b e in let h′ = no-lt a′ b′ f in
         sym (lt-ltb (a + b′) (a′ + b) (omega arith))
@@ -87,7 +81,7 @@ sub-order a b a′ b′ = go (ltb a b) (ltb a′ b′) refl refl
         sym (le-ltb (a + b′) (a′ + b) (omega arith))
     cases false false e f =
         let h = no-lt a b e in let h′ = no-lt a′ b′ f in
-        same (a - b) (a′ - b′) (a + b′) (a′ + b) (λ l. omega arith) (λ l. omega arith)
+        ltb-iff (a - b) (a′ - b′) (a + b′) (a′ + b) (λ l. omega arith) (λ l. omega arith)
 
     go : (s t : Bool) → ltb a b ≡ s → ltb a′ b′ ≡ t → ltZ (subℕ a b) (subℕ a′ b′) ≡ ltb (a + b′) (a′ + b)
     go s t e f = ap₂ (λ s t. ltZ (mathlib.Core.Bool.cond s (negsuc (b - suc a)) (pos (a - b))) (mathlib.Core.Bool.cond t (negsuc (b′ - suc a′)) (pos (a′ - b′)))) e f ∙ cases s t e f

@@ -9,7 +9,7 @@ use native.Mathlib.Numerals.{add-one, one-add}
 use native.Mathlib.Omega.{arith}
 use lib.Arith.{lt-one}
 use lib.Dec.{T, eqb, ltb, ltb→lt, nltb→le}
-use lib.ListN.{length, getD}
+use lib.ListN.{length, getD, replicate}
 use lib.Pow.{shr-shr}
 use borrow.Author.Tests.{lt-ltb, le-ltb}
 use Rattle.rules.specs.Bits.{Word, digit, bit, tally, number, octets}
@@ -68,6 +68,11 @@ pub number-lt : (w : ℕ) (x : Word) → number w x < 2 ^ w
 unfolding number
 number-lt zero x = le-refl 1
 number-lt (suc w) x = omega (arith, number-lt w x, pow-suc 2 w, tally-le (x w))
+
+pub zeros-at : (k i : ℕ) → _≡_ {A = ℕ} (getD (replicate k 0) i 0) 0
+zeros-at zero i = refl
+zeros-at (suc k) zero = refl
+zeros-at (suc k) (suc i) = zeros-at k i
 
 pub digit-zero : (w k : ℕ) → digit w 0 k ≡ false
 digit-zero w k = ap (λ z. eqb (z % 2) 1) (zero-div (2 ^ (w - suc k)))

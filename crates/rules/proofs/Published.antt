@@ -154,7 +154,7 @@ published5 = record {
 
 -- ---- the two tables of each code are tied, the zero bits in front of printed rows among it
 
-both : (a b : Bool) → T a → T b → T (a && b)
+pub both : (a b : Bool) → T a → T b → T (a && b)
 both true b s t = t
 both false b s t = s
 

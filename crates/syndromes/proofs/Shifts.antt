@@ -4,17 +4,16 @@ use mathlib.Core.Bool.{Bool, true, false, _&&_, and-false}
 use mathlib.Core.Logic.{⊎-elim}
 use mathlib.Core.List.{List, [], _∷_}
 use Prim.Native.Nat.{ℕ, zero, suc, _+_, _-_, _*_, _%_, _≤_, _<_}
-use native.Mathlib.Nat.{mod-lt, mod-eq-of-lt, mod-eq-sub-mod, not-suc-le-zero, le-of-suc-le-suc}
+use native.Mathlib.Nat.{mod-lt, mod-eq-of-lt, mod-eq-sub-mod}
 use native.Mathlib.Omega.{arith}
 use lib.Dec.{ltb, leb, eqb}
 use lib.ListN.{length, getD}
 use borrow.Author.Tests.{lt-ltb, le-ltb, ne-eqb}
 use Rattle.rules.specs.Bits.{Word, _⊕_, flipped, if_then_else_}
 use Rattle.rules.specs.Identity.{over}
-use Rattle.rules.proofs.Sums.{⊕-false}
+use Rattle.rules.proofs.Sums.{⊕-false, eqb-iff}
 use Rattle.vectors.specs.Vectors.{added, upTo, from, twice}
 use Rattle.rules.proofs.Orders.{le-or-lt}
-use Rattle.vectors.proofs.Places.{same-test}
 use Rattle.vectors.proofs.Cells.{joined-below, joined-above}
 use Rattle.vectors.proofs.Spans.{added-before, added-after, added-inside, added-twice, twice-turned, upTo-below}
 use Rattle.layout.specs.Lent.{kept, entries, placeOf}
@@ -77,12 +76,6 @@ added-places sh h b r g a e s t x y z es et first second =
     ap₂ (λ (s t : ℕ). entry (sh .size) g s i ⊕ entry (sh .size) g t i) es et
     ∙ sym (over-entries (sh .size) h (placeOf sh r b) (λ s. g s i))))
 
--- what is read does not depend on what stands past the end
-pub read-any : (h : List ℕ) (n d e : ℕ) → n < length h → getD h n d ≡ getD h n e
-read-any [] n d e l = absurd (not-suc-le-zero l)
-read-any (v ∷ h) zero d e l = refl
-read-any (v ∷ h) (suc n) d e l = read-any h n d e (le-of-suc-le-suc l)
-
 -- ---- the doubled block turned by a shift
 
 pub turned-is : (M : ℕ) (x : Word) (b s i : ℕ) → s < M → i < M → turned (doubled M x b) s i ≡ x (b * M + (i + s) % M)
@@ -110,5 +103,5 @@ flipped-row x a e j h = fun-ext (λ n. ⊎-elim (λ l. ⊎-elim (after n l) (ins
 
     inside : (n : ℕ) → a ≤ n → n < e → flipped x (a + j) n ≡ added x a e (λ i. eqb i j) n
     inside n l k =
-        ap (λ (b : Bool). x n ⊕ b) (same-test n (a + j) (n - a) j (λ q. omega arith) (λ q. omega arith))
+        ap (λ (b : Bool). x n ⊕ b) (eqb-iff n (a + j) (n - a) j (λ q. omega arith) (λ q. omega arith))
         ∙ sym (added-inside x (λ i. eqb i j) a e n l k)

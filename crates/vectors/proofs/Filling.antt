@@ -8,7 +8,7 @@ use lib.Dec.{lit<}
 use lib.ListN.{getD, length, set, replicate, length-set}
 use Rattle.rules.specs.Bits.{Word, digit}
 use Rattle.vectors.specs.Vectors.{wbit, Holds, from, joined}
-use Rattle.rules.proofs.Octets.{digit-zero}
+use Rattle.rules.proofs.Octets.{zeros-at, digit-zero}
 use Rattle.vectors.proofs.Places.{place}
 use Rattle.vectors.proofs.Cells.{cell-at, cell-past, unread, stored, same-cells, joined-start, joined-end}
 
@@ -40,12 +40,7 @@ word-stored ws k x y e v hk hv = stored 64 (lit< tt) ws k x y e v hk hv
 
 pub zero-words : (k : ℕ) → wbit (replicate k 0) ≡ (λ n. false)
 unfolding wbit
-zero-words k = fun-ext (λ n. ap (λ (v : ℕ). digit 64 v (n % 64)) (none k (n / 64)) ∙ digit-zero 64 (n % 64))
-  where
-    none : (k q : ℕ) → _≡_ {A = ℕ} (getD (replicate k 0) q 0) 0
-    none zero q = refl
-    none (suc k) zero = refl
-    none (suc k) (suc q) = none k q
+zero-words k = fun-ext (λ n. ap (λ (v : ℕ). digit 64 v (n % 64)) (zeros-at k (n / 64)) ∙ digit-zero 64 (n % 64))
 
 -- Vectors of one length are known by their bits.
 pub same-words : (xs ys : List ℕ) → length xs ≡ length ys → ((k : ℕ) → getD xs k 0 < 2 ^ 64) → ((k : ℕ) → getD ys k 0 < 2 ^ 64) → wbit xs ≡ wbit ys → xs ≡ ys

@@ -12,11 +12,8 @@ use lib.Bits.{bitXor, bitAnd, bitOr, differ, xor-step, and-step, or-step, xor-sh
 use borrow.Author.Tests.{eq-eqb, ne-eqb}
 use Rattle.rules.specs.Bits.{digit, tally, _⊕_}
 use Rattle.rules.proofs.Orders.{le-or-lt, eq-or-not}
+use Rattle.rules.proofs.Sums.{eqb-iff}
 use Rattle.rules.proofs.Octets.{digit-half}
-
-pub same-test : (a b c d : ℕ) → (a ≡ b → c ≡ d) → (c ≡ d → a ≡ b) → eqb a b ≡ eqb c d
-same-test a b c d to back =
-    ⊎-elim (λ e. eq-eqb a b e ∙ sym (eq-eqb c d (to e))) (λ n. ne-eqb a b n ∙ sym (ne-eqb c d (λ e. n (back e)))) (eq-or-not a b)
 
 pub or-none : (p : Bool) → (p || false) ≡ p
 or-none true = refl
@@ -187,7 +184,7 @@ digit-ones w i h = place-ones w (w - suc i) (omega arith)
 -- Bit k alone.
 pub digit-power : (w k i : ℕ) → k < w → i < w → digit w (2 ^ (w - suc k)) i ≡ eqb i k
 digit-power w k i hk hi =
-    place-power (w - suc k) (w - suc i) ∙ same-test (w - suc k) (w - suc i) i k (λ e. omega arith) (λ e. omega arith)
+    place-power (w - suc k) (w - suc i) ∙ eqb-iff (w - suc k) (w - suc i) i k (λ e. omega arith) (λ e. omega arith)
 
 -- A digit more is the odd one.
 pub digit-odd : (w v : ℕ) → v % 2 ≡ tally (digit (suc w) v w)

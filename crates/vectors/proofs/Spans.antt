@@ -12,10 +12,10 @@ use lib.Bits.{bitXor, bitAnd, bitOr}
 use lib.ListN.{getD, length, set}
 use borrow.Author.Tests.{lt-ltb, le-ltb, le-leb, lt-leb, ne-eqb}
 use Rattle.rules.specs.Bits.{Word, digit, flipped, _⊕_}
-use Rattle.rules.proofs.Sums.{⊕-assoc, and-⊕}
+use Rattle.rules.proofs.Sums.{⊕-assoc, and-⊕, eqb-iff}
 use Rattle.vectors.specs.Vectors.{wbit, Holds, upTo, from, later, joined, twice, added}
 use Rattle.rules.proofs.Orders.{le-or-lt}
-use Rattle.vectors.proofs.Places.{or-none, and-none, xor-none, xor-same, digit-or, digit-and, digit-xor, digit-power, place, place-or, place-xor, place-up, place-down, place-below, place-above, place-cut, place-zero, same-test}
+use Rattle.vectors.proofs.Places.{or-none, and-none, xor-none, xor-same, digit-or, digit-and, digit-xor, digit-power, place, place-or, place-xor, place-up, place-down, place-below, place-above, place-cut, place-zero}
 use Rattle.vectors.proofs.Cells.{joined-below, joined-above, joined-start, joined-end}
 use Rattle.vectors.proofs.Filling.{word-at, word-holds, word-past, word-stored}
 
@@ -320,7 +320,7 @@ module _ (ws : List ℕ) (n : ℕ) (inside : n < 64 * length ws) where
       place-cut (1 * 2 ^ (63 - n % 64)) 64 (64 - suc i) (omega arith)
       ∙ ap (λ (v : ℕ). place v (64 - suc i)) (one-mul (2 ^ (63 - n % 64)) ∙ ap (λ (k : ℕ). 2 ^ k) e)
       ∙ digit-power 64 (n % 64) i (omega arith) hi
-      ∙ same-test i (n % 64) (64 * (n / 64) + i) n (λ e. omega arith) (λ e. omega arith)
+      ∙ eqb-iff i (n % 64) (64 * (n / 64) + i) n (λ e. omega arith) (λ e. omega arith)
 
   pub turned-over : wbit (set ws (n / 64) (bitXor (getD ws (n / 64) 0) ((1 * 2 ^ (63 - n % 64)) % 2 ^ 64))) ≡ flipped y n
   turned-over =

@@ -4,7 +4,7 @@ use native.Mathlib.Omega.{arith}
 use lib.ListN.{length}
 use Rattle.layout.specs.Lent.{placeOf}
 use Rattle.syndromes.proofs.Bounds.{place-room}
-use Rattle.syndromes.proofs.Shifts.{read-any}
+use Rattle.layout.proofs.Lending.{read-any}
 use Rattle.syndromes.proofs.read_places.Statement.{statement}
 use Rattle.syndromes.proofs.read_places.Tie as tie
 use Rattle.syndromes.proofs.read_places.Reads as reads
