@@ -1,8 +1,8 @@
 // The bit of greatest excess, 64 bits of the word at a time.
 ghost use mathlib.Core.Path.{_≡_};
 ghost use Prim.Native.Nat.{ℕ, _+_, _-_, _*_, _^_, _<_, _≤_};
-ghost use lib.ListN.{length, getD, set};
-ghost use Rattle.rules.specs.Bits.{Word, if_then_else_};
+ghost use lib.ListN.{length, getD};
+ghost use Rattle.rules.specs.Bits.{Word};
 ghost use Rattle.rules.specs.Codes.{Code, bits};
 ghost use Rattle.vectors.specs.Vectors.{wbit, Holds, upTo, from};
 ghost use Rattle.planes.specs.Counts.{value};

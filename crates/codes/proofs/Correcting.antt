@@ -1,19 +1,19 @@
 -- Correct and step, put together from what the engine ensures.
-use mathlib.Core.Path.{_≡_, refl, sym, ap, ap₂, _∙_, subst}
+use mathlib.Core.Path.{_≡_, sym, ap, ap₂, _∙_, subst}
 use mathlib.Core.Bool.{Bool, true, false, cond}
 use mathlib.Core.List.{List}
 use Prim.Native.Nat.{ℕ, suc, _-_, _≤_, _<_}
 use native.Mathlib.Omega.{arith}
 use lib.Dec.{eqb, lit≤}
-use lib.IntN.{ℤ, pos, negsuc, subℕ, natAbs}
+use lib.IntN.{pos, negsuc, subℕ, natAbs}
 use lib.ListN.{length}
 use borrow.Author.Tests.{eq-eqb, ne-eqb, le-ltb}
-use Rattle.rules.specs.Bits.{Word, bit, flipped, if_then_else_}
+use Rattle.rules.specs.Bits.{Word, bit, if_then_else_}
 use Rattle.rules.specs.Codes.{Code, code, bits}
 use Rattle.rules.specs.Checks.{broken}
 use Rattle.rules.specs.Encoding.{lifted}
-use Rattle.rules.specs.Flipping.{Next, quiet, stuck, flip, byExcess, Run, run}
-use Rattle.rules.specs.Calls.{offered, written, Corrected, judged, ranCorrect, Stepped, refusedStep, nextStep}
+use Rattle.rules.specs.Flipping.{Next, flip, byExcess, run}
+use Rattle.rules.specs.Calls.{written, judged, ranCorrect, nextStep}
 use Rattle.rules.proofs.Runs.{run-ends, End, ends-quiet, ends-stuck, ends-limit}
 use Rattle.rules.proofs.Choosing.{next-quiet, next-flip, Chosen, chosen-lt}
 use Rattle.rules.proofs.Flips.{brokenOf, metOf, excess-is, broken-met}
@@ -21,7 +21,7 @@ use Rattle.choice.proofs.Excesses.{degree-le}
 use Rattle.rules.proofs.Answers.{ranFrom, steppedFrom}
 use Rattle.layout.specs.declared.Shape.{Shape}
 use Rattle.layout.specs.Lent.{Fit, Lent, laid}
-use Rattle.tables.specs.Flat.{shapeOfCode, Lends}
+use Rattle.tables.specs.Flat.{shapeOfCode}
 use Rattle.received.specs.Measured.{Measured}
 use Rattle.runs.specs.declared.Ran.{Ran}
 use Rattle.runs.specs.declared.Turn.{Turn}

@@ -3,19 +3,19 @@ use mathlib.Core.Path.{_≡_, refl, sym, ap, ap₂, _∙_, subst, fun-ext}
 use mathlib.Core.Bool.{Bool, true, false, not, _&&_, true≢false}
 use mathlib.Core.List.{List}
 use Prim.Native.Nat.{ℕ, zero, suc, _+_, _-_, _*_, _/_, _%_, _^_, _≤_, _<_}
-use native.Mathlib.Nat.{lt-of-not-le, zero-mod}
-use native.Mathlib.Decide.{ℕ-discrete, decLt}
+use native.Mathlib.Nat.{lt-of-not-le}
+use native.Mathlib.Decide.{decLt}
 use native.Mathlib.Omega.{arith}
-use lib.Dec.{T, eqb, ltb, lit≤}
+use lib.Dec.{T, eqb, lit≤}
 use lib.ListN.{length, getD}
-use borrow.Author.Tests.{eq-eqb, ne-eqb, eqb-true, lt-ltb, le-ltb}
+use borrow.Author.Tests.{eq-eqb, eqb-true, lt-ltb, le-ltb}
 use Rattle.rules.specs.Bits.{Word, digit, bit, octets, if_then_else_}
-use Rattle.rules.specs.Codes.{Code, code, code1, code2, code3, code4, code5, bits, information}
+use Rattle.rules.specs.Codes.{code, code1, code2, code3, code4, code5, bits, information}
 use Rattle.rules.specs.Tables.{generator16, generator32, generator64, generator511}
-use Rattle.rules.specs.Encoding.{lifted, sent, encoded}
+use Rattle.rules.specs.Encoding.{lifted, encoded}
 use Rattle.rules.specs.Calls.{offered, written, sixSet, encodeAnswer}
 use Rattle.rules.proofs.Octets.{bit-past}
-use Rattle.rules.proofs.Codewords.{lifted-unsent, lifted-sent-bit, sent-same}
+use Rattle.rules.proofs.Codewords.{lifted-sent-bit, sent-same}
 use Rattle.rules.proofs.Answers.{five, published, if-yes, if-long}
 use Rattle.vectors.specs.Vectors.{upTo}
 use Rattle.received.proofs.Handed.{is-offered}

@@ -1,17 +1,17 @@
 -- How a quiet word is judged, from the tests that the code makes.
 use mathlib.Core.Path.{_≡_, refl, sym, ap, ap₂, _∙_, subst, fun-ext}
-use mathlib.Core.Bool.{Bool, true, false, not, _&&_, true≢false}
+use mathlib.Core.Bool.{Bool, true, false, not, true≢false}
 use mathlib.Core.List.{List}
-use Prim.Native.Nat.{ℕ, zero, suc, _+_, _-_, _*_, _≤_, _<_, zero-le}
-use native.Mathlib.Nat.{lt-of-not-le, lt-of-lt-of-le, not-suc-le-zero, le-of-eq, zero-add}
+use Prim.Native.Nat.{ℕ, _+_, _-_, _*_, _≤_, _<_}
+use native.Mathlib.Nat.{lt-of-not-le, lt-of-lt-of-le, zero-add}
 use native.Mathlib.Decide.{ℕ-discrete, decLt}
 use native.Mathlib.Omega.{arith}
-use lib.Dec.{T, eqb, leb, ltb, le→leb, ltb→lt, nltb→le, lit<, lit≤}
+use lib.Dec.{T, leb, ltb, le→leb, nltb→le}
 use lib.ListN.{length}
-use borrow.Author.Tests.{eq-eqb, ne-eqb, lt-ltb, le-ltb}
-use Rattle.rules.specs.Bits.{Word, bit, count, agree, if_then_else_}
+use borrow.Author.Tests.{eq-eqb, ne-eqb}
+use Rattle.rules.specs.Bits.{Word, bit, count, if_then_else_}
 use Rattle.rules.specs.Codes.{Code, code, code4, code5, nearEarth, bits, information}
-use Rattle.rules.specs.Tables.{parity511, generator511}
+use Rattle.rules.specs.Tables.{parity511}
 use Rattle.rules.specs.Checks.{broken}
 use Rattle.rules.specs.Encoding.{lifted, sent, encoded, codeword}
 use Rattle.rules.specs.Flipping.{Run}

@@ -2,15 +2,14 @@
 use mathlib.Core.Path.{_≡_, sym, ap, _∙_}
 use mathlib.Core.Bool.{true, false, false≢true}
 use mathlib.Core.Logic.{⊎-elim}
-use Prim.Native.Nat.{ℕ, suc, _+_, _-_, _*_, _/_, _%_, _^_, _≤_, _<_}
-use native.Mathlib.Nat.{pow-suc, div-eq-of-lt-le}
+use Prim.Native.Nat.{ℕ, suc, _+_, _-_, _*_, _%_, _^_, _≤_, _<_}
 use native.Mathlib.Omega.{arith}
 use lib.Count.{leadingZeros}
 use Rattle.rules.specs.Bits.{Word, digit}
 use Rattle.vectors.specs.Vectors.{Holds, upTo, from}
 use Rattle.rules.proofs.Orders.{le-or-lt}
 use Rattle.rules.proofs.Octets.{digit-zero}
-use Rattle.vectors.proofs.Places.{place, place-up, place-below, place-above, place-cut}
+use Rattle.vectors.proofs.Places.{place, place-up, place-below, place-cut}
 use Rattle.vectors.proofs.Firsts.{First, first-digit}
 use Rattle.vectors.proofs.Spans.{upTo-below, upTo-above}
 

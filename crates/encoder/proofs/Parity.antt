@@ -8,7 +8,7 @@ use native.Mathlib.Nat.{mod-lt, add-mul, suc-mul}
 use native.Mathlib.Omega.{arith}
 use lib.Arith.{digits-div, digits-mod}
 use Rattle.rules.specs.Bits.{Word, _⊕_, sum}
-use Rattle.rules.specs.Codes.{Code, bits, information}
+use Rattle.rules.specs.Codes.{Code, information}
 use Rattle.rules.specs.Encoding.{printedBit, rowBit, parityBit, encoded}
 use Rattle.rules.proofs.Sums.{sum-same}
 use Rattle.rules.proofs.Blocks.{sum-blocks}

@@ -5,8 +5,8 @@ use Prim.Native.Nat.{ℕ, suc, _+_, _-_, _*_, _/_, _%_, _^_, _≤_, _<_}
 use native.Mathlib.Nat.{mul-comm, mod-lt, zero-lt-suc}
 use native.Mathlib.Omega.{arith}
 use lib.Arith.{digits-div, digits-mod, digits-lt}
-use lib.ListN.{length, getD}
-use Rattle.rules.specs.Codes.{Code, bits, information}
+use lib.ListN.{getD}
+use Rattle.rules.specs.Codes.{Code}
 use Rattle.rules.specs.Encoding.{printedBit}
 use Rattle.vectors.specs.Vectors.{wbit}
 use Rattle.vectors.proofs.Places.{place, place-down, place-cut}

@@ -2,22 +2,21 @@
 use mathlib.Core.Path.{_≡_, refl, sym, ap, ap₂, _∙_, fun-ext, subst}
 use mathlib.Core.Bool.{Bool, true, false, not, _&&_}
 use mathlib.Core.List.{List, [], _∷_}
-use Prim.Native.Nat.{ℕ, zero, suc, _+_, _-_, _*_, _/_, _%_, _≤_, _<_}
-use native.Mathlib.Nat.{zero-lt-suc, not-suc-le-zero, le-of-suc-le-suc, mod-lt, zero-add, add-zero, add-assoc, le-step, lt-suc-self, le-trans, le-of-eq, lt-of-le-of-lt}
-use native.Mathlib.Omega.{arith}
+use Prim.Native.Nat.{ℕ, zero, suc, _+_, _-_, _*_, _/_, _%_, _<_}
+use native.Mathlib.Nat.{zero-lt-suc, not-suc-le-zero, le-of-suc-le-suc, mod-lt, zero-add, add-zero, add-assoc, le-step, lt-suc-self, le-trans, le-of-eq}
 use lib.Arith.{digits-div, digits-mod, digits-lt}
 use lib.Dec.{T, eqb, leb, ltb, eqb→eq, leb→le, ltb→lt}
 use lib.ListN.{length, getD}
-use Rattle.rules.specs.Bits.{Word, _⊕_, tally, sum, flipped}
-use Rattle.rules.specs.Codes.{Code, bits, checks}
-use Rattle.rules.specs.Checks.{oneAt, covers, check}
+use Rattle.rules.specs.Bits.{Word, _⊕_, sum, flipped}
+use Rattle.rules.specs.Codes.{Code, bits}
+use Rattle.rules.specs.Checks.{oneAt, check}
 use Rattle.rules.specs.Identity.{below, over, blocks}
-use Rattle.rules.proofs.Sums.{and-l, and-r, below-at, sum-same, pick, blocks-sum, eqb-iff}
+use Rattle.rules.proofs.Sums.{and-l, and-r, below-at, sum-same, pick, blocks-sum}
 use Rattle.rules.proofs.Counting.{each}
 use Rattle.rules.proofs.Blocks.{blk, checkIn, countOf, brokenIn, degree, distinct, shaped, Row, shaped-at, at-shift, one-sum, withTables, check-in, broken-in, degree-in}
 use Rattle.rules.proofs.Flips.{brokenOf, degreeOf, check-flip}
 use Rattle.layout.specs.declared.Shape.{Shape}
-use Rattle.layout.specs.Lent.{entries, placeOf, shiftsOf, total, Lent}
+use Rattle.layout.specs.Lent.{shiftsOf, total, Lent}
 
 -- ---- the test
 

@@ -1,11 +1,11 @@
 -- What is lent to the engine, and how the engine holds a syndrome.
 use mathlib.Core.Path.{_≡_}
-use mathlib.Core.Bool.{Bool, _&&_}
+use mathlib.Core.Bool.{_&&_}
 use mathlib.Core.List.{List, [], _∷_}
 use Prim.Native.Nat.{ℕ, zero, suc, _+_, _-_, _*_, _/_, _%_, _≤_, _<_}
 use lib.Dec.{eqb, ltb}
 use lib.ListN.{length, getD}
-use Rattle.rules.specs.Bits.{Word, _⊕_, tally, sum, flipped, if_then_else_}
+use Rattle.rules.specs.Bits.{Word, _⊕_, sum, flipped, if_then_else_}
 use Rattle.rules.specs.Codes.{Code, bits, checks}
 use Rattle.rules.specs.Checks.{check}
 use Rattle.rules.specs.Identity.{over}

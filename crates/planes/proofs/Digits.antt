@@ -1,17 +1,16 @@
 -- The bits of a number, once over the width.
 -- Assumes nothing.
-use mathlib.Core.Path.{_≡_, refl, sym, ap, ap₂, _∙_}
+use mathlib.Core.Path.{_≡_, refl, sym, ap, _∙_}
 use mathlib.Core.Bool.{Bool, true, false, _&&_}
-use Prim.Native.Nat.{ℕ, zero, suc, min, _+_, _-_, _*_, _/_, _%_, _^_, _≤_, _<_}
-use native.Mathlib.Nat.{mod-lt, zero-lt-suc, zero-div, pow-suc, div-eq-of-lt, div-eq-of-lt-le, lt-of-lt-of-le, mul-div-cancel, mul-mod-left, mul-assoc, add-zero, lt-of-not-le}
+use Prim.Native.Nat.{ℕ, suc, _+_, _-_, _*_, _/_, _%_, _^_, _≤_, _<_}
+use native.Mathlib.Nat.{pow-suc, mul-div-cancel, mul-mod-left, mul-assoc, add-zero, lt-of-not-le}
 use native.Mathlib.Decide.{decLt}
 use native.Mathlib.Omega.{arith}
 use borrow.Author.Tests.{lt-ltb, le-ltb}
-use lib.Arith.{digits-mod, mod-mul}
-use lib.Bits.{bitXor, bitAnd, differ, xor-step, xor-shr, and-step, and-shr, shifted-even}
-use lib.Count.{leadingZeros, leading-top}
-use lib.Dec.{eqb, ltb, lit≤}
-use lib.Pow.{pow-pos, pow-mono, pow-add, shr-shr, shl-shr, high, low, ones-lt, ones-split}
+use lib.Arith.{mod-mul}
+use lib.Bits.{shifted-even}
+use lib.Dec.{eqb, ltb}
+use lib.Pow.{pow-pos, pow-add, shr-shr, shl-shr, high, low, ones-lt, ones-split}
 use Rattle.rules.specs.Bits.{digit, tally, _⊕_}
 
 pub half : (a x : Bool) → tally (a ⊕ x) + 2 * tally (a && x) ≡ tally a + tally x

@@ -1,16 +1,14 @@
 -- Lengths by code number, and words handed in and out.
-use mathlib.Core.Path.{_≡_, refl, sym, ap, ap₂, _∙_, fun-ext, subst}
-use mathlib.Core.Bool.{Bool, true, false, not, _&&_, and-true}
-use mathlib.Core.List.{List}
-use Prim.Native.Nat.{ℕ, zero, suc, _+_, _-_, _*_, _≤_, _<_}
-use native.Mathlib.Nat.{zero-add, add-comm, lt-of-not-le}
-use native.Mathlib.Decide.{ℕ-discrete, decLt}
+use mathlib.Core.Path.{_≡_, refl, sym, ap, ap₂, _∙_, subst}
+use mathlib.Core.Bool.{Bool, true, false, not, _&&_}
+use Prim.Native.Nat.{ℕ, _+_, _-_, _≤_, _<_}
+use native.Mathlib.Nat.{add-comm, lt-of-not-le}
+use native.Mathlib.Decide.{decLt}
 use native.Mathlib.Omega.{arith}
 use lib.Dec.{T, eqb, leb, ltb, lit≤, leb→le}
-use lib.ListN.{length}
 use borrow.Author.Tests.{lt-ltb, le-ltb, ne-eqb}
-use Rattle.rules.specs.Bits.{Word, bit, octets}
-use Rattle.rules.specs.Codes.{Code, code, code1, code2, code3, code4, code5, bits}
+use Rattle.rules.specs.Bits.{Word, octets}
+use Rattle.rules.specs.Codes.{code, code1, code2, code3, code4, code5}
 use Rattle.rules.specs.Tables.{parity511}
 use Rattle.rules.specs.Encoding.{lifted, sent}
 use Rattle.rules.specs.Calls.{offered, written}

@@ -1,9 +1,9 @@
 // Words as they are handed over: their lengths, octets in, octets out, and the syndrome of what was received.
 ghost use mathlib.Core.Path.{_≡_};
 ghost use mathlib.Core.Bool.{true, false};
-ghost use Prim.Native.Nat.{_*_, _≤_};
+ghost use Prim.Native.Nat.{_≤_};
 ghost use lib.ListN.{length};
-ghost use Rattle.rules.specs.Bits.{Word, bit};
+ghost use Rattle.rules.specs.Bits.{bit};
 ghost use Rattle.rules.specs.Codes.{code as codeOf};
 ghost use Rattle.rules.specs.Encoding.{lifted};
 ghost use Rattle.rules.specs.Calls.{offered, written};

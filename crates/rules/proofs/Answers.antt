@@ -1,18 +1,18 @@
 -- The calls' answers by cases: what a code number offers, and what an answer is for a call that is taken.
-use mathlib.Core.Path.{_≡_, refl, sym, ap, ap₂, _∙_, subst}
+use mathlib.Core.Path.{_≡_, refl, sym, ap, _∙_, subst}
 use mathlib.Core.Bool.{Bool, true, false, not, _&&_}
 use mathlib.Core.List.{List, []}
-use Prim.Native.Nat.{ℕ, zero, suc, _+_, _-_, _*_, _≤_, _<_}
+use Prim.Native.Nat.{ℕ, zero, suc, _-_, _≤_}
 use native.Mathlib.Omega.{arith}
-use lib.Dec.{T, eqb, leb, ltb, leb→le}
-use lib.ListN.{length, getD, take}
+use lib.Dec.{T, eqb, leb, leb→le}
+use lib.ListN.{length, take}
 use borrow.Author.Tests.{eqb-true, eq-eqb}
-use Rattle.rules.specs.Bits.{Word, bit, if_then_else_}
-use Rattle.rules.specs.Codes.{Code, code, code1, code2, code3, code4, code5}
+use Rattle.rules.specs.Bits.{bit, if_then_else_}
+use Rattle.rules.specs.Codes.{code}
 use Rattle.rules.specs.Checks.{broken}
 use Rattle.rules.specs.Encoding.{lifted, encoded, codeword}
 use Rattle.rules.specs.Flipping.{byExcess, run}
-use Rattle.rules.specs.Calls.{offered, unlike, written, sixSet, Encoded, encodeAnswer, Checked, checkAnswer, Opened, openAnswer, Corrected, refusedCorrect, ranCorrect, correctAnswer, Stepped, refusedStep, nextStep, stepAnswer}
+use Rattle.rules.specs.Calls.{offered, unlike, written, sixSet, Encoded, encodeAnswer, checkAnswer, openAnswer, Corrected, refusedCorrect, ranCorrect, correctAnswer, Stepped, refusedStep, nextStep, stepAnswer}
 use Rattle.rules.proofs.Sums.{and-l, and-r}
 use Rattle.rules.proofs.Published.{Published, published1, published2, published3, published4, published5}
 

@@ -1,18 +1,16 @@
 -- Checks and the counts of a bit, block by block: what they are where the shifts of each block differ. Said once over M.
 use mathlib.Core.Path.{_≡_, refl, sym, ap, ap₂, _∙_, fun-ext, subst}
-use mathlib.Core.Bool.{Bool, true, false, not, _&&_, _||_, and-false, and-true, and-comm}
+use mathlib.Core.Bool.{Bool, true, false, not, _&&_, _||_, and-true, and-comm}
 use mathlib.Core.List.{List, [], _∷_}
-use Prim.Native.Nat.{ℕ, zero, suc, _+_, _-_, _*_, _/_, _%_, _≤_, _<_, zero-le, suc-le-suc}
+use Prim.Native.Nat.{ℕ, zero, suc, _+_, _-_, _*_, _/_, _%_, _<_, zero-le}
 use native.Mathlib.Nat.{zero-lt-suc, mod-lt, add-zero, zero-add, add-comm, add-assoc, add-suc, suc-mul, zero-mul, mod-eq-of-lt, mod-add-mod, add-mod-right, le-of-lt, sub-add-cancel, add-sub-of-le, not-suc-le-zero, le-of-suc-le-suc, div-lt-iff-lt-mul, lt-of-le-of-lt}
 use native.Mathlib.Numerals.{one-add}
-use native.Mathlib.Omega.{arith}
 use lib.Arith.{digits-div, digits-mod}
 use lib.Dec.{T, eqb, eqb→eq, ltb, ltb→lt}
 use lib.ListN.{length, getD}
-use borrow.Author.Tests.{eq-eqb, ne-eqb}
 use Rattle.rules.specs.Bits.{Word, _⊕_, tally, sum, count}
-use Rattle.rules.specs.Codes.{Code, bits, checks}
-use Rattle.rules.specs.Checks.{oneAt, covers, check, broken}
+use Rattle.rules.specs.Codes.{Code, checks}
+use Rattle.rules.specs.Checks.{oneAt, covers, check}
 use Rattle.rules.specs.Identity.{below, over, blocks}
 use Rattle.rules.proofs.Sums.{⊕-false, ⊕-assoc, sum-linear, sum-same, pick, blocks-sum, and-l, and-r, below-at, not-true, eqb-iff}
 use Rattle.rules.proofs.Cyclic.{cancel}

@@ -2,34 +2,34 @@
 use mathlib.Core.Path.{_≡_, refl, sym, ap, ap₂, _∙_, fun-ext, subst}
 use mathlib.Core.Bool.{Bool, true, false, not, _&&_, _||_, and-false}
 use mathlib.Core.List.{List, [], _∷_, _++_}
-use Prim.Native.Nat.{ℕ, zero, suc, _+_, _-_, _*_, _/_, _%_, _^_, _≤_, _<_, zero-le}
-use native.Mathlib.Nat.{lt-of-lt-of-le, le-of-eq, zero-div, not-suc-le-zero, lt-of-not-le}
+use Prim.Native.Nat.{ℕ, _+_, _-_, _/_, _%_, _≤_, _<_, zero-le}
+use native.Mathlib.Nat.{lt-of-lt-of-le, le-of-eq, not-suc-le-zero, lt-of-not-le}
 use native.Mathlib.Decide.{decLt}
 use native.Mathlib.Omega.{arith}
 use lib.Dec.{T, eqb, leb, ltb, lit<, lit≤}
 use lib.IntN.{ℤ, pos}
-use lib.ListN.{length, getD, take, replicate, length-replicate}
+use lib.ListN.{length, getD, replicate, length-replicate}
 use borrow.Author.Tests.{eq-eqb, lt-ltb, le-ltb, le-leb, lt-leb}
-use Rattle.rules.specs.Bits.{Word, digit, bit, tally, number, octets, count, agree, _⊕_, sum, flipped, if_then_else_}
+use Rattle.rules.specs.Bits.{Word, digit, bit, number, octets, count, _⊕_, sum, flipped, if_then_else_}
 use Rattle.rules.specs.Tables.{parity16, parity511, generator16, generator511}
-use Rattle.rules.specs.Codes.{Code, code, code1, code4, bits, checks, information}
+use Rattle.rules.specs.Codes.{code, code1, code4, bits, checks, information}
 use Rattle.rules.specs.Checks.{covers, check, broken}
 use Rattle.rules.specs.Encoding.{rowBit, parityBit, encoded, lifted, sent, codeword}
-use Rattle.rules.specs.Flipping.{Next, flip, byExcess, Run, run, ended}
+use Rattle.rules.specs.Flipping.{flip, byExcess, run, ended}
 use Rattle.rules.specs.Identity.{below}
-use Rattle.rules.specs.Calls.{offered, written, Encoded, encodeAnswer, Checked, checkAnswer, Opened, openAnswer, Corrected, judged, refusedCorrect, ranCorrect, correctAnswer, Stepped, refusedStep, nextStep, stepAnswer}
+use Rattle.rules.specs.Calls.{offered, encodeAnswer, checkAnswer, openAnswer, judged, refusedCorrect, ranCorrect, correctAnswer, refusedStep, nextStep, stepAnswer}
 use Rattle.rules.proofs.Sums.{⊕-eq, sum-none, below-at, not-true, and-l}
 use Rattle.rules.proofs.Counting.{count-none, none-counted}
 use Rattle.rules.proofs.Blocks.{blk, checkIn, check-in}
-use Rattle.rules.proofs.Octets.{zeros-at, digit-zero, Octets, length-octets, octets-lt, octets-bit, octets-same, bit-octets}
+use Rattle.rules.proofs.Octets.{zeros-at, digit-zero, Octets, length-octets, octets-same, bit-octets}
 use Rattle.rules.proofs.Flips.{degreeOf, check-flip}
 use Rattle.rules.proofs.Runs.{run-limit, run-quiet}
-use Rattle.rules.proofs.Choosing.{quiet-next, one-next, first-count}
+use Rattle.rules.proofs.Choosing.{quiet-next, one-next}
 use Rattle.rules.proofs.Parity.{OwnParity}
-use Rattle.rules.proofs.Published.{Published, published1, published4}
-use Rattle.rules.proofs.Codewords.{own-codeword, codeword-quiet, codeword-bit, bit-written, sent-bit, sent-fill, encoded-parity, parity-same, lifted-sent}
-use Rattle.rules.proofs.Answers.{published, ranFrom, correct-taken, step-taken, open-taken, check-taken}
-use Rattle.rules.proofs.Demands.{whole, lifted-whole, sent-whole, four-quiet, met-codeword}
+use Rattle.rules.proofs.Published.{published1, published4}
+use Rattle.rules.proofs.Codewords.{own-codeword, codeword-bit, sent-bit, encoded-parity, parity-same, lifted-sent}
+use Rattle.rules.proofs.Answers.{published, ranFrom, correct-taken, step-taken, open-taken}
+use Rattle.rules.proofs.Demands.{whole, lifted-whole, four-quiet, met-codeword}
 use Rattle.rules.proofs.Corrections.{oneWrong, bit-one-wrong, lifted-flip, one-back}
 
 -- whether a number stands in a list

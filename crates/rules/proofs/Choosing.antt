@@ -1,18 +1,18 @@
 -- The way of the flipping run: which bit it chooses, and what that takes from the broken checks. For any code that has bits.
 use mathlib.Core.Path.{_≡_, refl, sym, ap, ap₂, _∙_, subst}
-use mathlib.Core.Bool.{Bool, true, false, not, _&&_, and-self}
-use Prim.Native.Nat.{ℕ, zero, suc, _+_, _-_, _*_, _≤_, _<_, zero-le, suc-le-suc}
-use native.Mathlib.Nat.{zero-lt-suc, le-refl, le-of-eq, le-trans, zero-add, add-zero, lt-of-lt-of-le}
+use mathlib.Core.Bool.{Bool, true, false, _&&_, and-self}
+use Prim.Native.Nat.{ℕ, suc, _+_, _-_, _*_, _≤_, _<_, zero-le}
+use native.Mathlib.Nat.{zero-lt-suc, le-of-eq, le-trans, lt-of-lt-of-le}
 use native.Mathlib.Omega.{arith}
-use lib.Dec.{T, eqb, ltb, ltb→lt, nltb→le}
+use lib.Dec.{eqb}
 use lib.IntN.{ℤ, pos, subℕ}
 use lib.Signed.{ltZ}
 use borrow.Author.Tests.{eq-eqb, ne-eqb, eqb-true, ltb-true, lt-ltb, le-ltb}
 use Rattle.rules.specs.Bits.{Word, _⊕_, count, flipped, if_then_else_}
 use Rattle.rules.specs.Codes.{Code, bits, checks}
 use Rattle.rules.specs.Checks.{covers, check, broken, excess}
-use Rattle.rules.specs.Flipping.{Next, quiet, stuck, flip, greatest, flipAbove, byExcess, run, ended, after}
-use Rattle.rules.proofs.Counting.{count-same, count-none, none-counted}
+use Rattle.rules.specs.Flipping.{quiet, stuck, flip, greatest, flipAbove, byExcess, run, ended, after}
+use Rattle.rules.proofs.Counting.{count-same, none-counted}
 use Rattle.rules.proofs.Flips.{brokenOf, metOf, degreeOf, broken-met, excess-is, excess-order, check-flip, broken-flip, sub-order, flip-back}
 use Rattle.rules.proofs.Greatest.{greatest-has, greatest-is}
 use Rattle.rules.proofs.Runs.{run-quiet, run-flip}

@@ -1,23 +1,23 @@
 -- Codewords, lifted words and sent words, for any published code.
 use mathlib.Core.Path.{_≡_, refl, sym, ap, ap₂, _∙_, fun-ext, subst}
-use mathlib.Core.Bool.{Bool, true, false, not, _&&_, and-false}
-use mathlib.Core.List.{List, []}
-use Prim.Native.Nat.{ℕ, zero, suc, _+_, _-_, _*_, _/_, _%_, _≤_, _<_, zero-le}
-use native.Mathlib.Nat.{le-step, lt-suc-self, le-refl, le-trans, le-of-eq, not-suc-le-zero, lt-of-not-le, lt-of-lt-of-le, div-lt-iff-lt-mul, zero-lt-suc}
+use mathlib.Core.Bool.{Bool, true, false, not, _&&_}
+use mathlib.Core.List.{List}
+use Prim.Native.Nat.{ℕ, zero, suc, _+_, _-_, _*_, _/_, _%_, _≤_, _<_}
+use native.Mathlib.Nat.{le-step, lt-suc-self, not-suc-le-zero, lt-of-not-le, lt-of-lt-of-le}
 use native.Mathlib.Decide.{ℕ-discrete, decLt}
 use native.Mathlib.Omega.{arith}
-use lib.Dec.{T, eqb, ltb, ltb→lt, nltb→le}
-use lib.ListN.{length, getD, take}
+use lib.Dec.{T, ltb}
+use lib.ListN.{length, take}
 use lib.Seq.{getD-take}
-use borrow.Author.Tests.{lt-ltb, le-ltb, ltb-true, ltb-false, eq-eqb, ne-eqb}
-use Rattle.rules.specs.Bits.{Word, digit, bit, octets, _⊕_, sum, count, agree, flipped, if_then_else_}
+use borrow.Author.Tests.{lt-ltb, le-ltb}
+use Rattle.rules.specs.Bits.{Word, digit, bit, octets, _⊕_, agree, if_then_else_}
 use Rattle.rules.specs.Codes.{Code, bits, checks, information}
 use Rattle.rules.specs.Checks.{covers, check, broken}
 use Rattle.rules.specs.Encoding.{rowBit, parityBit, encoded, lifted, sent, codeword}
 use Rattle.rules.specs.Calls.{written}
 use Rattle.rules.proofs.Sums.{⊕-eq, ⊕-self, sum-same}
 use Rattle.rules.proofs.Counting.{count-same}
-use Rattle.rules.proofs.Octets.{bit-octets, octets-same, octets-bit, length-octets, Octets}
+use Rattle.rules.proofs.Octets.{bit-octets, octets-same, octets-bit, Octets}
 use Rattle.rules.proofs.Parity.{OwnParity}
 use Rattle.rules.proofs.Published.{Published}
 

@@ -1,22 +1,21 @@
 -- Demand 3, over correct's answers: for every code number, every word, every limit and every output.
-use mathlib.Core.Path.{_≡_, refl, sym, ap, ap₂, _∙_, fun-ext, subst}
+use mathlib.Core.Path.{_≡_, refl, sym, ap, ap₂, _∙_, fun-ext}
 use mathlib.Core.Bool.{Bool, true, false, not, _&&_}
-use mathlib.Core.List.{List, [], _∷_}
+use mathlib.Core.List.{List}
 use Prim.Native.Nat.{ℕ, zero, suc, _+_, _-_, _*_, _≤_, _<_, zero-le}
-use native.Mathlib.Nat.{le-refl, le-trans, le-of-eq, lt-of-not-le, lt-of-lt-of-le, zero-lt-suc}
+use native.Mathlib.Nat.{le-of-eq, lt-of-not-le, lt-of-lt-of-le}
 use native.Mathlib.Decide.{decLt}
 use native.Mathlib.Omega.{arith}
 use lib.Dec.{T, eqb, leb, ltb, leb→le}
 use lib.IntN.{ℤ, pos}
 use lib.ListN.{length}
-use borrow.Author.Tests.{eq-eqb, ne-eqb, eqb-true, eqb-false, lt-ltb, le-ltb}
+use borrow.Author.Tests.{eq-eqb, ne-eqb, lt-ltb, le-ltb}
 use Rattle.rules.specs.Bits.{Word, bit, octets, count, _⊕_, flipped, if_then_else_}
 use Rattle.rules.specs.Codes.{Code, code, code4, code5, bits}
 use Rattle.rules.specs.Checks.{broken}
 use Rattle.rules.specs.Encoding.{lifted, sent, codeword}
-use Rattle.rules.specs.Flipping.{Next, flip, byExcess, Run, run, ended, after}
+use Rattle.rules.specs.Flipping.{flip, byExcess, Run, run, ended, after}
 use Rattle.rules.specs.Calls.{offered, written, Corrected, judged, refusedCorrect, ranCorrect, correctAnswer}
-use Rattle.rules.specs.Tables.{parity511, generator511}
 use Rattle.rules.proofs.Sums.{and-l, and-r, eqb-iff}
 use Rattle.rules.proofs.Counting.{count-none}
 use Rattle.rules.proofs.Octets.{Octets, length-octets, bit-octets, bit-past}
@@ -24,8 +23,8 @@ use Rattle.rules.proofs.Flips.{degreeOf}
 use Rattle.rules.proofs.Runs.{run-within, run-quiet, run-falls, run-enough, run-unchanged}
 use Rattle.rules.proofs.Choosing.{quiet-next, falls, falls-two, one-mended, first-count}
 use Rattle.rules.proofs.Published.{Published, near-four}
-use Rattle.rules.proofs.Codewords.{own-codeword, codeword-own, codeword-quiet, codeword-sent, written-back, lifted-unsent, lifted-sent-bit, sent-bit, broken-same}
-use Rattle.rules.proofs.Answers.{five, published, ranFrom, correct-cases, correct-taken}
+use Rattle.rules.proofs.Codewords.{own-codeword, codeword-own, codeword-quiet, codeword-sent, written-back, lifted-unsent, lifted-sent-bit}
+use Rattle.rules.proofs.Answers.{published, correct-cases, correct-taken}
 
 -- ---- the number that a run is judged by
 

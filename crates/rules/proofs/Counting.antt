@@ -1,13 +1,13 @@
 -- Counts of bits that are set.
-use mathlib.Core.Path.{_≡_, refl, sym, ap, ap₂, _∙_, fun-ext, subst}
-use mathlib.Core.Bool.{Bool, true, false, not, _&&_, and-false, and-comm}
+use mathlib.Core.Path.{_≡_, refl, sym, ap, ap₂, _∙_, fun-ext}
+use mathlib.Core.Bool.{Bool, true, false, not, _&&_}
 use mathlib.Core.List.{List, [], _∷_}
 use Prim.Native.Nat.{ℕ, zero, suc, _+_, _-_, _*_, _/_, _%_, _≤_, _<_, zero-le}
-use native.Mathlib.Nat.{le-step, lt-suc-self, le-refl, le-of-eq, add-zero, add-suc, zero-add, add-comm, add-assoc, suc-mul, zero-mul, not-suc-le-zero, zero-lt-suc, add-le-add, add-div-left, add-mod-left, mod-eq-of-lt}
+use native.Mathlib.Nat.{le-step, lt-suc-self, le-refl, add-zero, add-suc, zero-add, add-comm, add-assoc, suc-mul, zero-mul, not-suc-le-zero, zero-lt-suc, add-div-left, add-mod-left, mod-eq-of-lt}
 use native.Mathlib.Numerals.{add-one}
 use native.Mathlib.Decide.{ℕ-discrete}
 use native.Mathlib.Omega.{arith}
-use lib.Arith.{digits-div, digits-mod}
+use lib.Arith.{digits-div}
 use lib.Dec.{eqb}
 use lib.ListN.{length, getD}
 use borrow.Author.Tests.{eq-eqb, ne-eqb}

@@ -1,9 +1,7 @@
 -- Arithmetic modulo M.
-use mathlib.Core.Path.{_≡_, refl, sym, ap, ap₂, _∙_}
-use mathlib.Core.Bool.{Bool}
-use Prim.Native.Nat.{ℕ, zero, suc, _+_, _-_, _*_, _%_, _≤_, _<_}
-use native.Mathlib.Nat.{add-zero, mod-eq-of-lt, mod-self, mod-add-mod, add-mul-mod-self-right, add-right-comm, mul-suc, add-assoc, add-comm, zero-mod, le-of-lt, add-sub-of-le}
-use native.Mathlib.Omega.{arith}
+use mathlib.Core.Path.{_≡_, sym, ap, _∙_}
+use Prim.Native.Nat.{ℕ, suc, _+_, _-_, _*_, _%_, _<_}
+use native.Mathlib.Nat.{mod-eq-of-lt, mod-self, mod-add-mod, add-mul-mod-self-right, add-right-comm, mul-suc, add-assoc, add-comm, le-of-lt, add-sub-of-le}
 use lib.Dec.{eqb}
 use Rattle.rules.proofs.Sums.{eqb-iff}
 

@@ -1,32 +1,25 @@
 -- The demands, over the calls' answers: for every code number, every length and every content.
-use mathlib.Core.Path.{_≡_, refl, sym, ap, ap₂, _∙_, fun-ext, subst}
+use mathlib.Core.Path.{_≡_, refl, sym, ap, _∙_, fun-ext}
 use mathlib.Core.Bool.{Bool, true, false, not, _&&_}
-use mathlib.Core.List.{List, [], _∷_}
-use Prim.Native.Nat.{ℕ, zero, suc, _+_, _-_, _*_, _/_, _≤_, _<_, zero-le, suc-le-suc}
-use native.Mathlib.Nat.{le-refl, le-trans, le-of-eq, lt-of-not-le, lt-of-lt-of-le, add-zero, one-mul, le-add-right, div-lt-iff-lt-mul, zero-lt-suc}
+use mathlib.Core.List.{List}
+use Prim.Native.Nat.{ℕ, zero, suc, _+_, _-_, _*_, _/_, _≤_, _<_}
+use native.Mathlib.Nat.{lt-of-not-le, add-zero}
 use native.Mathlib.Decide.{decLt}
 use native.Mathlib.Omega.{arith}
-use lib.Dec.{T, eqb, leb, ltb, leb→le, le→leb}
-use lib.IntN.{ℤ, pos}
-use lib.ListN.{length, getD, take, length-take}
-use borrow.Author.Tests.{eq-eqb, ne-eqb, eqb-true, eqb-false, lt-ltb, le-ltb}
-use Rattle.rules.specs.Bits.{Word, bit, octets, count, _⊕_, flipped, if_then_else_}
-use Rattle.rules.specs.Codes.{Code, code, code1, code2, code3, code4, code5, bits, checks, information}
-use Rattle.rules.specs.Checks.{check, broken}
+use lib.Dec.{T, eqb, leb, leb→le}
+use lib.ListN.{length, take, length-take}
+use Rattle.rules.specs.Bits.{Word, bit, _⊕_}
+use Rattle.rules.specs.Codes.{Code, code, code1, code2, code3, code4, bits}
+use Rattle.rules.specs.Checks.{broken}
 use Rattle.rules.specs.Encoding.{parityBit, encoded, lifted, sent, codeword}
-use Rattle.rules.specs.Flipping.{Next, quiet, stuck, flip, byExcess, Run, run, ended, after}
-use Rattle.rules.specs.Calls.{offered, written, sixSet, Encoded, encodeAnswer, Checked, checkAnswer, Opened, openAnswer, Corrected, judged, refusedCorrect, ranCorrect, correctAnswer, Stepped, refusedStep, nextStep, stepAnswer}
-use Rattle.rules.specs.Tables.{parity16, parity32, parity64, parity511, generator16, generator32, generator64, generator511}
-use Rattle.rules.proofs.Sums.{⊕-false, and-l, and-r}
-use Rattle.rules.proofs.Counting.{count-none}
-use Rattle.rules.proofs.Octets.{Octets, length-octets, bit-past, octets-lt}
-use Rattle.rules.proofs.Flips.{degreeOf}
-use Rattle.rules.proofs.Runs.{run-within, run-quiet, run-falls, run-enough, run-unchanged, run-ends, End, ends-quiet, ends-stuck, ends-limit, every-run}
-use Rattle.rules.proofs.Choosing.{quiet-next, next-quiet, next-flip, chosen-lt, falls, falls-two, one-mended, first-count, Chosen}
+use Rattle.rules.specs.Calls.{offered, written, sixSet, encodeAnswer, checkAnswer}
+use Rattle.rules.specs.Tables.{parity16, parity32, parity64, parity511, generator511}
+use Rattle.rules.proofs.Sums.{and-l, and-r}
+use Rattle.rules.proofs.Octets.{Octets, length-octets, bit-past}
 use Rattle.rules.proofs.Parity.{OwnParity}
-use Rattle.rules.proofs.Published.{Published, met-own1, met-own2, met-own3, near-four, nearInverted, near-inverted, inverted-near}
-use Rattle.rules.proofs.Codewords.{encoded-own, own-encoded, own-codeword, codeword-own, codeword-quiet, codeword-sent, codeword-encoded, encoded-codeword, bit-written, written-back, lifted-unsent, lifted-sent-bit, sent-bit, sent-fill, sent-lifted, lifted-sent, sent-same, broken-same}
-use Rattle.rules.proofs.Answers.{five, published, ranFrom, correct-cases, correct-taken, steppedFrom, step-cases, step-taken, encodedFrom, encode-taken, encode-cases, check-taken, open-taken}
+use Rattle.rules.proofs.Published.{Published, met-own1, met-own2, met-own3, nearInverted, near-inverted, inverted-near}
+use Rattle.rules.proofs.Codewords.{encoded-own, own-encoded, own-codeword, codeword-quiet, codeword-encoded, encoded-codeword, lifted-unsent, lifted-sent-bit, sent-bit, sent-fill}
+use Rattle.rules.proofs.Answers.{five, published, encode-taken, encode-cases, check-taken}
 
 -- ---- demand 2: every encoded word meets every check
 

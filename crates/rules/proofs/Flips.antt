@@ -1,20 +1,17 @@
 -- What one flip does to the checks, for any code.
 use mathlib.Core.Path.{_≡_, refl, sym, ap, ap₂, _∙_, fun-ext, subst}
-use mathlib.Core.Bool.{Bool, true, false, not, _&&_, and-comm}
-use mathlib.Core.List.{List, [], _∷_}
-use Prim.Native.Nat.{ℕ, zero, suc, _+_, _-_, _*_, _≤_, _<_, zero-le, suc-le-suc}
-use native.Mathlib.Nat.{zero-lt-suc, le-refl, le-of-eq, le-trans, le-step, not-suc-le-zero}
-use native.Mathlib.Decide.{ℕ-discrete}
+use mathlib.Core.Bool.{Bool, true, false, not, _&&_}
+use Prim.Native.Nat.{ℕ, suc, _+_, _-_, _≤_, _<_}
 use native.Mathlib.Omega.{arith}
-use lib.Dec.{T, eqb, ltb, ltb→lt, lt→ltb, nltb→le}
-use lib.IntN.{ℤ, pos, negsuc, subℕ}
+use lib.Dec.{T, eqb, ltb, ltb→lt, nltb→le}
+use lib.IntN.{pos, negsuc, subℕ}
 use lib.Signed.{ltZ}
 use borrow.Author.Tests.{lt-ltb, le-ltb}
-use Rattle.rules.specs.Bits.{Word, _⊕_, sum, count, flipped, if_then_else_}
+use Rattle.rules.specs.Bits.{Word, _⊕_, sum, count, flipped}
 use Rattle.rules.specs.Codes.{Code, bits, checks}
 use Rattle.rules.specs.Checks.{covers, check, broken, excess}
 use Rattle.rules.proofs.Orders.{ltb-iff}
-use Rattle.rules.proofs.Sums.{and-⊕, ⊕-assoc, ⊕-comm, ⊕-self, ⊕-false, sum-linear, pick}
+use Rattle.rules.proofs.Sums.{and-⊕, ⊕-assoc, ⊕-self, ⊕-false, sum-linear, pick}
 use Rattle.rules.proofs.Counting.{count-same, count-xor, count-split}
 
 -- a flip of a flip is none; two flips may change places

@@ -1,14 +1,14 @@
 -- Octets and their bits, both ways.
 use mathlib.Core.Path.{_≡_, refl, sym, ap, ap₂, _∙_, fun-ext, subst}
-use mathlib.Core.Bool.{Bool, true, false, not, _&&_}
+use mathlib.Core.Bool.{Bool, true, false, _&&_}
 use mathlib.Core.List.{List, [], _∷_}
-use Prim.Native.Nat.{ℕ, zero, suc, _+_, _-_, _*_, _/_, _%_, _^_, _≤_, _<_, zero-le, suc-le-suc}
-use native.Mathlib.Nat.{zero-lt-suc, mod-lt, le-step, lt-suc-self, le-refl, zero-div, zero-mod, div-one, pow-suc, pow-zero, div-lt-iff-lt-mul, add-div-left, add-mod-left, div-eq-of-lt, mod-eq-of-lt, le-of-suc-le-suc, not-suc-le-zero, lt-of-not-le}
+use Prim.Native.Nat.{ℕ, zero, suc, _+_, _-_, _*_, _/_, _%_, _^_, _≤_, _<_, zero-le}
+use native.Mathlib.Nat.{zero-lt-suc, mod-lt, le-step, lt-suc-self, le-refl, zero-div, div-one, pow-suc, div-lt-iff-lt-mul, add-div-left, add-mod-left, div-eq-of-lt, mod-eq-of-lt, not-suc-le-zero, lt-of-not-le}
 use native.Mathlib.Decide.{ℕ-discrete, decLt}
 use native.Mathlib.Numerals.{add-one, one-add}
 use native.Mathlib.Omega.{arith}
 use lib.Arith.{lt-one}
-use lib.Dec.{T, eqb, ltb, ltb→lt, nltb→le}
+use lib.Dec.{eqb, ltb}
 use lib.ListN.{length, getD, replicate}
 use lib.Pow.{shr-shr}
 use borrow.Author.Tests.{lt-ltb, le-ltb}

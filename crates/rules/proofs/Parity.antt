@@ -1,13 +1,13 @@
 -- Words whose parity is the encoder's, and words that meet every check: the laws of the tables, said of a code.
 use mathlib.Core.Path.{_≡_, refl, sym, ap, ap₂, _∙_, fun-ext, subst}
-use mathlib.Core.Bool.{Bool, true, false, not, _&&_}
+use mathlib.Core.Bool.{Bool, false, not, _&&_}
 use mathlib.Core.List.{List, [], _∷_}
-use Prim.Native.Nat.{ℕ, zero, suc, _+_, _-_, _*_, _/_, _%_, _≤_, _<_}
+use Prim.Native.Nat.{ℕ, suc, _+_, _-_, _*_, _/_, _%_, _<_}
 use native.Mathlib.Nat.{zero-lt-suc, mod-lt, add-zero, add-suc, suc-add, zero-add, add-assoc, add-mul, div-add-mod', div-lt-iff-lt-mul}
 use lib.Arith.{digits-div, digits-mod, digits-lt}
 use lib.Dec.{T, eqb}
 use lib.ListN.{getD, length}
-use Rattle.rules.specs.Bits.{Word, digit, _⊕_, sum, count}
+use Rattle.rules.specs.Bits.{Word, _⊕_, sum}
 use Rattle.rules.specs.Codes.{Code, bits, checks, information}
 use Rattle.rules.specs.Checks.{check, broken}
 use Rattle.rules.specs.Encoding.{parityBit}

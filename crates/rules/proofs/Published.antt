@@ -1,14 +1,14 @@
 -- What the published tables have, computed from them once for each table, and what follows for a code: the ground of every theorem.
-use mathlib.Core.Path.{_≡_, refl, sym, ap, _∙_, subst}
+use mathlib.Core.Path.{_≡_, refl, sym, _∙_, subst}
 use mathlib.Core.Bool.{Bool, true, false, not, _&&_}
 use mathlib.Core.List.{List, []}
-use Prim.Native.Nat.{ℕ, zero, suc, _+_, _-_, _*_, _/_, _≤_, _<_}
+use Prim.Native.Nat.{ℕ, suc, _+_, _-_, _*_, _/_, _≤_, _<_}
 use native.Mathlib.Nat.{zero-lt-suc, div-lt-iff-lt-mul, le-trans, le-of-eq}
-use lib.Dec.{T, eqb, leb, ltb, eqb→eq, leb→le, ltb→lt, lit<, lit≤}
+use lib.Dec.{T, eqb, leb, eqb→eq, leb→le, lit<, lit≤}
 use lib.ListN.{length, getD}
 use Rattle.rules.specs.Bits.{Word, _⊕_}
 use Rattle.rules.specs.Tables.{parity16, parity32, parity64, parity511, generator16, generator32, generator64, generator511}
-use Rattle.rules.specs.Codes.{Code, bits, checks, information, code1, code2, code3, code4, code5, code}
+use Rattle.rules.specs.Codes.{Code, bits, information, code1, code2, code3, code4, code5}
 use Rattle.rules.specs.Checks.{broken}
 use Rattle.rules.specs.Encoding.{parityBit}
 use Rattle.rules.specs.Identity.{below, rowsTied, allPadded, tied}

@@ -1,15 +1,14 @@
 -- Numbers that a code never gives: for the telecommand codes a run that ends quiet is never refused.
-use mathlib.Core.Path.{_≡_, refl, sym, ap, ap₂, _∙_, subst}
-use mathlib.Core.Bool.{Bool, true, false, not}
+use mathlib.Core.Path.{_≡_, refl, sym, ap, _∙_, subst}
+use mathlib.Core.Bool.{not}
 use mathlib.Core.List.{List}
 use Prim.Native.Nat.{ℕ, _<_}
 use native.Mathlib.Nat.{not-suc-le-zero}
 use native.Mathlib.Omega.{arith}
-use lib.Dec.{T, eqb, ltb}
-use borrow.Author.Tests.{eq-eqb, ne-eqb, eqb-true, eqb-false}
+use lib.Dec.{T, ltb}
+use borrow.Author.Tests.{ne-eqb}
 use Rattle.rules.specs.Bits.{Word, bit, count, if_then_else_}
-use Rattle.rules.specs.Codes.{Code, code}
-use Rattle.rules.specs.Checks.{broken}
+use Rattle.rules.specs.Codes.{code}
 use Rattle.rules.specs.Encoding.{lifted, sent, codeword}
 use Rattle.rules.specs.Flipping.{quiet, byExcess, Run, run}
 use Rattle.rules.specs.Calls.{judged, ranCorrect, correctAnswer}

@@ -1,17 +1,16 @@
 -- The checks that two bits share, from a test of the differences of shifts. Said once over M.
-use mathlib.Core.Path.{_≡_, refl, sym, ap, ap₂, _∙_, fun-ext, subst}
-use mathlib.Core.Bool.{Bool, true, false, not, _&&_, _||_}
+use mathlib.Core.Path.{_≡_, refl, sym, ap, ap₂, _∙_, subst}
+use mathlib.Core.Bool.{Bool, true, false, _&&_, _||_}
 use mathlib.Core.List.{List, [], _∷_}
 use Prim.Native.Nat.{ℕ, zero, suc, _+_, _-_, _*_, _/_, _%_, _≤_, _<_, zero-le}
-use native.Mathlib.Nat.{zero-lt-suc, mod-lt, zero-add, add-assoc, add-comm, mod-add-mod, mod-eq-of-lt, add-mod-right, sub-add-cancel, le-of-lt, le-refl, le-trans, le-of-eq, add-le-add, div-lt-iff-lt-mul, div-add-mod'}
+use native.Mathlib.Nat.{zero-lt-suc, mod-lt, zero-add, add-assoc, add-comm, mod-add-mod, mod-eq-of-lt, add-mod-right, sub-add-cancel, le-of-lt, le-trans, le-of-eq, div-lt-iff-lt-mul, div-add-mod'}
 use native.Mathlib.Decide.{ℕ-discrete}
 use native.Mathlib.Omega.{arith}
 use lib.Dec.{T, eqb, eqb→eq}
-use lib.ListN.{getD, length}
+use lib.ListN.{getD}
 use borrow.Author.Tests.{eq-eqb, ne-eqb}
-use Rattle.rules.specs.Bits.{tally, count}
-use Rattle.rules.specs.Codes.{Code, bits, checks}
-use Rattle.rules.specs.Checks.{oneAt, covers}
+use Rattle.rules.specs.Bits.{tally}
+use Rattle.rules.specs.Checks.{oneAt}
 use Rattle.rules.specs.Identity.{below}
 use Rattle.rules.proofs.Sums.{and-l, and-r, below-at, eqb-iff}
 use Rattle.rules.proofs.Cyclic.{cancel, near}

@@ -1,27 +1,26 @@
 -- Step and correct: a step changes exactly one bit, and as many steps as flips give correct's word.
 use mathlib.Core.Path.{_≡_, refl, sym, ap, ap₂, _∙_, subst}
 use mathlib.Core.Bool.{Bool, true, false, not, _&&_}
-use mathlib.Core.List.{List, [], _∷_}
-use Prim.Native.Nat.{ℕ, zero, suc, _+_, _-_, _*_, _≤_, _<_}
-use native.Mathlib.Nat.{lt-of-lt-of-le}
+use mathlib.Core.List.{List}
+use Prim.Native.Nat.{ℕ, zero, suc, _-_, _*_, _<_}
 use native.Mathlib.Omega.{arith}
 use lib.Dec.{T, eqb, ltb}
 use lib.IntN.{ℤ}
 use lib.ListN.{length}
 use borrow.Author.Tests.{ne-eqb, eqb-true}
-use Rattle.rules.specs.Bits.{Word, bit, octets, count, _⊕_, flipped, if_then_else_}
-use Rattle.rules.specs.Codes.{Code, code, bits}
+use Rattle.rules.specs.Bits.{Word, bit, count, _⊕_, flipped, if_then_else_}
+use Rattle.rules.specs.Codes.{code, bits}
 use Rattle.rules.specs.Encoding.{lifted, sent, codeword}
 use Rattle.rules.specs.Flipping.{Next, quiet, stuck, flip, byExcess, Run, run}
-use Rattle.rules.specs.Calls.{offered, written, Corrected, judged, ranCorrect, correctAnswer, Stepped, nextStep, stepAnswer}
-use Rattle.rules.proofs.Sums.{and-l, and-r}
-use Rattle.rules.proofs.Octets.{Octets, length-octets, octets-lt, bit-past}
+use Rattle.rules.specs.Calls.{offered, written, judged, ranCorrect, correctAnswer, nextStep, stepAnswer}
+use Rattle.rules.proofs.Sums.{and-l}
+use Rattle.rules.proofs.Octets.{Octets, length-octets, octets-lt}
 use Rattle.rules.proofs.Runs.{every-run}
 use Rattle.rules.proofs.Choosing.{chosen-lt, next-flip}
 use Rattle.rules.proofs.Published.{Published}
 use Rattle.rules.proofs.Codewords.{bit-written, written-back}
-use Rattle.rules.proofs.Demands.{Whole, whole, lifted-whole, sent-whole, past-word}
-use Rattle.rules.proofs.Answers.{published, correct-cases, steppedFrom, step-cases, step-taken}
+use Rattle.rules.proofs.Demands.{whole, lifted-whole, sent-whole, past-word}
+use Rattle.rules.proofs.Answers.{published, correct-cases, step-cases, step-taken}
 
 -- the codes of step
 abbrev pub stepped : ℕ → Bool

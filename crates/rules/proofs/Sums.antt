@@ -2,12 +2,12 @@
 use mathlib.Core.Path.{_≡_, refl, sym, ap, ap₂, _∙_, fun-ext, subst}
 use mathlib.Core.Bool.{Bool, true, false, not, _&&_, and-false, and-true}
 use mathlib.Core.List.{List, [], _∷_}
-use Prim.Native.Nat.{ℕ, zero, suc, _+_, _-_, _*_, _/_, _%_, _≤_, _<_, suc-le-suc}
-use native.Mathlib.Nat.{le-of-suc-le-suc, not-suc-le-zero, le-refl, lt-suc-self, le-step, add-zero, zero-add, add-suc, suc-add, mod-eq-of-lt, mod-self, mod-lt, suc-mod, mod-add-mod, lt-irrefl, ne-of-lt}
+use Prim.Native.Nat.{ℕ, zero, suc, _+_, _-_, _%_, _<_, suc-le-suc}
+use native.Mathlib.Nat.{not-suc-le-zero, lt-suc-self, le-step, add-zero, zero-add, add-suc, suc-add, mod-eq-of-lt, mod-self, mod-add-mod}
 use native.Mathlib.Numerals.{add-one}
 use native.Mathlib.Omega.{arith}
 use native.Mathlib.Decide.{ℕ-discrete}
-use lib.Dec.{T, eqb, eqb→eq, eqb-refl}
+use lib.Dec.{T, eqb}
 use lib.ListN.{getD, length}
 use borrow.Author.Tests.{eq-eqb, ne-eqb}
 use Rattle.rules.specs.Bits.{_⊕_, sum}

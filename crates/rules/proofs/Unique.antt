@@ -3,14 +3,14 @@
 use mathlib.Core.Path.{_≡_, refl, sym, ap, ap₂, _∙_, fun-ext, subst}
 use mathlib.Core.Bool.{Bool, true, false, not, _&&_, and-false, and-comm, and-true}
 use mathlib.Core.List.{List, [], _∷_}
-use Prim.Native.Nat.{ℕ, zero, suc, _+_, _-_, _*_, _%_, _≤_, _<_, suc-le-suc}
+use Prim.Native.Nat.{ℕ, zero, suc, _+_, _-_, _*_, _%_, _<_, suc-le-suc}
 use native.Mathlib.Nat.{zero-lt-suc, mod-lt, add-zero, add-suc, suc-add, zero-add, mod-mod, not-suc-le-zero, le-of-suc-le-suc}
 use native.Mathlib.Omega.{arith}
-use lib.Dec.{T, eqb, eqb→eq}
-use lib.ListN.{getD, length, drop}
+use lib.Dec.{T, eqb}
+use lib.ListN.{getD, length}
 use Rattle.rules.specs.Bits.{digit, _⊕_, sum}
 use Rattle.rules.specs.Identity.{below, over, blocks, rowsTied}
-use Rattle.rules.proofs.Sums.{⊕-eq, ⊕-self, ⊕-comm, and-⊕, into, swap, sum-linear, over-linear, blocks-linear, blocks′, sum-same, sum-none, pick, turn, blocks-sum, blocks-same, blocks-from, and-l, and-r, below-at, not-true, eqb-iff}
+use Rattle.rules.proofs.Sums.{⊕-eq, and-⊕, into, swap, sum-linear, over-linear, sum-same, sum-none, pick, turn, blocks-sum, blocks-same, and-l, and-r, below-at, not-true, eqb-iff}
 use Rattle.rules.proofs.Quiet.{parityIn, drops, sized, differ, reduce-all, sized-at, length-drops}
 use Rattle.rules.proofs.Cyclic.{either, near, undo}
 use Rattle.rules.proofs.Blocks.{checkIn}

@@ -1,8 +1,8 @@
 -- What comes next by score, and a run that goes on flip by flip.
-use mathlib.Core.Path.{_≡_, refl, sym, ap, ap₂, _∙_, subst}
-use mathlib.Core.Bool.{Bool, true, false, cond}
-use mathlib.Core.List.{List, [], _∷_}
-use Prim.Native.Nat.{ℕ, zero, suc, _+_, _-_, _*_, _≤_, _<_}
+use mathlib.Core.Path.{_≡_, sym, ap, ap₂, _∙_, subst}
+use mathlib.Core.Bool.{true, false, cond}
+use mathlib.Core.List.{List}
+use Prim.Native.Nat.{ℕ, suc, _+_, _-_, _*_, _≤_, _<_}
 use native.Mathlib.Nat.{mul-pos, zero-add, add-zero}
 use native.Mathlib.Omega.{arith}
 use borrow.Author.Tests.{lt-ltb, le-ltb, ne-eqb}
@@ -12,14 +12,13 @@ use lib.ListN.{length}
 use Rattle.rules.specs.Bits.{Word, flipped, if_then_else_}
 use Rattle.rules.specs.Codes.{Code, bits}
 use Rattle.rules.specs.Checks.{broken}
-use Rattle.rules.specs.Flipping.{Next, quiet, stuck, flip, byExcess, Run, ended, after, run}
+use Rattle.rules.specs.Flipping.{quiet, stuck, flip, byExcess, ended, after, run}
 use Rattle.rules.proofs.Runs.{run-quiet, run-stuck, run-limit, run-flip}
 use Rattle.layout.specs.declared.Shape.{Shape}
 use Rattle.layout.specs.Lent.{Fit, Lent, laid, score}
 use Rattle.planes.specs.Ranges.{Top}
 use Rattle.choice.proofs.Excesses.{best-next}
 use Rattle.runs.specs.declared.Turn.{Turn}
-use Rattle.runs.specs.declared.Ran.{Ran}
 use Rattle.runs.specs.Turns.{comesNext, RunsTo, Going}
 
 -- a shape that fits has bits

@@ -1,6 +1,5 @@
 -- What the engine's turns and runs mean.
 use mathlib.Core.Path.{_≡_}
-use mathlib.Core.Bool.{Bool, true, false}
 use mathlib.Core.List.{List}
 use Prim.Native.Nat.{ℕ, _+_, _-_, _≤_}
 use lib.Dec.{eqb}
@@ -8,7 +7,7 @@ use lib.IntN.{pos}
 use lib.ListN.{length}
 use Rattle.rules.specs.Bits.{Word, if_then_else_}
 use Rattle.rules.specs.Codes.{Code}
-use Rattle.rules.specs.Flipping.{Next, quiet, stuck, flip, byExcess, Run, run}
+use Rattle.rules.specs.Flipping.{Next, quiet, stuck, flip, byExcess, run}
 use Rattle.layout.specs.declared.Shape.{Shape}
 use Rattle.layout.specs.Lent.{Lent, laid}
 use Rattle.runs.specs.declared.Turn.{Turn}

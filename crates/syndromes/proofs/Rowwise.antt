@@ -1,16 +1,16 @@
 -- Words in rows, row by row. Assumes nothing.
-use mathlib.Core.Path.{_≡_, sym, ap, ap₂, _∙_, fun-ext, subst}
+use mathlib.Core.Path.{_≡_, sym, ap, ap₂, _∙_, fun-ext}
 use mathlib.Core.Bool.{Bool, false, _&&_}
 use mathlib.Core.Logic.{⊎-elim}
 use mathlib.Core.List.{List}
 use Prim.Native.Nat.{ℕ, _+_, _-_, _*_, _/_, _%_, _≤_, _<_}
-use native.Mathlib.Nat.{mod-lt, mul-comm, div-add-mod', div-lt-iff-lt-mul, le-of-lt}
+use native.Mathlib.Nat.{mod-lt, le-of-lt}
 use native.Mathlib.Omega.{arith}
-use lib.Dec.{ltb, leb}
+use lib.Dec.{ltb}
 use lib.ListN.{length}
 use borrow.Author.Tests.{lt-ltb, le-ltb}
 use Rattle.rules.specs.Bits.{Word, _⊕_}
-use Rattle.rules.proofs.Sums.{⊕-false, ⊕-assoc, and-⊕}
+use Rattle.rules.proofs.Sums.{⊕-false, and-⊕}
 use Rattle.vectors.specs.Vectors.{wbit, added}
 use Rattle.rules.proofs.Orders.{le-or-lt, eq-or-not}
 use Rattle.vectors.proofs.Cells.{split, low, high}

@@ -3,18 +3,17 @@ use mathlib.Core.Path.{_≡_, refl, sym, ap, ap₂, _∙_, fun-ext}
 use mathlib.Core.Bool.{Bool, true, false, _&&_, and-false}
 use mathlib.Core.Logic.{⊎-elim}
 use mathlib.Core.List.{List, [], _∷_}
-use Prim.Native.Nat.{ℕ, zero, suc, _+_, _-_, _*_, _%_, _≤_, _<_}
+use Prim.Native.Nat.{ℕ, _+_, _-_, _*_, _%_, _≤_, _<_}
 use native.Mathlib.Nat.{mod-lt, mod-eq-of-lt, mod-eq-sub-mod}
 use native.Mathlib.Omega.{arith}
 use lib.Dec.{ltb, leb, eqb}
-use lib.ListN.{length, getD}
+use lib.ListN.{getD}
 use borrow.Author.Tests.{lt-ltb, le-ltb, ne-eqb}
 use Rattle.rules.specs.Bits.{Word, _⊕_, flipped, if_then_else_}
 use Rattle.rules.specs.Identity.{over}
 use Rattle.rules.proofs.Sums.{⊕-false, eqb-iff}
-use Rattle.vectors.specs.Vectors.{added, upTo, from, twice}
+use Rattle.vectors.specs.Vectors.{added, upTo, from}
 use Rattle.rules.proofs.Orders.{le-or-lt}
-use Rattle.vectors.proofs.Cells.{joined-below, joined-above}
 use Rattle.vectors.proofs.Spans.{added-before, added-after, added-inside, added-twice, twice-turned, upTo-below}
 use Rattle.layout.specs.Lent.{kept, entries, placeOf}
 use Rattle.layout.specs.declared.Shape.{Shape}

@@ -12,7 +12,7 @@ ghost use Rattle.rules.specs.Codes.{Code};
 ghost use Rattle.rules.specs.Checks.{broken};
 ghost use Rattle.vectors.specs.Vectors.{wbit, both, added};
 ghost use Rattle.layout.specs.Lent.{Fit, Lent, placeOf, laid};
-ghost use Rattle.syndromes.specs.Rows.{plus, rowed, within, wide, entry, spread, doubled, turned, summed, covering};
+ghost use Rattle.syndromes.specs.Rows.{plus, rowed, within, wide, entry, spread, turned, summed, covering};
 
 // What stands at the two places of a block.
 struct Places {

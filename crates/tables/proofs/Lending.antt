@@ -1,18 +1,15 @@
 -- The constants are the codes' parity tables: each is compared with the definition's print by a computed test.
-use mathlib.Core.Path.{_≡_, refl, sym, ap, _∙_, subst}
+use mathlib.Core.Path.{_≡_, refl, sym, subst}
 use mathlib.Core.List.{List}
 use Prim.Native.Nat.{ℕ, _≤_, _<_}
 use native.Mathlib.Decide.{ℕ-discrete}
 use native.Mathlib.Omega.{arith}
 use lib.Dec.{lit<, lit≤}
-use borrow.Author.Tests.{ne-eqb}
 use Rattle.rules.specs.Tables.{parity16, parity32, parity64, parity511, generator16, generator32, generator64, generator511}
 use Rattle.rules.specs.Codes.{code, code1, code2, code3, code4, code5}
-use Rattle.rules.specs.Bits.{if_then_else_}
 use Rattle.layout.specs.declared.Shape.{Shape}
-use Rattle.layout.specs.Lent.{Fit, Lent}
 use Rattle.layout.proofs.Lending.{lent}
-use Rattle.tables.specs.Flat.{placeAt, places16, places32, places64, places511, flat8, flat16, shapeOfCode, Lends}
+use Rattle.tables.specs.Flat.{places16, places32, places64, places511, flat8, flat16, shapeOfCode, Lends}
 
 pub lends1 : Lends 1 (flat8 places16) (shapeOfCode 1)
 unfolding code code1 parity16 generator16 flat8

@@ -1,7 +1,7 @@
 -- The first bit of a number that is set. Assumes nothing.
 use mathlib.Core.Path.{_≡_, ap, _∙_}
 use mathlib.Core.Bool.{true, false}
-use Prim.Native.Nat.{ℕ, suc, _+_, _-_, _/_, _%_, _^_, _≤_, _<_}
+use Prim.Native.Nat.{ℕ, suc, _+_, _-_, _/_, _%_, _^_, _<_}
 use native.Mathlib.Nat.{pow-suc, div-eq-of-lt-le}
 use native.Mathlib.Omega.{arith}
 use lib.Count.{leadingZeros, leading-top}

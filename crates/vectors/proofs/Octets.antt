@@ -1,22 +1,22 @@
 -- Octets of words and words of octets. Assumes nothing.
-use mathlib.Core.Path.{_≡_, refl, sym, ap, ap₂, _∙_, subst, fun-ext}
+use mathlib.Core.Path.{_≡_, sym, ap, ap₂, _∙_, subst, fun-ext}
 use mathlib.Core.Bool.{false, _||_}
 use mathlib.Core.Logic.{⊎-elim}
-use mathlib.Core.List.{List, _∷_}
-use Prim.Native.Nat.{ℕ, zero, suc, _+_, _-_, _*_, _/_, _%_, _^_, _≤_, _<_}
-use native.Mathlib.Nat.{pow-suc, div-one, lt-of-lt-of-le}
+use mathlib.Core.List.{List}
+use Prim.Native.Nat.{ℕ, suc, _+_, _-_, _*_, _/_, _%_, _^_, _≤_, _<_}
+use native.Mathlib.Nat.{lt-of-lt-of-le}
 use native.Mathlib.Omega.{arith}
-use lib.Dec.{eqb, lit<}
+use lib.Dec.{lit<}
 use lib.Arith.{digits-lt}
 use lib.Bits.{bitOr}
 use lib.Pow.{pow-add, pow-mono}
 use lib.ListN.{getD, length}
-use Rattle.rules.specs.Bits.{Word, digit, bit, tally, number, octets}
+use Rattle.rules.specs.Bits.{Word, digit, bit, octets}
 use Rattle.rules.proofs.Octets.{length-octets, bit-octets, octets-lt, bit-past}
 use Rattle.vectors.specs.Vectors.{wbit, Holds, upTo, from, joined}
 use Rattle.rules.proofs.Orders.{le-or-lt}
-use Rattle.vectors.proofs.Places.{tally-lt, tally-odd, or-none, place, place-or, place-above, place-front, place-behind, place-zero, place-cut, place-up, place-down, place-below}
-use Rattle.vectors.proofs.Cells.{cell-at, cell-past, same-cells, joined-below, joined-above, joined-end}
+use Rattle.vectors.proofs.Places.{or-none, place, place-or, place-above, place-front, place-behind, place-zero, place-cut, place-up, place-down, place-below}
+use Rattle.vectors.proofs.Cells.{cell-at, same-cells, joined-below, joined-above, joined-end}
 use Rattle.vectors.proofs.Spans.{upTo-below, upTo-above}
 
 -- A list of octets is known by its length and its bits.

@@ -1,5 +1,5 @@
 -- `codes::check`: refusals in the order of their numbers, then the count. Assumes nothing.
-use mathlib.Core.Path.{_≡_, refl, sym, ap, _∙_}
+use mathlib.Core.Path.{refl, sym, ap, _∙_}
 use borrow.Author.Tests.{not-true, not-false}
 use Rattle.rules.specs.Codes.{code}
 use Rattle.rules.specs.Checks.{broken}

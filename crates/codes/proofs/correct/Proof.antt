@@ -1,5 +1,5 @@
 -- `codes::correct`: refusals in the order of their numbers, then the run. Assumes nothing.
-use mathlib.Core.Path.{_≡_, sym, ap, _∙_}
+use mathlib.Core.Path.{sym, _∙_}
 use borrow.Author.Tests.{not-true, not-false}
 use Rattle.rules.proofs.Answers.{correct-taken}
 use Rattle.received.proofs.Handed.{is-offered}

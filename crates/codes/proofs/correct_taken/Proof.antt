@@ -2,7 +2,6 @@
 use Rattle.rules.specs.Bits.{bit}
 use Rattle.rules.specs.Encoding.{lifted}
 use Rattle.rules.specs.Flipping.{byExcess, run}
-use mathlib.Core.Path.{_≡_, refl, sym, ap, _∙_}
 use Rattle.rules.specs.Codes.{code}
 use Rattle.codes.proofs.Correcting.{blocks-some, holding, ran-number, ran-word, ran-met, corrected-is, wrote-word, wrote-none}
 use Rattle.vectors.proofs.Filling.{zero-words}

@@ -1,5 +1,5 @@
 -- `codes::encode`: refusals in the order of their numbers, then the encoding. Assumes nothing.
-use mathlib.Core.Path.{_≡_, sym, ap, _∙_}
+use mathlib.Core.Path.{sym, ap, _∙_}
 use borrow.Author.Tests.{not-true, not-false}
 use Rattle.rules.proofs.Answers.{encode-taken}
 use Rattle.received.proofs.Handed.{is-offered}

@@ -1,5 +1,5 @@
 -- `codes::encode_taken`: taken, encoded and written. Assumes nothing.
-use mathlib.Core.Path.{_≡_, refl, sym, ap, _∙_}
+use mathlib.Core.Path.{refl, sym, ap, _∙_}
 use native.Mathlib.Omega.{arith}
 use Rattle.rules.specs.Codes.{code, information}
 use Rattle.rules.specs.Encoding.{encoded}

@@ -1,7 +1,6 @@
 -- `codes::step_taken`: quiet, stuck, or one flip. Assumes nothing.
-use mathlib.Core.Path.{_≡_, sym, ap, ap₂, _∙_}
+use mathlib.Core.Path.{ap, ap₂, _∙_}
 use mathlib.Core.Bool.{true, false}
-use native.Mathlib.Omega.{arith}
 use native.Mathlib.Nat.{lt-of-le-of-lt}
 use mir.Syntax.{w8}
 use mir.Facts.{toZ-pos}

@@ -1,5 +1,4 @@
 -- `received::measure`: the table lent, the word taken, and its syndrome. Assumes nothing.
-use mathlib.Core.Path.{_≡_, refl, sym, ap, _∙_}
 use native.Mathlib.Omega.{arith}
 use Rattle.rules.specs.Codes.{code}
 use Rattle.received.proofs.Handed.{offered-low, offered-high, word-few}

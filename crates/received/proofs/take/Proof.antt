@@ -1,5 +1,5 @@
 -- `received::take`: code 5 is lifted by 18 bits, the others are taken as they are. Assumes nothing.
-use mathlib.Core.Path.{_≡_, refl, sym, ap, _∙_}
+use mathlib.Core.Path.{sym, ap, _∙_}
 use native.Mathlib.Omega.{arith}
 use lib.Dec.{lit<}
 use Rattle.rules.specs.Bits.{bit}

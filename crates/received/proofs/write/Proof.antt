@@ -1,9 +1,9 @@
 -- `received::write`: code 5 is trimmed and sent from bit 18 on, the others from bit 0. Assumes nothing.
-use mathlib.Core.Path.{_≡_, refl, sym, ap, _∙_}
+use mathlib.Core.Path.{ap, _∙_}
 use native.Mathlib.Omega.{arith}
 use lib.ListN.{length}
 use Rattle.rules.specs.Bits.{octets}
-use Rattle.vectors.specs.Vectors.{wbit, from, upTo}
+use Rattle.vectors.specs.Vectors.{wbit, from}
 use Rattle.received.proofs.Handed.{word-few, written-whole, written-five}
 use borrow.Author.Needs.{needs}
 use Rattle.received.proofs.write.Statement.{statement}

@@ -1,12 +1,12 @@
 -- `runs::run`: the loop has come to the run's word after so many flips, for every code that is lent. Assumes nothing.
-use mathlib.Core.Path.{_≡_, refl, sym, _∙_, ap}
-use Prim.Native.Nat.{ℕ, _-_, _≤_}
+use mathlib.Core.Path.{_≡_, _∙_}
+use Prim.Native.Nat.{_-_, _≤_}
 use native.Mathlib.Omega.{arith}
 use borrow.Author.Needs.{needs}
 use lib.ListN.{length}
 use Rattle.rules.specs.Codes.{Code}
 use Rattle.vectors.specs.Vectors.{wbit}
-use Rattle.layout.specs.Lent.{Fit, Lent, laid}
+use Rattle.layout.specs.Lent.{Lent, laid}
 use Rattle.runs.specs.Turns.{Holding, Going}
 use Rattle.runs.proofs.Turning.{going-start, ends-quiet, ends-stuck, ends-limit, goes-on, comes-quiet, comes-stuck, comes-flip}
 use Rattle.runs.proofs.run.Statement.{statement}

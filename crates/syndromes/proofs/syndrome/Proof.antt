@@ -1,8 +1,5 @@
 -- `syndromes::syndrome` meets its contract: every block is added to every row, and the rows are trimmed. Assumes nothing.
-use mathlib.Core.Path.{ap, sym, _∙_}
-use Prim.Native.Nat.{_*_}
-use native.Mathlib.Omega.{arith}
-use lib.ListN.{replicate}
+use mathlib.Core.Path.{ap, _∙_}
 use Rattle.vectors.specs.Vectors.{wbit}
 use Rattle.syndromes.specs.Rows.{within, wide, summed}
 use Rattle.syndromes.proofs.Bounds.{wide-some}
