@@ -11,12 +11,11 @@ use lib.ListN.{length, take}
 use lib.Seq.{getD-take}
 use borrow.Author.Tests.{lt-ltb, le-ltb}
 use Rattle.rules.specs.Bits.{Word, digit, bit, octets, _⊕_, agree, if_then_else_}
-use Rattle.rules.specs.Codes.{Code, bits, checks, information}
+use Rattle.rules.specs.Codes.{Code, bits, information}
 use Rattle.rules.specs.Checks.{covers, check, broken}
 use Rattle.rules.specs.Encoding.{rowBit, parityBit, encoded, lifted, sent, codeword}
 use Rattle.rules.specs.Calls.{written}
 use Rattle.rules.proofs.Sums.{⊕-eq, ⊕-self, sum-same}
-use Rattle.rules.proofs.Counting.{count-same}
 use Rattle.rules.proofs.Octets.{bit-octets, octets-same, octets-bit, Octets}
 use Rattle.rules.proofs.Parity.{OwnParity}
 use Rattle.rules.proofs.Published.{Published}
@@ -50,10 +49,6 @@ module _ (c : Code) where
   pub check-same : (x y : Word) → ((n : ℕ) → n < bits c → x n ≡ y n) → (k : ℕ) → check c x k ≡ check c y k
   unfolding check
   check-same x y h k = sum-same (bits c) _ _ (λ n l. ap (λ z. covers c k n && z) (h n l))
-
-  pub broken-same : (x y : Word) → ((n : ℕ) → n < bits c → x n ≡ y n) → broken c x ≡ broken c y
-  unfolding broken
-  broken-same x y h = count-same (checks c) (check c x) (check c y) (λ k l. check-same x y h k)
 
   -- ---- encoding
 

@@ -2,7 +2,7 @@
 use mathlib.Core.Path.{_≡_, refl, sym, ap, _∙_, fun-ext}
 use mathlib.Core.Bool.{false}
 use mathlib.Core.List.{List}
-use Prim.Native.Nat.{ℕ, suc, _+_, _-_, _*_, _/_, _%_, _^_, _≤_, _<_}
+use Prim.Native.Nat.{ℕ, suc, _+_, _-_, _*_, _/_, _%_, _≤_, _<_}
 use native.Mathlib.Omega.{arith}
 use lib.Dec.{lit<}
 use lib.ListN.{getD, length, set, replicate, length-set}
@@ -10,7 +10,7 @@ use Rattle.rules.specs.Bits.{Word, digit}
 use Rattle.vectors.specs.Vectors.{wbit, Holds, from, joined}
 use Rattle.rules.proofs.Octets.{zeros-at, digit-zero}
 use Rattle.vectors.proofs.Places.{place}
-use Rattle.vectors.proofs.Cells.{cell-at, cell-past, unread, stored, same-cells, joined-start, joined-end}
+use Rattle.vectors.proofs.Cells.{cell-at, cell-past, unread, stored, joined-start, joined-end}
 
 pub word-at : (ws : List ℕ) (n q i : ℕ) → i < 64 → n ≡ 64 * q + i → wbit ws n ≡ digit 64 (getD ws q 0) i
 unfolding wbit
@@ -41,11 +41,6 @@ word-stored ws k x y e v hk hv = stored 64 (lit< tt) ws k x y e v hk hv
 pub zero-words : (k : ℕ) → wbit (replicate k 0) ≡ (λ n. false)
 unfolding wbit
 zero-words k = fun-ext (λ n. ap (λ (v : ℕ). digit 64 v (n % 64)) (zeros-at k (n / 64)) ∙ digit-zero 64 (n % 64))
-
--- Vectors of one length are known by their bits.
-pub same-words : (xs ys : List ℕ) → length xs ≡ length ys → ((k : ℕ) → getD xs k 0 < 2 ^ 64) → ((k : ℕ) → getD ys k 0 < 2 ^ 64) → wbit xs ≡ wbit ys → xs ≡ ys
-unfolding wbit
-same-words xs ys long hx hy e = same-cells 64 (lit< tt) xs ys long hx hy e
 
 -- The words before word k have the bits of x, and the others are as they were.
 pub record Filled (ws₀ : List ℕ) (x : Word) (ws : List ℕ) (k : ℕ) : Type 0 where

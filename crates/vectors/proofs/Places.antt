@@ -5,9 +5,9 @@ use mathlib.Core.Logic.{⊎-elim}
 use Prim.Native.Nat.{ℕ, zero, suc, min, max, _+_, _-_, _*_, _/_, _%_, _^_, _≤_, _<_}
 use native.Mathlib.Nat.{mod-lt, div-eq-of-lt, div-self, div-one, zero-div, zero-lt-suc, pow-suc, mul-mod-left, lt-of-lt-of-le, mul-assoc}
 use native.Mathlib.Omega.{arith}
-use lib.Dec.{eqb, lit<}
+use lib.Dec.{eqb}
 use lib.Arith.{lt-one}
-use lib.Pow.{pow-pos, pow-mono, pow-lt, pow-add, shr-shr, shl-shr, field, mod-mod-pow, ones-split, ones-lt, high}
+use lib.Pow.{pow-pos, pow-mono, pow-lt, pow-add, shr-shr, shl-shr, field, mod-mod-pow}
 use lib.Bits.{bitXor, bitAnd, bitOr, differ, xor-step, and-step, or-step, xor-shr, and-shr, or-shr, or-shifted}
 use borrow.Author.Tests.{eq-eqb, ne-eqb}
 use Rattle.rules.specs.Bits.{digit, tally, _⊕_}
@@ -41,10 +41,6 @@ pub tally-of : (p : ℕ) → p < 2 → p ≡ tally (eqb p 1)
 tally-of zero h = refl
 tally-of (suc zero) h = refl
 tally-of (suc (suc p)) h = absurd (omega arith)
-
-pub tally-lt : (b : Bool) → tally b < 2
-tally-lt true = lit< tt
-tally-lt false = lit< tt
 
 pub tally-odd : (b : Bool) → eqb (tally b % 2) 1 ≡ b
 tally-odd true = refl
@@ -155,17 +151,6 @@ module _ (a b k : ℕ) (small : b < 2 ^ k) where
   pub place-behind : (j : ℕ) → j < k → place (a * 2 ^ k + b) j ≡ place b j
   place-behind j h = joint j ∙ ap (λ (p : Bool). p || place b j) (place-below a k j h)
 
--- A number of k ones.
-pub place-ones : (k j : ℕ) → j < k → place (2 ^ k - 1) j ≡ true
-place-ones k j h =
-    let d = k - suc j in
-    let e : k ≡ suc d + j = omega arith in
-    let odd : (2 ^ suc d - 1) % 2 ≡ 1 = omega (arith, pow-suc 2 d, pow-pos d) in
-    ap (λ (n : ℕ). place (2 ^ n - 1) j) e
-    ∙ ap (λ (n : ℕ). place n j) (ones-split (suc d) j)
-    ∙ ap (λ (n : ℕ). eqb (n % 2) 1) (high (2 ^ suc d - 1) j (ones-lt j))
-    ∙ ap (λ (n : ℕ). eqb n 1) odd
-
 -- ---- digits by their numbers in a width
 
 module _ (w u v i : ℕ) where
@@ -177,9 +162,6 @@ module _ (w u v i : ℕ) where
 
   pub digit-and : digit w (bitAnd u v) i ≡ (digit w u i && digit w v i)
   digit-and = place-and u v (w - suc i)
-
-pub digit-ones : (w i : ℕ) → i < w → digit w (2 ^ w - 1) i ≡ true
-digit-ones w i h = place-ones w (w - suc i) (omega arith)
 
 -- Bit k alone.
 pub digit-power : (w k i : ℕ) → k < w → i < w → digit w (2 ^ (w - suc k)) i ≡ eqb i k

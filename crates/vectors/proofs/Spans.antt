@@ -8,14 +8,14 @@ use native.Mathlib.Nat.{mod-lt, mod-eq-of-lt, mod-eq-sub-mod, one-mul, add-comm}
 use native.Mathlib.Omega.{arith}
 use lib.Dec.{ltb, leb, eqb}
 use lib.Pow.{pow-pos, shr-shr}
-use lib.Bits.{bitXor, bitAnd, bitOr}
+use lib.Bits.{bitXor, bitOr}
 use lib.ListN.{getD, length, set}
 use borrow.Author.Tests.{lt-ltb, le-ltb, le-leb, lt-leb, ne-eqb}
 use Rattle.rules.specs.Bits.{Word, digit, flipped, _⊕_}
 use Rattle.rules.proofs.Sums.{⊕-assoc, and-⊕, eqb-iff}
 use Rattle.vectors.specs.Vectors.{wbit, Holds, upTo, from, later, joined, twice, added}
 use Rattle.rules.proofs.Orders.{le-or-lt}
-use Rattle.vectors.proofs.Places.{or-none, and-none, xor-none, xor-same, digit-or, digit-and, digit-xor, digit-power, place, place-or, place-xor, place-up, place-down, place-below, place-above, place-cut, place-zero}
+use Rattle.vectors.proofs.Places.{or-none, and-none, xor-none, xor-same, digit-xor, digit-power, place, place-or, place-xor, place-up, place-down, place-below, place-above, place-cut, place-zero}
 use Rattle.vectors.proofs.Cells.{joined-below, joined-above, joined-start, joined-end}
 use Rattle.vectors.proofs.Filling.{word-at, word-holds, word-past, word-stored}
 
@@ -49,12 +49,6 @@ upTo-again m x y e = fun-ext (λ n. ⊎-elim (above n) (λ h. sym (upTo-below m 
 module _ (u v : ℕ) (x y : Word) (hu : Holds u x) (hv : Holds v y) where
   pub xor-holds : Holds (bitXor u v) (λ i. x i ⊕ y i)
   xor-holds i hi = digit-xor 64 u v i ∙ ap₂ _⊕_ (hu i hi) (hv i hi)
-
-  pub or-holds : Holds (bitOr u v) (λ i. x i || y i)
-  or-holds i hi = digit-or 64 u v i ∙ ap₂ _||_ (hu i hi) (hv i hi)
-
-  pub and-holds : Holds (bitAnd u v) (λ i. x i && y i)
-  and-holds i hi = digit-and 64 u v i ∙ ap₂ _&&_ (hu i hi) (hv i hi)
 
 -- ---- two words from bit t on
 
