@@ -1,3 +1,4 @@
+-- `cases::encode_alone`: the bit is in range. Assumes nothing.
 use native.Mathlib.Omega.{arith}
 use lib.ListN.{length-set}
 use borrow.Author.Needs.{needs}

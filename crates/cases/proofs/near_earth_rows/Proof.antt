@@ -1,3 +1,4 @@
+-- `cases::near_earth_rows`: the buffers keep their lengths. Assumes the kit's contracts of writing.
 use mathlib.Core.Path.{_≡_}
 use Prim.Native.Nat.{_-_}
 use borrow.Author.Needs.{needs}

@@ -1,3 +1,4 @@
+-- `cases::shorten`: sent is filled to its end. Assumes nothing.
 use mathlib.Core.Path.{_≡_}
 use Prim.Native.Nat.{_≤_, _-_}
 use borrow.Author.Needs.{needs}

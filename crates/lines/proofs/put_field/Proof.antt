@@ -1,3 +1,4 @@
+-- `lines::put_field` meets its contract: the digits, and the octet that ends them. Assumes nothing.
 use native.Mathlib.Omega.{arith}
 use lib.ListN.{take}
 use Rattle.lines.specs.Log.{decimal}

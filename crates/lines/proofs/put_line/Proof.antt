@@ -1,3 +1,4 @@
+-- `lines::put_line` meets its contract: five fields, one after the other. Assumes nothing.
 use mathlib.Core.Path.{_∙_}
 use mathlib.Core.List.{[], _++_}
 use lib.ListN.{take}

@@ -1,3 +1,4 @@
+-- `lines::words_held` meets its contract. Assumes nothing.
 use mathlib.Core.Path.{sym, ap, subst}
 use Prim.Native.Nat.{_*_, _/_, _≤_, _<_}
 use native.Mathlib.Nat.{le-div-iff-mul-le, div-mul-le-self}

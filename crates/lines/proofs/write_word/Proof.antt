@@ -1,3 +1,4 @@
+-- `lines::write_word` meets its contract: the answer of `codes::correct`, as a line. Assumes nothing.
 use mathlib.Core.Path.{sym, ap, _∙_}
 use mathlib.Core.List.{List, _++_}
 use Prim.Native.Nat.{ℕ}

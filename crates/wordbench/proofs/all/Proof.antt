@@ -1,3 +1,4 @@
+-- `wordbench::all`: the buffers are as long as `blocks` wants them. Assumes the kit's contracts of reading and writing.
 use mathlib.Core.Path.{sym, subst, _∙_}
 use Prim.Native.Nat.{_*_, _≤_}
 use native.Mathlib.Nat.{mul-le-mul-left}

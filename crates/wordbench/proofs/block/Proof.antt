@@ -1,3 +1,4 @@
+-- `wordbench::block`: what is read fits the words, and its lines the text. Assumes the kit's contracts of reading and writing.
 use native.Mathlib.Omega.{arith}
 use lib.ListN.{length-take}
 use borrow.Author.Needs.{needs}

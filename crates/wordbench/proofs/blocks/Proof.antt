@@ -1,3 +1,4 @@
+-- `wordbench::blocks`: the buffers keep their lengths, and the index stays in range. Assumes the kit's contracts of reading and writing.
 use mathlib.Core.Path.{_≡_}
 use Prim.Native.Nat.{_-_, _^_}
 use borrow.Author.Needs.{needs}

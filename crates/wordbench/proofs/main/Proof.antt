@@ -1,3 +1,4 @@
+-- `wordbench::main`: only a code that is offered is run. Assumes the kit's contracts of reading and writing.
 use mathlib.Core.Path.{sym, _∙_}
 use borrow.Author.Needs.{needs}
 use Rattle.wordbench.proofs.main.Statement.{statement}
