@@ -56,9 +56,9 @@ pub record Filled (n : ℕ) (f : ℕ → ℕ) (t : List ℕ) (i : ℕ) : Type 0 
   pub places : (j : ℕ) → j < i → getD t j 0 ≡ f j
 
 -- with row r of a table laid, whose rows have k places each
-pub filled-row : (n k r : ℕ) (f : ℕ → ℕ) (h : List (List (List ℕ))) (t t′ : List ℕ) {at : ℕ} → Filled n f t (k * r) → RowLaid (getD h r []) k at t t′ → at ≡ k * r → length t′ ≡ length t → k * r + k ≤ n
+pub filled-row : (n k r : ℕ) (f : ℕ → ℕ) (h : List (List (List ℕ))) (t t′ : List ℕ) {w at : ℕ} → Filled n f t (k * r) → RowLaid (getD h r []) w at t t′ → w ≡ k → at ≡ k * r → length t′ ≡ length t → k * r + k ≤ n
     → ((j : ℕ) → j < k → rowPlace (getD h r []) j ≡ f (k * r + j)) → Filled n f t′ (k * (r + 1))
-filled-row n k r f h t t′ {at} d l here long room same = record {
+filled-row n k r f h t t′ {w} {at} d l wide here long room same = record {
   below = omega (arith, more);
   long = long ∙ d .long;
   places = λ j hj. go j (omega (arith, more)) (decLt j (k * r));

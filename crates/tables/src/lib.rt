@@ -1,6 +1,6 @@
 // The parity tables as nested constants, rows of blocks of shift pairs, and how they are lent to the engine.
 ghost use mathlib.Core.Path.{_≡_};
-ghost use Prim.Native.Nat.{_+_, _≤_};
+ghost use Prim.Native.Nat.{_+_, _≤_, _*_};
 ghost use lib.ListN.{length};
 ghost use Rattle.tables.specs.Flat.{RowLaid, flat8, flat16, places16, places32, places64, places511, Lends};
 use layout::Shape;
@@ -180,13 +180,13 @@ const PARITY511: [[[u16; 2]; 16]; 2] = [
     ],
 ];
 
-// A row of eight blocks, from place at on.
-fn flatten_row8(h: &[[u16; 2]; 8], t: &mut [u16], at: usize)
-    requires { ⌜ at + 16 ≤ length (now t) ⌝ }
-    ensures { λ _. ⌜ RowLaid (now (h .entry)) 16 at (now (t .entry)) (now (t .exit)) ⌝ }
+// The blocks of a row, one place after another from place at on.
+fn flatten_row(h: &[[u16; 2]], t: &mut [u16], at: usize)
+    requires { ⌜ (at + 2 * length (now h) ≤ length (now t)) × (length (now t) ≡ 64) ⌝ }
+    ensures { λ _. ⌜ RowLaid (now (h .entry)) (2 * length (now (h .entry))) at (now (t .entry)) (now (t .exit)) ⌝ }
 {
     let mut b: usize = 0;
-    while b < 8 {
+    while b < h.len() {
         t[at + 2 * b] = h[b][0];
         t[at + 2 * b + 1] = h[b][1];
         b += 1;
@@ -200,21 +200,8 @@ fn flatten8(h: &[[[u16; 2]; 8]; 4], t: &mut [u16])
 {
     let mut r: usize = 0;
     while r < 4 {
-        flatten_row8(&h[r], t, 16 * r);
+        flatten_row(&h[r], t, 16 * r);
         r += 1;
-    }
-}
-
-// A row of 16 blocks, from place at on.
-fn flatten_row16(h: &[[u16; 2]; 16], t: &mut [u16], at: usize)
-    requires { ⌜ at + 32 ≤ length (now t) ⌝ }
-    ensures { λ _. ⌜ RowLaid (now (h .entry)) 32 at (now (t .entry)) (now (t .exit)) ⌝ }
-{
-    let mut b: usize = 0;
-    while b < 16 {
-        t[at + 2 * b] = h[b][0];
-        t[at + 2 * b + 1] = h[b][1];
-        b += 1;
     }
 }
 
@@ -225,7 +212,7 @@ fn flatten16(h: &[[[u16; 2]; 16]; 2], t: &mut [u16])
 {
     let mut r: usize = 0;
     while r < 2 {
-        flatten_row16(&h[r], t, 32 * r);
+        flatten_row(&h[r], t, 32 * r);
         r += 1;
     }
 }

@@ -16,17 +16,17 @@ abbrev μ-loop : tie.MeasureT-loop
 loop-holds : tie.Need-loop-holds Inv-loop μ-loop
 loop-holds c = record { below = omega arith; long = search needs; places = λ j l. absurd (omega arith) }
 
-mul-flatten-row8 : tie.Need-mul-flatten-row8 Inv-loop μ-loop
-mul-flatten-row8 c = search needs
+mul-flatten-row : tie.Need-mul-flatten-row Inv-loop μ-loop
+mul-flatten-row c = search needs
 
-index-1-flatten-row8 : tie.Need-index-1-flatten-row8 Inv-loop μ-loop
-index-1-flatten-row8 c = search needs
+index-1-flatten-row : tie.Need-index-1-flatten-row Inv-loop μ-loop
+index-1-flatten-row c = search needs
 
-mul-flatten-row8-2 : tie.Need-mul-flatten-row8-2 Inv-loop μ-loop
-mul-flatten-row8-2 c = search needs
+mul-flatten-row-2 : tie.Need-mul-flatten-row-2 Inv-loop μ-loop
+mul-flatten-row-2 c = search needs
 
-flatten-row8-requires : tie.Need-flatten-row8-requires Inv-loop μ-loop
-flatten-row8-requires c κs = search needs
+flatten-row-requires : tie.Need-flatten-row-requires Inv-loop μ-loop
+flatten-row-requires c κs = search needs
 
 add-r : tie.Need-add-r Inv-loop μ-loop
 add-r c = search needs
@@ -36,10 +36,10 @@ loop-less c = search needs
 
 loop-again : tie.Need-loop-again Inv-loop μ-loop
 loop-again c =
-    let h = c .before .before .before .before .before .before .before .before .args .h .now in
-    let l = c .before .before .before .before .before .before .loop in
-    let laid = c .before .before .flatten-row8 in
-    filled-row 64 16 (l .r) (λ j. placeAt h (j / 16) (j / 2 % 8) (j % 2)) h (l .t) (laid .last .1 .0) (l .inv) (laid .ensures) (omega arith) (laid .kept .1 .0) (omega arith)
+    let h = c .before .before .before .before .before .before .before .before .before .args .h .now in
+    let l = c .before .before .before .before .before .before .before .loop in
+    let laid = c .before .before .flatten-row in
+    filled-row 64 16 (l .r) (λ j. placeAt h (j / 16) (j / 2 % 8) (j % 2)) h (l .t) (laid .last .1 .0) (l .inv) (laid .ensures) (omega arith) (omega arith) (laid .kept .1 .0) (omega arith)
     (λ j hj. row-place h (l .r) ((16 * l .r + j) / 16) ((16 * l .r + j) / 2 % 8) ((16 * l .r + j) % 2) j (omega arith) (omega arith) (omega arith))
 
 same-length : tie.Need-same-length Inv-loop μ-loop
@@ -56,10 +56,10 @@ flatten8-spec =
     Inv-loop
     μ-loop
     loop-holds
-    mul-flatten-row8
-    index-1-flatten-row8
-    mul-flatten-row8-2
-    flatten-row8-requires
+    mul-flatten-row
+    index-1-flatten-row
+    mul-flatten-row-2
+    flatten-row-requires
     add-r
     loop-less
     loop-again

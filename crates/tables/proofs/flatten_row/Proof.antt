@@ -1,4 +1,4 @@
--- `tables::flatten_row16`: after each turn two places more of the row are laid. Assumes nothing.
+-- `tables::flatten_row`: after each turn two places more of the row are laid. Assumes nothing.
 use mathlib.Core.Path.{_≡_, refl, subst}
 use Prim.Native.Nat.{ℕ, _-_, _*_, _≤_}
 use native.Mathlib.Omega.{arith}
@@ -6,14 +6,14 @@ use borrow.Author.Needs.{needs}
 use lib.ListN.{length, length-set}
 use Rattle.tables.specs.Flat.{RowLaid}
 use Rattle.tables.proofs.Listed.{laid-none, laid-block}
-use Rattle.tables.proofs.flatten_row16.Statement.{statement}
-use Rattle.tables.proofs.flatten_row16.Tie as tie
+use Rattle.tables.proofs.flatten_row.Statement.{statement}
+use Rattle.tables.proofs.flatten_row.Tie as tie
 
 abbrev Inv-loop : tie.InvT-loop
-Inv-loop h t₀ at b₀ t b = (b ≤ 16) × (length t ≡ length t₀) × RowLaid h (2 * b) at t₀ t
+Inv-loop h t₀ at b₀ t b = (b ≤ length h) × (length t ≡ length t₀) × RowLaid h (2 * b) at t₀ t
 
 abbrev μ-loop : tie.MeasureT-loop
-μ-loop h t₀ at b₀ t b = 16 - b
+μ-loop h t₀ at b₀ t b = length h - b
 
 loop-holds : tie.Need-loop-holds Inv-loop μ-loop
 loop-holds c = (omega arith, refl, laid-none (c .args .h .now) (c .args .at) (c .args .t .now))
@@ -82,11 +82,11 @@ returns : tie.Need-returns Inv-loop μ-loop
 returns c =
     let a = c .before .before .args in
     let l = c .before .loop in
-    let all : 2 * l .b ≡ 32 = omega arith in
+    let all : 2 * l .b ≡ 2 * length (c .before .before .args .h .now) = omega arith in
     subst (λ (n : ℕ). RowLaid (a .h .now) n (a .at) (a .t .now) (l .t)) all (l .inv .2)
 
-pub flatten-row16-spec : {M : Type 1} → statement M
-flatten-row16-spec =
+pub flatten-row-spec : {M : Type 1} → statement M
+flatten-row-spec =
     tie.close
     (tie.spec
     Inv-loop
