@@ -1,7 +1,7 @@
 // The calls for C and Rust. A slice is handed over as a pointer and its length; the records are those of the calls.
 ghost use mathlib.Core.Path.{_≡_};
 ghost use lib.ListN.{length};
-ghost use Rattle.rules.specs.Calls.{encodeAnswer, checkAnswer, openAnswer, correctAnswer, stepAnswer};
+ghost use Rattle.answers.specs.Calls.{encodeAnswer, checkAnswer, openAnswer, correctAnswer, stepAnswer};
 ghost use Rattle.codes.specs.Answers.{asEncoded, asChecked, asCorrected, asStepped};
 use codes::Checked;
 use codes::Corrected;

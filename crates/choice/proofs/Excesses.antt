@@ -11,11 +11,11 @@ use borrow.Author.Tests.{lt-ltb, le-ltb}
 use lib.Dec.{ltb}
 use lib.IntN.{pos, negsuc, subℕ}
 use lib.Signed.{ltZ}
-use Rattle.rules.specs.Bits.{Word, if_then_else_}
+use Rattle.bits.specs.Bits.{Word, if_then_else_}
 use Rattle.rules.specs.Codes.{Code, bits}
-use Rattle.rules.specs.Checks.{broken, excess}
+use Rattle.rules.specs.Checks.{broken, excess, brokenOf, degreeOf, metOf}
 use Rattle.rules.specs.Flipping.{flip, stuck, greatest, byExcess}
-use Rattle.rules.proofs.Flips.{brokenOf, metOf, degreeOf, broken-met, excess-is}
+use Rattle.rules.proofs.Flips.{broken-met, excess-is}
 use Rattle.rules.proofs.Choosing.{flip-next, stuck-next}
 use Rattle.planes.specs.Ranges.{Top}
 use Rattle.planes.proofs.Choice.{top-greatest, top-excess, top-above}

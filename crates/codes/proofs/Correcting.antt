@@ -8,17 +8,16 @@ use lib.Dec.{eqb, lit≤}
 use lib.IntN.{pos, negsuc, subℕ, natAbs}
 use lib.ListN.{length}
 use borrow.Author.Tests.{eq-eqb, ne-eqb, le-ltb}
-use Rattle.rules.specs.Bits.{Word, bit, if_then_else_}
+use Rattle.bits.specs.Bits.{Word, bit, if_then_else_}
 use Rattle.rules.specs.Codes.{Code, code, bits}
-use Rattle.rules.specs.Checks.{broken}
-use Rattle.rules.specs.Encoding.{lifted}
+use Rattle.rules.specs.Checks.{broken, brokenOf, metOf}
+use Rattle.rules.specs.Encoding.{lifted, written}
 use Rattle.rules.specs.Flipping.{Next, flip, byExcess, run}
-use Rattle.rules.specs.Calls.{written, judged, ranCorrect, nextStep}
+use Rattle.answers.specs.Calls.{judged, ranCorrect, nextStep, ranFrom, steppedFrom}
 use Rattle.rules.proofs.Runs.{run-ends, End, ends-quiet, ends-stuck, ends-limit}
 use Rattle.rules.proofs.Choosing.{next-quiet, next-flip, Chosen, chosen-lt}
-use Rattle.rules.proofs.Flips.{brokenOf, metOf, excess-is, broken-met}
+use Rattle.rules.proofs.Flips.{excess-is, broken-met}
 use Rattle.choice.proofs.Excesses.{degree-le}
-use Rattle.rules.proofs.Answers.{ranFrom, steppedFrom}
 use Rattle.layout.specs.declared.Shape.{Shape}
 use Rattle.layout.specs.Lent.{Fit, Lent, laid}
 use Rattle.tables.specs.Flat.{shapeOfCode}

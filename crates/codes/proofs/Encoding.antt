@@ -9,14 +9,15 @@ use native.Mathlib.Omega.{arith}
 use lib.Dec.{T, eqb, lit≤}
 use lib.ListN.{length, getD}
 use borrow.Author.Tests.{eq-eqb, eqb-true, lt-ltb, le-ltb}
-use Rattle.rules.specs.Bits.{Word, digit, bit, octets, if_then_else_}
-use Rattle.rules.specs.Codes.{code, code1, code2, code3, code4, code5, bits, information}
+use Rattle.bits.specs.Bits.{Word, digit, bit, octets, if_then_else_}
+use Rattle.rules.specs.Codes.{code, code1, code2, code3, code4, code5, bits, information, offered}
 use Rattle.rules.specs.Tables.{generator16, generator32, generator64, generator511}
-use Rattle.rules.specs.Encoding.{lifted, encoded}
-use Rattle.rules.specs.Calls.{offered, written, sixSet, encodeAnswer}
-use Rattle.rules.proofs.Octets.{bit-past}
+use Rattle.rules.specs.Encoding.{lifted, encoded, written}
+use Rattle.answers.specs.Calls.{sixSet, encodeAnswer}
+use Rattle.bits.proofs.Octets.{bit-past}
 use Rattle.rules.proofs.Codewords.{lifted-sent-bit, sent-same}
-use Rattle.rules.proofs.Answers.{five, published, if-yes, if-long}
+use Rattle.answers.proofs.Answers.{if-yes, if-long}
+use Rattle.rules.proofs.Numbers.{five, published}
 use Rattle.vectors.specs.Vectors.{upTo}
 use Rattle.received.proofs.Handed.{is-offered}
 use Rattle.codes.proofs.Refusals.{out-of, other}

@@ -9,18 +9,17 @@ use native.Mathlib.Omega.{arith}
 use lib.Dec.{T, leb, ltb, le→leb, nltb→le}
 use lib.ListN.{length}
 use borrow.Author.Tests.{eq-eqb, ne-eqb}
-use Rattle.rules.specs.Bits.{Word, bit, count, if_then_else_}
-use Rattle.rules.specs.Codes.{Code, code, code4, code5, nearEarth, bits, information}
+use Rattle.bits.specs.Bits.{Word, bit, count, if_then_else_}
+use Rattle.rules.specs.Codes.{Code, code, code4, code5, nearEarth, bits, information, offered, telecommanded}
 use Rattle.rules.specs.Tables.{parity511}
 use Rattle.rules.specs.Checks.{broken}
-use Rattle.rules.specs.Encoding.{lifted, sent, encoded, codeword}
+use Rattle.rules.specs.Encoding.{lifted, sent, encoded, codeword, OwnParity}
 use Rattle.rules.specs.Flipping.{Run}
-use Rattle.rules.specs.Calls.{offered, judged}
-use Rattle.rules.proofs.Counting.{none-counted}
-use Rattle.rules.proofs.Parity.{OwnParity}
+use Rattle.answers.specs.Calls.{judged}
+use Rattle.bits.proofs.Counting.{none-counted}
 use Rattle.rules.proofs.Published.{both, Published}
 use Rattle.rules.proofs.Codewords.{agree-all, own-encoded, own-codeword, codeword-own, codeword-quiet, codeword-bit, sent-bit, sent-fill, lifted-sent-bit, lifted-sent, parity-same}
-use Rattle.rules.proofs.Answers.{published}
+use Rattle.rules.proofs.Numbers.{published, Whole, whole, met-own-telecommand, met-codeword}
 use Rattle.layout.specs.declared.Shape.{Shape}
 use Rattle.layout.specs.Lent.{Fit, Lent, laid}
 use Rattle.vectors.specs.Vectors.{upTo, from}
@@ -28,7 +27,6 @@ use Rattle.vectors.proofs.Counts.{count-upTo}
 use Rattle.received.specs.Measured.{Measured}
 use Rattle.received.proofs.Handed.{offered-low, offered-high}
 use Rattle.codes.proofs.Refusals.{but}
-use Rattle.rules.proofs.Demands.{Whole, whole, telecommanded, met-own-telecommand, met-codeword}
 
 -- a Bool that can't be true is false
 pub not-so : (b : Bool) → (b ≡ true → ⊥) → b ≡ false

@@ -6,17 +6,17 @@ use Prim.Native.Nat.{ℕ}
 use lib.Dec.{T, eqb}
 use lib.ListN.{length}
 use borrow.Author.Tests.{eq-eqb, ne-eqb}
-use Rattle.rules.specs.Bits.{bit, if_then_else_}
-use Rattle.rules.specs.Codes.{code}
+use Rattle.bits.specs.Bits.{bit, if_then_else_}
+use Rattle.rules.specs.Codes.{code, offered}
 use Rattle.rules.specs.Encoding.{codeword}
-use Rattle.rules.specs.Calls.{offered, unlike, checkAnswer, openAnswer, refusedCorrect, correctAnswer, refusedStep, stepAnswer}
-use Rattle.rules.proofs.Answers.{if-yes, if-long}
+use Rattle.answers.specs.Calls.{otherLength, checkAnswer, openAnswer, refusedCorrect, correctAnswer, refusedStep, stepAnswer}
+use Rattle.answers.proofs.Answers.{if-yes, if-long}
 
 -- a test that fails, and a length that differs
 pub out-of : {A : Type 0} (b : Bool) (a r : A) → b ≡ false → (if not b then a else r) ≡ a
 out-of b a r e = ap (λ b. if not b then a else r) e
 
-pub other : {A : Type 0} (octets : List ℕ) (long : ℕ) (a r : A) → (length octets ≡ long → ⊥) → (if unlike octets long then a else r) ≡ a
+pub other : {A : Type 0} (octets : List ℕ) (long : ℕ) (a r : A) → (length octets ≡ long → ⊥) → (if otherLength octets long then a else r) ≡ a
 other octets long a r d = ap (λ b. if not b then a else r) (ne-eqb (length octets) long d)
 
 module _ (n : ℕ) where

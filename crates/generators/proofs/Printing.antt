@@ -7,12 +7,10 @@ use native.Mathlib.Decide.{ℕ-discrete}
 use native.Mathlib.Omega.{arith}
 use lib.Dec.{T, eqb, leb, eqb→eq, leb→le}
 use lib.ListN.{length, getD}
-use Rattle.rules.specs.Bits.{Word}
-use Rattle.rules.specs.Codes.{Code, code, bits, information}
+use Rattle.bits.specs.Bits.{Word, below}
+use Rattle.rules.specs.Codes.{Code, code, bits, information, offered}
 use Rattle.rules.specs.Encoding.{encoded}
-use Rattle.rules.specs.Calls.{offered}
-use Rattle.rules.specs.Identity.{below}
-use Rattle.rules.proofs.Sums.{and-l, and-r, below-at}
+use Rattle.bits.proofs.Sums.{and-l, and-r, below-at}
 use Rattle.vectors.specs.Vectors.{upTo}
 use Rattle.generators.specs.Words.{wordOf, printedWord, Prints}
 

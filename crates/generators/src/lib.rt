@@ -4,10 +4,9 @@ ghost use mathlib.Core.Path.{_≡_};
 ghost use mathlib.Core.Bool.{true};
 ghost use Prim.Native.Nat.{ℕ, _*_, _<_, _≤_};
 ghost use lib.ListN.{length, getD};
-ghost use Rattle.rules.specs.Codes.{Code, bits, information};
+ghost use Rattle.rules.specs.Codes.{Code, bits, information, offered};
 ghost use Rattle.rules.specs.Codes.{code as codeOf};
 ghost use Rattle.rules.specs.Encoding.{encoded};
-ghost use Rattle.rules.specs.Calls.{offered};
 ghost use Rattle.vectors.specs.Vectors.{wbit, upTo};
 ghost use Rattle.generators.specs.Words.{flat4, flat28, Prints};
 

@@ -10,11 +10,11 @@ use lib.Dec.{ltb, eqb}
 use lib.ListN.{length, take, set, length-append}
 use lib.Seq.{take-suc-set}
 use borrow.Author.Tests.{ltb-true, ltb-false, lt-ltb, le-ltb}
-use Rattle.rules.specs.Bits.{bit, if_then_else_}
-use Rattle.rules.specs.Codes.{code}
+use Rattle.bits.specs.Bits.{bit, if_then_else_}
+use Rattle.rules.specs.Codes.{code, offered}
 use Rattle.rules.specs.Encoding.{lifted}
 use Rattle.rules.specs.Flipping.{byExcess, run}
-use Rattle.rules.specs.Calls.{offered, unlike, Corrected, refusedCorrect, ranCorrect, correctAnswer}
+use Rattle.answers.specs.Calls.{otherLength, Corrected, refusedCorrect, ranCorrect, correctAnswer}
 use Rattle.lines.specs.Log.{digits, decimal, field, line}
 
 -- ---- the digits of a number
@@ -101,8 +101,8 @@ pub same-line : (i n : ℕ) (word : List ℕ) (limit : ℕ) (out other : List �
     → line i (correctAnswer n word limit out) ≡ line i (correctAnswer n word limit other)
 unfolding line correctAnswer ranCorrect
 same-line i n word limit out other e =
-    ap (λ (long : ℕ). line i (answer (not (offered n)) (unlike word (code n .wordOctets)) (not (eqb long (code n .wordOctets))) out)) e
-    ∙ go (not (offered n)) (unlike word (code n .wordOctets)) (unlike other (code n .wordOctets))
+    ap (λ (long : ℕ). line i (answer (not (offered n)) (otherLength word (code n .wordOctets)) (not (eqb long (code n .wordOctets))) out)) e
+    ∙ go (not (offered n)) (otherLength word (code n .wordOctets)) (otherLength other (code n .wordOctets))
   where
     answer : Bool → Bool → Bool → List ℕ → Corrected
     answer b1 b2 b3 o =

@@ -3,9 +3,9 @@ use mathlib.Core.List.{List, [], _∷_, _++_}
 use Prim.Native.Nat.{ℕ, zero, suc, _+_, _-_, _*_, _/_, _%_}
 use lib.Dec.{ltb}
 use lib.ListN.{length, take, drop, replicate}
-use Rattle.rules.specs.Bits.{if_then_else_}
+use Rattle.bits.specs.Bits.{if_then_else_}
 use Rattle.rules.specs.Codes.{code}
-use Rattle.rules.specs.Calls.{Corrected, correctAnswer}
+use Rattle.answers.specs.Calls.{Corrected, correctAnswer}
 
 -- The decimal digits of a number, the most significant first; no number has more digits than itself and one.
 unfoldable pub digits : ℕ → ℕ → List ℕ

@@ -4,8 +4,7 @@ ghost use mathlib.Core.Bool.{true};
 ghost use mathlib.Core.List.{[], _++_};
 ghost use Prim.Native.Nat.{_+_, _-_, _*_, _/_, _≤_, _<_, _^_};
 ghost use lib.ListN.{length, take};
-ghost use Rattle.rules.specs.Codes.{code as codeOf};
-ghost use Rattle.rules.specs.Calls.{offered};
+ghost use Rattle.rules.specs.Codes.{code as codeOf, offered};
 ghost use Rattle.codes.specs.Answers.{asCorrected};
 ghost use Rattle.lines.specs.Log.{decimal, field, line as lineOf, wordLine, lines as linesOf, words as wordsOf};
 

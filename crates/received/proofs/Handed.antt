@@ -7,16 +7,14 @@ use native.Mathlib.Decide.{decLt}
 use native.Mathlib.Omega.{arith}
 use lib.Dec.{T, eqb, leb, ltb, lit≤, leb→le}
 use borrow.Author.Tests.{lt-ltb, le-ltb, ne-eqb}
-use Rattle.rules.specs.Bits.{Word, octets}
-use Rattle.rules.specs.Codes.{code, code1, code2, code3, code4, code5}
+use Rattle.bits.specs.Bits.{Word, octets}
+use Rattle.rules.specs.Codes.{code, code1, code2, code3, code4, code5, offered}
 use Rattle.rules.specs.Tables.{parity511}
-use Rattle.rules.specs.Encoding.{lifted, sent}
-use Rattle.rules.specs.Calls.{offered, written}
-use Rattle.rules.proofs.Sums.{and-l, and-r}
-use Rattle.rules.proofs.Answers.{five}
-use Rattle.rules.proofs.Octets.{octets-same}
+use Rattle.rules.specs.Encoding.{lifted, sent, written}
+use Rattle.bits.proofs.Sums.{and-l, and-r}
+use Rattle.rules.proofs.Numbers.{five, Whole, whole, lifted-whole}
+use Rattle.bits.proofs.Octets.{octets-same}
 use Rattle.rules.proofs.Codewords.{sent-bit}
-use Rattle.rules.proofs.Demands.{Whole, whole, lifted-whole}
 use Rattle.vectors.specs.Vectors.{upTo, from, later}
 
 -- ---- lengths

@@ -8,13 +8,12 @@ use native.Mathlib.Numerals.{one-add}
 use lib.Arith.{digits-div, digits-mod}
 use lib.Dec.{T, eqb, eqb→eq, ltb, ltb→lt}
 use lib.ListN.{length, getD}
-use Rattle.rules.specs.Bits.{Word, _⊕_, tally, sum, count}
+use Rattle.bits.specs.Bits.{Word, _⊕_, tally, sum, count, below, over, blocks, countOf}
 use Rattle.rules.specs.Codes.{Code, checks}
 use Rattle.rules.specs.Checks.{oneAt, covers, check}
-use Rattle.rules.specs.Identity.{below, over, blocks}
-use Rattle.rules.proofs.Sums.{⊕-false, ⊕-assoc, sum-linear, sum-same, pick, blocks-sum, and-l, and-r, below-at, not-true, eqb-iff}
-use Rattle.rules.proofs.Cyclic.{cancel}
-use Rattle.rules.proofs.Counting.{count-same, count-none, count-pick, count-apart, count-rows, each}
+use Rattle.bits.proofs.Sums.{⊕-false, ⊕-assoc, sum-linear, sum-same, pick, blocks-sum, and-l, and-r, below-at, not-true, eqb-iff}
+use Rattle.bits.proofs.Cyclic.{cancel}
+use Rattle.bits.proofs.Counting.{count-same, count-none, count-pick, count-apart, count-rows, each}
 
 -- ---- words by blocks
 
@@ -25,11 +24,6 @@ blk M x b k = x (b * M + k)
 -- check i of a row of blocks, by its shifts
 abbrev pub checkIn : ℕ → List (List ℕ) → (ℕ → ℕ → Bool) → ℕ → Bool
 checkIn M row w i = blocks row 0 (λ b s. w b ((i + s) % M))
-
--- a count over the shifts of a block
-abbrev pub countOf : List ℕ → (ℕ → Bool) → ℕ
-countOf [] f = 0
-countOf (s ∷ S) f = tally (f s) + countOf S f
 
 pub count-all : (S : List ℕ) → countOf S (λ s. true) ≡ length S
 count-all [] = refl

@@ -8,12 +8,12 @@ use lib.Dec.{eqb}
 use lib.IntN.{ℤ, pos, subℕ}
 use lib.Signed.{ltZ}
 use borrow.Author.Tests.{eq-eqb, ne-eqb, eqb-true, ltb-true, lt-ltb, le-ltb}
-use Rattle.rules.specs.Bits.{Word, _⊕_, count, flipped, if_then_else_}
+use Rattle.bits.specs.Bits.{Word, _⊕_, count, flipped, if_then_else_}
 use Rattle.rules.specs.Codes.{Code, bits, checks}
-use Rattle.rules.specs.Checks.{covers, check, broken, excess}
+use Rattle.rules.specs.Checks.{covers, check, broken, excess, brokenOf, degreeOf, metOf}
 use Rattle.rules.specs.Flipping.{quiet, stuck, flip, greatest, flipAbove, byExcess, run, ended, after}
-use Rattle.rules.proofs.Counting.{count-same, none-counted}
-use Rattle.rules.proofs.Flips.{brokenOf, metOf, degreeOf, broken-met, excess-is, excess-order, check-flip, broken-flip, sub-order, flip-back}
+use Rattle.bits.proofs.Counting.{count-same, none-counted}
+use Rattle.rules.proofs.Flips.{broken-met, excess-is, excess-order, check-flip, broken-flip, sub-order, flip-back}
 use Rattle.rules.proofs.Greatest.{greatest-has, greatest-is}
 use Rattle.rules.proofs.Runs.{run-quiet, run-flip}
 

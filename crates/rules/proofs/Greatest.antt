@@ -8,7 +8,7 @@ use native.Mathlib.Omega.{arith}
 use lib.Dec.{T, ltb→lt, lt→ltb, leb→le, le→leb}
 use lib.IntN.{ℤ, pos, negsuc}
 use lib.Signed.{ltZ, leZ, _≤ℤ_, _<ℤ_, ltZ-yes, ltZ-no, ≤ℤ-refl, clashℤ}
-use Rattle.rules.specs.Bits.{if_then_else_}
+use Rattle.bits.specs.Bits.{if_then_else_}
 use Rattle.rules.specs.Flipping.{greatest}
 
 -- ---- the order of signed numbers

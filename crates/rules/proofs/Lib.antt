@@ -1,7 +1,3 @@
-pub mod Orders
-pub mod Sums
-pub mod Cyclic
-pub mod Counting
 pub mod Blocks
 pub mod Greatest
 pub mod Flips
@@ -14,10 +10,4 @@ pub mod Inverse
 pub mod Parity
 pub mod Published
 pub mod Codewords
-pub mod Answers
-pub mod Demands
-pub mod Corrections
-pub mod Steps
-pub mod Refusals
-pub mod Cases
-pub mod Octets
+pub mod Numbers

@@ -7,20 +7,16 @@ use native.Mathlib.Nat.{zero-lt-suc, mod-lt, add-zero, add-suc, suc-add, zero-ad
 use lib.Arith.{digits-div, digits-mod, digits-lt}
 use lib.Dec.{T, eqb}
 use lib.ListN.{getD, length}
-use Rattle.rules.specs.Bits.{Word, _⊕_, sum}
+use Rattle.bits.specs.Bits.{Word, _⊕_, sum}
 use Rattle.rules.specs.Codes.{Code, bits, checks, information}
 use Rattle.rules.specs.Checks.{check, broken}
-use Rattle.rules.specs.Encoding.{parityBit}
+use Rattle.rules.specs.Encoding.{OwnParity, parityBit}
 use Rattle.rules.specs.Identity.{rowsTied}
-use Rattle.rules.proofs.Sums.{⊕-self, ⊕-assoc, sum-same, sum-front}
-use Rattle.rules.proofs.Counting.{count-none, none-counted}
+use Rattle.bits.proofs.Sums.{⊕-self, ⊕-assoc, sum-same, sum-front}
+use Rattle.bits.proofs.Counting.{count-none, none-counted}
 use Rattle.rules.proofs.Blocks.{blk, checkIn, shaped, withTables, check-in, sum-blocks}
 use Rattle.rules.proofs.Quiet.{drawn, shiftedSum, parityIn, drops, sized, quiet-all, differ}
 use Rattle.rules.proofs.Unique.{Invertible, unique, constant, turned, evens}
-
--- the parity of a word is what the encoder gives for its information bits
-abbrev pub OwnParity : Code → Word → Type 0
-OwnParity c x = (p : ℕ) → p < bits c - information c → x (information c + p) ≡ parityBit c x p
 
 parity-sum : (M printed : ℕ) (gs : List (List ℕ)) (j : ℕ) (w : ℕ → ℕ → Bool) (c k : ℕ)
     → parityIn M printed gs j w c k ≡ sum (length gs) (λ i. shiftedSum M (drawn M printed (getD (getD gs i []) c 0)) (w (j + i)) k)

@@ -6,21 +6,20 @@ use Prim.Native.Nat.{ℕ, suc, _+_, _-_, _*_, _/_, _≤_, _<_}
 use native.Mathlib.Nat.{zero-lt-suc, div-lt-iff-lt-mul, le-trans, le-of-eq}
 use lib.Dec.{T, eqb, leb, eqb→eq, leb→le, lit<, lit≤}
 use lib.ListN.{length, getD}
-use Rattle.rules.specs.Bits.{Word, _⊕_}
+use Rattle.bits.specs.Bits.{Word, _⊕_, below}
 use Rattle.rules.specs.Tables.{parity16, parity32, parity64, parity511, generator16, generator32, generator64, generator511}
 use Rattle.rules.specs.Codes.{Code, bits, information, code1, code2, code3, code4, code5}
-use Rattle.rules.specs.Checks.{broken}
-use Rattle.rules.specs.Encoding.{parityBit}
-use Rattle.rules.specs.Identity.{below, rowsTied, allPadded, tied}
-use Rattle.rules.proofs.Sums.{below-at}
+use Rattle.rules.specs.Checks.{broken, degreeOf}
+use Rattle.rules.specs.Encoding.{parityBit, OwnParity}
+use Rattle.rules.specs.Identity.{rowsTied, allPadded, tied}
+use Rattle.bits.proofs.Sums.{below-at}
 use Rattle.rules.proofs.Blocks.{degree, shaped, withTables, degree-in}
-use Rattle.rules.proofs.Flips.{degreeOf}
 use Rattle.rules.proofs.Choosing.{Girth}
 use Rattle.rules.proofs.Shared.{sharedOnce, shared-few}
 use Rattle.rules.proofs.Quiet.{drops, sized}
 use Rattle.rules.proofs.Unique.{Invertible, evens}
 use Rattle.rules.proofs.Inverse.{inverse16, inverse32, inverse64, inverse511}
-use Rattle.rules.proofs.Parity.{OwnParity, own-met, met-own, inverted, met-inverted, inverted-met}
+use Rattle.rules.proofs.Parity.{own-met, met-own, inverted, met-inverted, inverted-met}
 
 -- ---- the tests of one pair of tables
 

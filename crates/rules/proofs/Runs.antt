@@ -5,7 +5,7 @@ use native.Mathlib.Nat.{le-of-eq, zero-add, suc-add, mul-suc, mul-zero}
 use native.Mathlib.Omega.{arith}
 use lib.IntN.{ℤ}
 use lib.ListN.{length}
-use Rattle.rules.specs.Bits.{Word, flipped}
+use Rattle.bits.specs.Bits.{Word, flipped}
 use Rattle.rules.specs.Flipping.{Next, quiet, stuck, flip, Way, Run, ended, after, run}
 
 module _ (way : Way) where

@@ -9,7 +9,7 @@ use borrow.Author.Tests.{lt-ltb, le-ltb, ne-eqb}
 use lib.Dec.{eqb}
 use lib.IntN.{ℤ, pos, negsuc, subℕ}
 use lib.ListN.{length}
-use Rattle.rules.specs.Bits.{Word, flipped, if_then_else_}
+use Rattle.bits.specs.Bits.{Word, flipped, if_then_else_}
 use Rattle.rules.specs.Codes.{Code, bits}
 use Rattle.rules.specs.Checks.{broken}
 use Rattle.rules.specs.Flipping.{quiet, stuck, flip, byExcess, ended, after, run}

@@ -5,7 +5,7 @@ use Prim.Native.Nat.{ℕ, _+_, _-_, _≤_}
 use lib.Dec.{eqb}
 use lib.IntN.{pos}
 use lib.ListN.{length}
-use Rattle.rules.specs.Bits.{Word, if_then_else_}
+use Rattle.bits.specs.Bits.{Word, if_then_else_}
 use Rattle.rules.specs.Codes.{Code}
 use Rattle.rules.specs.Flipping.{Next, quiet, stuck, flip, byExcess, run}
 use Rattle.layout.specs.declared.Shape.{Shape}

@@ -2,7 +2,7 @@
 ghost use mathlib.Core.Path.{_≡_};
 ghost use Prim.Native.Nat.{_*_, _≤_, _<_};
 ghost use lib.ListN.{length};
-ghost use Rattle.rules.specs.Bits.{Word};
+ghost use Rattle.bits.specs.Bits.{Word};
 ghost use Rattle.rules.specs.Codes.{Code};
 ghost use Rattle.rules.specs.Flipping.{byExcess};
 ghost use Rattle.vectors.specs.Vectors.{wbit};

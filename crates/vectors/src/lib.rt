@@ -5,7 +5,7 @@ ghost use mathlib.Core.Bool.{false};
 ghost use Prim.Native.Nat.{ℕ, _+_, _-_, _*_, _/_, _%_, _^_, _<_, _≤_};
 ghost use lib.Dec.{ltb};
 ghost use lib.ListN.{length};
-ghost use Rattle.rules.specs.Bits.{Word, bit, digit, octets, count, flipped};
+ghost use Rattle.bits.specs.Bits.{Word, bit, digit, octets, count, flipped};
 ghost use Rattle.vectors.specs.Vectors.{wbit, both, Holds, upTo, from, later, joined, twice, added, Doubled};
 
 // The 64 bits of a and then b from bit t on.

@@ -3,8 +3,7 @@ ghost use mathlib.Core.Path.{_≡_};
 ghost use mathlib.Core.Bool.{true};
 ghost use Prim.Native.Nat.{_+_, _*_, _^_, _≤_, _<_};
 ghost use lib.ListN.{length};
-ghost use Rattle.rules.specs.Codes.{code as codeOf};
-ghost use Rattle.rules.specs.Calls.{offered};
+ghost use Rattle.rules.specs.Codes.{code as codeOf, offered};
 use libc::STDIN_FILENO;
 use libc::STDOUT_FILENO;
 

@@ -3,7 +3,7 @@ use mathlib.Core.Path.{refl, sym, ap, _∙_}
 use borrow.Author.Tests.{not-true, not-false}
 use Rattle.rules.specs.Codes.{code}
 use Rattle.rules.specs.Checks.{broken}
-use Rattle.rules.proofs.Answers.{check-taken}
+use Rattle.answers.proofs.Answers.{check-taken}
 use Rattle.received.proofs.Handed.{is-offered}
 use Rattle.codes.proofs.Refusals.{check-one, check-two}
 use Rattle.vectors.proofs.Filling.{zero-words}

@@ -1,7 +1,7 @@
 -- `codes::correct`: refusals in the order of their numbers, then the run. Assumes nothing.
 use mathlib.Core.Path.{sym, _∙_}
 use borrow.Author.Tests.{not-true, not-false}
-use Rattle.rules.proofs.Answers.{correct-taken}
+use Rattle.answers.proofs.Answers.{correct-taken}
 use Rattle.received.proofs.Handed.{is-offered}
 use Rattle.codes.proofs.Refusals.{correct-one, correct-two, correct-three}
 use borrow.Author.Needs.{needs}

@@ -1,5 +1,5 @@
 -- `codes::correct_taken`: the run's numbers, its judgement and its word. Assumes nothing.
-use Rattle.rules.specs.Bits.{bit}
+use Rattle.bits.specs.Bits.{bit}
 use Rattle.rules.specs.Encoding.{lifted}
 use Rattle.rules.specs.Flipping.{byExcess, run}
 use Rattle.rules.specs.Codes.{code}

@@ -1,7 +1,7 @@
 -- `codes::encode`: refusals in the order of their numbers, then the encoding. Assumes nothing.
 use mathlib.Core.Path.{sym, ap, _∙_}
 use borrow.Author.Tests.{not-true, not-false}
-use Rattle.rules.proofs.Answers.{encode-taken}
+use Rattle.answers.proofs.Answers.{encode-taken}
 use Rattle.received.proofs.Handed.{is-offered}
 use Rattle.codes.proofs.Encoding.{encode-one, encode-two, encode-three, encode-four, six-length}
 use borrow.Author.Needs.{needs}

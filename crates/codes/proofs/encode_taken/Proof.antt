@@ -2,8 +2,7 @@
 use mathlib.Core.Path.{refl, sym, ap, _∙_}
 use native.Mathlib.Omega.{arith}
 use Rattle.rules.specs.Codes.{code, information}
-use Rattle.rules.specs.Encoding.{encoded}
-use Rattle.rules.specs.Calls.{written}
+use Rattle.rules.specs.Encoding.{encoded, written}
 use Rattle.vectors.specs.Vectors.{upTo}
 use Rattle.codes.proofs.Encoding.{few-information, information-only, written-upTo}
 use Rattle.vectors.proofs.Filling.{zero-words}

@@ -3,7 +3,7 @@ use mathlib.Core.Path.{sym, ap, _∙_}
 use native.Mathlib.Omega.{arith}
 use borrow.Author.Tests.{not-true, not-false}
 use lib.ListN.{take, length-take}
-use Rattle.rules.proofs.Answers.{open-taken}
+use Rattle.answers.proofs.Answers.{open-taken}
 use Rattle.codes.proofs.Refusals.{but, open-one, open-four, open-two, open-nine}
 use borrow.Author.Needs.{needs}
 use Rattle.codes.proofs.open.Statement.{statement}

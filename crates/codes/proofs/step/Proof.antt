@@ -1,7 +1,7 @@
 -- `codes::step`: refusals in the order of their numbers, then one step. Assumes nothing.
 use mathlib.Core.Path.{sym, _∙_}
 use borrow.Author.Tests.{not-true, not-false}
-use Rattle.rules.proofs.Answers.{step-taken}
+use Rattle.answers.proofs.Answers.{step-taken}
 use Rattle.codes.proofs.Refusals.{but, step-one, step-five, step-two, step-three}
 use borrow.Author.Needs.{needs}
 use Rattle.codes.proofs.step.Statement.{statement}

@@ -6,9 +6,10 @@ use mir.Syntax.{w8}
 use mir.Facts.{toZ-pos}
 use lib.Dec.{lit<}
 use lib.IntN.{pos}
-use Rattle.rules.specs.Bits.{flipped}
+use Rattle.bits.specs.Bits.{flipped}
 use Rattle.rules.specs.Codes.{code}
-use Rattle.rules.specs.Calls.{written, nextStep}
+use Rattle.answers.specs.Calls.{nextStep}
+use Rattle.rules.specs.Encoding.{written}
 use Rattle.rules.specs.Flipping.{quiet, stuck, flip}
 use Rattle.runs.proofs.Turning.{comes-quiet, comes-stuck, comes-flip}
 use Rattle.codes.proofs.Judging.{pb}

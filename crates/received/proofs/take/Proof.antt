@@ -2,8 +2,8 @@
 use mathlib.Core.Path.{sym, ap, _∙_}
 use native.Mathlib.Omega.{arith}
 use lib.Dec.{lit<}
-use Rattle.rules.specs.Bits.{bit}
-use Rattle.rules.proofs.Octets.{bit-past}
+use Rattle.bits.specs.Bits.{bit}
+use Rattle.bits.proofs.Octets.{bit-past}
 use Rattle.vectors.specs.Vectors.{later}
 use Rattle.received.proofs.Handed.{taken-whole, taken-five}
 use borrow.Author.Needs.{needs}

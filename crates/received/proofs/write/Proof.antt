@@ -2,7 +2,7 @@
 use mathlib.Core.Path.{ap, _∙_}
 use native.Mathlib.Omega.{arith}
 use lib.ListN.{length}
-use Rattle.rules.specs.Bits.{octets}
+use Rattle.bits.specs.Bits.{octets}
 use Rattle.vectors.specs.Vectors.{wbit, from}
 use Rattle.received.proofs.Handed.{word-few, written-whole, written-five}
 use borrow.Author.Needs.{needs}

@@ -12,8 +12,8 @@ use lib.Dec.{eqb, ltb}
 use lib.ListN.{length, getD, replicate}
 use lib.Pow.{shr-shr}
 use borrow.Author.Tests.{lt-ltb, le-ltb}
-use Rattle.rules.specs.Bits.{Word, digit, bit, tally, number, octets}
-use Rattle.rules.proofs.Counting.{tally-le}
+use Rattle.bits.specs.Bits.{Word, digit, bit, tally, number, octets}
+use Rattle.bits.proofs.Counting.{tally-le}
 
 -- ---- numbers
 

@@ -11,7 +11,7 @@ use lib.Arith.{digits-div}
 use lib.Dec.{eqb}
 use lib.ListN.{length, getD}
 use borrow.Author.Tests.{eq-eqb, ne-eqb}
-use Rattle.rules.specs.Bits.{_⊕_, tally, count}
+use Rattle.bits.specs.Bits.{_⊕_, tally, count}
 
 pub tally-none : (a : Bool) → tally a ≡ 0 → a ≡ false
 tally-none true e = absurd (omega arith)

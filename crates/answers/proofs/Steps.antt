@@ -8,19 +8,19 @@ use lib.Dec.{T, eqb, ltb}
 use lib.IntN.{ℤ}
 use lib.ListN.{length}
 use borrow.Author.Tests.{ne-eqb, eqb-true}
-use Rattle.rules.specs.Bits.{Word, bit, count, _⊕_, flipped, if_then_else_}
-use Rattle.rules.specs.Codes.{code, bits}
-use Rattle.rules.specs.Encoding.{lifted, sent, codeword}
+use Rattle.bits.specs.Bits.{Word, bit, count, _⊕_, flipped, if_then_else_}
+use Rattle.rules.specs.Codes.{code, bits, offered}
+use Rattle.rules.specs.Encoding.{lifted, sent, codeword, written}
 use Rattle.rules.specs.Flipping.{Next, quiet, stuck, flip, byExcess, Run, run}
-use Rattle.rules.specs.Calls.{offered, written, judged, ranCorrect, correctAnswer, nextStep, stepAnswer}
-use Rattle.rules.proofs.Sums.{and-l}
-use Rattle.rules.proofs.Octets.{Octets, length-octets, octets-lt}
+use Rattle.answers.specs.Calls.{judged, ranCorrect, correctAnswer, nextStep, stepAnswer}
+use Rattle.bits.proofs.Sums.{and-l}
+use Rattle.bits.proofs.Octets.{Octets, length-octets, octets-lt}
 use Rattle.rules.proofs.Runs.{every-run}
 use Rattle.rules.proofs.Choosing.{chosen-lt, next-flip}
 use Rattle.rules.proofs.Published.{Published}
 use Rattle.rules.proofs.Codewords.{bit-written, written-back}
-use Rattle.rules.proofs.Demands.{whole, lifted-whole, sent-whole, past-word}
-use Rattle.rules.proofs.Answers.{published, correct-cases, step-cases, step-taken}
+use Rattle.answers.proofs.Answers.{correct-cases, step-cases, step-taken}
+use Rattle.rules.proofs.Numbers.{published, whole, lifted-whole, sent-whole, past-word}
 
 -- the codes of step
 abbrev pub stepped : ℕ → Bool

@@ -1,4 +1,4 @@
--- The calls' answers by cases: what a code number offers, and what an answer is for a call that is taken.
+-- The calls' answers by cases: what an answer is for a call that is taken.
 use mathlib.Core.Path.{_≡_, refl, sym, ap, _∙_, subst}
 use mathlib.Core.Bool.{Bool, true, false, not, _&&_}
 use mathlib.Core.List.{List, []}
@@ -7,38 +7,13 @@ use native.Mathlib.Omega.{arith}
 use lib.Dec.{T, eqb, leb, leb→le}
 use lib.ListN.{length, take}
 use borrow.Author.Tests.{eqb-true, eq-eqb}
-use Rattle.rules.specs.Bits.{bit, if_then_else_}
-use Rattle.rules.specs.Codes.{code}
+use Rattle.bits.specs.Bits.{bit, if_then_else_}
+use Rattle.rules.specs.Codes.{code, offered}
 use Rattle.rules.specs.Checks.{broken}
-use Rattle.rules.specs.Encoding.{lifted, encoded, codeword}
+use Rattle.rules.specs.Encoding.{lifted, encoded, codeword, written}
 use Rattle.rules.specs.Flipping.{byExcess, run}
-use Rattle.rules.specs.Calls.{offered, unlike, written, sixSet, Encoded, encodeAnswer, checkAnswer, openAnswer, Corrected, refusedCorrect, ranCorrect, correctAnswer, Stepped, refusedStep, nextStep, stepAnswer}
-use Rattle.rules.proofs.Sums.{and-l, and-r}
-use Rattle.rules.proofs.Published.{Published, published1, published2, published3, published4, published5}
-
--- ---- code numbers
-
-pub first-offered : T (offered 1)
-first-offered = tt
-
-pub last-offered : T (offered 5)
-last-offered = tt
-
-pub five : (P : ℕ → Type 0) → P 1 → P 2 → P 3 → P 4 → P 5 → (n : ℕ) → T (offered n) → P n
-five P p1 p2 p3 p4 p5 n t = go n (leb→le 1 n (and-l (leb 1 n) (leb n 5) t)) (leb→le n 5 (and-r (leb 1 n) (leb n 5) t))
-  where
-    go : (n : ℕ) → 1 ≤ n → n ≤ 5 → P n
-    go zero l h = absurd (omega arith)
-    go (suc zero) l h = p1
-    go (suc (suc zero)) l h = p2
-    go (suc (suc (suc zero))) l h = p3
-    go (suc (suc (suc (suc zero)))) l h = p4
-    go (suc (suc (suc (suc (suc zero))))) l h = p5
-    go (suc (suc (suc (suc (suc (suc n)))))) l h = absurd (omega arith)
-
-pub published : (n : ℕ) → T (offered n) → Published (code n)
-unfolding code
-published = five (λ n. Published (code n)) published1 published2 published3 published4 published5
+use Rattle.answers.specs.Calls.{otherLength, sixSet, Encoded, encodeAnswer, checkAnswer, openAnswer, Corrected, refusedCorrect, ranFrom, correctAnswer, Stepped, refusedStep, steppedFrom, stepAnswer}
+use Rattle.bits.proofs.Sums.{and-l, and-r}
 
 -- ---- a test and what it says
 
@@ -47,7 +22,7 @@ module _ {A : Type 0} (P : A → Type 0) where
   when-not true a r f g = g tt
   when-not false a r f g = f refl
 
-  pub when-long : (octets : List ℕ) (long : ℕ) (a r : A) → P a → (length octets ≡ long → P r) → P (if unlike octets long then a else r)
+  pub when-long : (octets : List ℕ) (long : ℕ) (a r : A) → P a → (length octets ≡ long → P r) → P (if otherLength octets long then a else r)
   when-long octets long a r p g = go (eqb (length octets) long) refl
     where
       go : (b : Bool) → eqb (length octets) long ≡ b → P (if not (eqb (length octets) long) then a else r)
@@ -58,7 +33,7 @@ pub if-yes : {A : Type 0} (b : Bool) (a r : A) → T b → (if not b then a else
 if-yes true a r t = refl
 if-yes false a r t = absurd t
 
-pub if-long : {A : Type 0} (octets : List ℕ) (long : ℕ) (a r : A) → length octets ≡ long → (if unlike octets long then a else r) ≡ r
+pub if-long : {A : Type 0} (octets : List ℕ) (long : ℕ) (a r : A) → length octets ≡ long → (if otherLength octets long then a else r) ≡ r
 if-long octets long a r e = ap (λ b. if not b then a else r) (eq-eqb (length octets) long e)
 
 pub if-no : {A : Type 0} (b : Bool) (a r : A) → b ≡ false → (if b then a else r) ≡ r
@@ -67,42 +42,36 @@ if-no b a r e = ap (λ b. if b then a else r) e
 -- ---- correct
 
 module _ (n : ℕ) (word : List ℕ) (limit : ℕ) (out : List ℕ) where
-  abbrev pub ranFrom : Corrected
-  ranFrom = ranCorrect (code n) (lifted (code n) (bit word)) (run (byExcess (code n)) limit (lifted (code n) (bit word))) out
-
   pub correct-cases : (P : Corrected → Type 0) → P (refusedCorrect 1 out) → P (refusedCorrect 2 out) → P (refusedCorrect 3 out)
-      → (T (offered n) → length word ≡ code n .wordOctets → length out ≡ code n .wordOctets → P ranFrom) → P (correctAnswer n word limit out)
+      → (T (offered n) → length word ≡ code n .wordOctets → length out ≡ code n .wordOctets → P (ranFrom n word limit out)) → P (correctAnswer n word limit out)
   unfolding correctAnswer
   correct-cases P p1 p2 p3 ran =
       when-not P (offered n) (refusedCorrect 1 out) _ (λ e. p1) (λ t.
       when-long P word (code n .wordOctets) (refusedCorrect 2 out) _ p2 (λ lw.
-      when-long P out (code n .wordOctets) (refusedCorrect 3 out) ranFrom p3 (λ lo. ran t lw lo)))
+      when-long P out (code n .wordOctets) (refusedCorrect 3 out) (ranFrom n word limit out) p3 (λ lo. ran t lw lo)))
 
-  pub correct-taken : T (offered n) → length word ≡ code n .wordOctets → length out ≡ code n .wordOctets → correctAnswer n word limit out ≡ ranFrom
+  pub correct-taken : T (offered n) → length word ≡ code n .wordOctets → length out ≡ code n .wordOctets → correctAnswer n word limit out ≡ ranFrom n word limit out
   unfolding correctAnswer
   correct-taken t lw lo =
       if-yes (offered n) (refusedCorrect 1 out) _ t
-      ∙ if-long word (code n .wordOctets) (refusedCorrect 2 out) _ lw ∙ if-long out (code n .wordOctets) (refusedCorrect 3 out) ranFrom lo
+      ∙ if-long word (code n .wordOctets) (refusedCorrect 2 out) _ lw ∙ if-long out (code n .wordOctets) (refusedCorrect 3 out) (ranFrom n word limit out) lo
 
 -- ---- step
 
 module _ (n : ℕ) (word out : List ℕ) where
-  abbrev pub steppedFrom : Stepped
-  steppedFrom = nextStep (code n) word (lifted (code n) (bit word)) out (byExcess (code n) (lifted (code n) (bit word)))
-
   pub step-cases : (P : Stepped → Type 0) → P (refusedStep 1 out) → P (refusedStep 2 out) → P (refusedStep 3 out)
-      → (T (offered n && not (eqb n 5)) → length word ≡ code n .wordOctets → length out ≡ code n .wordOctets → P steppedFrom) → P (stepAnswer n word out)
+      → (T (offered n && not (eqb n 5)) → length word ≡ code n .wordOctets → length out ≡ code n .wordOctets → P (steppedFrom n word out)) → P (stepAnswer n word out)
   unfolding stepAnswer
   step-cases P p1 p2 p3 ran =
       when-not P (offered n && not (eqb n 5)) (refusedStep 1 out) _ (λ e. p1) (λ t.
       when-long P word (code n .wordOctets) (refusedStep 2 out) _ p2 (λ lw.
-      when-long P out (code n .wordOctets) (refusedStep 3 out) steppedFrom p3 (λ lo. ran t lw lo)))
+      when-long P out (code n .wordOctets) (refusedStep 3 out) (steppedFrom n word out) p3 (λ lo. ran t lw lo)))
 
-  pub step-taken : T (offered n && not (eqb n 5)) → length word ≡ code n .wordOctets → length out ≡ code n .wordOctets → stepAnswer n word out ≡ steppedFrom
+  pub step-taken : T (offered n && not (eqb n 5)) → length word ≡ code n .wordOctets → length out ≡ code n .wordOctets → stepAnswer n word out ≡ steppedFrom n word out
   unfolding stepAnswer
   step-taken t lw lo =
       if-yes (offered n && not (eqb n 5)) (refusedStep 1 out) _ t
-      ∙ if-long word (code n .wordOctets) (refusedStep 2 out) _ lw ∙ if-long out (code n .wordOctets) (refusedStep 3 out) steppedFrom lo
+      ∙ if-long word (code n .wordOctets) (refusedStep 2 out) _ lw ∙ if-long out (code n .wordOctets) (refusedStep 3 out) (steppedFrom n word out) lo
 
 -- ---- encode, check, open
 

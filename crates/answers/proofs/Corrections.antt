@@ -10,28 +10,28 @@ use lib.Dec.{T, eqb, leb, ltb, leb→le}
 use lib.IntN.{ℤ, pos}
 use lib.ListN.{length}
 use borrow.Author.Tests.{eq-eqb, ne-eqb, lt-ltb, le-ltb}
-use Rattle.rules.specs.Bits.{Word, bit, octets, count, _⊕_, flipped, if_then_else_}
-use Rattle.rules.specs.Codes.{Code, code, code4, code5, bits}
-use Rattle.rules.specs.Checks.{broken}
-use Rattle.rules.specs.Encoding.{lifted, sent, codeword}
+use Rattle.bits.specs.Bits.{Word, bit, octets, count, _⊕_, flipped, if_then_else_}
+use Rattle.rules.specs.Codes.{Code, code, code4, code5, bits, offered}
+use Rattle.rules.specs.Checks.{broken, degreeOf}
+use Rattle.rules.specs.Encoding.{lifted, sent, codeword, written}
 use Rattle.rules.specs.Flipping.{flip, byExcess, Run, run, ended, after}
-use Rattle.rules.specs.Calls.{offered, written, Corrected, judged, refusedCorrect, ranCorrect, correctAnswer}
-use Rattle.rules.proofs.Sums.{and-l, and-r, eqb-iff}
-use Rattle.rules.proofs.Counting.{count-none}
-use Rattle.rules.proofs.Octets.{Octets, length-octets, bit-octets, bit-past}
-use Rattle.rules.proofs.Flips.{degreeOf}
+use Rattle.answers.specs.Calls.{Corrected, judged, refusedCorrect, ranCorrect, correctAnswer}
+use Rattle.bits.proofs.Sums.{and-l, and-r, eqb-iff}
+use Rattle.bits.proofs.Counting.{count-none}
+use Rattle.bits.proofs.Octets.{Octets, length-octets, bit-octets, bit-past}
 use Rattle.rules.proofs.Runs.{run-within, run-quiet, run-falls, run-enough, run-unchanged}
 use Rattle.rules.proofs.Choosing.{quiet-next, falls, falls-two, one-mended, first-count}
 use Rattle.rules.proofs.Published.{Published, near-four}
 use Rattle.rules.proofs.Codewords.{own-codeword, codeword-own, codeword-quiet, codeword-sent, written-back, lifted-unsent, lifted-sent-bit}
-use Rattle.rules.proofs.Answers.{published, correct-cases, correct-taken}
+use Rattle.answers.proofs.Answers.{correct-cases, correct-taken}
+use Rattle.rules.proofs.Numbers.{published}
 
 -- ---- the number that a run is judged by
 
 module _ (c : Code) (r : Run) where
   -- a quiet end whose sent bits are no codeword is refused
   pub judged-parity : r .number ≡ 0 → count (c .unsent) (r .word) ≡ 0 → codeword c (sent c (r .word)) ≡ false → judged c r ≡ 8
-  judged-parity e none unlike = rw (e, none, unlike)
+  judged-parity e none otherLength = rw (e, none, otherLength)
 
   -- refusal 6 is the run's own
   pub judged-limit : judged c r ≡ 6 → r .number ≡ 6

@@ -3,7 +3,7 @@ use mathlib.Core.Path.{_≡_, sym, ap, _∙_}
 use Prim.Native.Nat.{ℕ, suc, _+_, _-_, _*_, _%_, _<_}
 use native.Mathlib.Nat.{mod-eq-of-lt, mod-self, mod-add-mod, add-mul-mod-self-right, add-right-comm, mul-suc, add-assoc, add-comm, le-of-lt, add-sub-of-le}
 use lib.Dec.{eqb}
-use Rattle.rules.proofs.Sums.{eqb-iff}
+use Rattle.bits.proofs.Sums.{eqb-iff}
 
 module _ (m : ℕ) where
   -- s more and s * m more: a whole number of turns

@@ -10,27 +10,25 @@ use lib.Dec.{T, eqb, leb, ltb, lit<, lit≤}
 use lib.IntN.{ℤ, pos}
 use lib.ListN.{length, getD, replicate, length-replicate}
 use borrow.Author.Tests.{eq-eqb, lt-ltb, le-ltb, le-leb, lt-leb}
-use Rattle.rules.specs.Bits.{Word, digit, bit, number, octets, count, _⊕_, sum, flipped, if_then_else_}
+use Rattle.bits.specs.Bits.{Word, digit, bit, number, octets, count, _⊕_, sum, flipped, if_then_else_, below}
 use Rattle.rules.specs.Tables.{parity16, parity511, generator16, generator511}
-use Rattle.rules.specs.Codes.{code, code1, code4, bits, checks, information}
-use Rattle.rules.specs.Checks.{covers, check, broken}
-use Rattle.rules.specs.Encoding.{rowBit, parityBit, encoded, lifted, sent, codeword}
+use Rattle.rules.specs.Codes.{code, code1, code4, bits, checks, information, offered}
+use Rattle.rules.specs.Checks.{covers, check, broken, degreeOf}
+use Rattle.rules.specs.Encoding.{rowBit, parityBit, encoded, lifted, sent, codeword, OwnParity}
 use Rattle.rules.specs.Flipping.{flip, byExcess, run, ended}
-use Rattle.rules.specs.Identity.{below}
-use Rattle.rules.specs.Calls.{offered, encodeAnswer, checkAnswer, openAnswer, judged, refusedCorrect, ranCorrect, correctAnswer, refusedStep, nextStep, stepAnswer}
-use Rattle.rules.proofs.Sums.{⊕-eq, sum-none, below-at, not-true, and-l}
-use Rattle.rules.proofs.Counting.{count-none, none-counted}
+use Rattle.answers.specs.Calls.{encodeAnswer, checkAnswer, openAnswer, judged, refusedCorrect, ranCorrect, correctAnswer, refusedStep, nextStep, stepAnswer, ranFrom}
+use Rattle.bits.proofs.Sums.{⊕-eq, sum-none, below-at, not-true, and-l}
+use Rattle.bits.proofs.Counting.{count-none, none-counted}
 use Rattle.rules.proofs.Blocks.{blk, checkIn, check-in}
-use Rattle.rules.proofs.Octets.{zeros-at, digit-zero, Octets, length-octets, octets-same, bit-octets}
-use Rattle.rules.proofs.Flips.{degreeOf, check-flip}
+use Rattle.bits.proofs.Octets.{zeros-at, digit-zero, Octets, length-octets, octets-same, bit-octets}
+use Rattle.rules.proofs.Flips.{check-flip}
 use Rattle.rules.proofs.Runs.{run-limit, run-quiet}
 use Rattle.rules.proofs.Choosing.{quiet-next, one-next}
-use Rattle.rules.proofs.Parity.{OwnParity}
 use Rattle.rules.proofs.Published.{published1, published4}
 use Rattle.rules.proofs.Codewords.{own-codeword, codeword-bit, sent-bit, encoded-parity, parity-same, lifted-sent}
-use Rattle.rules.proofs.Answers.{published, ranFrom, correct-taken, step-taken, open-taken}
-use Rattle.rules.proofs.Demands.{whole, lifted-whole, four-quiet, met-codeword}
-use Rattle.rules.proofs.Corrections.{oneWrong, bit-one-wrong, lifted-flip, one-back}
+use Rattle.answers.proofs.Answers.{correct-taken, step-taken, open-taken}
+use Rattle.rules.proofs.Numbers.{published, whole, lifted-whole, four-quiet, met-codeword}
+use Rattle.answers.proofs.Corrections.{oneWrong, bit-one-wrong, lifted-flip, one-back}
 
 -- whether a number stands in a list
 abbrev pub among : ℕ → List ℕ → Bool

@@ -10,8 +10,7 @@ use native.Mathlib.Decide.{ℕ-discrete}
 use lib.Dec.{T, eqb}
 use lib.ListN.{getD, length}
 use borrow.Author.Tests.{eq-eqb, ne-eqb}
-use Rattle.rules.specs.Bits.{_⊕_, sum}
-use Rattle.rules.specs.Identity.{over, blocks, below}
+use Rattle.bits.specs.Bits.{_⊕_, sum, over, blocks, below}
 
 -- ---- the field of two elements
 

@@ -48,6 +48,25 @@ unfoldable pub count : ℕ → Word → ℕ
 count zero x = 0
 count (suc n) x = count n x + tally (x n)
 
+-- Whether something holds of every number below n.
+abbrev pub below : ℕ → (ℕ → Bool) → Bool
+below zero f = true
+below (suc n) f = f n && below n f
+
+-- The sum modulo 2 over the shifts of a block, and over the shifts of several blocks, which are numbered from b.
+abbrev pub over : List ℕ → (ℕ → Bool) → Bool
+over [] f = false
+over (s ∷ shifts) f = f s ⊕ over shifts f
+
+abbrev pub blocks : List (List ℕ) → ℕ → (ℕ → ℕ → Bool) → Bool
+blocks [] b f = false
+blocks (shifts ∷ rest) b f = over shifts (f b) ⊕ blocks rest (suc b) f
+
+-- A count over the shifts of a block.
+abbrev pub countOf : List ℕ → (ℕ → Bool) → ℕ
+countOf [] f = 0
+countOf (s ∷ shifts) f = tally (f s) + countOf shifts f
+
 -- Whether two words agree in the bits 0 to n - 1.
 unfoldable pub agree : ℕ → Word → Word → Bool
 agree zero x y = true

@@ -7,17 +7,17 @@ use native.Mathlib.Nat.{not-suc-le-zero}
 use native.Mathlib.Omega.{arith}
 use lib.Dec.{T, ltb}
 use borrow.Author.Tests.{ne-eqb}
-use Rattle.rules.specs.Bits.{Word, bit, count, if_then_else_}
-use Rattle.rules.specs.Codes.{code}
+use Rattle.bits.specs.Bits.{Word, bit, count, if_then_else_}
+use Rattle.rules.specs.Codes.{code, telecommanded}
 use Rattle.rules.specs.Encoding.{lifted, sent, codeword}
 use Rattle.rules.specs.Flipping.{quiet, byExcess, Run, run}
-use Rattle.rules.specs.Calls.{judged, ranCorrect, correctAnswer}
+use Rattle.answers.specs.Calls.{judged, ranCorrect, correctAnswer}
 use Rattle.rules.proofs.Runs.{run-ends, End, ends-quiet, ends-stuck, ends-limit}
 use Rattle.rules.proofs.Choosing.{next-quiet}
 use Rattle.rules.proofs.Codewords.{own-codeword}
-use Rattle.rules.proofs.Answers.{published, correct-cases}
-use Rattle.rules.proofs.Demands.{telecommanded, telecommand-offered, telecommand-whole, whole, met-own-telecommand}
-use Rattle.rules.proofs.Corrections.{judged-done}
+use Rattle.answers.proofs.Answers.{correct-cases}
+use Rattle.rules.proofs.Numbers.{published, telecommand-offered, telecommand-whole, whole, met-own-telecommand}
+use Rattle.answers.proofs.Corrections.{judged-done}
 
 module _ (n : ℕ) (t : T (telecommanded n)) (limit : ℕ) (x : Word) where
   abbrev theRun : Run

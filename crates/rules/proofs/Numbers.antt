@@ -1,4 +1,4 @@
--- The demands, over the calls' answers: for every code number, every length and every content.
+-- What holds of the codes by their numbers: the demands on words, for every code.
 use mathlib.Core.Path.{_≡_, refl, sym, ap, _∙_, fun-ext}
 use mathlib.Core.Bool.{Bool, true, false, not, _&&_}
 use mathlib.Core.List.{List}
@@ -7,38 +7,49 @@ use native.Mathlib.Nat.{lt-of-not-le, add-zero}
 use native.Mathlib.Decide.{decLt}
 use native.Mathlib.Omega.{arith}
 use lib.Dec.{T, eqb, leb, leb→le}
-use lib.ListN.{length, take, length-take}
-use Rattle.rules.specs.Bits.{Word, bit, _⊕_}
-use Rattle.rules.specs.Codes.{Code, code, code1, code2, code3, code4, bits}
+use lib.ListN.{length}
+use Rattle.bits.specs.Bits.{Word, bit, _⊕_}
+use Rattle.rules.specs.Codes.{Code, code, code1, code2, code3, code4, bits, offered, telecommanded}
 use Rattle.rules.specs.Checks.{broken}
-use Rattle.rules.specs.Encoding.{parityBit, encoded, lifted, sent, codeword}
-use Rattle.rules.specs.Calls.{offered, written, sixSet, encodeAnswer, checkAnswer}
+use Rattle.rules.specs.Encoding.{parityBit, encoded, lifted, sent, codeword, OwnParity}
 use Rattle.rules.specs.Tables.{parity16, parity32, parity64, parity511, generator511}
-use Rattle.rules.proofs.Sums.{and-l, and-r}
-use Rattle.rules.proofs.Octets.{Octets, length-octets, bit-past}
-use Rattle.rules.proofs.Parity.{OwnParity}
-use Rattle.rules.proofs.Published.{Published, met-own1, met-own2, met-own3, nearInverted, near-inverted, inverted-near}
-use Rattle.rules.proofs.Codewords.{encoded-own, own-encoded, own-codeword, codeword-quiet, codeword-encoded, encoded-codeword, lifted-unsent, lifted-sent-bit, sent-bit, sent-fill}
-use Rattle.rules.proofs.Answers.{five, published, encode-taken, encode-cases, check-taken}
+use Rattle.bits.proofs.Sums.{and-l, and-r}
+use Rattle.bits.proofs.Octets.{bit-past}
+use Rattle.rules.proofs.Published.{Published, published1, published2, published3, published4, published5, met-own1, met-own2, met-own3, nearInverted, near-inverted, inverted-near}
+use Rattle.rules.proofs.Codewords.{encoded-own, own-encoded, own-codeword, lifted-unsent, lifted-sent-bit, sent-bit, sent-fill}
+
+-- ---- code numbers
+
+pub first-offered : T (offered 1)
+first-offered = tt
+
+pub last-offered : T (offered 5)
+last-offered = tt
+
+pub five : (P : ℕ → Type 0) → P 1 → P 2 → P 3 → P 4 → P 5 → (n : ℕ) → T (offered n) → P n
+five P p1 p2 p3 p4 p5 n t = go n (leb→le 1 n (and-l (leb 1 n) (leb n 5) t)) (leb→le n 5 (and-r (leb 1 n) (leb n 5) t))
+  where
+    go : (n : ℕ) → 1 ≤ n → n ≤ 5 → P n
+    go zero l h = absurd (omega arith)
+    go (suc zero) l h = p1
+    go (suc (suc zero)) l h = p2
+    go (suc (suc (suc zero))) l h = p3
+    go (suc (suc (suc (suc zero)))) l h = p4
+    go (suc (suc (suc (suc (suc zero))))) l h = p5
+    go (suc (suc (suc (suc (suc (suc n)))))) l h = absurd (omega arith)
+
+pub published : (n : ℕ) → T (offered n) → Published (code n)
+unfolding code
+published = five (λ n. Published (code n)) published1 published2 published3 published4 published5
 
 -- ---- demand 2: every encoded word meets every check
 
 pub encoded-meets : (n : ℕ) → T (offered n) → (x : Word) → broken (code n) (encoded (code n) x) ≡ 0
 encoded-meets n t x = published n t .own-quiet (encoded (code n) x) (encoded-own (code n) x)
 
-pub encoded-word-meets : (n : ℕ) (info out : List ℕ) → encodeAnswer n info out .number ≡ 0 → checkAnswer n (encodeAnswer n info out .out) ≡ record { number = 0; broken = 0 }
-encoded-word-meets n info out =
-    encode-cases n info out (λ r. r .number ≡ 0 → checkAnswer n (r .out) ≡ record { number = 0; broken = 0 }) (λ k e. absurd (omega arith)) (λ t li lo six e.
-    let word : List ℕ = written (code n) (encoded (code n) (lifted (code n) (bit info))) in
-    check-taken n word t (length-octets (code n .wordOctets) (sent (code n) (encoded (code n) (lifted (code n) (bit info)))))
-    ∙ ap (λ z. record { number = 0; broken = z }) (codeword-quiet (code n) (published n t) (bit word) (encoded-codeword (code n) (published n t) (bit info))))
-
 -- ---- demand 2: the telecommand codes
 
-abbrev pub telecommanded : ℕ → Bool
-telecommanded n = leb 1 n && leb n 3
-
-three : (P : ℕ → Type 0) → P 1 → P 2 → P 3 → (n : ℕ) → T (telecommanded n) → P n
+pub three : (P : ℕ → Type 0) → P 1 → P 2 → P 3 → (n : ℕ) → T (telecommanded n) → P n
 three P p1 p2 p3 n t = go n (leb→le 1 n (and-l (leb 1 n) (leb n 3) t)) (leb→le n 3 (and-r (leb 1 n) (leb n 3) t))
   where
     go : (n : ℕ) → 1 ≤ n → n ≤ 3 → P n
@@ -90,9 +101,6 @@ telecommand-whole = three (λ n. T (offered n && not (eqb n 5))) tt tt tt
 pub telecommand-offered : (n : ℕ) → T (telecommanded n) → T (offered n)
 telecommand-offered = three (λ n. T (offered n)) tt tt tt
 
-not-six : (n : ℕ) → T (telecommanded n) → (info : List ℕ) → sixSet n info ≡ false
-not-six = three (λ n. (info : List ℕ) → sixSet n info ≡ false) (λ info. refl) (λ info. refl) (λ info. refl)
-
 -- where unsent bits and filling play no part, meeting every check is being a codeword
 pub met-codeword : (n : ℕ) → T (telecommanded n) → (word : List ℕ) → length word ≡ code n .wordOctets
     → broken (code n) (lifted (code n) (bit word)) ≡ 0 → codeword (code n) (bit word) ≡ true
@@ -102,17 +110,6 @@ met-codeword n t word lw e =
     ap (sent (code n)) (lifted-whole (code n) w (bit word)) ∙ sent-whole (code n) w (bit word) (past-word (code n) w word lw) in
     ap (codeword (code n)) (sym same)
     ∙ own-codeword (code n) (published n (telecommand-offered n t)) (lifted (code n) (bit word)) (met-own-telecommand n t (lifted (code n) (bit word)) e) (λ k h. lifted-unsent (code n) (bit word) k h)
-
-pub met-is-encoding : (n : ℕ) → T (telecommanded n) → (word out : List ℕ) → Octets word → length word ≡ code n .wordOctets → length out ≡ code n .wordOctets
-    → checkAnswer n word .broken ≡ 0 → encodeAnswer n (take (code n .informationOctets) word) out ≡ record { number = 0; out = word }
-met-is-encoding n t word out oct lw lo e =
-    let off : T (offered n) = telecommand-offered n t in
-    let pb : Published (code n) = published n off in
-    let front : length (take (code n .informationOctets) word) ≡ code n .informationOctets =
-    omega (arith, length-take (code n .informationOctets) word, lw, pb .held) in
-    encode-taken n (take (code n .informationOctets) word) out off front lo (not-six n t (take (code n .informationOctets) word))
-    ∙ ap (λ z. record { number = 0; out = z }) (codeword-encoded (code n) pb word lw oct
-    (met-codeword n t word lw (sym (ap (λ r. r .broken) (check-taken n word off lw)) ∙ e)))
 
 -- ---- demand 2: code 4, where whole parity blocks may be inverted
 

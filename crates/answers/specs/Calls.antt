@@ -5,23 +5,15 @@ use Prim.Native.Nat.{ℕ, _%_}
 use lib.Dec.{eqb, leb, ltb}
 use lib.ListN.{length, getD, take}
 use lib.IntN.{ℤ, pos}
-use Rattle.rules.specs.Bits.{Word, bit, octets, count, flipped, if_then_else_}
-use Rattle.rules.specs.Codes.{Code, code}
+use Rattle.bits.specs.Bits.{Word, bit, count, flipped, if_then_else_}
+use Rattle.rules.specs.Codes.{Code, code, offered}
 use Rattle.rules.specs.Checks.{broken}
-use Rattle.rules.specs.Encoding.{lifted, sent, encoded, codeword}
+use Rattle.rules.specs.Encoding.{lifted, sent, encoded, codeword, written}
 use Rattle.rules.specs.Flipping.{Next, quiet, stuck, flip, byExcess, Run, run}
-
--- Codes 1 to 5 are offered; by open all but code 4, by step all but code 5.
-abbrev pub offered : ℕ → Bool
-offered n = leb 1 n && leb n 5
 
 -- Number 2: the input's length differs. Number 3: the output's length differs.
-abbrev pub unlike : List ℕ → ℕ → Bool
-unlike octets long = not (eqb (length octets) long)
-
--- The octets of a word as it is sent.
-abbrev pub written : Code → Word → List ℕ
-written c x = octets (c .wordOctets) (sent c x)
+abbrev pub otherLength : List ℕ → ℕ → Bool
+otherLength octets long = not (eqb (length octets) long)
 
 -- Encode: information in, word out.
 pub record Encoded : Type 0 where
@@ -36,8 +28,8 @@ unfoldable pub encodeAnswer : ℕ → List ℕ → List ℕ → Encoded
 encodeAnswer n information out =
     let c = code n in
     if not (offered n) then record { number = 1; out = out }
-    else if unlike information (c .informationOctets) then record { number = 2; out = out }
-    else if unlike out (c .wordOctets) then record { number = 3; out = out }
+    else if otherLength information (c .informationOctets) then record { number = 2; out = out }
+    else if otherLength out (c .wordOctets) then record { number = 3; out = out }
     else if sixSet n information then record { number = 4; out = out }
     else record { number = 0; out = written c (encoded c (lifted c (bit information))) }
 
@@ -50,7 +42,7 @@ unfoldable pub checkAnswer : ℕ → List ℕ → Checked
 checkAnswer n word =
     let c = code n in
     if not (offered n) then record { number = 1; broken = 0 }
-    else if unlike word (c .wordOctets) then record { number = 2; broken = 0 }
+    else if otherLength word (c .wordOctets) then record { number = 2; broken = 0 }
     else record { number = 0; broken = broken c (lifted c (bit word)) }
 
 -- Open: for a codeword, its information octets, lent back as a part of the caller's own word; a refused open lends back an empty part.
@@ -58,11 +50,12 @@ pub record Opened : Type 0 where
   pub number : ℕ
   pub part : List ℕ
 
+-- Offered by open are all codes but 4.
 unfoldable pub openAnswer : ℕ → List ℕ → Opened
 openAnswer n word =
     let c = code n in
     if not (offered n && not (eqb n 4)) then record { number = 1; part = [] }
-    else if unlike word (c .wordOctets) then record { number = 2; part = [] }
+    else if otherLength word (c .wordOctets) then record { number = 2; part = [] }
     else if not (codeword c (bit word)) then record { number = 9; part = [] }
     else record { number = 0; part = take (c .informationOctets) word }
 
@@ -96,14 +89,20 @@ ranCorrect c x r out =
       out = if eqb (judged c r) 0 then written c (r .word) else out;
     }
 
+-- The run from a word of the code's length.
+abbrev pub ranFrom : ℕ → List ℕ → ℕ → List ℕ → Corrected
+ranFrom n word limit out =
+    let c = code n in
+    let x = lifted c (bit word) in
+    ranCorrect c x (run (byExcess c) limit x) out
+
 unfoldable pub correctAnswer : ℕ → List ℕ → ℕ → List ℕ → Corrected
 correctAnswer n word limit out =
     let c = code n in
-    let x = lifted c (bit word) in
     if not (offered n) then refusedCorrect 1 out
-    else if unlike word (c .wordOctets) then refusedCorrect 2 out
-    else if unlike out (c .wordOctets) then refusedCorrect 3 out
-    else ranCorrect c x (run (byExcess c) limit x) out
+    else if otherLength word (c .wordOctets) then refusedCorrect 2 out
+    else if otherLength out (c .wordOctets) then refusedCorrect 3 out
+    else ranFrom n word limit out
 
 -- Step: one flip of the run into an output word, with the bit's number and excess; or quiet and marked so, in which case
 -- the word is copied and both numbers are 0; or refusal 5. A refused step returns 0 for both, and is not marked quiet.
@@ -122,11 +121,17 @@ nextStep c word x out quiet = record { number = 0; quiet = true; bit = 0; excess
 nextStep c word x out stuck = refusedStep 5 out
 nextStep c word x out (flip k e) = record { number = 0; quiet = false; bit = k; excess = e; out = written c (flipped x k) }
 
+abbrev pub steppedFrom : ℕ → List ℕ → List ℕ → Stepped
+steppedFrom n word out =
+    let c = code n in
+    let x = lifted c (bit word) in
+    nextStep c word x out (byExcess c x)
+
+-- Offered by step are all codes but 5.
 unfoldable pub stepAnswer : ℕ → List ℕ → List ℕ → Stepped
 stepAnswer n word out =
     let c = code n in
-    let x = lifted c (bit word) in
     if not (offered n && not (eqb n 5)) then refusedStep 1 out
-    else if unlike word (c .wordOctets) then refusedStep 2 out
-    else if unlike out (c .wordOctets) then refusedStep 3 out
-    else nextStep c word x out (byExcess c x)
+    else if otherLength word (c .wordOctets) then refusedStep 2 out
+    else if otherLength out (c .wordOctets) then refusedStep 3 out
+    else steppedFrom n word out
