@@ -12,7 +12,7 @@ use Rattle.rules.specs.Tables.{parity16, parity32, parity64, parity511, generat
 use Rattle.bits.proofs.Sums.{and-l, and-r}
 use Rattle.rules.proofs.Numbers.{five}
 use Rattle.offer.specs.declared.Offer.{Offer}
-use Rattle.offer.specs.Offers.{telecommandOffer, nearEarthOffer, offerOf, refusalOf}
+use Rattle.offer.specs.Offers.{telecommandOffer, nearEarthOffer, offerOf, refusalOf, Known}
 
 -- ---- by number
 
@@ -24,9 +24,9 @@ offer-none n d1 d2 d3 d4 d5 = sym (go (eqb n 1) (eqb n 2) (eqb n 3) (eqb n 4) (e
   where
     chosen : Bool → Bool → Bool → Bool → Bool → Offer
     chosen a b d e f =
-        if a then telecommandOffer 16 8 16
-        else if b then telecommandOffer 32 16 32
-        else if d then telecommandOffer 64 32 64
+        if a then telecommandOffer 16 8 128 16
+        else if b then telecommandOffer 32 16 256 32
+        else if d then telecommandOffer 64 32 512 64
         else if e then nearEarthOffer true 1022 895 64 0 0
         else if f then nearEarthOffer false 1020 892 1 18 2
         else offerOf 0
@@ -93,7 +93,10 @@ pub record Fixed (n : ℕ) : Type 0 where
   pub unsent : offerOf n .unsent ≡ code n .unsent
   pub low : code n .unsent ≤ 18
   -- the word's octets are the bits that are sent, and the filling
+  pub bits-are : offerOf n .bits ≡ bits (code n)
+  pub most : bits (code n) ≤ 8176
   pub fill : bits (code n) + offerOf n .fill ≡ 8 * code n .wordOctets + code n .unsent
+  pub filled : offerOf n .fill ≤ 2
   pub blocks : 1 ≤ offerOf n .shape .blocks
   pub asked : offerOf n .asked ≡ not (telecommanded n)
 
@@ -101,11 +104,11 @@ fixed-five : (n : ℕ) → T (offered n) → Fixed n
 unfolding code code1 code2 code3 code4 code5 parity16 parity32 parity64 parity511
 fixed-five =
     five Fixed
-    (record { word = refl; few = lit≤ tt; information = refl; less = lit≤ tt; unsent = refl; low = lit≤ tt; fill = refl; blocks = lit≤ tt; asked = refl })
-    (record { word = refl; few = lit≤ tt; information = refl; less = lit≤ tt; unsent = refl; low = lit≤ tt; fill = refl; blocks = lit≤ tt; asked = refl })
-    (record { word = refl; few = lit≤ tt; information = refl; less = lit≤ tt; unsent = refl; low = lit≤ tt; fill = refl; blocks = lit≤ tt; asked = refl })
-    (record { word = refl; few = lit≤ tt; information = refl; less = lit≤ tt; unsent = refl; low = lit≤ tt; fill = refl; blocks = lit≤ tt; asked = refl })
-    (record { word = refl; few = lit≤ tt; information = refl; less = lit≤ tt; unsent = refl; low = lit≤ tt; fill = refl; blocks = lit≤ tt; asked = refl })
+    (record { word = refl; few = lit≤ tt; information = refl; less = lit≤ tt; unsent = refl; low = lit≤ tt; bits-are = refl; most = lit≤ tt; fill = refl; filled = lit≤ tt; blocks = lit≤ tt; asked = refl })
+    (record { word = refl; few = lit≤ tt; information = refl; less = lit≤ tt; unsent = refl; low = lit≤ tt; bits-are = refl; most = lit≤ tt; fill = refl; filled = lit≤ tt; blocks = lit≤ tt; asked = refl })
+    (record { word = refl; few = lit≤ tt; information = refl; less = lit≤ tt; unsent = refl; low = lit≤ tt; bits-are = refl; most = lit≤ tt; fill = refl; filled = lit≤ tt; blocks = lit≤ tt; asked = refl })
+    (record { word = refl; few = lit≤ tt; information = refl; less = lit≤ tt; unsent = refl; low = lit≤ tt; bits-are = refl; most = lit≤ tt; fill = refl; filled = lit≤ tt; blocks = lit≤ tt; asked = refl })
+    (record { word = refl; few = lit≤ tt; information = refl; less = lit≤ tt; unsent = refl; low = lit≤ tt; bits-are = refl; most = lit≤ tt; fill = refl; filled = lit≤ tt; blocks = lit≤ tt; asked = refl })
 
 pub fixed : (n : ℕ) → offered n ≡ true → Fixed n
 fixed n o = fixed-five n (is-offered n o)
@@ -125,3 +128,29 @@ module _ (b : Bool) (input long output room : ℕ) where
   refused-not t e f =
       sym (ap₂ (λ a z. if not a then 1 else if not z then 2 else if not (eqb output room) then 3 else 0) t (eq-eqb input long e)
       ∙ ap (λ z. if not z then 3 else 0) (eq-eqb output room f))
+
+-- ---- a record that some number fixes
+
+pub record Small (o : Offer) : Type 0 where
+  pub word : o .word ≤ 1022
+  pub information : o .information ≤ o .word
+  pub unsent : o .unsent ≤ 18
+  pub bits : o .bits ≤ 8176
+  pub fill : o .fill ≤ 2
+  pub blocks : 1 ≤ o .shape .blocks
+
+pub small : {o : Offer} → Known o → Small o
+small {o} k =
+    let f : Fixed (k .number) = fixed (k .number) (k .offers) in
+    subst Small (sym (k .is))
+    (record {
+      word = omega (arith, f .word, f .few);
+      information = omega (arith, f .word, f .information, f .less);
+      unsent = omega (arith, f .unsent, f .low);
+      bits = omega (arith, f .bits-are, f .most);
+      fill = omega (arith, f .filled);
+      blocks = f .blocks;
+    })
+
+pub known : (n : ℕ) {o : Offer} → offered n ≡ true → o ≡ offerOf n → Known o
+known n a e = record { number = n; offers = a; is = e }

@@ -1,18 +1,21 @@
 -- What a code number fixes, as a table.
+use mathlib.Core.Path.{_≡_}
 use mathlib.Core.Bool.{Bool, true, false, not}
 use Prim.Native.Nat.{ℕ}
 use lib.Dec.{eqb}
 use Rattle.bits.specs.Bits.{if_then_else_}
+use Rattle.rules.specs.Codes.{offered}
 use Rattle.offer.specs.declared.Offer.{Offer}
 
-abbrev pub telecommandOffer : ℕ → ℕ → ℕ → Offer
-telecommandOffer word information size = record {
+abbrev pub telecommandOffer : ℕ → ℕ → ℕ → ℕ → Offer
+telecommandOffer word information bits size = record {
   offered = true;
   opens = true;
   steps = true;
   word = word;
   information = information;
   multiple = 1;
+  bits = bits;
   unsent = 0;
   fill = 0;
   asked = false;
@@ -27,6 +30,7 @@ nearEarthOffer whole word information multiple unsent fill = record {
   word = word;
   information = information;
   multiple = multiple;
+  bits = 8176;
   unsent = unsent;
   fill = fill;
   asked = true;
@@ -35,9 +39,9 @@ nearEarthOffer whole word information multiple unsent fill = record {
 
 abbrev pub offerOf : ℕ → Offer
 offerOf n =
-    if eqb n 1 then telecommandOffer 16 8 16
-    else if eqb n 2 then telecommandOffer 32 16 32
-    else if eqb n 3 then telecommandOffer 64 32 64
+    if eqb n 1 then telecommandOffer 16 8 128 16
+    else if eqb n 2 then telecommandOffer 32 16 256 32
+    else if eqb n 3 then telecommandOffer 64 32 512 64
     else if eqb n 4 then nearEarthOffer true 1022 895 64 0 0
     else if eqb n 5 then nearEarthOffer false 1020 892 1 18 2
     else record {
@@ -47,6 +51,7 @@ offerOf n =
       word = 16;
       information = 8;
       multiple = 1;
+      bits = 128;
       unsent = 0;
       fill = 0;
       asked = false;
@@ -60,3 +65,9 @@ refusalOf offered input long output room =
     else if not (eqb input long) then 2
     else if not (eqb output room) then 3
     else 0
+
+-- A record that some code number fixes.
+pub record Known (o : Offer) : Type 0 where
+  pub number : ℕ
+  pub offers : offered number ≡ true
+  pub is : o ≡ offerOf number

@@ -12,7 +12,8 @@ pub struct Offer {
     pub word: usize,
     pub information: usize,
     pub multiple: u8,
-    // the bits in front that are not sent, and the zero bits that are sent after the parity
+    // the bits that the checks are over; those in front that are not sent, and the zero bits that are sent after the parity
+    pub bits: usize,
     pub unsent: usize,
     pub fill: usize,
     // whether a quiet word may have another parity than the encoder's
@@ -21,9 +22,9 @@ pub struct Offer {
     pub shape: Shape,
 }
 
-// A telecommand code: its octets, and M.
-fn telecommand(word: usize, information: usize, size: usize) -> Offer
-    ensures { λ r. ⌜ r ≡ telecommandOffer word information size ⌝ }
+// A telecommand code: its octets, its bits, and M.
+fn telecommand(word: usize, information: usize, bits: usize, size: usize) -> Offer
+    ensures { λ r. ⌜ r ≡ telecommandOffer word information bits size ⌝ }
 {
     Offer {
         offered: true,
@@ -32,6 +33,7 @@ fn telecommand(word: usize, information: usize, size: usize) -> Offer
         word: word,
         information: information,
         multiple: 1,
+        bits: bits,
         unsent: 0,
         fill: 0,
         asked: false,
@@ -62,6 +64,7 @@ fn near_earth(
         word: word,
         information: information,
         multiple: multiple,
+        bits: 8176,
         unsent: unsent,
         fill: fill,
         asked: true,
@@ -85,6 +88,7 @@ fn none() -> Offer
         word: 16,
         information: 8,
         multiple: 1,
+        bits: 128,
         unsent: 0,
         fill: 0,
         asked: false,
@@ -102,9 +106,9 @@ pub fn of(code: u8) -> Offer
     ensures { λ r. ⌜ r ≡ offerOf code ⌝ }
 {
     match code {
-        1 => telecommand(16, 8, 16),
-        2 => telecommand(32, 16, 32),
-        3 => telecommand(64, 32, 64),
+        1 => telecommand(16, 8, 128, 16),
+        2 => telecommand(32, 16, 256, 32),
+        3 => telecommand(64, 32, 512, 64),
         4 => near_earth(true, 1022, 895, 64, 0, 0),
         5 => near_earth(false, 1020, 892, 1, 18, 2),
         _ => none(),

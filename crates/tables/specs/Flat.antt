@@ -2,9 +2,7 @@
 use mathlib.Core.Path.{_≡_}
 use mathlib.Core.List.{List, [], _∷_}
 use Prim.Native.Nat.{ℕ, zero, suc, _+_, _/_, _%_, _≤_, _<_}
-use lib.Dec.{eqb}
 use lib.ListN.{getD}
-use Rattle.bits.specs.Bits.{if_then_else_}
 use Rattle.rules.specs.Codes.{code}
 use Rattle.layout.specs.declared.Shape.{Shape}
 use Rattle.layout.specs.Lent.{Fit, Lent}
@@ -69,15 +67,7 @@ flat8 h = listed 64 (λ i. placeAt h (i / 16) (i / 2 % 8) (i % 2))
 unfoldable pub flat16 : List (List (List ℕ)) → List ℕ
 flat16 h = listed 64 (λ i. placeAt h (i / 32) (i / 2 % 16) (i % 2))
 
-abbrev pub shapeOfCode : ℕ → Shape
-shapeOfCode n =
-    if eqb n 1 then record { size = 16; words = 1; blocks = 8; rows = 4 }
-    else if eqb n 2 then record { size = 32; words = 1; blocks = 8; rows = 4 }
-    else if eqb n 3 then record { size = 64; words = 1; blocks = 8; rows = 4 }
-    else record { size = 511; words = 8; blocks = 16; rows = 2 }
-
--- The places t and the shape are those of the code with number n.
+-- The places t, in this shape, are those of the code with number n.
 pub record Lends (n : ℕ) (t : List ℕ) (sh : Shape) : Type 0 where
-  pub shape : sh ≡ shapeOfCode n
   pub fit : Fit t sh
   pub lent : Lent (code n) t sh
