@@ -1,118 +1,179 @@
--- The calls' answers by cases: what an answer is for a call that is taken.
-use mathlib.Core.Path.{_≡_, refl, sym, ap, _∙_, subst}
+-- The calls' answers by cases: what an answer is for a call that is refused, and for one that is taken.
+use mathlib.Core.Path.{_≡_, refl, sym, ap, ap₂, _∙_, subst}
 use mathlib.Core.Bool.{Bool, true, false, not, _&&_}
 use mathlib.Core.List.{List, []}
-use Prim.Native.Nat.{ℕ, zero, suc, _-_, _≤_}
+use Prim.Native.Nat.{ℕ, suc}
 use native.Mathlib.Omega.{arith}
-use lib.Dec.{T, eqb, leb, leb→le}
+use lib.Dec.{T, eqb}
 use lib.ListN.{length, take}
-use borrow.Author.Tests.{eqb-true, eq-eqb}
+use borrow.Author.Tests.{eqb-true, eq-eqb, ne-eqb}
 use Rattle.bits.specs.Bits.{bit, if_then_else_}
 use Rattle.rules.specs.Codes.{code, offered}
 use Rattle.rules.specs.Checks.{broken}
 use Rattle.rules.specs.Encoding.{lifted, encoded, codeword, written}
-use Rattle.rules.specs.Flipping.{byExcess, run}
-use Rattle.answers.specs.Calls.{otherLength, sixSet, Encoded, encodeAnswer, checkAnswer, openAnswer, Corrected, refusedCorrect, ranFrom, correctAnswer, Stepped, refusedStep, steppedFrom, stepAnswer}
-use Rattle.bits.proofs.Sums.{and-l, and-r}
+use Rattle.answers.specs.Calls.{refusal, unless, sixSet, Encoded, refusedEncode, encodedFrom, encodeAnswer, refusedCheck, checkedFrom, checkAnswer, refusedOpen, openedFrom, openAnswer, Corrected, refusedCorrect, ranFrom, correctAnswer, Stepped, refusedStep, steppedFrom, stepAnswer}
 
--- ---- a test and what it says
+-- ---- refused, or taken
 
-module _ {A : Type 0} (P : A → Type 0) where
-  pub when-not : (b : Bool) (a r : A) → (b ≡ false → P a) → (T b → P r) → P (if not b then a else r)
-  when-not true a r f g = g tt
-  when-not false a r f g = f refl
+module _ {A : Type 0} (refused : ℕ → A) (taken : A) where
+  pub unless-refused : (k : ℕ) → (k ≡ 0 → ⊥) → unless k refused taken ≡ refused k
+  unless-refused k d = ap (λ b. if b then taken else refused k) (ne-eqb k 0 d)
 
-  pub when-long : (octets : List ℕ) (long : ℕ) (a r : A) → P a → (length octets ≡ long → P r) → P (if otherLength octets long then a else r)
-  when-long octets long a r p g = go (eqb (length octets) long) refl
+  pub unless-taken : (k : ℕ) → k ≡ 0 → unless k refused taken ≡ taken
+  unless-taken k e = ap (λ b. if b then taken else refused k) (eq-eqb k 0 e)
+
+-- the test of the code and those of the lengths
+abbrev step-by : Bool → Bool → Bool → ℕ
+step-by a b d = if not a then 1 else if not b then 2 else if not d then 3 else 0
+
+module _ (b : Bool) (input long output room : ℕ) where
+  pub refusal-not : T b → input ≡ long → output ≡ room → refusal b input long output room ≡ 0
+  refusal-not t e f = go b t ∙ ap₂ (λ p q. step-by true p q) (eq-eqb input long e) (eq-eqb output room f)
     where
-      go : (b : Bool) → eqb (length octets) long ≡ b → P (if not (eqb (length octets) long) then a else r)
-      go true e = subst (λ b. P (if not b then a else r)) (sym e) (g (eqb-true (length octets) long e))
-      go false e = subst (λ b. P (if not b then a else r)) (sym e) p
+      go : (b : Bool) → T b → step-by b (eqb input long) (eqb output room) ≡ step-by true (eqb input long) (eqb output room)
+      go true t = refl
+      go false t = absurd t
 
-pub if-yes : {A : Type 0} (b : Bool) (a r : A) → T b → (if not b then a else r) ≡ r
-if-yes true a r t = refl
-if-yes false a r t = absurd t
+  pub record Right : Type 0 where
+    pub offers : T b
+    pub long-is : input ≡ long
+    pub room-is : output ≡ room
 
-pub if-long : {A : Type 0} (octets : List ℕ) (long : ℕ) (a r : A) → length octets ≡ long → (if otherLength octets long then a else r) ≡ r
-if-long octets long a r e = ap (λ b. if not b then a else r) (eq-eqb (length octets) long e)
+  -- what is refused is refused by 1, 2 or 3
+  pub refusal-cases : (P : ℕ → Type 0) → P 1 → P 2 → P 3 → (Right → P 0) → P (refusal b input long output room)
+  refusal-cases P p1 p2 p3 p0 = go b (eqb input long) (eqb output room) refl refl refl
+    where
+      go : (x y z : Bool) → b ≡ x → eqb input long ≡ y → eqb output room ≡ z → P (refusal b input long output room)
+      go false y z e f g = subst (λ k. P (step-by k (eqb input long) (eqb output room))) (sym e) p1
+      go true false z e f g = subst (λ k. P (step-by k (eqb input long) (eqb output room))) (sym e) (subst (λ k. P (step-by true k (eqb output room))) (sym f) p2)
+      go true true false e f g = subst P (sym (ap (λ k. step-by k (eqb input long) (eqb output room)) e ∙ ap₂ (step-by true) f g)) p3
+      go true true true e f g =
+          subst P (sym (ap (λ k. step-by k (eqb input long) (eqb output room)) e ∙ ap₂ (step-by true) f g))
+          (p0 (record { offers = subst T (sym e) tt; long-is = eqb-true input long f; room-is = eqb-true output room g }))
 
-pub if-no : {A : Type 0} (b : Bool) (a r : A) → b ≡ false → (if b then a else r) ≡ r
-if-no b a r e = ap (λ b. if b then a else r) e
+  pub refusal-right : refusal b input long output room ≡ 0 → Right
+  refusal-right = refusal-cases (λ k. k ≡ 0 → Right) (λ e. absurd (omega (arith, e))) (λ e. absurd (omega (arith, e))) (λ e. absurd (omega (arith, e))) (λ r e. r)
+
+  -- an answer by the refusals, or by what is taken
+  pub unless-cases : {A : Type 0} (P : A → Type 0) (refused : ℕ → A) (taken : A) → P (refused 1) → P (refused 2) → P (refused 3)
+      → (T b → input ≡ long → output ≡ room → P taken) → P (unless (refusal b input long output room) refused taken)
+  unless-cases P refused taken p1 p2 p3 p = refusal-cases (λ k. P (unless k refused taken)) p1 p2 p3 (λ r. p (r .offers) (r .long-is) (r .room-is))
+
+-- a refusal depends on the lengths wanted only where the code is offered
+pub refusal-as : {a b : Bool} (input output : ℕ) {long long′ room room′ : ℕ} → a ≡ b → (b ≡ true → long ≡ long′) → (b ≡ true → room ≡ room′)
+    → refusal a input long output room ≡ refusal b input long′ output room′
+refusal-as {a} {b} input output {long} {long′} {room} {room′} e f g = ap (λ z. refusal z input long output room) e ∙ go b f g
+  where
+    go : (b : Bool) → (b ≡ true → long ≡ long′) → (b ≡ true → room ≡ room′) → refusal b input long output room ≡ refusal b input long′ output room′
+    go true f g = ap₂ (λ l r. refusal true input l output r) (f refl) (g refl)
+    go false f g = refl
 
 -- ---- correct
 
 module _ (n : ℕ) (word : List ℕ) (limit : ℕ) (out : List ℕ) where
-  pub correct-cases : (P : Corrected → Type 0) → P (refusedCorrect 1 out) → P (refusedCorrect 2 out) → P (refusedCorrect 3 out)
+  pub correct-cases : (P : Corrected → Type 0) → P (refusedCorrect out 1) → P (refusedCorrect out 2) → P (refusedCorrect out 3)
       → (T (offered n) → length word ≡ code n .wordOctets → length out ≡ code n .wordOctets → P (ranFrom n word limit out)) → P (correctAnswer n word limit out)
   unfolding correctAnswer
-  correct-cases P p1 p2 p3 ran =
-      when-not P (offered n) (refusedCorrect 1 out) _ (λ e. p1) (λ t.
-      when-long P word (code n .wordOctets) (refusedCorrect 2 out) _ p2 (λ lw.
-      when-long P out (code n .wordOctets) (refusedCorrect 3 out) (ranFrom n word limit out) p3 (λ lo. ran t lw lo)))
+  correct-cases P = unless-cases (offered n) (length word) (code n .wordOctets) (length out) (code n .wordOctets) P (refusedCorrect out) (ranFrom n word limit out)
 
   pub correct-taken : T (offered n) → length word ≡ code n .wordOctets → length out ≡ code n .wordOctets → correctAnswer n word limit out ≡ ranFrom n word limit out
   unfolding correctAnswer
   correct-taken t lw lo =
-      if-yes (offered n) (refusedCorrect 1 out) _ t
-      ∙ if-long word (code n .wordOctets) (refusedCorrect 2 out) _ lw ∙ if-long out (code n .wordOctets) (refusedCorrect 3 out) (ranFrom n word limit out) lo
+      unless-taken (refusedCorrect out) (ranFrom n word limit out) (refusal (offered n) (length word) (code n .wordOctets) (length out) (code n .wordOctets))
+      (refusal-not (offered n) (length word) (code n .wordOctets) (length out) (code n .wordOctets) t lw lo)
+
+  pub correct-refused : (k : ℕ) → k ≡ refusal (offered n) (length word) (code n .wordOctets) (length out) (code n .wordOctets) → (k ≡ 0 → ⊥)
+      → correctAnswer n word limit out ≡ refusedCorrect out k
+  unfolding correctAnswer
+  correct-refused k e d = ap (λ z. unless z (refusedCorrect out) (ranFrom n word limit out)) (sym e) ∙ unless-refused (refusedCorrect out) (ranFrom n word limit out) k d
 
 -- ---- step
 
 module _ (n : ℕ) (word out : List ℕ) where
-  pub step-cases : (P : Stepped → Type 0) → P (refusedStep 1 out) → P (refusedStep 2 out) → P (refusedStep 3 out)
+  pub step-cases : (P : Stepped → Type 0) → P (refusedStep out 1) → P (refusedStep out 2) → P (refusedStep out 3)
       → (T (offered n && not (eqb n 5)) → length word ≡ code n .wordOctets → length out ≡ code n .wordOctets → P (steppedFrom n word out)) → P (stepAnswer n word out)
   unfolding stepAnswer
-  step-cases P p1 p2 p3 ran =
-      when-not P (offered n && not (eqb n 5)) (refusedStep 1 out) _ (λ e. p1) (λ t.
-      when-long P word (code n .wordOctets) (refusedStep 2 out) _ p2 (λ lw.
-      when-long P out (code n .wordOctets) (refusedStep 3 out) (steppedFrom n word out) p3 (λ lo. ran t lw lo)))
+  step-cases P = unless-cases (offered n && not (eqb n 5)) (length word) (code n .wordOctets) (length out) (code n .wordOctets) P (refusedStep out) (steppedFrom n word out)
 
   pub step-taken : T (offered n && not (eqb n 5)) → length word ≡ code n .wordOctets → length out ≡ code n .wordOctets → stepAnswer n word out ≡ steppedFrom n word out
   unfolding stepAnswer
   step-taken t lw lo =
-      if-yes (offered n && not (eqb n 5)) (refusedStep 1 out) _ t
-      ∙ if-long word (code n .wordOctets) (refusedStep 2 out) _ lw ∙ if-long out (code n .wordOctets) (refusedStep 3 out) (steppedFrom n word out) lo
+      unless-taken (refusedStep out) (steppedFrom n word out) (refusal (offered n && not (eqb n 5)) (length word) (code n .wordOctets) (length out) (code n .wordOctets))
+      (refusal-not (offered n && not (eqb n 5)) (length word) (code n .wordOctets) (length out) (code n .wordOctets) t lw lo)
+
+  pub step-refused : (k : ℕ) → k ≡ refusal (offered n && not (eqb n 5)) (length word) (code n .wordOctets) (length out) (code n .wordOctets) → (k ≡ 0 → ⊥)
+      → stepAnswer n word out ≡ refusedStep out k
+  unfolding stepAnswer
+  step-refused k e d = ap (λ z. unless z (refusedStep out) (steppedFrom n word out)) (sym e) ∙ unless-refused (refusedStep out) (steppedFrom n word out) k d
 
 -- ---- encode, check, open
 
 module _ (n : ℕ) (information out : List ℕ) where
-  abbrev pub encodedFrom : Encoded
-  encodedFrom = record { number = 0; out = written (code n) (encoded (code n) (lifted (code n) (bit information))) }
+  pub encode-from : T (offered n) → length information ≡ code n .informationOctets → length out ≡ code n .wordOctets → encodeAnswer n information out ≡ encodedFrom n information out
+  unfolding encodeAnswer
+  encode-from t li lo =
+      unless-taken (refusedEncode out) (encodedFrom n information out) (refusal (offered n) (length information) (code n .informationOctets) (length out) (code n .wordOctets))
+      (refusal-not (offered n) (length information) (code n .informationOctets) (length out) (code n .wordOctets) t li lo)
 
   pub encode-taken : T (offered n) → length information ≡ code n .informationOctets → length out ≡ code n .wordOctets → sixSet n information ≡ false
-      → encodeAnswer n information out ≡ encodedFrom
-  unfolding encodeAnswer
+      → encodeAnswer n information out ≡ record { number = 0; out = written (code n) (encoded (code n) (lifted (code n) (bit information))) }
   encode-taken t li lo six =
-      if-yes (offered n) (record { number = 1; out = out }) _ t
-      ∙ if-long information (code n .informationOctets) (record { number = 2; out = out }) _ li
-      ∙ if-long out (code n .wordOctets) (record { number = 3; out = out }) _ lo
-      ∙ if-no (sixSet n information) (record { number = 4; out = out }) encodedFrom six
+      encode-from t li lo
+      ∙ ap (λ b. if b then refusedEncode out 4 else record { number = 0; out = written (code n) (encoded (code n) (lifted (code n) (bit information))) }) six
+
+  pub encode-four : T (offered n) → length information ≡ code n .informationOctets → length out ≡ code n .wordOctets → sixSet n information ≡ true
+      → encodeAnswer n information out ≡ refusedEncode out 4
+  encode-four t li lo six =
+      encode-from t li lo
+      ∙ ap (λ b. if b then refusedEncode out 4 else record { number = 0; out = written (code n) (encoded (code n) (lifted (code n) (bit information))) }) six
+
+  pub encode-refused : (k : ℕ) → k ≡ refusal (offered n) (length information) (code n .informationOctets) (length out) (code n .wordOctets) → (k ≡ 0 → ⊥)
+      → encodeAnswer n information out ≡ refusedEncode out k
+  unfolding encodeAnswer
+  encode-refused k e d = ap (λ z. unless z (refusedEncode out) (encodedFrom n information out)) (sym e) ∙ unless-refused (refusedEncode out) (encodedFrom n information out) k d
 
   -- an encoding that is not refused is that of its information
   pub encode-cases : (P : Encoded → Type 0) → ((k : ℕ) → P (record { number = suc k; out = out }))
-      → (T (offered n) → length information ≡ code n .informationOctets → length out ≡ code n .wordOctets → sixSet n information ≡ false → P encodedFrom) → P (encodeAnswer n information out)
+      → (T (offered n) → length information ≡ code n .informationOctets → length out ≡ code n .wordOctets → sixSet n information ≡ false
+      → P (record { number = 0; out = written (code n) (encoded (code n) (lifted (code n) (bit information))) })) → P (encodeAnswer n information out)
   unfolding encodeAnswer
   encode-cases P p taken =
-      when-not P (offered n) (record { number = 1; out = out }) _ (λ e. p 0) (λ t.
-      when-long P information (code n .informationOctets) (record { number = 2; out = out }) _ (p 1) (λ li.
-      when-long P out (code n .wordOctets) (record { number = 3; out = out }) _ (p 2) (λ lo. go (sixSet n information) refl t li lo)))
+      unless-cases (offered n) (length information) (code n .informationOctets) (length out) (code n .wordOctets) P (refusedEncode out) (encodedFrom n information out)
+      (p 0) (p 1) (p 2) (λ t li lo. go (sixSet n information) refl t li lo)
     where
-      go : (b : Bool) → sixSet n information ≡ b → T (offered n) → length information ≡ code n .informationOctets → length out ≡ code n .wordOctets
-          → P (if sixSet n information then record { number = 4; out = out } else encodedFrom)
-      go true e t li lo = subst (λ b. P (if b then record { number = 4; out = out } else encodedFrom)) (sym e) (p 3)
-      go false e t li lo = subst (λ b. P (if b then record { number = 4; out = out } else encodedFrom)) (sym e) (taken t li lo e)
+      done : Encoded
+      done = record { number = 0; out = written (code n) (encoded (code n) (lifted (code n) (bit information))) }
+
+      go : (b : Bool) → sixSet n information ≡ b → T (offered n) → length information ≡ code n .informationOctets → length out ≡ code n .wordOctets → P (encodedFrom n information out)
+      go true e t li lo = subst (λ b. P (if b then refusedEncode out 4 else done)) (sym e) (p 3)
+      go false e t li lo = subst (λ b. P (if b then refusedEncode out 4 else done)) (sym e) (taken t li lo e)
 
 module _ (n : ℕ) (word : List ℕ) where
-  pub check-taken : T (offered n) → length word ≡ code n .wordOctets → checkAnswer n word ≡ record { number = 0; broken = broken (code n) (lifted (code n) (bit word)) }
+  pub check-taken : T (offered n) → length word ≡ code n .wordOctets → checkAnswer n word ≡ checkedFrom n word
   unfolding checkAnswer
   check-taken t lw =
-      if-yes (offered n) (record { number = 1; broken = 0 }) _ t
-      ∙ if-long word (code n .wordOctets) (record { number = 2; broken = 0 }) (record { number = 0; broken = broken (code n) (lifted (code n) (bit word)) }) lw
+      unless-taken refusedCheck (checkedFrom n word) (refusal (offered n) (length word) (code n .wordOctets) 0 0)
+      (refusal-not (offered n) (length word) (code n .wordOctets) 0 0 t lw refl)
+
+  pub check-refused : (k : ℕ) → k ≡ refusal (offered n) (length word) (code n .wordOctets) 0 0 → (k ≡ 0 → ⊥) → checkAnswer n word ≡ refusedCheck k
+  unfolding checkAnswer
+  check-refused k e d = ap (λ z. unless z refusedCheck (checkedFrom n word)) (sym e) ∙ unless-refused refusedCheck (checkedFrom n word) k d
+
+  pub open-from : T (offered n && not (eqb n 4)) → length word ≡ code n .wordOctets → openAnswer n word ≡ openedFrom n word
+  unfolding openAnswer
+  open-from t lw =
+      unless-taken refusedOpen (openedFrom n word) (refusal (offered n && not (eqb n 4)) (length word) (code n .wordOctets) 0 0)
+      (refusal-not (offered n && not (eqb n 4)) (length word) (code n .wordOctets) 0 0 t lw refl)
 
   pub open-taken : T (offered n && not (eqb n 4)) → length word ≡ code n .wordOctets → codeword (code n) (bit word) ≡ true
       → openAnswer n word ≡ record { number = 0; part = take (code n .informationOctets) word }
-  unfolding openAnswer
   open-taken t lw is =
-      if-yes (offered n && not (eqb n 4)) (record { number = 1; part = [] }) _ t
-      ∙ if-long word (code n .wordOctets) (record { number = 2; part = [] }) _ lw
-      ∙ if-yes (codeword (code n) (bit word)) (record { number = 9; part = [] }) (record { number = 0; part = take (code n .informationOctets) word }) (subst T (sym is) tt)
+      open-from t lw ∙ ap (λ b. if not b then refusedOpen 9 else record { number = 0; part = take (code n .informationOctets) word }) is
+
+  pub open-nine : T (offered n && not (eqb n 4)) → length word ≡ code n .wordOctets → codeword (code n) (bit word) ≡ false → openAnswer n word ≡ refusedOpen 9
+  open-nine t lw f =
+      open-from t lw ∙ ap (λ b. if not b then refusedOpen 9 else record { number = 0; part = take (code n .informationOctets) word }) f
+
+  pub open-refused : (k : ℕ) → k ≡ refusal (offered n && not (eqb n 4)) (length word) (code n .wordOctets) 0 0 → (k ≡ 0 → ⊥) → openAnswer n word ≡ refusedOpen k
+  unfolding openAnswer
+  open-refused k e d = ap (λ z. unless z refusedOpen (openedFrom n word)) (sym e) ∙ unless-refused refusedOpen (openedFrom n word) k d

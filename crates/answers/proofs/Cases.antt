@@ -16,7 +16,7 @@ use Rattle.rules.specs.Codes.{code, code1, code4, bits, checks, information, of
 use Rattle.rules.specs.Checks.{covers, check, broken, degreeOf}
 use Rattle.rules.specs.Encoding.{rowBit, parityBit, encoded, lifted, sent, codeword, OwnParity}
 use Rattle.rules.specs.Flipping.{flip, byExcess, run, ended}
-use Rattle.answers.specs.Calls.{encodeAnswer, checkAnswer, openAnswer, judged, refusedCorrect, ranCorrect, correctAnswer, refusedStep, nextStep, stepAnswer, ranFrom}
+use Rattle.answers.specs.Calls.{encodeAnswer, checkAnswer, openAnswer, judged, refusal, unless, refusedCorrect, ranCorrect, correctAnswer, refusedStep, nextStep, stepAnswer, ranFrom}
 use Rattle.bits.proofs.Sums.{⊕-eq, sum-none, below-at, not-true, and-l}
 use Rattle.bits.proofs.Counting.{count-none, none-counted}
 use Rattle.rules.proofs.Blocks.{blk, checkIn, check-in}
@@ -63,15 +63,15 @@ Holds (opens n word part) = openAnswer n word ≡ record { number = 0; part = pa
 Holds (corrects n word limit number flips first last) =
     (out : List ℕ) → length out ≡ code n .wordOctets
     → (correctAnswer n word limit out .number ≡ number) × (correctAnswer n word limit out .flips ≡ flips) × (correctAnswer n word limit out .first ≡ first) × (correctAnswer n word limit out .last ≡ last)
-Holds (lengths n long room number) = (word out : List ℕ) (limit : ℕ) → length word ≡ long → length out ≡ room → correctAnswer n word limit out ≡ refusedCorrect number out
+Holds (lengths n long room number) = (word out : List ℕ) (limit : ℕ) → length word ≡ long → length out ≡ room → correctAnswer n word limit out ≡ refusedCorrect out number
 Holds (unoffered n) =
     ((info out : List ℕ) → encodeAnswer n info out ≡ record { number = 1; out = out })
     × ((word : List ℕ) → checkAnswer n word ≡ record { number = 1; broken = 0 })
     × ((word : List ℕ) → openAnswer n word ≡ record { number = 1; part = [] })
-    × ((word out : List ℕ) (limit : ℕ) → correctAnswer n word limit out ≡ refusedCorrect 1 out)
-    × ((word out : List ℕ) → stepAnswer n word out ≡ refusedStep 1 out)
+    × ((word out : List ℕ) (limit : ℕ) → correctAnswer n word limit out ≡ refusedCorrect out 1)
+    × ((word out : List ℕ) → stepAnswer n word out ≡ refusedStep out 1)
 Holds (unopened n) = (word : List ℕ) → openAnswer n word ≡ record { number = 1; part = [] }
-Holds (unstepped n) = (word out : List ℕ) → stepAnswer n word out ≡ refusedStep 1 out
+Holds (unstepped n) = (word out : List ℕ) → stepAnswer n word out ≡ refusedStep out 1
 
 abbrev pub All : List Case → Type 0
 All [] = Unit {0}
@@ -314,11 +314,11 @@ corrects10 out lo =
 -- lengths and code numbers
 lengths12 : Holds (lengths 1 15 16 2)
 unfolding correctAnswer code code1
-lengths12 word out limit lw lo = ap (λ z. if not (eqb z 16) then refusedCorrect 2 out else if not (eqb (length out) 16) then refusedCorrect 3 out else ranFrom 1 word limit out) lw
+lengths12 word out limit lw lo = ap (λ z. unless (refusal true z 16 (length out) 16) (refusedCorrect out) (ranFrom 1 word limit out)) lw
 
 lengths13 : Holds (lengths 1 16 17 3)
 unfolding correctAnswer code code1
-lengths13 word out limit lw lo = ap₂ (λ z y. if not (eqb z 16) then refusedCorrect 2 out else if not (eqb y 16) then refusedCorrect 3 out else ranFrom 1 word limit out) lw lo
+lengths13 word out limit lw lo = ap₂ (λ z y. unless (refusal true z 16 y 16) (refusedCorrect out) (ranFrom 1 word limit out)) lw lo
 
 unoffered14 : Holds (unoffered 0)
 unfolding encodeAnswer checkAnswer openAnswer correctAnswer stepAnswer

@@ -15,7 +15,7 @@ use Rattle.rules.specs.Codes.{Code, code, code4, code5, bits, offered}
 use Rattle.rules.specs.Checks.{broken, degreeOf}
 use Rattle.rules.specs.Encoding.{lifted, sent, codeword, written}
 use Rattle.rules.specs.Flipping.{flip, byExcess, Run, run, ended, after}
-use Rattle.answers.specs.Calls.{Corrected, judged, refusedCorrect, ranCorrect, correctAnswer}
+use Rattle.answers.specs.Calls.{Corrected, judged, unless, refusedCorrect, ranCorrect, ranFrom, correctAnswer}
 use Rattle.bits.proofs.Sums.{and-l, and-r, eqb-iff}
 use Rattle.bits.proofs.Counting.{count-none}
 use Rattle.bits.proofs.Octets.{Octets, length-octets, bit-octets, bit-past}
@@ -23,7 +23,7 @@ use Rattle.rules.proofs.Runs.{run-within, run-quiet, run-falls, run-enough, run
 use Rattle.rules.proofs.Choosing.{quiet-next, falls, falls-two, one-mended, first-count}
 use Rattle.rules.proofs.Published.{Published, near-four}
 use Rattle.rules.proofs.Codewords.{own-codeword, codeword-own, codeword-quiet, codeword-sent, written-back, lifted-unsent, lifted-sent-bit}
-use Rattle.answers.proofs.Answers.{correct-cases, correct-taken}
+use Rattle.answers.proofs.Answers.{refusal-cases, correct-cases, correct-taken}
 use Rattle.rules.proofs.Numbers.{published}
 
 -- ---- the number that a run is judged by
@@ -86,21 +86,16 @@ module _ (n : ℕ) (word : List ℕ) (limit : ℕ) (out : List ℕ) where
   -- a larger limit changes nothing once a run ended otherwise than by the limit
   pub limit-unchanged : (more : ℕ) → (correctAnswer n word limit out .number ≡ 6 → ⊥) → correctAnswer n word (limit + more) out ≡ correctAnswer n word limit out
   unfolding correctAnswer ranCorrect
-  limit-unchanged more no6 = by (offered n) (eqb (length word) (code n .wordOctets)) (eqb (length out) (code n .wordOctets)) no6
+  limit-unchanged more no6 =
+      refusal-cases (offered n) (length word) (code n .wordOctets) (length out) (code n .wordOctets)
+      (λ k. (all k limit .number ≡ 6 → ⊥) → all k (limit + more) ≡ all k limit) (λ h. refl) (λ h. refl) (λ h. refl)
+      (λ right h. ap (λ s. ranCorrect (code n) (lifted (code n) (bit word)) s out) (run-unchanged (byExcess (code n)) more limit (lifted (code n) (bit word)) (λ e. h (six e)))) no6
     where
-      all : (a b d : Bool) → ℕ → Corrected
-      all a b d l =
-          if not a then refusedCorrect 1 out else if not b then refusedCorrect 2 out else if not d then refusedCorrect 3 out
-          else ranCorrect (code n) (lifted (code n) (bit word)) (run (byExcess (code n)) l (lifted (code n) (bit word))) out
+      all : ℕ → ℕ → Corrected
+      all k l = unless k (refusedCorrect out) (ranFrom n word l out)
 
-      by : (a b d : Bool) → (all a b d limit .number ≡ 6 → ⊥) → all a b d (limit + more) ≡ all a b d limit
-      by false b d h = refl
-      by true false d h = refl
-      by true true false h = refl
-      by true true true h = ap (λ s. ranCorrect (code n) (lifted (code n) (bit word)) s out) (run-unchanged (byExcess (code n)) more limit (lifted (code n) (bit word)) (λ e. h (six e)))
-        where
-          six : run (byExcess (code n)) limit (lifted (code n) (bit word)) .number ≡ 6 → judged (code n) (run (byExcess (code n)) limit (lifted (code n) (bit word))) ≡ 6
-          six e = ap (λ z. if not (eqb z 0) then z else if ltb 0 (count (code n .unsent) (run (byExcess (code n)) limit (lifted (code n) (bit word)) .word)) then 7 else if not (codeword (code n) (sent (code n) (run (byExcess (code n)) limit (lifted (code n) (bit word)) .word))) then 8 else 0) e
+      six : run (byExcess (code n)) limit (lifted (code n) (bit word)) .number ≡ 6 → judged (code n) (run (byExcess (code n)) limit (lifted (code n) (bit word))) ≡ 6
+      six e = ap (λ z. if not (eqb z 0) then z else if ltb 0 (count (code n .unsent) (run (byExcess (code n)) limit (lifted (code n) (bit word)) .word)) then 7 else if not (codeword (code n) (sent (code n) (run (byExcess (code n)) limit (lifted (code n) (bit word)) .word))) then 8 else 0) e
 
 -- ---- the near-Earth codes: never more than half
 

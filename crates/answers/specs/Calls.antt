@@ -1,4 +1,4 @@
--- The calls: for every input, every number returned and the output octets afterwards. Refusals stand in the order of their numbers.
+-- The calls: for every input, every number returned and the output octets afterwards.
 use mathlib.Core.Bool.{Bool, true, false, not, _&&_}
 use mathlib.Core.List.{List, []}
 use Prim.Native.Nat.{ℕ, _%_}
@@ -11,53 +11,77 @@ use Rattle.rules.specs.Checks.{broken}
 use Rattle.rules.specs.Encoding.{lifted, sent, encoded, codeword, written}
 use Rattle.rules.specs.Flipping.{Next, quiet, stuck, flip, byExcess, Run, run}
 
--- Number 2: the input's length differs. Number 3: the output's length differs.
-abbrev pub otherLength : List ℕ → ℕ → Bool
-otherLength octets long = not (eqb (length octets) long)
+-- A call refuses, in this order: 1, a code that it does not offer; 2, an input whose length differs; 3, an output whose length differs.
+-- 0 stands for none of these.
+abbrev pub refusal : Bool → ℕ → ℕ → ℕ → ℕ → ℕ
+refusal offered input long output room =
+    if not offered then 1
+    else if not (eqb input long) then 2
+    else if not (eqb output room) then 3
+    else 0
+
+-- What a call gives that is refused by a number, or taken where that is 0.
+abbrev pub unless : {A : Type 0} → ℕ → (ℕ → A) → A → A
+unless number refused taken = if eqb number 0 then taken else refused number
 
 -- Encode: information in, word out.
 pub record Encoded : Type 0 where
   pub number : ℕ
   pub out : List ℕ
 
--- For code 4 the information fills 7154 bits; the last six bits of octet 894 must be 0.
+-- A refused encode writes nothing.
+abbrev pub refusedEncode : List ℕ → ℕ → Encoded
+refusedEncode out number = record { number = number; out = out }
+
+-- For code 4 the information fills 7154 bits; the last six bits of octet 894 must be 0, else the number is 4.
 abbrev pub sixSet : ℕ → List ℕ → Bool
 sixSet n information = eqb n 4 && not (eqb (getD information 894 0 % 64) 0)
+
+abbrev pub encodedFrom : ℕ → List ℕ → List ℕ → Encoded
+encodedFrom n information out =
+    let c = code n in
+    if sixSet n information then refusedEncode out 4
+    else record { number = 0; out = written c (encoded c (lifted c (bit information))) }
 
 unfoldable pub encodeAnswer : ℕ → List ℕ → List ℕ → Encoded
 encodeAnswer n information out =
     let c = code n in
-    if not (offered n) then record { number = 1; out = out }
-    else if otherLength information (c .informationOctets) then record { number = 2; out = out }
-    else if otherLength out (c .wordOctets) then record { number = 3; out = out }
-    else if sixSet n information then record { number = 4; out = out }
-    else record { number = 0; out = written c (encoded c (lifted c (bit information))) }
+    unless (refusal (offered n) (length information) (c .informationOctets) (length out) (c .wordOctets))
+    (refusedEncode out)
+    (encodedFrom n information out)
 
 -- Check: the count of broken checks; for code 5 with the unsent bits 0 and the last two unread.
 pub record Checked : Type 0 where
   pub number : ℕ
   pub broken : ℕ
 
+abbrev pub refusedCheck : ℕ → Checked
+refusedCheck number = record { number = number; broken = 0 }
+
+abbrev pub checkedFrom : ℕ → List ℕ → Checked
+checkedFrom n word = record { number = 0; broken = broken (code n) (lifted (code n) (bit word)) }
+
 unfoldable pub checkAnswer : ℕ → List ℕ → Checked
-checkAnswer n word =
-    let c = code n in
-    if not (offered n) then record { number = 1; broken = 0 }
-    else if otherLength word (c .wordOctets) then record { number = 2; broken = 0 }
-    else record { number = 0; broken = broken c (lifted c (bit word)) }
+checkAnswer n word = unless (refusal (offered n) (length word) (code n .wordOctets) 0 0) refusedCheck (checkedFrom n word)
 
 -- Open: for a codeword, its information octets, lent back as a part of the caller's own word; a refused open lends back an empty part.
 pub record Opened : Type 0 where
   pub number : ℕ
   pub part : List ℕ
 
+abbrev pub refusedOpen : ℕ → Opened
+refusedOpen number = record { number = number; part = [] }
+
+abbrev pub openedFrom : ℕ → List ℕ → Opened
+openedFrom n word =
+    let c = code n in
+    if not (codeword c (bit word)) then refusedOpen 9
+    else record { number = 0; part = take (c .informationOctets) word }
+
 -- Offered by open are all codes but 4.
 unfoldable pub openAnswer : ℕ → List ℕ → Opened
 openAnswer n word =
-    let c = code n in
-    if not (offered n && not (eqb n 4)) then record { number = 1; part = [] }
-    else if otherLength word (c .wordOctets) then record { number = 2; part = [] }
-    else if not (codeword c (bit word)) then record { number = 9; part = [] }
-    else record { number = 0; part = take (c .informationOctets) word }
+    unless (refusal (offered n && not (eqb n 4)) (length word) (code n .wordOctets) 0 0) refusedOpen (openedFrom n word)
 
 -- Correct: received word, limit, output word. Gives number, flips, broken checks at the start, broken checks at the end.
 pub record Corrected : Type 0 where
@@ -76,8 +100,8 @@ judged c r =
     else 0
 
 -- Refusals 1 to 4 return all other numbers as 0; refusals 5 to 8 return the flips made and the true counts. On 0 the output is written whole.
-abbrev pub refusedCorrect : ℕ → List ℕ → Corrected
-refusedCorrect number out = record { number = number; flips = 0; first = 0; last = 0; out = out }
+abbrev pub refusedCorrect : List ℕ → ℕ → Corrected
+refusedCorrect out number = record { number = number; flips = 0; first = 0; last = 0; out = out }
 
 unfoldable pub ranCorrect : Code → Word → Run → List ℕ → Corrected
 ranCorrect c x r out =
@@ -99,10 +123,7 @@ ranFrom n word limit out =
 unfoldable pub correctAnswer : ℕ → List ℕ → ℕ → List ℕ → Corrected
 correctAnswer n word limit out =
     let c = code n in
-    if not (offered n) then refusedCorrect 1 out
-    else if otherLength word (c .wordOctets) then refusedCorrect 2 out
-    else if otherLength out (c .wordOctets) then refusedCorrect 3 out
-    else ranFrom n word limit out
+    unless (refusal (offered n) (length word) (c .wordOctets) (length out) (c .wordOctets)) (refusedCorrect out) (ranFrom n word limit out)
 
 -- Step: one flip of the run into an output word, with the bit's number and excess; or quiet and marked so, in which case
 -- the word is copied and both numbers are 0; or refusal 5. A refused step returns 0 for both, and is not marked quiet.
@@ -113,12 +134,12 @@ pub record Stepped : Type 0 where
   pub excess : ℤ
   pub out : List ℕ
 
-abbrev pub refusedStep : ℕ → List ℕ → Stepped
-refusedStep number out = record { number = number; quiet = false; bit = 0; excess = pos 0; out = out }
+abbrev pub refusedStep : List ℕ → ℕ → Stepped
+refusedStep out number = record { number = number; quiet = false; bit = 0; excess = pos 0; out = out }
 
 unfoldable pub nextStep : Code → List ℕ → Word → List ℕ → Next → Stepped
 nextStep c word x out quiet = record { number = 0; quiet = true; bit = 0; excess = pos 0; out = word }
-nextStep c word x out stuck = refusedStep 5 out
+nextStep c word x out stuck = refusedStep out 5
 nextStep c word x out (flip k e) = record { number = 0; quiet = false; bit = k; excess = e; out = written c (flipped x k) }
 
 abbrev pub steppedFrom : ℕ → List ℕ → List ℕ → Stepped
@@ -131,7 +152,4 @@ steppedFrom n word out =
 unfoldable pub stepAnswer : ℕ → List ℕ → List ℕ → Stepped
 stepAnswer n word out =
     let c = code n in
-    if not (offered n && not (eqb n 5)) then refusedStep 1 out
-    else if otherLength word (c .wordOctets) then refusedStep 2 out
-    else if otherLength out (c .wordOctets) then refusedStep 3 out
-    else steppedFrom n word out
+    unless (refusal (offered n && not (eqb n 5)) (length word) (c .wordOctets) (length out) (c .wordOctets)) (refusedStep out) (steppedFrom n word out)

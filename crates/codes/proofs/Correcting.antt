@@ -20,28 +20,10 @@ use Rattle.rules.proofs.Flips.{excess-is, broken-met}
 use Rattle.choice.proofs.Excesses.{degree-le}
 use Rattle.layout.specs.declared.Shape.{Shape}
 use Rattle.layout.specs.Lent.{Fit, Lent, laid}
-use Rattle.tables.specs.Flat.{shapeOfCode}
-use Rattle.received.specs.Measured.{Measured}
+use Rattle.measured.specs.Measured.{Measured}
 use Rattle.runs.specs.declared.Ran.{Ran}
 use Rattle.runs.specs.declared.Turn.{Turn}
 use Rattle.runs.specs.Turns.{Holding, RunsTo, comesNext}
-
--- every shape has blocks
-shape-blocks : (n : ℕ) → 1 ≤ shapeOfCode n .blocks
-shape-blocks n = go (eqb n 1) (eqb n 2) (eqb n 3)
-  where
-    shape : Bool → Bool → Bool → Shape
-    shape a b d =
-        if a then record { size = 16; words = 1; blocks = 8; rows = 4 }
-        else if b then record { size = 32; words = 1; blocks = 8; rows = 4 }
-        else if d then record { size = 64; words = 1; blocks = 8; rows = 4 }
-        else record { size = 511; words = 8; blocks = 16; rows = 2 }
-
-    go : (a b d : Bool) → 1 ≤ shape a b d .blocks
-    go true b d = lit≤ tt
-    go false true d = lit≤ tt
-    go false false true = lit≤ tt
-    go false false false = lit≤ tt
 
 -- a run that ends quiet ends with every check met
 quiet-met : (c : Code) (limit : ℕ) (x : Word) → run (byExcess c) limit x .number ≡ 0 → broken c (run (byExcess c) limit x .word) ≡ 0
@@ -53,9 +35,6 @@ quiet-met c limit x e = go (run-ends (byExcess c) limit x)
     go (ends-limit f l k ex w) = let z : _≡_ {A = ℕ} 6 0 = sym f ∙ e in absurd (omega arith)
 
 module _ (n : ℕ) (word t : List ℕ) (y s : Word) (sh : Shape) (m : Measured n word t y s sh) where
-  pub blocks-some : 1 ≤ sh .blocks
-  blocks-some = subst (λ z. 1 ≤ z .blocks) (sym (m .lends .shape)) (shape-blocks n)
-
   pub holding : Holding t sh s
   holding = record { code = code n; word = y; lent = m .lends .lent; held = m .held }
 

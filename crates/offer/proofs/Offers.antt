@@ -12,7 +12,7 @@ use Rattle.rules.specs.Tables.{parity16, parity32, parity64, parity511, generat
 use Rattle.bits.proofs.Sums.{and-l, and-r}
 use Rattle.rules.proofs.Numbers.{five}
 use Rattle.offer.specs.declared.Offer.{Offer}
-use Rattle.offer.specs.Offers.{telecommandOffer, nearEarthOffer, offerOf, refusalOf, Known}
+use Rattle.offer.specs.Offers.{telecommandOffer, nearEarthOffer, offerOf, Known}
 
 -- ---- by number
 
@@ -89,7 +89,9 @@ pub record Fixed (n : ℕ) : Type 0 where
   pub word : offerOf n .word ≡ code n .wordOctets
   pub few : code n .wordOctets ≤ 1022
   pub information : offerOf n .information ≡ code n .informationOctets
+  pub some : 1 ≤ code n .informationOctets
   pub less : code n .informationOctets ≤ code n .wordOctets
+  pub multiple : 1 ≤ offerOf n .multiple
   pub unsent : offerOf n .unsent ≡ code n .unsent
   pub low : code n .unsent ≤ 18
   -- the word's octets are the bits that are sent, and the filling
@@ -104,36 +106,22 @@ fixed-five : (n : ℕ) → T (offered n) → Fixed n
 unfolding code code1 code2 code3 code4 code5 parity16 parity32 parity64 parity511
 fixed-five =
     five Fixed
-    (record { word = refl; few = lit≤ tt; information = refl; less = lit≤ tt; unsent = refl; low = lit≤ tt; bits-are = refl; most = lit≤ tt; fill = refl; filled = lit≤ tt; blocks = lit≤ tt; asked = refl })
-    (record { word = refl; few = lit≤ tt; information = refl; less = lit≤ tt; unsent = refl; low = lit≤ tt; bits-are = refl; most = lit≤ tt; fill = refl; filled = lit≤ tt; blocks = lit≤ tt; asked = refl })
-    (record { word = refl; few = lit≤ tt; information = refl; less = lit≤ tt; unsent = refl; low = lit≤ tt; bits-are = refl; most = lit≤ tt; fill = refl; filled = lit≤ tt; blocks = lit≤ tt; asked = refl })
-    (record { word = refl; few = lit≤ tt; information = refl; less = lit≤ tt; unsent = refl; low = lit≤ tt; bits-are = refl; most = lit≤ tt; fill = refl; filled = lit≤ tt; blocks = lit≤ tt; asked = refl })
-    (record { word = refl; few = lit≤ tt; information = refl; less = lit≤ tt; unsent = refl; low = lit≤ tt; bits-are = refl; most = lit≤ tt; fill = refl; filled = lit≤ tt; blocks = lit≤ tt; asked = refl })
+    (record { word = refl; few = lit≤ tt; information = refl; some = lit≤ tt; less = lit≤ tt; multiple = lit≤ tt; unsent = refl; low = lit≤ tt; bits-are = refl; most = lit≤ tt; fill = refl; filled = lit≤ tt; blocks = lit≤ tt; asked = refl })
+    (record { word = refl; few = lit≤ tt; information = refl; some = lit≤ tt; less = lit≤ tt; multiple = lit≤ tt; unsent = refl; low = lit≤ tt; bits-are = refl; most = lit≤ tt; fill = refl; filled = lit≤ tt; blocks = lit≤ tt; asked = refl })
+    (record { word = refl; few = lit≤ tt; information = refl; some = lit≤ tt; less = lit≤ tt; multiple = lit≤ tt; unsent = refl; low = lit≤ tt; bits-are = refl; most = lit≤ tt; fill = refl; filled = lit≤ tt; blocks = lit≤ tt; asked = refl })
+    (record { word = refl; few = lit≤ tt; information = refl; some = lit≤ tt; less = lit≤ tt; multiple = lit≤ tt; unsent = refl; low = lit≤ tt; bits-are = refl; most = lit≤ tt; fill = refl; filled = lit≤ tt; blocks = lit≤ tt; asked = refl })
+    (record { word = refl; few = lit≤ tt; information = refl; some = lit≤ tt; less = lit≤ tt; multiple = lit≤ tt; unsent = refl; low = lit≤ tt; bits-are = refl; most = lit≤ tt; fill = refl; filled = lit≤ tt; blocks = lit≤ tt; asked = refl })
 
 pub fixed : (n : ℕ) → offered n ≡ true → Fixed n
 fixed n o = fixed-five n (is-offered n o)
-
--- ---- refusals of lengths
-
-module _ (b : Bool) (input long output room : ℕ) where
-  pub refused-length : b ≡ true → (input ≡ long → ⊥) → 2 ≡ refusalOf b input long output room
-  refused-length t d = sym (ap₂ (λ a z. if not a then 1 else if not z then 2 else if not (eqb output room) then 3 else 0) t (ne-eqb input long d))
-
-  pub refused-room : b ≡ true → input ≡ long → (output ≡ room → ⊥) → 3 ≡ refusalOf b input long output room
-  refused-room t e d =
-      sym (ap₂ (λ a z. if not a then 1 else if not z then 2 else if not (eqb output room) then 3 else 0) t (eq-eqb input long e)
-      ∙ ap (λ z. if not z then 3 else 0) (ne-eqb output room d))
-
-  pub refused-not : b ≡ true → input ≡ long → output ≡ room → 0 ≡ refusalOf b input long output room
-  refused-not t e f =
-      sym (ap₂ (λ a z. if not a then 1 else if not z then 2 else if not (eqb output room) then 3 else 0) t (eq-eqb input long e)
-      ∙ ap (λ z. if not z then 3 else 0) (eq-eqb output room f))
 
 -- ---- a record that some number fixes
 
 pub record Small (o : Offer) : Type 0 where
   pub word : o .word ≤ 1022
+  pub some : 1 ≤ o .information
   pub information : o .information ≤ o .word
+  pub multiple : 1 ≤ o .multiple
   pub unsent : o .unsent ≤ 18
   pub bits : o .bits ≤ 8176
   pub fill : o .fill ≤ 2
@@ -145,7 +133,9 @@ small {o} k =
     subst Small (sym (k .is))
     (record {
       word = omega (arith, f .word, f .few);
+      some = omega (arith, f .information, f .some);
       information = omega (arith, f .word, f .information, f .less);
+      multiple = f .multiple;
       unsent = omega (arith, f .unsent, f .low);
       bits = omega (arith, f .bits-are, f .most);
       fill = omega (arith, f .filled);

@@ -58,14 +58,6 @@ offerOf n =
       shape = record { size = 16; words = 1; blocks = 8; rows = 4 };
     }
 
--- The number by which a call refuses its code and its lengths; 0 if all are right.
-abbrev pub refusalOf : Bool → ℕ → ℕ → ℕ → ℕ → ℕ
-refusalOf offered input long output room =
-    if not offered then 1
-    else if not (eqb input long) then 2
-    else if not (eqb output room) then 3
-    else 0
-
 -- A record that some code number fixes.
 pub record Known (o : Offer) : Type 0 where
   pub number : ℕ

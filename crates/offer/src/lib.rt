@@ -1,6 +1,6 @@
-// What a code number fixes, and the refusals that all calls share. No other function compares code numbers.
+// What a code number fixes. No other function compares code numbers.
 ghost use mathlib.Core.Path.{_≡_};
-ghost use Rattle.offer.specs.Offers.{telecommandOffer, nearEarthOffer, offerOf, refusalOf};
+ghost use Rattle.offer.specs.Offers.{telecommandOffer, nearEarthOffer, offerOf};
 use layout::Shape;
 
 pub struct Offer {
@@ -113,20 +113,4 @@ pub fn of(code: u8) -> Offer
         5 => near_earth(false, 1020, 892, 1, 18, 2),
         _ => none(),
     }
-}
-
-// The number by which a code that is not offered, an input's length or an output's length is refused; 0 if all are right.
-pub fn refusal(offered: bool, input: usize, long: usize, output: usize, room: usize) -> u8
-    ensures { λ r. ⌜ r ≡ refusalOf offered input long output room ⌝ }
-{
-    if !offered {
-        return 1;
-    }
-    if input != long {
-        return 2;
-    }
-    if output != room {
-        return 3;
-    }
-    0
 }

@@ -1,9 +1,9 @@
--- `offer::refusal`: in the order of the numbers. Assumes nothing.
+-- `ladder::refusal`: in the order of the numbers. Assumes nothing.
 use borrow.Author.Tests.{not-true, not-false}
 use borrow.Author.Needs.{needs}
-use Rattle.offer.proofs.Offers.{refused-length, refused-room, refused-not}
-use Rattle.offer.proofs.refusal.Statement.{statement}
-use Rattle.offer.proofs.refusal.Tie as tie
+use Rattle.ladder.proofs.Rungs.{refused-length, refused-room, refused-not}
+use Rattle.ladder.proofs.refusal.Statement.{statement}
+use Rattle.ladder.proofs.refusal.Tie as tie
 
 returns : tie.Need-returns
 returns c = search needs
