@@ -12,7 +12,7 @@ use lib.Seq.{take-all, drop-append-le, take-append-le, drop-append-add}
 use Rattle.rules.specs.Codes.{code, code1, code2, code3, code4, code5, offered}
 use Rattle.lines.specs.Log.{lines, wordLine, word}
 use Rattle.rules.proofs.Numbers.{five}
-use Rattle.received.proofs.Handed.{is-offered}
+use Rattle.offer.proofs.Offers.{is-offered}
 
 -- the shortest words have 16 octets
 pub at-least : (n : ℕ) → offered n ≡ true → 16 ≤ code n .wordOctets

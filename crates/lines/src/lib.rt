@@ -100,7 +100,7 @@ pub fn write(
     requires { ⌜ (offered code ≡ true) × (length (now out) ≡ codeOf code .wordOctets) × (4 * length (now words) + 64 ≤ length (now text)) × (index + length (now words) < 2 ^ 64) ⌝ }
     ensures { λ r. ⌜ (r ≤ length (now (text .exit))) × (take r (now (text .exit)) ≡ linesOf code limit index (now (words .entry)) (wordsOf code (now (words .entry)))) ⌝ }
 {
-    let size = received::word_octets(code);
+    let size = offer::word_octets(code);
     let count = (words.len() + (size - 1)) / size;
     let mut end: usize = 0;
     let mut k: usize = 0;
@@ -126,7 +126,7 @@ pub fn words_held(code: u8) -> usize
     requires { ⌜ offered code ≡ true ⌝ }
     ensures { λ r. ⌜ (r ≡ 65536 / codeOf code .wordOctets) × (0 < r) × (r * codeOf code .wordOctets ≤ 65536) ⌝ }
 {
-    65536 / received::word_octets(code)
+    65536 / offer::word_octets(code)
 }
 
 // The limit, high octet first.

@@ -1,5 +1,8 @@
 // What a code number fixes. No other function compares code numbers.
 ghost use mathlib.Core.Path.{_≡_};
+ghost use mathlib.Core.Bool.{true};
+ghost use Prim.Native.Nat.{_≤_};
+ghost use Rattle.rules.specs.Codes.{code as codeOf, offered};
 ghost use Rattle.offer.specs.Offers.{telecommandOffer, nearEarthOffer, offerOf};
 use layout::Shape;
 
@@ -113,4 +116,30 @@ pub fn of(code: u8) -> Offer
         5 => near_earth(false, 1020, 892, 1, 18, 2),
         _ => none(),
     }
+}
+
+// Whether a code is offered.
+pub fn is_offered(code: u8) -> bool
+    ensures { λ r. ⌜ r ≡ offered code ⌝ }
+{
+    let o = of(code);
+    o.offered
+}
+
+// The octets of a word.
+pub fn word_octets(code: u8) -> usize
+    requires { ⌜ offered code ≡ true ⌝ }
+    ensures { λ r. ⌜ (r ≡ codeOf code .wordOctets) × (r ≤ 1022) ⌝ }
+{
+    let o = of(code);
+    o.word
+}
+
+// The octets of a word's information.
+pub fn information_octets(code: u8) -> usize
+    requires { ⌜ offered code ≡ true ⌝ }
+    ensures { λ r. ⌜ (r ≡ codeOf code .informationOctets) × (r ≤ codeOf code .wordOctets) ⌝ }
+{
+    let o = of(code);
+    o.information
 }

@@ -53,7 +53,7 @@ fn all(code: u8, limit: u16)
     let mut out = out_buffer();
     let mut text = text_buffer();
     let each = lines::words_held(code);
-    let size = received::word_octets(code);
+    let size = offer::word_octets(code);
     let full = each * size;
     blocks(
         code,
@@ -70,7 +70,7 @@ fn main() {
     let mut head = [0u8; 3];
     let n = io::read_full(STDIN_FILENO, &mut head);
     let code = head[0];
-    if n == 3 && received::is_offered(code) {
+    if n == 3 && offer::is_offered(code) {
         all(code, lines::limit(head[1], head[2]));
     } else {
         io::write_all(STDOUT_FILENO, b"0 1 0 0 0\n");

@@ -1,40 +1,50 @@
+-- `codes::step`: refusals in the order of their numbers, then one step. Assumes nothing.
+use mathlib.Core.Path.{sym, _∙_}
+use Rattle.answers.proofs.Answers.{step-taken, step-refused}
+use Rattle.codes.proofs.Admitted.{as-truth, steps-by, steps-offered, step-refusal, taken, word-long}
 use borrow.Author.Needs.{needs}
 use Rattle.codes.proofs.step.Statement.{statement}
 use Rattle.codes.proofs.step.Tie as tie
-use Rattle.codes.proofs.step.Reads as reads
-use Rattle.codes.proofs.step.Lts as lts
-use Rattle.codes.proofs.refused_step.Reads as refused-step-reads
-use Rattle.codes.proofs.step_taken.Reads as step-taken-reads
-use Rattle.ladder.proofs.refusal.Reads as refusal-reads
-use Rattle.offer.proofs.of.Reads as of-reads
 
--- src/lib.rt:237:9
 of-requires : tie.Need-of-requires
 of-requires c κs = search needs
 
--- src/lib.rt:238:9
 refusal-requires : tie.Need-refusal-requires
 refusal-requires c κs = search needs
 
--- src/lib.rt:240:9
 refused-step-requires : tie.Need-refused-step-requires
 refused-step-requires c κs = search needs
 
--- src/lib.rt:240:9
 returns : tie.Need-returns
-returns c = ?
+returns c =
+    let f = c .before .before in
+    let a = f .before .before .before .before in
+    c .refused-step .ensures (a .args .out .now)
+    ∙ sym (step-refused (a .args .code) (a .args .word .now) (a .args .out .now) _ (step-refusal (a .args .code) (f .before .of .ensures) _ _ (f .refusal .ensures)) (c .before .if1 .taken))
 
--- src/lib.rt:242:5
 step-taken-requires : tie.Need-step-taken-requires
-step-taken-requires c κs = ?
+step-taken-requires c κs =
+    let i = c .before in
+    let f = i .before in
+    let a = f .before .before .before .before in
+    let is = f .before .of .ensures in
+    let t = taken (a .args .code) is (f .before .of .result .steps) (steps-offered (a .args .code) is) _ _ _ _ (f .refusal .ensures) (i .if1 .left) in
+    (t .known, t .input-is, t .output-is)
 
--- src/lib.rt:234:1
 same-length : tie.Need-same-length
 same-length c = search needs
 
--- src/lib.rt:234:1
 returns-2 : tie.Need-returns-2
-returns-2 c = ?
+returns-2 c =
+    let k = c .before .before in
+    let i = k .before .before in
+    let f = i .before in
+    let a = f .before .before .before .before in
+    let n = a .args .code in
+    let is = f .before .of .ensures in
+    let t = taken n is (f .before .of .result .steps) (steps-offered n is) _ _ _ _ (f .refusal .ensures) (i .if1 .left) in
+    k .step-taken .ensures n (t .offers) is
+    ∙ sym (step-taken n (a .args .word .now) (a .args .out .now) (as-truth (steps-by n is (t .chosen))) (word-long n is (t .offers) (t .input-is)) (word-long n is (t .offers) (t .output-is)))
 
 pub step-spec : {M : Type 1} → statement M
 step-spec =
