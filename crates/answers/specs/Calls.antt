@@ -118,7 +118,7 @@ refusedStep number out = record { number = number; quiet = false; bit = 0; exces
 
 unfoldable pub nextStep : Code → List ℕ → Word → List ℕ → Next → Stepped
 nextStep c word x out quiet = record { number = 0; quiet = true; bit = 0; excess = pos 0; out = word }
-nextStep c word x out stuck = refusedStep 5 out
+nextStep c word x out (stuck k e) = refusedStep 5 out
 nextStep c word x out (flip k e) = record { number = 0; quiet = false; bit = k; excess = e; out = written c (flipped x k) }
 
 abbrev pub steppedFrom : ℕ → List ℕ → List ℕ → Stepped

@@ -15,6 +15,7 @@ ghost use Rattle.layout.specs.declared.Shape.{Shape};
 ghost use Rattle.vectors.specs.Vectors.{wbit};
 ghost use Rattle.received.specs.Measured.{Measured};
 ghost use Rattle.codes.specs.Answers.{asEncoded, asChecked, asOpened, asCorrected, asStepped};
+use runs::Next;
 
 #[repr(C)]
 pub struct Checked {
@@ -262,31 +263,33 @@ fn step_taken(code: u8, word: &[u8], out: &mut [u8]) -> Stepped
     let mut y = [0u64; 130];
     let mut s = [0u64; 16];
     let sh = received::measure(code, word, &mut t, &mut y, &mut s);
-    let next = runs::next(&s, &t, sh);
-    if next.quiet {
-        copy(word, out);
-        return Stepped {
-            number: 0,
-            quiet: true,
-            bit: 0,
-            excess: 0,
-        };
-    }
-    if next.number == 5 {
-        return Stepped {
+    let next = runs::comes_next(&s, &t, sh);
+    match next {
+        Next::Quiet => {
+            copy(word, out);
+            Stepped {
+                number: 0,
+                quiet: true,
+                bit: 0,
+                excess: 0,
+            }
+        }
+        Next::Stuck(_, _) => Stepped {
             number: 5,
             quiet: false,
             bit: 0,
             excess: 0,
-        };
-    }
-    vectors::turn_over(&mut y, next.bit);
-    received::write(code, &mut y, out);
-    Stepped {
-        number: 0,
-        quiet: false,
-        bit: next.bit as u32,
-        excess: next.excess as i8,
+        },
+        Next::Flip(bit, excess) => {
+            vectors::turn_over(&mut y, bit);
+            received::write(code, &mut y, out);
+            Stepped {
+                number: 0,
+                quiet: false,
+                bit: bit as u32,
+                excess: excess,
+            }
+        }
     }
 }
 

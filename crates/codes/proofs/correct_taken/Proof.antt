@@ -3,6 +3,7 @@ use Rattle.bits.specs.Bits.{bit}
 use Rattle.rules.specs.Encoding.{lifted}
 use Rattle.rules.specs.Flipping.{byExcess, run}
 use Rattle.rules.specs.Codes.{code}
+use Rattle.codes.proofs.Judging.{pb}
 use Rattle.codes.proofs.Correcting.{blocks-some, holding, ran-number, ran-word, ran-met, corrected-is, wrote-word, wrote-none}
 use Rattle.vectors.proofs.Filling.{zero-words}
 use borrow.Author.Needs.{needs}
@@ -82,7 +83,7 @@ returns c =
     corrected-is n word _ _ _ _ e (a .args .limit) (g .run .result) _ _ to (b1 .broken .result) (b2 .broken2 .result) (j .judge .result)
     (b1 .broken .ensures) (b2 .broken2 .ensures)
     (j .judge .ensures (run (byExcess (code n)) (a .args .limit) (lifted (code n) (bit word)))
-    (ran-number n word _ _ _ _ e (a .args .limit) (g .run .result) _ _ to) (ran-word n word _ _ _ _ e (a .args .limit) (g .run .result) _ _ to) (ran-met n word _ _ _ _ e (a .args .limit) (g .run .result) _ _ to))
+    (ran-number n word _ _ _ _ e (a .args .limit) (g .run .result) _ _ to) (ran-word n word _ _ _ _ e (a .args .limit) (g .run .result) _ _ to) (ran-met n word _ _ _ _ e (a .args .limit) (g .run .result) _ _ to (pb n (a .pre .0) .some)))
     (a .args .out .now) _ (wrote-word _ _ _ _ (c .before .before .before .before .before .before .if1 .taken) (c .before .before .before .write .ensures))
 
 returns-2 : tie.Need-returns-2
@@ -100,7 +101,7 @@ returns-2 c =
     corrected-is n word _ _ _ _ e (a .args .limit) (g .run .result) _ _ to (b1 .broken .result) (b2 .broken2 .result) (j .judge .result)
     (b1 .broken .ensures) (b2 .broken2 .ensures)
     (j .judge .ensures (run (byExcess (code n)) (a .args .limit) (lifted (code n) (bit word)))
-    (ran-number n word _ _ _ _ e (a .args .limit) (g .run .result) _ _ to) (ran-word n word _ _ _ _ e (a .args .limit) (g .run .result) _ _ to) (ran-met n word _ _ _ _ e (a .args .limit) (g .run .result) _ _ to))
+    (ran-number n word _ _ _ _ e (a .args .limit) (g .run .result) _ _ to) (ran-word n word _ _ _ _ e (a .args .limit) (g .run .result) _ _ to) (ran-met n word _ _ _ _ e (a .args .limit) (g .run .result) _ _ to (pb n (a .pre .0) .some)))
     (a .args .out .now) _ (wrote-none _ _ _ (c .if1 .left))
 
 pub correct-taken-spec : {M : Type 1} → statement M
