@@ -23,7 +23,8 @@ use Rattle.rules.proofs.Blocks.{blk, checkIn, check-in}
 use Rattle.bits.proofs.Octets.{zeros-at, digit-zero, Octets, length-octets, octets-same, bit-octets}
 use Rattle.rules.proofs.Flips.{check-flip}
 use Rattle.rules.proofs.Runs.{run-limit, run-quiet}
-use Rattle.rules.proofs.Choosing.{quiet-next, one-next}
+use Rattle.rules.proofs.Ways.{one-next}
+use Rattle.rules.proofs.Choosing.{quiet-next, by-excess, by-greatest}
 use Rattle.rules.proofs.Published.{published1, published4}
 use Rattle.rules.proofs.Codewords.{own-codeword, codeword-bit, sent-bit, encoded-parity, parity-same, lifted-sent}
 use Rattle.answers.proofs.Answers.{correct-taken, step-taken, open-taken}
@@ -190,7 +191,7 @@ unfolding code code1 parity16
 next1 =
     ap (λ w. byExcess code1 (lifted code1 (bit w))) (only-wrong 1 tt 0)
     ∙ ap (byExcess code1) (ap (lifted code1) (bit-one-wrong code1 (replicate 16 0) 0 refl (lit< tt)) ∙ lifted-flip code1 (bit (replicate 16 0)) 0 ∙ ap (λ x. flipped x 0) (zeros-are 1 tt))
-    ∙ one-next code1 (published1 .girth) none (none-met 1 tt) 0 (lit< tt) ∙ ap (λ d. flip 0 (pos d)) degree1
+    ∙ one-next code1 (published1 .girth) none (none-met 1 tt) 0 (lit< tt) (by-excess code1 (published1 .some)) (by-greatest code1) zero-le ∙ ap (λ d. flip 0 (pos d)) degree1
 
 steps3 : Holds (steps 1 (only 16 0) 0 (pos 5))
 unfolding code code1 nextStep

@@ -1,5 +1,5 @@
 -- Demand 3, over correct's answers: for every code number, every word, every limit and every output.
-use mathlib.Core.Path.{_≡_, refl, sym, ap, ap₂, _∙_, fun-ext}
+use mathlib.Core.Path.{_≡_, refl, sym, ap, ap₂, _∙_, fun-ext, subst}
 use mathlib.Core.Bool.{Bool, true, false, not, _&&_}
 use mathlib.Core.List.{List}
 use Prim.Native.Nat.{ℕ, zero, suc, _+_, _-_, _*_, _≤_, _<_, zero-le}
@@ -7,21 +7,22 @@ use native.Mathlib.Nat.{le-of-eq, lt-of-not-le, lt-of-lt-of-le}
 use native.Mathlib.Decide.{decLt}
 use native.Mathlib.Omega.{arith}
 use lib.Dec.{T, eqb, leb, ltb, leb→le}
-use lib.IntN.{ℤ, pos}
+use lib.IntN.{pos}
 use lib.ListN.{length}
 use borrow.Author.Tests.{eq-eqb, ne-eqb, lt-ltb, le-ltb}
 use Rattle.bits.specs.Bits.{Word, bit, octets, count, _⊕_, flipped, if_then_else_}
 use Rattle.rules.specs.Codes.{Code, code, code4, code5, bits, offered}
 use Rattle.rules.specs.Checks.{broken, degreeOf}
 use Rattle.rules.specs.Encoding.{lifted, sent, codeword, written}
-use Rattle.rules.specs.Flipping.{flip, byExcess, Run, run, ended, after}
+use Rattle.rules.specs.Flipping.{Way, byExcess, Run, run, ended, after}
 use Rattle.answers.specs.Calls.{Corrected, judged, unless, refusedCorrect, ranCorrect, ranFrom, correctAnswer}
 use Rattle.bits.proofs.Sums.{and-l, and-r, eqb-iff}
 use Rattle.bits.proofs.Counting.{count-none}
 use Rattle.bits.proofs.Octets.{Octets, length-octets, bit-octets, bit-past}
-use Rattle.rules.proofs.Runs.{run-within, run-quiet, run-falls, run-enough, run-unchanged}
-use Rattle.rules.proofs.Choosing.{quiet-next, falls, falls-two, one-mended, first-count}
-use Rattle.rules.proofs.Published.{Published, near-four}
+use Rattle.rules.proofs.Runs.{run-within, run-quiet, run-unchanged}
+use Rattle.rules.proofs.Ways.{Chooses, TakesGreatest, Girth, run-fall, limit-serves, run-half, half-serves, one-mended, first-count}
+use Rattle.rules.proofs.Choosing.{by-excess, by-greatest}
+use Rattle.rules.proofs.Published.{near-four}
 use Rattle.rules.proofs.Codewords.{own-codeword, codeword-own, codeword-quiet, codeword-sent, written-back, lifted-unsent, lifted-sent-bit}
 use Rattle.answers.proofs.Answers.{refusal-cases, correct-cases, correct-taken}
 use Rattle.rules.proofs.Numbers.{published}
@@ -55,47 +56,78 @@ module _ (c : Code) (r : Run) where
       ap (λ p. if not p then r .number else if ltb 0 (count (c .unsent) (r .word)) then 7 else if not (codeword c (sent c (r .word))) then 8 else 0) (eq-eqb (r .number) 0 e)
       ∙ ap₂ (λ q s. if q then 7 else if not s then 8 else 0) (le-ltb 0 (count (c .unsent) (r .word)) (le-of-eq (count-none (c .unsent) (r .word) none))) is
 
--- ---- the bounds
+-- ---- the bounds, for every way of choosing
 
-module _ (n : ℕ) (word : List ℕ) (limit : ℕ) (out : List ℕ) where
+module _ (c : Code) {way : Way} (ch : Chooses c way) (x : Word) (limit : ℕ) (out : List ℕ) where
+  abbrev pub ran : Corrected
+  ran = ranCorrect c x (run way limit x) out
+
   -- the flips never exceed the limit
-  pub flips-within-limit : correctAnswer n word limit out .flips ≤ limit
+  pub ran-within-limit : ran .flips ≤ limit
   unfolding ranCorrect
-  flips-within-limit =
-      correct-cases n word limit out (λ r. r .flips ≤ limit) zero-le zero-le zero-le (λ t lw lo. run-within (byExcess (code n)) limit (lifted (code n) (bit word)))
-
-  fallen : T (offered n) → 1 * length (run (byExcess (code n)) limit (lifted (code n) (bit word)) .flips) + broken (code n) (run (byExcess (code n)) limit (lifted (code n) (bit word)) .word) ≤ broken (code n) (lifted (code n) (bit word))
-  fallen t = run-falls (byExcess (code n)) (broken (code n)) 1 (falls (code n) (published n t .some)) limit (lifted (code n) (bit word))
+  ran-within-limit = run-within way limit x
 
   -- nor what the count of broken checks falls by, so nor the checks broken at the start
-  pub flips-fall : correctAnswer n word limit out .flips + correctAnswer n word limit out .last ≤ correctAnswer n word limit out .first
+  pub ran-fall : ran .flips + ran .last ≤ ran .first
   unfolding ranCorrect
-  flips-fall = correct-cases n word limit out (λ r. r .flips + r .last ≤ r .first) zero-le zero-le zero-le (λ t lw lo. omega (arith, fallen t))
+  ran-fall = run-fall ch limit x
+
+  -- so a limit no smaller than those is never the cause of a refusal
+  pub ran-enough : ran .first ≤ limit → ran .number ≡ 6 → ⊥
+  unfolding ranCorrect
+  ran-enough h e = limit-serves ch limit x h (judged-limit c (run way limit x) e)
+
+  -- a larger limit changes nothing once a run ended otherwise than by the limit
+  pub ran-unchanged : (more : ℕ) → (ran .number ≡ 6 → ⊥) → ranCorrect c x (run way (limit + more) x) out ≡ ran
+  unfolding ranCorrect
+  ran-unchanged more no6 = ap (λ r. ranCorrect c x r out) (run-unchanged way more limit x (λ e. no6 (six e)))
+    where
+      six : run way limit x .number ≡ 6 → judged c (run way limit x) ≡ 6
+      six e = ap (λ z. if not (eqb z 0) then z else if ltb 0 (count (c .unsent) (run way limit x .word)) then 7 else if not (codeword c (sent c (run way limit x .word))) then 8 else 0) e
+
+  -- where every bit has an even number of checks: never more than half
+  module _ (even : (n : ℕ) → n < bits c → (h : ℕ) × (degreeOf c n ≡ 2 * h)) where
+    pub ran-within-half : 2 * ran .flips ≤ ran .first
+    unfolding ranCorrect
+    ran-within-half = omega (arith, run-half ch even limit x)
+
+    pub ran-half-enough : ran .first ≤ 2 * limit + 1 → ran .number ≡ 6 → ⊥
+    unfolding ranCorrect
+    ran-half-enough h e = half-serves ch even limit x h (judged-limit c (run way limit x) e)
+
+-- ---- the bounds of correct
+
+-- the way of a code that is offered
+pub chooses : (n : ℕ) → T (offered n) → Chooses (code n) (byExcess (code n))
+chooses n t = by-excess (code n) (published n t .some)
+
+module _ (n : ℕ) (word : List ℕ) (limit : ℕ) (out : List ℕ) where
+  pub flips-within-limit : correctAnswer n word limit out .flips ≤ limit
+  flips-within-limit =
+      correct-cases n word limit out (λ r. r .flips ≤ limit) zero-le zero-le zero-le (λ t lw lo. ran-within-limit (code n) (chooses n t) (lifted (code n) (bit word)) limit out)
+
+  pub flips-fall : correctAnswer n word limit out .flips + correctAnswer n word limit out .last ≤ correctAnswer n word limit out .first
+  flips-fall =
+      correct-cases n word limit out (λ r. r .flips + r .last ≤ r .first) zero-le zero-le zero-le (λ t lw lo. ran-fall (code n) (chooses n t) (lifted (code n) (bit word)) limit out)
 
   pub flips-within-first : correctAnswer n word limit out .flips ≤ correctAnswer n word limit out .first
   flips-within-first = omega (arith, flips-fall)
 
-  -- so a limit no smaller than those is never the cause of a refusal
   pub limit-enough : correctAnswer n word limit out .first ≤ limit → correctAnswer n word limit out .number ≡ 6 → ⊥
-  unfolding ranCorrect
   limit-enough =
-      correct-cases n word limit out (λ r. r .first ≤ limit → r .number ≡ 6 → ⊥) (λ h e. omega arith) (λ h e. omega arith) (λ h e. omega arith) (λ t lw lo h e.
-      run-enough (byExcess (code n)) (broken (code n)) 1 (falls (code n) (published n t .some)) limit (lifted (code n) (bit word)) (omega arith)
-      (judged-limit (code n) (run (byExcess (code n)) limit (lifted (code n) (bit word))) e))
+      correct-cases n word limit out (λ r. r .first ≤ limit → r .number ≡ 6 → ⊥) (λ h e. omega arith) (λ h e. omega arith) (λ h e. omega arith)
+      (λ t lw lo. ran-enough (code n) (chooses n t) (lifted (code n) (bit word)) limit out)
 
-  -- a larger limit changes nothing once a run ended otherwise than by the limit
   pub limit-unchanged : (more : ℕ) → (correctAnswer n word limit out .number ≡ 6 → ⊥) → correctAnswer n word (limit + more) out ≡ correctAnswer n word limit out
-  unfolding correctAnswer ranCorrect
+  unfolding correctAnswer
   limit-unchanged more no6 =
       refusal-cases (offered n) (length word) (code n .wordOctets) (length out) (code n .wordOctets)
       (λ k. (all k limit .number ≡ 6 → ⊥) → all k (limit + more) ≡ all k limit) (λ h. refl) (λ h. refl) (λ h. refl)
-      (λ right h. ap (λ s. ranCorrect (code n) (lifted (code n) (bit word)) s out) (run-unchanged (byExcess (code n)) more limit (lifted (code n) (bit word)) (λ e. h (six e)))) no6
+      (λ right h. ran-unchanged (code n) (chooses n (right .offers)) (lifted (code n) (bit word)) limit out more h) no6
     where
       all : ℕ → ℕ → Corrected
       all k l = unless k (refusedCorrect out) (ranFrom n word l out)
 
-      six : run (byExcess (code n)) limit (lifted (code n) (bit word)) .number ≡ 6 → judged (code n) (run (byExcess (code n)) limit (lifted (code n) (bit word))) ≡ 6
-      six e = ap (λ z. if not (eqb z 0) then z else if ltb 0 (count (code n .unsent) (run (byExcess (code n)) limit (lifted (code n) (bit word)) .word)) then 7 else if not (codeword (code n) (sent (code n) (run (byExcess (code n)) limit (lifted (code n) (bit word)) .word))) then 8 else 0) e
 
 -- ---- the near-Earth codes: never more than half
 
@@ -119,21 +151,19 @@ pub near-degree : (n : ℕ) → T (nearEarthed n) → (k : ℕ) → k < bits (co
 unfolding code code4 code5
 near-degree = two (λ n. (k : ℕ) → k < bits (code n) → degreeOf (code n) k ≡ 4) (near-four 1022 895 0) (near-four 1020 892 18)
 
-near-falls : (n : ℕ) → T (nearEarthed n) → T (offered n) → (x : Word) (k : ℕ) (ex : ℤ) → byExcess (code n) x ≡ flip k ex → 2 + broken (code n) (flipped x k) ≤ broken (code n) x
-near-falls n t off = falls-two (code n) (published n off .some) (λ k h. (2, near-degree n t k h))
-
 module _ (n : ℕ) (near : T (nearEarthed n)) (word : List ℕ) (limit : ℕ) (out : List ℕ) where
+  even : (k : ℕ) → k < bits (code n) → (h : ℕ) × (degreeOf (code n) k ≡ 2 * h)
+  even k h = (2, near-degree n near k h)
+
   pub flips-within-half : 2 * correctAnswer n word limit out .flips ≤ correctAnswer n word limit out .first
-  unfolding ranCorrect
-  flips-within-half = correct-cases n word limit out (λ r. 2 * r .flips ≤ r .first) zero-le zero-le zero-le (λ t lw lo.
-      omega (arith, run-falls (byExcess (code n)) (broken (code n)) 2 (near-falls n near t) limit (lifted (code n) (bit word))))
+  flips-within-half =
+      correct-cases n word limit out (λ r. 2 * r .flips ≤ r .first) zero-le zero-le zero-le
+      (λ t lw lo. ran-within-half (code n) (chooses n t) (lifted (code n) (bit word)) limit out even)
 
   pub half-enough : correctAnswer n word limit out .first ≤ 2 * limit + 1 → correctAnswer n word limit out .number ≡ 6 → ⊥
-  unfolding ranCorrect
   half-enough =
-      correct-cases n word limit out (λ r. r .first ≤ 2 * limit + 1 → r .number ≡ 6 → ⊥) (λ h e. omega arith) (λ h e. omega arith) (λ h e. omega arith) (λ t lw lo h e.
-      run-enough (byExcess (code n)) (broken (code n)) 2 (near-falls n near t) limit (lifted (code n) (bit word)) (omega arith)
-      (judged-limit (code n) (run (byExcess (code n)) limit (lifted (code n) (bit word))) e))
+      correct-cases n word limit out (λ r. r .first ≤ 2 * limit + 1 → r .number ≡ 6 → ⊥) (λ h e. omega arith) (λ h e. omega arith) (λ h e. omega arith)
+      (λ t lw lo. ran-half-enough (code n) (chooses n t) (lifted (code n) (bit word)) limit out even)
 
 -- ---- codewords, and codewords with one wrong bit
 
@@ -183,13 +213,27 @@ module _ (n : ℕ) (off : T (offered n)) (word out : List ℕ) (lw : length word
       ∙ ap (λ z. record { number = 0; flips = length (r .flips); first = broken (code n) x; last = 0; out = z })
       (ap (written (code n)) w ∙ written-back (code n) (published n off) word lw oct (lifted (code n) (bit word)) (codeword-sent (code n) (published n off) (bit word) is))
 
+  -- for every way of choosing: a codeword comes back with no flips, and with one wrong sent bit it comes back mended by one flip
+  module _ {way : Way} (ch : Chooses (code n) way) where
+    pub ran-back : (limit : ℕ) → ranCorrect (code n) (lifted (code n) (bit word)) (run way limit (lifted (code n) (bit word))) out
+        ≡ record { number = 0; flips = 0; first = 0; last = 0; out = word }
+    ran-back limit =
+        ap (λ r. ranCorrect (code n) (lifted (code n) (bit word)) r out) (run-quiet way limit (lifted (code n) (bit word)) (ch .met-quiet (lifted (code n) (bit word)) met))
+        ∙ done (ended 0 (lifted (code n) (bit word))) refl refl (lifted (code n) (bit word))
+        ∙ ap (λ z. record { number = 0; flips = 0; first = z; last = 0; out = word }) met
+
+    pub ran-one-back : TakesGreatest (code n) way → (limit k : ℕ) → code n .unsent ≤ k → k < bits (code n)
+        → ranCorrect (code n) (flipped (lifted (code n) (bit word)) k) (run way (suc limit) (flipped (lifted (code n) (bit word)) k)) out
+        ≡ record { number = 0; flips = 1; first = degreeOf (code n) k; last = 0; out = word }
+    ran-one-back takes limit k from h =
+        let girth : Girth (code n) = published n off .girth in
+        ap (λ r. ranCorrect (code n) (flipped (lifted (code n) (bit word)) k) r out) (one-mended (code n) girth (lifted (code n) (bit word)) met k h ch takes from limit)
+        ∙ done (after k (pos (degreeOf (code n) k)) (ended 0 (lifted (code n) (bit word)))) refl refl (flipped (lifted (code n) (bit word)) k)
+        ∙ ap (λ z. record { number = 0; flips = 1; first = z; last = 0; out = word }) (first-count (code n) girth (lifted (code n) (bit word)) met k h)
+
   -- a codeword comes back with no flips
   pub codeword-back : (limit : ℕ) → correctAnswer n word limit out ≡ record { number = 0; flips = 0; first = 0; last = 0; out = word }
-  codeword-back limit =
-      correct-taken n word limit out off lw lo
-      ∙ ap (λ r. ranCorrect (code n) (lifted (code n) (bit word)) r out) (run-quiet (byExcess (code n)) limit (lifted (code n) (bit word)) (quiet-next (code n) (lifted (code n) (bit word)) met))
-      ∙ done (ended 0 (lifted (code n) (bit word))) refl refl (lifted (code n) (bit word))
-      ∙ ap (λ z. record { number = 0; flips = 0; first = z; last = 0; out = word }) met
+  codeword-back limit = correct-taken n word limit out off lw lo ∙ ran-back (chooses n off) limit
 
   -- a codeword with exactly one wrong covered bit comes back mended by exactly one flip, if the limit is at least 1.
   -- The covered bits are those that the checks are over and that are sent: all of codes 1 to 4, all but the last two of code 5.
@@ -197,12 +241,8 @@ module _ (n : ℕ) (off : T (offered n)) (word out : List ℕ) (lw : length word
       → correctAnswer n (oneWrong (code n) word b) (suc limit) out
       ≡ record { number = 0; flips = 1; first = degreeOf (code n) (b + code n .unsent); last = 0; out = word }
   one-back limit b h =
-      let pb : Published (code n) = published n off in
-      let k-lt : b + code n .unsent < bits (code n) = omega arith in
       let same : lifted (code n) (bit (oneWrong (code n) word b)) ≡ flipped (lifted (code n) (bit word)) (b + code n .unsent) =
-      ap (lifted (code n)) (bit-one-wrong (code n) word b lw (lt-of-lt-of-le h (pb .fits))) ∙ lifted-flip (code n) (bit word) b in
+      ap (lifted (code n)) (bit-one-wrong (code n) word b lw (lt-of-lt-of-le h (published n off .fits))) ∙ lifted-flip (code n) (bit word) b in
       correct-taken n (oneWrong (code n) word b) (suc limit) out off (length-octets (code n .wordOctets) (flipped (bit word) b)) lo
       ∙ ap (λ y. ranCorrect (code n) y (run (byExcess (code n)) (suc limit) y) out) same
-      ∙ ap (λ r. ranCorrect (code n) (flipped (lifted (code n) (bit word)) (b + code n .unsent)) r out) (one-mended (code n) (pb .girth) (lifted (code n) (bit word)) met (b + code n .unsent) k-lt limit)
-      ∙ done (after (b + code n .unsent) (pos (degreeOf (code n) (b + code n .unsent))) (ended 0 (lifted (code n) (bit word)))) refl refl (flipped (lifted (code n) (bit word)) (b + code n .unsent))
-      ∙ ap (λ z. record { number = 0; flips = 1; first = z; last = 0; out = word }) (first-count (code n) (pb .girth) (lifted (code n) (bit word)) met (b + code n .unsent) k-lt)
+      ∙ ran-one-back (chooses n off) (by-greatest (code n)) limit (b + code n .unsent) (omega arith) (omega arith)

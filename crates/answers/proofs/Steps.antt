@@ -16,7 +16,7 @@ use Rattle.answers.specs.Calls.{judged, ranCorrect, correctAnswer, nextS
 use Rattle.bits.proofs.Sums.{and-l}
 use Rattle.bits.proofs.Octets.{Octets, length-octets, octets-lt}
 use Rattle.rules.proofs.Runs.{every-run}
-use Rattle.rules.proofs.Choosing.{chosen-lt, next-flip}
+use Rattle.rules.proofs.Choosing.{by-excess}
 use Rattle.rules.proofs.Published.{Published}
 use Rattle.rules.proofs.Codewords.{bit-written, written-back}
 use Rattle.answers.proofs.Answers.{correct-cases, step-cases, step-taken}
@@ -41,7 +41,7 @@ module _ (n : ℕ) (t : T (stepped n)) (word : List ℕ) (lw : length word ≡ c
       ap₂ (λ a b. a ⊕ b) (past-word (code n) (whole n t) word lw i l) (ne-eqb i k (λ e. omega (arith, whole n t .full))))
 
   bit-lt : (k : ℕ) (ex : ℤ) → byExcess (code n) (lifted (code n) (bit word)) ≡ flip k ex → k < bits (code n)
-  bit-lt k ex e = subst (λ z. z < bits (code n)) (sym (next-flip (code n) (lifted (code n) (bit word)) k ex e .bit)) (chosen-lt (code n) (pb .some) (lifted (code n) (bit word)))
+  bit-lt k ex e = by-excess (code n) (pb .some) .flips (lifted (code n) (bit word)) k ex e .under
 
 -- a step that is neither quiet nor refused changes exactly one bit, the one that it names
 pub step-one : (n : ℕ) (word out : List ℕ) → stepAnswer n word out .number ≡ 0 → stepAnswer n word out .quiet ≡ false
@@ -59,7 +59,7 @@ step-one n word out =
         → (nextStep (code n) word (lifted (code n) (bit word)) out nx .bit < 8 * length word)
         × (bit (nextStep (code n) word (lifted (code n) (bit word)) out nx .out) ≡ flipped (bit word) (nextStep (code n) word (lifted (code n) (bit word)) out nx .bit))
     go t lw quiet e z q = absurd (subst T q tt)
-    go t lw stuck e z q = absurd (omega arith)
+    go t lw (stuck k ex) e z q = absurd (omega arith)
     go t lw (flip k ex) e z q =
         (omega (arith, bit-lt n t word lw k ex e, whole n t .full, lw), flip-bits n t word lw k (bit-lt n t word lw k ex e))
 
@@ -75,7 +75,7 @@ unfolding steps nextStep
 run-steps n t =
     every-run (byExcess (code n)) (λ limit x r. (word : List ℕ) → length word ≡ code n .wordOctets → Octets word → lifted (code n) (bit word) ≡ x → r .number ≡ 0 → steps n (length (r .flips)) word ≡ written (code n) (r .word))
     (λ limit x e word lw oct same z. sym (back word lw oct x same))
-    (λ limit x e word lw oct same z. absurd (omega arith))
+    (λ limit x k ex e word lw oct same z. absurd (omega arith))
     (λ x k ex e word lw oct same z. absurd (omega arith))
     (λ limit x k ex e r ih word lw oct same z. later k ex x e r ih word lw oct same z)
   where

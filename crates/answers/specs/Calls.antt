@@ -139,7 +139,7 @@ refusedStep out number = record { number = number; quiet = false; bit = 0; exces
 
 unfoldable pub nextStep : Code → List ℕ → Word → List ℕ → Next → Stepped
 nextStep c word x out quiet = record { number = 0; quiet = true; bit = 0; excess = pos 0; out = word }
-nextStep c word x out stuck = refusedStep out 5
+nextStep c word x out (stuck k e) = refusedStep out 5
 nextStep c word x out (flip k e) = record { number = 0; quiet = false; bit = k; excess = e; out = written c (flipped x k) }
 
 abbrev pub steppedFrom : ℕ → List ℕ → List ℕ → Stepped

@@ -11,6 +11,7 @@ ghost use Rattle.answers.specs.Calls.{sixSet, ranFrom, steppedFrom, refusedChec
 ghost use Rattle.offer.specs.Offers.{offerOf, Known};
 ghost use Rattle.codes.specs.Answers.{asEncoded, asChecked, asOpened, asCorrected, asStepped};
 use offer::Offer;
+use runs::Next;
 
 #[repr(C)]
 pub struct Checked {
@@ -207,26 +208,28 @@ fn step_taken(o: Offer, word: &[u8], out: &mut [u8]) -> Stepped
     let mut s = [0u64; 16];
     measured::measure(o, word, &mut t, &mut y, &mut s);
     let sh = o.shape;
-    let next = runs::next(&s, &t, sh);
-    if next.quiet {
-        copy(word, out);
-        return Stepped {
-            number: 0,
-            quiet: true,
-            bit: 0,
-            excess: 0,
-        };
-    }
-    if next.number == 5 {
-        return refused_step(5);
-    }
-    vectors::turn_over(&mut y, next.bit);
-    received::write(&mut y, o.unsent, o.bits, out);
-    Stepped {
-        number: 0,
-        quiet: false,
-        bit: next.bit as u32,
-        excess: next.excess as i8,
+    let next = runs::comes_next(&s, &t, sh);
+    match next {
+        Next::Quiet => {
+            copy(word, out);
+            Stepped {
+                number: 0,
+                quiet: true,
+                bit: 0,
+                excess: 0,
+            }
+        }
+        Next::Stuck(_, _) => refused_step(5),
+        Next::Flip(bit, excess) => {
+            vectors::turn_over(&mut y, bit);
+            received::write(&mut y, o.unsent, o.bits, out);
+            Stepped {
+                number: 0,
+                quiet: false,
+                bit: bit as u32,
+                excess: excess,
+            }
+        }
     }
 }
 

@@ -2,6 +2,7 @@ pub mod Blocks
 pub mod Greatest
 pub mod Flips
 pub mod Runs
+pub mod Ways
 pub mod Choosing
 pub mod Shared
 pub mod Quiet

@@ -14,7 +14,7 @@ use Rattle.rules.specs.Encoding.{parityBit, OwnParity}
 use Rattle.rules.specs.Identity.{rowsTied, allPadded, tied}
 use Rattle.bits.proofs.Sums.{below-at}
 use Rattle.rules.proofs.Blocks.{degree, shaped, withTables, degree-in}
-use Rattle.rules.proofs.Choosing.{Girth}
+use Rattle.rules.proofs.Ways.{Girth}
 use Rattle.rules.proofs.Shared.{sharedOnce, shared-few}
 use Rattle.rules.proofs.Quiet.{drops, sized}
 use Rattle.rules.proofs.Unique.{Invertible, evens}

@@ -15,7 +15,7 @@ use Rattle.bits.proofs.Sums.{and-l, and-r, below-at, eqb-iff}
 use Rattle.bits.proofs.Cyclic.{cancel, near}
 use Rattle.bits.proofs.Counting.{each}
 use Rattle.rules.proofs.Blocks.{shaped, withTables, cover-rows}
-use Rattle.rules.proofs.Choosing.{shared}
+use Rattle.rules.proofs.Ways.{shared}
 
 -- ---- the test: over all block rows, no difference of a shift of one block and a shift of another stands twice
 

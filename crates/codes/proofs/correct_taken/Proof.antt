@@ -5,7 +5,8 @@ use Rattle.rules.specs.Codes.{code}
 use Rattle.rules.specs.Encoding.{lifted}
 use Rattle.rules.specs.Flipping.{byExcess, run}
 use Rattle.vectors.proofs.Filling.{zero-words}
-use Rattle.offer.proofs.Offers.{small}
+use Rattle.rules.proofs.Numbers.{published}
+use Rattle.offer.proofs.Offers.{small, is-offered}
 use Rattle.codes.proofs.Admitted.{word-long, unsent-is, bits-are}
 use Rattle.codes.proofs.Correcting.{holding, ran-number, ran-word, ran-met, corrected-is, wrote-word, wrote-none}
 use borrow.Author.Needs.{needs}
@@ -88,7 +89,7 @@ returns c =
     corrected-is n word _ _ _ _ e (a .args .limit) (g .run .result) _ _ to (b1 .broken .result) (b2 .broken2 .result) (j .judge .result)
     (b1 .broken .ensures) (b2 .broken2 .ensures)
     (j .judge .ensures n off is (run (byExcess (code n)) (a .args .limit) (lifted (code n) (bit word)))
-    (ran-number n word _ _ _ _ e (a .args .limit) (g .run .result) _ _ to) (ran-word n word _ _ _ _ e (a .args .limit) (g .run .result) _ _ to) (ran-met n word _ _ _ _ e (a .args .limit) (g .run .result) _ _ to))
+    (ran-number n word _ _ _ _ e (a .args .limit) (g .run .result) _ _ to) (ran-word n word _ _ _ _ e (a .args .limit) (g .run .result) _ _ to) (ran-met n word _ _ _ _ e (a .args .limit) (g .run .result) _ _ to (published n (is-offered n off) .some)))
     (a .args .out .now) _ (wrote-word _ _ _ _ (c .before .before .before .before .before .before .if1 .taken)
     (c .before .before .before .write .ensures (code n) (unsent-is n is off) (bits-are n is off) (word-long n is off (a .pre .2))))
 
@@ -107,7 +108,7 @@ returns-2 c =
     corrected-is n word _ _ _ _ e (a .args .limit) (g .run .result) _ _ to (b1 .broken .result) (b2 .broken2 .result) (j .judge .result)
     (b1 .broken .ensures) (b2 .broken2 .ensures)
     (j .judge .ensures n off is (run (byExcess (code n)) (a .args .limit) (lifted (code n) (bit word)))
-    (ran-number n word _ _ _ _ e (a .args .limit) (g .run .result) _ _ to) (ran-word n word _ _ _ _ e (a .args .limit) (g .run .result) _ _ to) (ran-met n word _ _ _ _ e (a .args .limit) (g .run .result) _ _ to))
+    (ran-number n word _ _ _ _ e (a .args .limit) (g .run .result) _ _ to) (ran-word n word _ _ _ _ e (a .args .limit) (g .run .result) _ _ to) (ran-met n word _ _ _ _ e (a .args .limit) (g .run .result) _ _ to (published n (is-offered n off) .some)))
     (a .args .out .now) _ (wrote-none _ _ _ (c .if1 .left))
 
 pub correct-taken-spec : {M : Type 1} → statement M
