@@ -46,11 +46,12 @@ offered-low n o = leb→le 1 n (and-l (leb 1 n) (leb n 5) (is-offered n o))
 pub offered-high : (n : ℕ) → offered n ≡ true → n ≤ 5
 offered-high n o = leb→le n 5 (and-r (leb 1 n) (leb n 5) (is-offered n o))
 
--- whatever the number: whether the calls offer it
+-- whatever the number: whether the calls offer it, and that its table has blocks
 pub record Offers (n : ℕ) : Type 0 where
   pub all : offerOf n .offered ≡ offered n
   pub opens : offerOf n .opens ≡ (offered n && not (eqb n 4))
   pub steps : offerOf n .steps ≡ (offered n && not (eqb n 5))
+  pub some : 1 ≤ offerOf n .shape .blocks
 
 not-offered : (n : ℕ) → 5 < n → offered n ≡ false
 not-offered n l = ap (λ b. leb 1 n && b) (lt-leb n 5 l) ∙ and-false (leb 1 n)
@@ -70,18 +71,20 @@ offers n = go n
           all = ap (λ o. o .offered) (sym o) ∙ f;
           opens = ap (λ o. o .opens) (sym o) ∙ ap (λ b. b && not (eqb n 4)) f;
           steps = ap (λ o. o .steps) (sym o) ∙ ap (λ b. b && not (eqb n 5)) f;
+          some = subst (λ o. 1 ≤ o .shape .blocks) o (lit≤ tt);
         }
 
-    known : (n : ℕ) → offerOf n .offered ≡ offered n → offerOf n .opens ≡ (offered n && not (eqb n 4)) → offerOf n .steps ≡ (offered n && not (eqb n 5)) → Offers n
-    known n a b d = record { all = a; opens = b; steps = d }
+    known : (n : ℕ) → offerOf n .offered ≡ offered n → offerOf n .opens ≡ (offered n && not (eqb n 4)) → offerOf n .steps ≡ (offered n && not (eqb n 5)) → 1 ≤ offerOf n .shape .blocks
+        → Offers n
+    known n a b d e = record { all = a; opens = b; steps = d; some = e }
 
     go : (n : ℕ) → Offers n
-    go zero = known 0 refl refl refl
-    go (suc zero) = known 1 refl refl refl
-    go (suc (suc zero)) = known 2 refl refl refl
-    go (suc (suc (suc zero))) = known 3 refl refl refl
-    go (suc (suc (suc (suc zero)))) = known 4 refl refl refl
-    go (suc (suc (suc (suc (suc zero))))) = known 5 refl refl refl
+    go zero = known 0 refl refl refl (lit≤ tt)
+    go (suc zero) = known 1 refl refl refl (lit≤ tt)
+    go (suc (suc zero)) = known 2 refl refl refl (lit≤ tt)
+    go (suc (suc (suc zero))) = known 3 refl refl refl (lit≤ tt)
+    go (suc (suc (suc (suc zero)))) = known 4 refl refl refl (lit≤ tt)
+    go (suc (suc (suc (suc (suc zero))))) = known 5 refl refl refl (lit≤ tt)
     go (suc (suc (suc (suc (suc (suc n)))))) = past (suc (suc (suc (suc (suc (suc n)))))) (omega arith)
 
 -- of a code that is offered: its lengths and bits

@@ -1,4 +1,4 @@
--- `lines::write` meets its contract: after k words the text is the lines of the first k. Assumes nothing.
+-- `lines::write_words` meets its contract: after k words the text is the lines of the first k. Assumes nothing.
 use mathlib.Core.Path.{_≡_, refl, ap, ap₂, _∙_}
 use mathlib.Core.List.{List, _++_}
 use Prim.Native.Nat.{ℕ, _+_, _-_, _*_, _/_, _≤_, _<_}
@@ -7,18 +7,18 @@ use native.Mathlib.Omega.{arith}
 use borrow.Author.Needs.{needs}
 use lib.ListN.{length, take, drop}
 use Rattle.lines.specs.Log.{lines, wordLine, words, word}
-use Rattle.lines.proofs.Pieces.{at-least, starts-before, piece}
-use Rattle.lines.proofs.write.Statement.{statement}
-use Rattle.lines.proofs.write.Tie as tie
-use Rattle.lines.proofs.write.Reads as reads
-use Rattle.lines.proofs.write.Lts as lts
+use Rattle.lines.proofs.Pieces.{starts-before, piece}
+use Rattle.lines.proofs.write_words.Statement.{statement}
+use Rattle.lines.proofs.write_words.Tie as tie
+use Rattle.lines.proofs.write_words.Reads as reads
+use Rattle.lines.proofs.write_words.Lts as lts
 use Rattle.lines.proofs.least.Reads as least-reads
 use Rattle.lines.proofs.write_word.Reads as write-word-reads
-use Rattle.received.proofs.word_octets.Reads as word-octets-reads
+use Rattle.lines.proofs.word_octets.Reads as word-octets-reads
 
 abbrev Inv-loop : tie.InvT-loop
 Inv-loop code limit index words out₀ text₀ size count end₀ k₀ out text end k =
-    (k ≤ count) × (end ≤ 64 * k) × (end ≤ length text₀) × (length out ≡ length out₀) × (length text ≡ length text₀) × (take end text ≡ lines code limit index words k)
+    (k ≤ count) × (end ≤ 128 * k) × (end ≤ length text₀) × (length out ≡ length out₀) × (length text ≡ length text₀) × (take end text ≡ lines code limit index words k)
 
 abbrev μ-loop : tie.MeasureT-loop
 μ-loop code limit index words out₀ text₀ size count end₀ k₀ out text end k = count - k
@@ -28,20 +28,19 @@ starts : (c : lts.In-loop (word-octets-reads.Asked, word-octets-reads.Learnt, le
     → (c .before .loop .k * c .before .before .word-octets .result < length (c .before .before .before .before .before .before .args .words .now)) × (16 * c .before .loop .k ≤ c .before .loop .k * c .before .before .word-octets .result)
 starts c =
     let s = c .before .before .before .before .before .before in
-    let h : 16 ≤ c .before .before .word-octets .result = omega (arith, at-least (s .args .code) (s .pre .0)) in
-    starts-before (length (s .args .words .now)) (c .before .before .word-octets .result) (c .before .loop .k) h (omega arith)
+    starts-before (length (s .args .words .now)) (c .before .before .word-octets .result) (c .before .loop .k) (c .before .before .word-octets .ensures .1) (omega arith)
 
 word-octets-requires : tie.Need-word-octets-requires Inv-loop μ-loop
 word-octets-requires c κs = c .before .before .before .pre .0
 
 sub-count : tie.Need-sub-count Inv-loop μ-loop
-sub-count c = omega (arith, at-least (c .before .before .before .before .args .code) (c .before .before .before .before .pre .0))
+sub-count c = omega arith
 
 add-count : tie.Need-add-count Inv-loop μ-loop
-add-count c = omega (arith, at-least (c .before .before .before .before .args .code) (c .before .before .before .before .pre .0))
+add-count c = omega arith
 
 div-count : tie.Need-div-count Inv-loop μ-loop
-div-count c = omega (arith, at-least (c .before .before .before .before .args .code) (c .before .before .before .before .pre .0))
+div-count c = omega arith
 
 loop-holds : tie.Need-loop-holds Inv-loop μ-loop
 unfolding lines
@@ -113,8 +112,8 @@ returns c =
     let e : h .k ≡ (long + (z .result - 1)) / z .result = omega arith in
     (omega arith, h .inv .5 ∙ ap (λ m. lines (s .code) (s .limit) (s .index) (s .words .now) m) (e ∙ ap (λ m. (long + (m - 1)) / m) (z .ensures .0)))
 
-pub write-spec : {M : Type 1} → statement M
-write-spec =
+pub write-words-spec : {M : Type 1} → statement M
+write-words-spec =
     tie.close
     (tie.spec
     Inv-loop
