@@ -11,13 +11,6 @@ use Rattle.rules.specs.Checks.{broken}
 use Rattle.rules.specs.Encoding.{lifted, sent, encoded, codeword, written}
 use Rattle.rules.specs.Flipping.{Next, quiet, stuck, flip, byExcess, Run, run}
 
--- The octets of a word, and of its information, as the table of the codes has them; 0 for a code that is not offered.
-unfoldable pub wordOctetsAnswer : ℕ → ℕ
-wordOctetsAnswer n = if offered n then code n .wordOctets else 0
-
-unfoldable pub informationOctetsAnswer : ℕ → ℕ
-informationOctetsAnswer n = if offered n then code n .informationOctets else 0
-
 -- Number 2: the input's length differs. Number 3: the output's length differs.
 abbrev pub otherLength : List ℕ → ℕ → Bool
 otherLength octets long = not (eqb (length octets) long)
@@ -142,3 +135,10 @@ stepAnswer n word out =
     else if otherLength word (c .wordOctets) then refusedStep 2 out
     else if otherLength out (c .wordOctets) then refusedStep 3 out
     else steppedFrom n word out
+
+-- The octets of a word, and of its information, as the table of the codes has them; 0 for a code that is not offered.
+unfoldable pub wordOctetsAnswer : ℕ → ℕ
+wordOctetsAnswer n = if offered n then code n .wordOctets else 0
+
+unfoldable pub informationOctetsAnswer : ℕ → ℕ
+informationOctetsAnswer n = if offered n then code n .informationOctets else 0
