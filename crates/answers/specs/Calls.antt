@@ -153,3 +153,10 @@ unfoldable pub stepAnswer : ℕ → List ℕ → List ℕ → Stepped
 stepAnswer n word out =
     let c = code n in
     unless (refusal (offered n && not (eqb n 5)) (length word) (c .wordOctets) (length out) (c .wordOctets)) (refusedStep out) (steppedFrom n word out)
+
+-- The octets of a word, and of its information, as the table of the codes has them; 0 for a code that is not offered.
+unfoldable pub wordOctetsAnswer : ℕ → ℕ
+wordOctetsAnswer n = if offered n then code n .wordOctets else 0
+
+unfoldable pub informationOctetsAnswer : ℕ → ℕ
+informationOctetsAnswer n = if offered n then code n .informationOctets else 0
