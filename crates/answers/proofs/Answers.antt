@@ -8,7 +8,7 @@ use lib.Dec.{T, eqb, leb, leb→le}
 use lib.ListN.{length, take}
 use borrow.Author.Tests.{eqb-true, eq-eqb}
 use Rattle.bits.specs.Bits.{bit, if_then_else_}
-use Rattle.rules.specs.Codes.{code, offered}
+use Rattle.rules.specs.Codes.{code, code1, offered}
 use Rattle.rules.specs.Checks.{broken}
 use Rattle.rules.specs.Encoding.{lifted, encoded, codeword, written}
 use Rattle.rules.specs.Flipping.{byExcess, run}
@@ -40,6 +40,11 @@ pub if-no : {A : Type 0} (b : Bool) (a r : A) → b ≡ false → (if b then a e
 if-no b a r e = ap (λ b. if b then a else r) e
 
 -- ---- correct
+
+-- an input of another length is number 2, whatever the output
+pub short-input : correctAnswer 1 [] 0 [] .number ≡ 2
+unfolding correctAnswer code code1
+short-input = refl
 
 module _ (n : ℕ) (word : List ℕ) (limit : ℕ) (out : List ℕ) where
   pub correct-cases : (P : Corrected → Type 0) → P (refusedCorrect 1 out) → P (refusedCorrect 2 out) → P (refusedCorrect 3 out)
