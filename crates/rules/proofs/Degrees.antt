@@ -31,7 +31,8 @@ rowsHave entries H = below (length H) (λ r. eqb (each (getD H r []) length) ent
 abbrev blocksHave : ℕ → ℕ → ℕ → ℕ → List (List (List ℕ)) → Bool
 blocksHave B inform own parity H = below B (λ b. eqb (degree H b) (if ltb b inform then own else parity))
 
-module _ (wordOctets informationOctets unsent m : ℕ) (H : List (List (List ℕ))) (gs : List (List ℕ)) (printed B C : ℕ) (t : Tests wordOctets informationOctets unsent m H gs printed B C) where
+module _ (wordOctets informationOctets unsent m : ℕ) (H : List (List (List ℕ))) (gs : List (List ℕ)) (printed B C : ℕ)
+    (t : Tests wordOctets informationOctets unsent m H gs printed B C) where
   abbrev c : Code
   c = withTables wordOctets informationOctets unsent m H gs printed
 
@@ -41,7 +42,8 @@ module _ (wordOctets informationOctets unsent m : ℕ) (H : List (List (List ℕ
       ∙ eqb→eq (each (getD H (k / suc m) []) length) entries
       (below-at (length H) (λ r. eqb (each (getD H r []) length) entries) u (k / suc m) (div-lt-iff-lt-mul (zero-lt-suc m) .1 h))
 
-  lies : (own parity : ℕ) → T (blocksHave B (length gs) own parity H) → (n : ℕ) → n < bits c → degreeOf c n ≡ (if ltb n (information c) then own else parity)
+  lies : (own parity : ℕ) → T (blocksHave B (length gs) own parity H) → (n : ℕ) → n < bits c
+      → degreeOf c n ≡ (if ltb n (information c) then own else parity)
   lies own parity u n h =
       tested-degree wordOctets informationOctets unsent m H gs printed B C t n h
       ∙ eqb→eq (degree H (n / suc m)) (if ltb (n / suc m) (length gs) then own else parity)
@@ -68,14 +70,17 @@ module _ (c : Code) (x : Word) (n : ℕ) where
   pub excess-odd : degreeOf c n % 2 ≡ 1 → excess c x n ≡ pos 0 → ⊥
   excess-odd odd e =
       let value : subℕ (brokenOf c x n) (metOf c x n) ≡ pos 0 = sym (excess-is c x n) ∙ e in
-      let low = ltb-false (brokenOf c x n + 0) (0 + metOf c x n) (sym (sub-order (brokenOf c x n) (metOf c x n) 0 0) ∙ ap (λ z. ltZ z (pos 0)) value) in
-      let high = ltb-false (0 + metOf c x n) (brokenOf c x n + 0) (sym (sub-order 0 0 (brokenOf c x n) (metOf c x n)) ∙ ap (λ z. ltZ (pos 0) z) value) in
+      let b = brokenOf c x n in
+      let m = metOf c x n in
+      let low = ltb-false (b + 0) (0 + m) (sym (sub-order b m 0 0) ∙ ap (λ z. ltZ z (pos 0)) value) in
+      let high = ltb-false (0 + m) (b + 0) (sym (sub-order 0 0 b m) ∙ ap (λ z. ltZ (pos 0) z) value) in
       omega (arith, broken-met c x n)
 
 -- ---- the five codes
 
 -- each check covers 8 bits; of codes 4 and 5, 32
-pub check-covers : (n : ℕ) → T (offered n) → (k : ℕ) → k < checks (code n) → count (bits (code n)) (λ b. covers (code n) k b) ≡ (if telecommanded n then 8 else 32)
+pub check-covers : (n : ℕ) → T (offered n) → (k : ℕ) → k < checks (code n)
+    → count (bits (code n)) (λ b. covers (code n) k b) ≡ (if telecommanded n then 8 else 32)
 unfolding code code1 code2 code3 code4 code5 parity16 parity32 parity64 parity511
 check-covers =
     five (λ n. (k : ℕ) → k < checks (code n) → count (bits (code n)) (λ b. covers (code n) k b) ≡ (if telecommanded n then 8 else 32))
@@ -105,15 +110,18 @@ few true false = lit≤ tt
 few false b = lit≤ tt
 
 -- the excess is from -5 to 5
-pub excess-between : (n : ℕ) → T (offered n) → (x : Word) (b : ℕ) → b < bits (code n) → (negsuc 4 ≤ℤ excess (code n) x b) × (excess (code n) x b ≤ℤ pos 5)
+pub excess-between : (n : ℕ) → T (offered n) → (x : Word) (b : ℕ) → b < bits (code n)
+    → (negsuc 4 ≤ℤ excess (code n) x b) × (excess (code n) x b ≤ℤ pos 5)
 excess-between n t x b h =
-    let five-most : degreeOf (code n) b ≤ 5 = le-trans (le-of-eq (bit-degree n t b h)) (few (telecommanded n) (ltb b (information (code n)))) in
+    let five-most : degreeOf (code n) b ≤ 5 =
+    le-trans (le-of-eq (bit-degree n t b h)) (few (telecommanded n) (ltb b (information (code n)))) in
     (excess-least (code n) x b five-most, excess-most (code n) x b five-most)
 
 -- never 0 in codes 1 to 3: 5 and 3 are odd
 pub excess-some : (n : ℕ) → T (telecommanded n) → (x : Word) (b : ℕ) → b < bits (code n) → excess (code n) x b ≡ pos 0 → ⊥
 excess-some n t x b h =
-    excess-odd (code n) x b (ap (λ d. d % 2) (bit-degree n (telecommand-offered n t) b h) ∙ odd (telecommanded n) (ltb b (information (code n))) t)
+    excess-odd (code n) x b
+    (ap (λ d. d % 2) (bit-degree n (telecommand-offered n t) b h) ∙ odd (telecommanded n) (ltb b (information (code n))) t)
   where
     odd : (a b : Bool) → T a → (if a then (if b then 5 else 3) else 4) % 2 ≡ 1
     odd true true u = refl
