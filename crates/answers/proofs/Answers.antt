@@ -8,7 +8,7 @@ use lib.Dec.{T, eqb}
 use lib.ListN.{length, take}
 use borrow.Author.Tests.{eqb-true, eq-eqb, ne-eqb}
 use Rattle.bits.specs.Bits.{bit, if_then_else_}
-use Rattle.rules.specs.Codes.{code, offered}
+use Rattle.rules.specs.Codes.{code, code1, offered}
 use Rattle.rules.specs.Checks.{broken}
 use Rattle.rules.specs.Encoding.{lifted, encoded, codeword, written}
 use Rattle.answers.specs.Calls.{refusal, unless, sixSet, Encoded, refusedEncode, encodedFrom, encodeAnswer, refusedCheck, checkedFrom, checkAnswer, refusedOpen, openedFrom, openAnswer, Corrected, refusedCorrect, ranFrom, correctAnswer, Stepped, refusedStep, steppedFrom, stepAnswer}
@@ -69,6 +69,11 @@ refusal-as {a} {b} input output {long} {long′} {room} {room′} e f g = ap (λ
     go false f g = refl
 
 -- ---- correct
+
+-- an input of another length is number 2, whatever the output
+pub short-input : correctAnswer 1 [] 0 [] .number ≡ 2
+unfolding correctAnswer code code1
+short-input = refl
 
 module _ (n : ℕ) (word : List ℕ) (limit : ℕ) (out : List ℕ) where
   pub correct-cases : (P : Corrected → Type 0) → P (refusedCorrect out 1) → P (refusedCorrect out 2) → P (refusedCorrect out 3)

@@ -9,7 +9,7 @@ use lib.IntN.{ℤ}
 use lib.ListN.{length}
 use borrow.Author.Tests.{ne-eqb, eqb-true}
 use Rattle.bits.specs.Bits.{Word, bit, count, _⊕_, flipped, if_then_else_}
-use Rattle.rules.specs.Codes.{code, bits, offered}
+use Rattle.rules.specs.Codes.{Code, code, bits, offered}
 use Rattle.rules.specs.Encoding.{lifted, sent, codeword, written}
 use Rattle.rules.specs.Flipping.{Next, quiet, stuck, flip, byExcess, Run, run}
 use Rattle.answers.specs.Calls.{judged, ranCorrect, correctAnswer, nextStep, stepAnswer}
@@ -21,6 +21,11 @@ use Rattle.rules.proofs.Published.{Published}
 use Rattle.rules.proofs.Codewords.{bit-written, written-back}
 use Rattle.answers.proofs.Answers.{correct-cases, step-cases, step-taken}
 use Rattle.rules.proofs.Numbers.{published, whole, lifted-whole, sent-whole, past-word}
+
+-- a step turns over the one bit that it names, and no other of the same excess
+pub one-turned : (c : Code) (word : List ℕ) (x : Word) (out : List ℕ) (k : ℕ) (e : ℤ) → nextStep c word x out (flip k e) .out ≡ written c (flipped x k)
+unfolding nextStep
+one-turned c word x out k e = refl
 
 -- the codes of step
 abbrev pub stepped : ℕ → Bool

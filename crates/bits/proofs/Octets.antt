@@ -15,6 +15,10 @@ use borrow.Author.Tests.{lt-ltb, le-ltb}
 use Rattle.bits.specs.Bits.{Word, digit, bit, tally, number, octets}
 use Rattle.bits.proofs.Counting.{tally-le}
 
+-- bit 0 is the most significant bit of octet 0
+pub first-bit : bit (128 ∷ []) 0 ≡ true
+first-bit = refl
+
 -- ---- numbers
 
 number-same : (w : ℕ) (x y : Word) → ((k : ℕ) → k < w → x k ≡ y k) → number w x ≡ number w y

@@ -35,6 +35,11 @@ pub <ℤ-≤ℤ : {a b : ℤ} → a <ℤ b → a ≤ℤ b
 
 -- ---- `greatest`
 
+-- of two bits of equal excess, the lower number
+pub lowest-of-equals : greatest 2 (λ n. pos 1) ≡ 0
+unfolding greatest
+lowest-of-equals = refl
+
 -- Below n, f is greatest at `bit`, and less at every lower number.
 pub record Greatest (n : ℕ) (f : ℕ → ℤ) (bit : ℕ) : Type 0 where
   pub under : bit < n

@@ -12,3 +12,4 @@ pub mod Parity
 pub mod Published
 pub mod Codewords
 pub mod Numbers
+pub mod Degrees

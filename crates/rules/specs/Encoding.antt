@@ -26,7 +26,8 @@ parityBit c x p = sum (information c) (λ n. x n && rowBit c n p)
 unfoldable pub encoded : Code → Word → Word
 encoded c x n = if ltb n (information c) then x n else parityBit c x (n - information c)
 
--- The bits that the checks are over, from those that are sent: the unsent ones in front are 0, and what is sent after the parity is not read.
+-- The bits that the checks are over, from those that are sent: the unsent ones in front are 0. What is sent after the parity, the last two
+-- bits of code 5, comes behind the bits that the checks are over: no check and no encoding reads it.
 unfoldable pub lifted : Code → Word → Word
 lifted c y n = not (ltb n (c .unsent)) && y (n - c .unsent)
 

@@ -12,49 +12,49 @@ use Rattle.rules.proofs.Numbers.{five}
 use Rattle.layout.proofs.Lending.{lent}
 use Rattle.offer.specs.Offers.{offerOf}
 use Rattle.offer.proofs.Offers.{is-offered}
-use Rattle.tables.specs.Flat.{places16, places32, places64, places511, flat8, flat16, Lends}
+use Rattle.tables.specs.Flat.{pairs, flat8, flat16, Lends}
 
-lends1 : Lends 1 (flat8 places16) (offerOf 1 .shape)
+lends1 : Lends 1 (flat8 (pairs parity16)) (offerOf 1 .shape)
 unfolding code code1 parity16 generator16 flat8
 lends1 = record {
   fit = record { some = lit≤ tt; held = lit≤ tt; close = lit< tt; words = lit≤ tt; blocks = lit≤ tt; rows = lit≤ tt; room = lit≤ tt; bits = lit≤ tt; flat = refl };
-  lent = lent 16 8 0 15 parity16 generator16 16 8 1 (flat8 places16) tt refl tt tt;
+  lent = lent 16 8 0 15 parity16 generator16 16 8 1 (flat8 (pairs parity16)) tt refl tt tt;
 }
 
-lends2 : Lends 2 (flat8 places32) (offerOf 2 .shape)
+lends2 : Lends 2 (flat8 (pairs parity32)) (offerOf 2 .shape)
 unfolding code code2 parity32 generator32 flat8
 lends2 = record {
   fit = record { some = lit≤ tt; held = lit≤ tt; close = lit< tt; words = lit≤ tt; blocks = lit≤ tt; rows = lit≤ tt; room = lit≤ tt; bits = lit≤ tt; flat = refl };
-  lent = lent 32 16 0 31 parity32 generator32 32 8 1 (flat8 places32) tt refl tt tt;
+  lent = lent 32 16 0 31 parity32 generator32 32 8 1 (flat8 (pairs parity32)) tt refl tt tt;
 }
 
-lends3 : Lends 3 (flat8 places64) (offerOf 3 .shape)
+lends3 : Lends 3 (flat8 (pairs parity64)) (offerOf 3 .shape)
 unfolding code code3 parity64 generator64 flat8
 lends3 = record {
   fit = record { some = lit≤ tt; held = lit≤ tt; close = lit< tt; words = lit≤ tt; blocks = lit≤ tt; rows = lit≤ tt; room = lit≤ tt; bits = lit≤ tt; flat = refl };
-  lent = lent 64 32 0 63 parity64 generator64 64 8 1 (flat8 places64) tt refl tt tt;
+  lent = lent 64 32 0 63 parity64 generator64 64 8 1 (flat8 (pairs parity64)) tt refl tt tt;
 }
 
-lends4 : Lends 4 (flat16 places511) (offerOf 4 .shape)
+lends4 : Lends 4 (flat16 (pairs parity511)) (offerOf 4 .shape)
 unfolding code code4 parity511 generator511 flat16
 lends4 = record {
   fit = record { some = lit≤ tt; held = lit≤ tt; close = lit< tt; words = lit≤ tt; blocks = lit≤ tt; rows = lit≤ tt; room = lit≤ tt; bits = lit≤ tt; flat = refl };
-  lent = lent 1022 895 0 510 parity511 generator511 512 16 8 (flat16 places511) tt refl tt tt;
+  lent = lent 1022 895 0 510 parity511 generator511 512 16 8 (flat16 (pairs parity511)) tt refl tt tt;
 }
 
-lends5 : Lends 5 (flat16 places511) (offerOf 5 .shape)
+lends5 : Lends 5 (flat16 (pairs parity511)) (offerOf 5 .shape)
 unfolding code code5 parity511 generator511 flat16
 lends5 = record {
   fit = lends4 .fit;
-  lent = lent 1020 892 18 510 parity511 generator511 512 16 8 (flat16 places511) tt refl tt tt;
+  lent = lent 1020 892 18 510 parity511 generator511 512 16 8 (flat16 (pairs parity511)) tt refl tt tt;
 }
 
 -- the places of the table whose blocks have this size are those of every code that has them
 pub record Chosen (size : ℕ) (t : List ℕ) : Type 0 where
-  pub small : size ≡ 16 → t ≡ flat8 places16
-  pub middle : size ≡ 32 → t ≡ flat8 places32
-  pub large : size ≡ 64 → t ≡ flat8 places64
-  pub near : size ≡ 511 → t ≡ flat16 places511
+  pub small : size ≡ 16 → t ≡ flat8 (pairs parity16)
+  pub middle : size ≡ 32 → t ≡ flat8 (pairs parity32)
+  pub large : size ≡ 64 → t ≡ flat8 (pairs parity64)
+  pub near : size ≡ 511 → t ≡ flat16 (pairs parity511)
 
 pub by-size : (size : ℕ) (t : List ℕ) → Chosen size t → (n : ℕ) → offered n ≡ true → size ≡ offerOf n .shape .size → Lends n t (offerOf n .shape)
 by-size size t ch n o =

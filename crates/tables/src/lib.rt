@@ -4,8 +4,9 @@ ghost use mathlib.Core.Bool.{true};
 ghost use Prim.Native.Nat.{ℕ, _+_, _≤_, _*_};
 ghost use lib.ListN.{length};
 ghost use Rattle.rules.specs.Codes.{offered};
+ghost use Rattle.rules.specs.Tables.{parity16, parity32, parity64, parity511};
 ghost use Rattle.offer.specs.Offers.{offerOf};
-ghost use Rattle.tables.specs.Flat.{RowLaid, flat8, flat16, places16, places32, places64, places511, Lends};
+ghost use Rattle.tables.specs.Flat.{RowLaid, pairs, flat8, flat16, Lends};
 
 // No entry: a number that is no shift of any table.
 const NONE: u16 = 65535;
@@ -219,33 +220,34 @@ fn flatten16(h: &[[[u16; 2]; 16]; 2], t: &mut [u16])
     }
 }
 
-fn lend16(t: &mut [u16])
+// The places of each table, laid flat.
+pub fn lend16(t: &mut [u16])
     requires { ⌜ length (now t) ≡ 64 ⌝ }
-    ensures { λ _. ⌜ now (t .exit) ≡ flat8 places16 ⌝ }
+    ensures { λ _. ⌜ now (t .exit) ≡ flat8 (pairs parity16) ⌝ }
 {
     let h = PARITY16;
     flatten8(&h, t);
 }
 
-fn lend32(t: &mut [u16])
+pub fn lend32(t: &mut [u16])
     requires { ⌜ length (now t) ≡ 64 ⌝ }
-    ensures { λ _. ⌜ now (t .exit) ≡ flat8 places32 ⌝ }
+    ensures { λ _. ⌜ now (t .exit) ≡ flat8 (pairs parity32) ⌝ }
 {
     let h = PARITY32;
     flatten8(&h, t);
 }
 
-fn lend64(t: &mut [u16])
+pub fn lend64(t: &mut [u16])
     requires { ⌜ length (now t) ≡ 64 ⌝ }
-    ensures { λ _. ⌜ now (t .exit) ≡ flat8 places64 ⌝ }
+    ensures { λ _. ⌜ now (t .exit) ≡ flat8 (pairs parity64) ⌝ }
 {
     let h = PARITY64;
     flatten8(&h, t);
 }
 
-fn lend511(t: &mut [u16])
+pub fn lend511(t: &mut [u16])
     requires { ⌜ length (now t) ≡ 64 ⌝ }
-    ensures { λ _. ⌜ now (t .exit) ≡ flat16 places511 ⌝ }
+    ensures { λ _. ⌜ now (t .exit) ≡ flat16 (pairs parity511) ⌝ }
 {
     let h = PARITY511;
     flatten16(&h, t);
