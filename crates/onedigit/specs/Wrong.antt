@@ -20,13 +20,15 @@ otherDigit digits generator t =
 abbrev pub inBlock : List ℕ → ℕ → ℕ → Bool
 inBlock parity first s = eqb (getD parity first 0) s || (eqb (getD parity (first + 1) 0) s || eqb (getD parity (first + 2) 0) s)
 
--- A place holds s instead, a shift or, as M is no shift, none. Where the place has a shift, that is a wrong entry unless s is that shift:
--- it is another, also one that the block has already, or it is left out. Where it has none, it is one if it is the third place of its block,
--- and s a shift that the block does not have: that is added.
+-- A shift is added: the third place of a block has none, and is given one that the block does not have.
+abbrev pub added : ℕ → List ℕ → ℕ → ℕ → Bool
+added M parity place s = eqb (place % 3) 2 && (ltb s M && not (inBlock parity (place / 3 * 3) s))
+
+-- A place holds s instead: a shift or, as M is no shift, none. Where it has a shift, any other s is a wrong entry: another shift, also one
+-- that the block has already, or the shift left out. Where it has none, one is added.
 abbrev pub wrongEntry : ℕ → List ℕ → ℕ → ℕ → Bool
 wrongEntry M parity place s =
-    if ltb (getD parity place 0) M then not (eqb (getD parity place 0) s)
-    else eqb (place % 3) 2 && (ltb s M && not (inBlock parity (place / 3 * 3) s))
+    if ltb (getD parity place 0) M then not (eqb (getD parity place 0) s) else added M parity place s
 
 -- What the identity notices: wrong digit t, and wrong entry t.
 abbrev pub digitNoticed : ℕ → ℕ → ℕ → ℕ → ℕ → ℕ → List ℕ → List ℕ → ℕ → Bool
