@@ -22,7 +22,7 @@ slice-aggregate-entries c = search needs
 entries-requires : tie.Need-entries-requires
 entries-requires c κs =
     let f = c .before .before .before .before .before in
-    (subst (λ (o : Offer). 1 ≤ o .shape .blocks) (sym (f .of .ensures)) (offers (f .before .before .args .code) .some), search needs)
+    (subst (λ (o : Offer). 1 ≤ o .shape .blocks) (sym (f .of .ensures)) (offers (f .before .args .code) .some), search needs)
 
 returns : tie.Need-returns
 returns c = search needs
