@@ -7,7 +7,7 @@ ghost use lib.ListN.{length, take};
 ghost use Rattle.rules.specs.Codes.{code as codeOf, offered};
 ghost use Rattle.answers.specs.Calls.{refusedCorrect};
 ghost use Rattle.codes.specs.Answers.{asCorrected};
-ghost use Rattle.lines.specs.Log.{decimal, fields, header, line as lineOf, wordLine};
+ghost use Rattle.lines.specs.Log.{decimal, fields, numbers as numbersOf, header, line as lineOf, wordLine};
 ghost use Rattle.lines.specs.Log.{lines as linesOf, words as wordsOf, bad, log};
 ghost use Rattle.lines.specs.Parts.{Taken, Room, Counted, Adds};
 
@@ -69,14 +69,21 @@ fn put_fields(numbers: &[u64], text: &mut [u8], at: usize) -> usize
     end
 }
 
+// What a line gives of an answer. A further field of the answer is one entry here, one in the definition, and one in the proof.
+fn numbers(a: codes::Corrected) -> [u64; 4]
+    ensures { λ r. ⌜ r ≡ numbersOf (asCorrected a []) ⌝ }
+{
+    [octet(a.number), wide(a.flips), wide(a.first), wide(a.last)]
+}
+
 // The line of an answer. 128 octets hold any.
 fn put_line(index: u64, a: codes::Corrected, text: &mut [u8], at: usize) -> usize
     requires { ⌜ at + 128 ≤ length (now text) ⌝ }
     ensures { λ r. ⌜ (r ≤ at + 128) × (take r (now (text .exit)) ≡ take at (now (text .entry)) ++ lineOf index (asCorrected a [])) ⌝ }
 {
-    let numbers = [octet(a.number), wide(a.flips), wide(a.first), wide(a.last)];
+    let values = numbers(a);
     let start = put(index, text, at);
-    let end = put_fields(&numbers, text, start);
+    let end = put_fields(&values, text, start);
     text[end] = b'\n';
     end + 1
 }
