@@ -7,7 +7,9 @@ ghost use lib.ListN.{length, take};
 ghost use Rattle.rules.specs.Codes.{code as codeOf, offered};
 ghost use Rattle.answers.specs.Calls.{refusedCorrect};
 ghost use Rattle.codes.specs.Answers.{asCorrected};
-ghost use Rattle.lines.specs.Log.{decimal, fields, header, line as lineOf, wordLine, lines as linesOf, words as wordsOf, codeIn, bad, log};
+ghost use Rattle.lines.specs.Log.{decimal, fields, numbers as numbersOf, header, line as lineOf, wordLine};
+ghost use Rattle.lines.specs.Log.{lines as linesOf, words as wordsOf, bad, log};
+ghost use Rattle.lines.specs.Parts.{Taken, Room, Counted, Adds};
 
 fn octet(n: u8) -> u64
     ensures { λ r. ⌜ (r ≡ n) × (r < 2 ^ 8) ⌝ }
@@ -55,7 +57,8 @@ fn put_field(n: u64, text: &mut [u8], at: usize) -> usize
 // Numbers, a space before each.
 fn put_fields(numbers: &[u64], text: &mut [u8], at: usize) -> usize
     requires { ⌜ at + 21 * length (now numbers) ≤ length (now text) ⌝ }
-    ensures { λ r. ⌜ (r ≤ at + 21 * length (now (numbers .entry))) × (take r (now (text .exit)) ≡ take at (now (text .entry)) ++ fields (now (numbers .entry))) ⌝ }
+    ensures { λ r. ⌜ r ≤ at + 21 * length (now (numbers .entry)) ⌝ }
+    ensures { λ r. ⌜ take r (now (text .exit)) ≡ take at (now (text .entry)) ++ fields (now (numbers .entry)) ⌝ }
 {
     let mut end = at;
     let mut k: usize = 0;
@@ -66,14 +69,21 @@ fn put_fields(numbers: &[u64], text: &mut [u8], at: usize) -> usize
     end
 }
 
+// What a line gives of an answer. A further field of the answer is one entry here, one in the definition, and one in the proof.
+fn numbers(a: codes::Corrected) -> [u64; 4]
+    ensures { λ r. ⌜ r ≡ numbersOf (asCorrected a []) ⌝ }
+{
+    [octet(a.number), wide(a.flips), wide(a.first), wide(a.last)]
+}
+
 // The line of an answer. 128 octets hold any.
 fn put_line(index: u64, a: codes::Corrected, text: &mut [u8], at: usize) -> usize
     requires { ⌜ at + 128 ≤ length (now text) ⌝ }
     ensures { λ r. ⌜ (r ≤ at + 128) × (take r (now (text .exit)) ≡ take at (now (text .entry)) ++ lineOf index (asCorrected a [])) ⌝ }
 {
-    let numbers = [octet(a.number), wide(a.flips), wide(a.first), wide(a.last)];
+    let values = numbers(a);
     let start = put(index, text, at);
-    let end = put_fields(&numbers, text, start);
+    let end = put_fields(&values, text, start);
     text[end] = b'\n';
     end + 1
 }
@@ -81,7 +91,8 @@ fn put_line(index: u64, a: codes::Corrected, text: &mut [u8], at: usize) -> usiz
 // A text as it stands, behind the text so far.
 fn put_text(octets: &[u8], text: &mut [u8], at: usize) -> usize
     requires { ⌜ at + length (now octets) ≤ length (now text) ⌝ }
-    ensures { λ r. ⌜ (r ≡ at + length (now (octets .entry))) × (take r (now (text .exit)) ≡ take at (now (text .entry)) ++ now (octets .entry)) ⌝ }
+    ensures { λ r. ⌜ r ≡ at + length (now (octets .entry)) ⌝ }
+    ensures { λ r. ⌜ take r (now (text .exit)) ≡ take at (now (text .entry)) ++ now (octets .entry) ⌝ }
 {
     let mut end = at;
     let mut k: usize = 0;
@@ -119,7 +130,8 @@ fn write_word(
     at: usize,
 ) -> usize
     requires { ⌜ (length (now out) ≡ codeOf code .wordOctets) × (at + 128 ≤ length (now text)) ⌝ }
-    ensures { λ r. ⌜ (r ≤ at + 128) × (take r (now (text .exit)) ≡ take at (now (text .entry)) ++ wordLine code limit index (now (word .entry))) ⌝ }
+    ensures { λ r. ⌜ r ≤ at + 128 ⌝ }
+    ensures { λ r. ⌜ take r (now (text .exit)) ≡ take at (now (text .entry)) ++ wordLine code limit index (now (word .entry)) ⌝ }
 {
     let answer = codes::correct(code, word, limit, out);
     put_line(index, answer, text, at)
@@ -160,8 +172,10 @@ fn write_words(
     out: &mut [u8],
     text: &mut [u8],
 ) -> usize
-    requires { ⌜ (offered code ≡ true) × (length (now out) ≡ codeOf code .wordOctets) × (8 * length (now words) + 128 ≤ length (now text)) × (index + length (now words) < 2 ^ 64) ⌝ }
-    ensures { λ r. ⌜ (r ≤ length (now (text .exit))) × (take r (now (text .exit)) ≡ linesOf code limit index (now (words .entry)) (wordsOf code (now (words .entry)))) ⌝ }
+    requires { ⌜ (offered code ≡ true) × (length (now out) ≡ codeOf code .wordOctets) ⌝ }
+    requires { ⌜ (8 * length (now words) + 128 ≤ length (now text)) × (index + length (now words) < 2 ^ 64) ⌝ }
+    ensures { λ r. ⌜ r ≤ length (now (text .exit)) ⌝ }
+    ensures { λ r. ⌜ take r (now (text .exit)) ≡ linesOf code limit index (now (words .entry)) (wordsOf code (now (words .entry))) ⌝ }
 {
     let size = word_octets(code);
     let count = (words.len() + (size - 1)) / size;
@@ -212,8 +226,8 @@ pub fn begin(head: &[u8], text: &mut [u8]) -> usize
 
 // What the log grows by: corrects a block of words, before which so many octets of words were read, and writes their lines.
 pub fn go_on(head: &[u8], read: u64, words: &[u8], out: &mut [u8], text: &mut [u8]) -> usize
-    requires { ⌜ (length (now head) ≡ 3) × (bad (now head) ≡ false) × (length (now out) ≡ codeOf (codeIn (now head)) .wordOctets) × (8 * length (now words) + 128 ≤ length (now text)) × (read % codeOf (codeIn (now head)) .wordOctets ≡ 0) × (read + length (now words) < 2 ^ 64) ⌝ }
-    ensures { λ r. ⌜ (r ≤ length (now (text .exit))) × ((before : List ℕ) → length before ≡ read → log (now (head .entry) ++ (before ++ now (words .entry))) ≡ log (now (head .entry) ++ before) ++ take r (now (text .exit))) ⌝ }
+    requires { ⌜ Taken (now head) × Room (now head) (now words) (now out) (now text) × Counted (now head) read (now words) ⌝ }
+    ensures { λ r. ⌜ (r ≤ length (now (text .exit))) × Adds (now (head .entry)) read (now (words .entry)) (take r (now (text .exit))) ⌝ }
 {
     let code = head[0];
     let index = read / word_octets(code) as u64;

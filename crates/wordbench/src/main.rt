@@ -1,11 +1,9 @@
 // Corrects a recording: one octet code, two octets limit, then words to the end. Prints its log.
 ghost use mathlib.Core.Path.{_≡_};
-ghost use mathlib.Core.Bool.{true, false};
-ghost use Prim.Native.Nat.{_+_, _*_, _%_, _^_, _≤_, _<_};
+ghost use Prim.Native.Nat.{_+_, _%_, _≤_, _<_};
 ghost use lib.ListN.{length};
-ghost use Rattle.rules.specs.Codes.{code as codeOf, offered};
 ghost use Rattle.io.specs.Counts.{Counts};
-ghost use Rattle.lines.specs.Log.{codeIn, bad};
+ghost use Rattle.lines.specs.Parts.{Taken, sizeIn, Room, Counted};
 use libc::STDIN_FILENO;
 use libc::STDOUT_FILENO;
 
@@ -70,7 +68,7 @@ fn write(text: &[u8]) -> bool {
 
 // One block of words, before which so many octets were read: whether its lines are written and another may follow.
 fn block(head: &[u8], read: u64, words: &mut [u8], out: &mut [u8], text: &mut [u8]) -> bool
-    requires { ⌜ (length (now head) ≡ 3) × (bad (now head) ≡ false) × (length (now out) ≡ codeOf (codeIn (now head)) .wordOctets) × (8 * length (now words) + 128 ≤ length (now text)) × (read % codeOf (codeIn (now head)) .wordOctets ≡ 0) × (read + length (now words) < 2 ^ 64) ⌝ }
+    requires { ⌜ Taken (now head) × Room (now head) (now words) (now out) (now text) × Counted (now head) read (now words) ⌝ }
 {
     let input = fill(words);
     let n = input.octets;
@@ -83,7 +81,8 @@ fn block(head: &[u8], read: u64, words: &mut [u8], out: &mut [u8], text: &mut [u
 
 // Block after block, each of as many words.
 fn blocks(head: &[u8], words: &mut [u8], out: &mut [u8], text: &mut [u8])
-    requires { ⌜ (length (now head) ≡ 3) × (bad (now head) ≡ false) × (length (now words) % codeOf (codeIn (now head)) .wordOctets ≡ 0) × (0 < length (now words)) × (length (now words) ≤ 65536) × (length (now out) ≡ codeOf (codeIn (now head)) .wordOctets) × (8 * length (now words) + 128 ≤ length (now text)) ⌝ }
+    requires { ⌜ Taken (now head) × Room (now head) (now words) (now out) (now text) ⌝ }
+    requires { ⌜ (length (now words) % sizeIn (now head) ≡ 0) × (0 < length (now words)) × (length (now words) ≤ 65536) ⌝ }
 {
     let mut read: u64 = 0;
     while read < 0x8000000000000000 && block(head, read, words, out, text) {
@@ -105,7 +104,7 @@ fn text_buffer() -> [u8; 524416]
 
 // All words, in blocks of at most 64 KiB.
 fn all(head: &[u8])
-    requires { ⌜ (length (now head) ≡ 3) × (bad (now head) ≡ false) ⌝ }
+    requires { ⌜ Taken (now head) ⌝ }
 {
     let mut words = io::large_buffer();
     let mut out = out_buffer();

@@ -31,7 +31,7 @@ starts c =
     starts-before (length (s .args .words .now)) (c .before .before .word-octets .result) (c .before .loop .k) (c .before .before .word-octets .ensures .1) (omega arith)
 
 word-octets-requires : tie.Need-word-octets-requires Inv-loop μ-loop
-word-octets-requires c κs = c .before .before .before .pre .0
+word-octets-requires c κs = c .before .before .before .pre .0 .0
 
 sub-count : tie.Need-sub-count Inv-loop μ-loop
 sub-count c = omega arith
@@ -68,7 +68,7 @@ part-write-word-end : tie.Need-part-write-word-end Inv-loop μ-loop
 part-write-word-end c = search needs
 
 write-word-requires : tie.Need-write-word-requires Inv-loop μ-loop
-write-word-requires c κs = (c .before .before .before .before .before .loop .inv .3 ∙ c .before .before .before .before .before .before .before .before .before .before .pre .1, omega (arith, starts (c .before .before .before .before) .0, starts (c .before .before .before .before) .1))
+write-word-requires c κs = (c .before .before .before .before .before .loop .inv .3 ∙ c .before .before .before .before .before .before .before .before .before .before .pre .0 .1, omega (arith, starts (c .before .before .before .before) .0, starts (c .before .before .before .before) .1))
 
 add-k : tie.Need-add-k Inv-loop μ-loop
 add-k c = omega (arith, starts (c .before .before .before .before .before .before .before .before .before) .0, starts (c .before .before .before .before .before .before .before .before .before) .1)

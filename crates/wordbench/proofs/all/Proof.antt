@@ -4,8 +4,7 @@ use Prim.Native.Nat.{_%_}
 use native.Mathlib.Omega.{arith}
 use lib.ListN.{length-take}
 use lib.Seq.{length-take-le}
-use Rattle.rules.specs.Codes.{code}
-use Rattle.lines.specs.Log.{codeIn}
+use Rattle.lines.specs.Parts.{sizeIn}
 use Rattle.lines.proofs.Whole.{good}
 use borrow.Author.Needs.{needs}
 use Rattle.wordbench.proofs.all.Statement.{statement}
@@ -54,8 +53,9 @@ blocks-requires c κs =
     let z = c .before .before .before .before .before .word-octets in
     let words = length-take-le (d .result) (c .before .before .before .before .before .before .before .before .before .large-buffer .result) (omega arith) in
     let out = length-take-le (z .result) (c .before .before .before .before .before .before .before .before .out-buffer .result) (omega arith) in
-    let w = code (codeIn (s .args .head .now)) .wordOctets in
-    (s .pre .0, s .pre .1, ap (λ n. n % w) words ∙ d .ensures .0, omega (arith, words), omega (arith, words), out ∙ z .ensures .0, omega (arith, words))
+    let w = sizeIn (s .args .head .now) in
+    let whole = ap (λ n. n % w) words ∙ d .ensures .0 in
+    ((s .pre, (out ∙ z .ensures .0, omega (arith, words))), (whole, omega (arith, words), omega (arith, words)))
 
 returns : tie.Need-returns
 returns c = search needs

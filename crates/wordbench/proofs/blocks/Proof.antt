@@ -1,11 +1,10 @@
--- `wordbench::blocks`: whole words are read before each block, and the count stays in range. Assumes the kit's contracts of reading and writing.
+-- `wordbench::blocks`: whole words stand before each block, and their count fits. Assumes the kit's contracts of reading and writing.
 use mathlib.Core.Path.{_≡_, refl, ap, _∙_}
 use Prim.Native.Nat.{_-_, _%_, _^_}
 use native.Mathlib.Nat.{zero-mod}
 use native.Mathlib.Omega.{arith}
 use lib.ListN.{length}
-use Rattle.rules.specs.Codes.{code}
-use Rattle.lines.specs.Log.{codeIn}
+use Rattle.lines.specs.Parts.{sizeIn}
 use Rattle.lines.proofs.Whole.{whole-sum}
 use borrow.Author.Needs.{needs}
 use Rattle.wordbench.proofs.blocks.Statement.{statement}
@@ -13,7 +12,7 @@ use Rattle.wordbench.proofs.blocks.Tie as tie
 
 abbrev Inv-loop : tie.InvT-loop
 Inv-loop head words₀ out₀ text₀ read₀ words out text read =
-    (read % code (codeIn head) .wordOctets ≡ 0) × (length words ≡ length words₀) × (length out ≡ length out₀) × (length text ≡ length text₀)
+    (read % sizeIn head ≡ 0) × (length words ≡ length words₀) × (length out ≡ length out₀) × (length text ≡ length text₀)
 
 abbrev μ-loop : tie.MeasureT-loop
 μ-loop head words₀ out₀ text₀ read₀ words out text read = 2 ^ 64 - read
@@ -25,7 +24,7 @@ block-requires : tie.Need-block-requires Inv-loop μ-loop
 block-requires c κs =
     let s = c .before .before .before .before .before .before .before .before .before in
     let h = c .before .before .before .before .loop in
-    (s .pre .0, s .pre .1, h .inv .2 ∙ s .pre .5, omega arith, h .inv .0, omega arith)
+    (s .pre .0 .0, (h .inv .2 ∙ s .pre .0 .1 .0, omega arith), (h .inv .0, omega arith))
 
 add-read : tie.Need-add-read Inv-loop μ-loop
 add-read c = search needs
@@ -38,9 +37,9 @@ loop-again c =
     let s = c .before .before .before .before .before .before .before .before .before .before .before .before .before .before .before .before .before in
     let h = c .before .before .before .before .before .before .before .before .before .before .before .before .loop in
     let words = c .before .before .before .before .before .before .before .block .last .1 .1 .0 in
-    let w = code (codeIn (s .args .head .now)) .wordOctets in
+    let w = sizeIn (s .args .head .now) in
     let e : length words ≡ length (s .args .words .now) = omega arith in
-    (whole-sum (h .read) (length words) w (h .inv .0) (ap (λ n. n % w) e ∙ s .pre .2), e, omega arith, omega arith)
+    (whole-sum (h .read) (length words) w (h .inv .0) (ap (λ n. n % w) e ∙ s .pre .1 .0), e, omega arith, omega arith)
 
 same-length : tie.Need-same-length Inv-loop μ-loop
 same-length c = search needs
