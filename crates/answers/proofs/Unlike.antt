@@ -3,6 +3,7 @@ use mathlib.Core.Path.{_≡_, refl, sym, ap, ap₂, _∙_, subst}
 use mathlib.Core.Bool.{Bool, true, false, not, _&&_, true≢false}
 use mathlib.Core.List.{List, []}
 use Prim.Native.Nat.{ℕ, suc, _+_, _-_, _*_, _%_, _≤_, _<_}
+use native.Mathlib.Nat.{zero-add}
 use native.Mathlib.Omega.{arith}
 use lib.Dec.{T, eqb, ltb, nltb→le}
 use lib.ListN.{length}
@@ -79,6 +80,7 @@ places c pb word r e =
     ap₂ (λ a b. a ⊕ b) (ap (lifted c (bit word)) s ∙ lifted-sent-bit c (bit word) i)
     (ap (r .word) s ∙ sym (bit-octets (c .wordOctets) (sent c (r .word)) i
     ∙ ap (λ b. b && sent c (r .word) i) (lt-ltb i (8 * c .wordOctets) (omega (arith, pb .fits))) ∙ sent-bit c (r .word) i l))))
+    ∙ zero-add (count (bits c - c .unsent) (λ i. bit word i ⊕ bit (written c (r .word)) i))
   where
     none : ltb 0 (count (c .unsent) (r .word)) ≡ false
     none = go (eqb (r .number) 0) (ltb 0 (count (c .unsent) (r .word))) (codeword c (sent c (r .word))) refl e
