@@ -8,7 +8,7 @@
 #include <stdio.h>
 #include <stdlib.h>
 
-enum { CODE = 1, INFORMATION = 8, WORD = 16, LIMIT = 10 };
+enum { CODE = 1, INFORMATION = PANDORICCHIA_INFORMATION_OCTETS_1, WORD = PANDORICCHIA_WORD_OCTETS_1, LIMIT = 10 };
 
 static void print_octets(const char *name, const uint8_t *octets, size_t len)
 {
@@ -22,7 +22,7 @@ static void print_octets(const char *name, const uint8_t *octets, size_t len)
 static void demand_done(const char *call, uint8_t number)
 {
     if (number != PANDORICCHIA_DONE) {
-        printf("%s is refused with number %u\n", call, number);
+        printf("%s is refused with number %u: %s\n", call, number, pandoricchia_text(number));
         exit(EXIT_FAILURE);
     }
 }
@@ -46,7 +46,7 @@ int main(void)
 
     /* A word with a broken check does not open. */
     size_t part = pandoricchia_open(CODE, word, WORD, &number);
-    printf("open: number %u, %zu octets\n", number, part);
+    printf("open: %s, %zu octets\n", pandoricchia_text(number), part);
 
     pandoricchia_stepped stepped = pandoricchia_step(CODE, word, WORD, out, WORD);
     demand_done("step", stepped.number);

@@ -17,15 +17,15 @@ fn print_octets(name: &str, octets: &[u8]) {
 // A call that is refused ends the program with its number.
 fn demand_done(call: &str, number: u8) {
     if number != pandoricchia::DONE {
-        println!("{call} is refused with number {number}");
+        println!("{call} is refused with number {number}: {}", pandoricchia::text(number));
         std::process::exit(1);
     }
 }
 
 fn main() {
     let information = b"TURN OFF";
-    let mut word = [0; 16];
-    let mut out = [0; 16];
+    let mut word = [0; pandoricchia::WORD_OCTETS[CODE as usize]];
+    let mut out = word;
 
     print_octets("information", information);
     demand_done("encode", pandoricchia::encode(CODE, information, &mut word));
@@ -41,8 +41,8 @@ fn main() {
 
     // A word with a broken check does not open.
     match pandoricchia::open(CODE, &word) {
-        Ok(part) => println!("open: number 0, {} octets", part.len()),
-        Err(number) => println!("open: number {number}, 0 octets"),
+        Ok(part) => println!("open: done, {} octets", part.len()),
+        Err(number) => println!("open: {}, 0 octets", pandoricchia::text(number)),
     }
 
     let stepped = pandoricchia::step(CODE, &word, &mut out);

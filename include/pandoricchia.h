@@ -12,6 +12,10 @@
  *
  * Octets are handed over as a pointer and their number. What a call reads must not overlap what it writes. Every call
  * answers for every code number and every length.
+ *
+ * A pointer whose length is 0 may be NULL: nothing is read or written through it. Octets may lie at any address.
+ * The library keeps no state and allocates nothing: calls may run in any threads at once, each on its own output.
+ * A call takes less than PANDORICCHIA_STACK_OCTETS of stack. The archive asks for memcpy and memset, and nothing else.
  */
 #ifndef PANDORICCHIA_H
 #define PANDORICCHIA_H
@@ -23,6 +27,27 @@
 #ifdef __cplusplus
 extern "C" {
 #endif
+
+#define PANDORICCHIA_VERSION "0.2.0"
+
+/* The table above; for a code number that is not known until the program runs there are two calls below. */
+#define PANDORICCHIA_WORD_OCTETS_1 16
+#define PANDORICCHIA_WORD_OCTETS_2 32
+#define PANDORICCHIA_WORD_OCTETS_3 64
+#define PANDORICCHIA_WORD_OCTETS_4 1022
+#define PANDORICCHIA_WORD_OCTETS_5 1020
+#define PANDORICCHIA_INFORMATION_OCTETS_1 8
+#define PANDORICCHIA_INFORMATION_OCTETS_2 16
+#define PANDORICCHIA_INFORMATION_OCTETS_3 32
+#define PANDORICCHIA_INFORMATION_OCTETS_4 895
+#define PANDORICCHIA_INFORMATION_OCTETS_5 892
+
+/* Enough for any code. */
+#define PANDORICCHIA_MOST_WORD_OCTETS 1022
+#define PANDORICCHIA_MOST_INFORMATION_OCTETS 895
+
+/* Measured by outside/boundary.c, not proved: encode takes some 5,400 octets, correct and step 2,500, check and open 1,900. */
+#define PANDORICCHIA_STACK_OCTETS 8192
 
 /* The number that each call returns. The lowest that applies is given, except that 5 to 8 come in the order of the run.
  * A call that returns any other number than PANDORICCHIA_DONE is refused and has written nothing. */
@@ -39,6 +64,39 @@ enum pandoricchia_number {
     PANDORICCHIA_NO_CODEWORD = 9     /* open: the word is not a codeword */
 };
 
+/* What a number means, in a few words. */
+static inline const char *pandoricchia_text(uint8_t number)
+{
+    switch (number) {
+    case PANDORICCHIA_DONE:
+        return "done";
+    case PANDORICCHIA_CODE:
+        return "code not offered by this call";
+    case PANDORICCHIA_INPUT_LENGTH:
+        return "input length differs";
+    case PANDORICCHIA_OUTPUT_LENGTH:
+        return "output length differs";
+    case PANDORICCHIA_LAST_SIX:
+        return "one of the six last bits set";
+    case PANDORICCHIA_STUCK:
+        return "checks broken, no excess above 0";
+    case PANDORICCHIA_LIMIT:
+        return "limit reached";
+    case PANDORICCHIA_UNSENT:
+        return "an unsent bit became 1";
+    case PANDORICCHIA_PARITY:
+        return "quiet, parity not the encoder's";
+    case PANDORICCHIA_NO_CODEWORD:
+        return "not a codeword";
+    default:
+        return "no such number";
+    }
+}
+
+/* The octets of a word of a code, and of its information; 0 for a code that is not offered. */
+size_t pandoricchia_word_octets(uint8_t code);
+size_t pandoricchia_information_octets(uint8_t code);
+
 /* Encode: information in, word out. Returns 0 to 4. */
 uint8_t pandoricchia_encode(uint8_t code, const uint8_t *information, size_t information_len, uint8_t *word,
                             size_t word_len);
@@ -53,7 +111,7 @@ typedef struct pandoricchia_checked {
 pandoricchia_checked pandoricchia_check(uint8_t code, const uint8_t *word, size_t word_len);
 
 /* Open, codes 1, 2, 3 and 5: for a codeword, how many of its leading octets are its information; 0 where the call is
- * refused. Nothing is copied. The number, 0 to 2 or 9, is always written. */
+ * refused. Nothing is copied. The number, 0 to 2 or 9, is always written, so its pointer must not be NULL. */
 size_t pandoricchia_open(uint8_t code, const uint8_t *word, size_t word_len, uint8_t *number);
 
 typedef struct pandoricchia_corrected {

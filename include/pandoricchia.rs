@@ -1,11 +1,17 @@
 //! Pandoricchia from Rust: encoding, checking, opening and correcting words of five CCSDS LDPC codes. What the codes, the
 //! lengths and the numbers are stands in `pandoricchia.h`. Every call answers for every code number and every length; one
-//! that returns any other number than `DONE` has written nothing.
+//! that returns any other number than `DONE` has written nothing. Nothing is kept between calls, so threads may call at once.
 //!
 //!     #[path = "include/pandoricchia.rs"]
 //!     mod pandoricchia;
 //!
 //! and `rustc -L target/staticlib -l static=pandoricchia`.
+
+pub const VERSION: &str = "0.2.0";
+
+/// Octets of a word and of its information, by code number; there is no code 0.
+pub const WORD_OCTETS: [usize; 6] = [0, 16, 32, 64, 1022, 1020];
+pub const INFORMATION_OCTETS: [usize; 6] = [0, 8, 16, 32, 895, 892];
 
 pub const DONE: u8 = 0;
 pub const CODE: u8 = 1;
@@ -44,6 +50,8 @@ pub struct Stepped {
 }
 
 extern "C" {
+    fn pandoricchia_word_octets(code: u8) -> usize;
+    fn pandoricchia_information_octets(code: u8) -> usize;
     fn pandoricchia_encode(code: u8, information: *const u8, information_len: usize, word: *mut u8, word_len: usize) -> u8;
     fn pandoricchia_check(code: u8, word: *const u8, word_len: usize) -> Checked;
     fn pandoricchia_open(code: u8, word: *const u8, word_len: usize, number: *mut u8) -> usize;
@@ -53,6 +61,36 @@ extern "C" {
 
 // Why each call is safe: a slice's pointer and length name octets that are the caller's for as long as the call lasts, and
 // an output, being lent mutably, overlaps no input.
+
+/// What a number means, in a few words.
+#[must_use]
+pub fn text(number: u8) -> &'static str {
+    match number {
+        DONE => "done",
+        CODE => "code not offered by this call",
+        INPUT_LENGTH => "input length differs",
+        OUTPUT_LENGTH => "output length differs",
+        LAST_SIX => "one of the six last bits set",
+        STUCK => "checks broken, no excess above 0",
+        LIMIT => "limit reached",
+        UNSENT => "an unsent bit became 1",
+        PARITY => "quiet, parity not the encoder's",
+        NO_CODEWORD => "not a codeword",
+        _ => "no such number",
+    }
+}
+
+/// The octets of a word; 0 for a code that is not offered.
+#[must_use]
+pub fn word_octets(code: u8) -> usize {
+    unsafe { pandoricchia_word_octets(code) }
+}
+
+/// The octets of a word's information; 0 for a code that is not offered.
+#[must_use]
+pub fn information_octets(code: u8) -> usize {
+    unsafe { pandoricchia_information_octets(code) }
+}
 
 /// Information in, word out. Gives the number, 0 to 4.
 #[must_use]

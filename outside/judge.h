@@ -1,4 +1,6 @@
-/* The five codes once more, written from the documents alone, one bit at a time: a second opinion on the library. */
+/* The five codes once more, one bit at a time, with tables of its own from the documents' text: a second opinion on the
+ * library. Its author had seen document 01 and the library's definitions, so it is independent in code and tables, and
+ * not a blind second reading. */
 #ifndef JUDGE_H
 #define JUDGE_H
 

@@ -1,11 +1,33 @@
 // The calls for C and Rust. A slice is handed over as a pointer and its length; the records are those of the calls.
 ghost use mathlib.Core.Path.{_≡_};
 ghost use lib.ListN.{length};
-ghost use Rattle.rules.specs.Calls.{encodeAnswer, checkAnswer, openAnswer, correctAnswer, stepAnswer};
+ghost use Rattle.answers.specs.Calls.{wordOctetsAnswer, informationOctetsAnswer, encodeAnswer, checkAnswer, openAnswer, correctAnswer, stepAnswer};
 ghost use Rattle.codes.specs.Answers.{asEncoded, asChecked, asCorrected, asStepped};
 use codes::Checked;
 use codes::Corrected;
 use codes::Stepped;
+
+// The octets of a word; 0 for a code that is not offered.
+#[no_mangle]
+pub extern "C" fn pandoricchia_word_octets(code: u8) -> usize
+    ensures { λ r. ⌜ r ≡ wordOctetsAnswer code ⌝ }
+{
+    if !offer::is_offered(code) {
+        return 0; // no words
+    }
+    offer::word_octets(code)
+}
+
+// The octets of a word's information; 0 for a code that is not offered.
+#[no_mangle]
+pub extern "C" fn pandoricchia_information_octets(code: u8) -> usize
+    ensures { λ r. ⌜ r ≡ informationOctetsAnswer code ⌝ }
+{
+    if !offer::is_offered(code) {
+        return 0; // no information
+    }
+    offer::information_octets(code)
+}
 
 #[no_mangle]
 pub extern "C" fn pandoricchia_encode(code: u8, information: &[u8], word: &mut [u8]) -> u8

@@ -51,7 +51,9 @@ fn table(code: u8)
     requires { ⌜ (1 ≤ code) × (code ≤ 5) ⌝ }
 {
     let mut t = [0u16; 64];
-    let sh = tables::lend(code, &mut t);
+    let o = offer::of(code);
+    let sh = o.shape;
+    tables::lend(sh.size, &mut t);
     entries(code, sh.size, sh.blocks, &t);
 }
 

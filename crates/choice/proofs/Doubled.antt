@@ -8,7 +8,7 @@ use native.Mathlib.Decide.{ℕ-discrete}
 use native.Mathlib.Omega.{arith}
 use lib.ListN.{getD, length, take, set, length-set, List·getD-append}
 use lib.Seq.{length-take-le, getD-append-add, getD-take}
-use Rattle.rules.specs.Bits.{Word, digit}
+use Rattle.bits.specs.Bits.{Word, digit}
 use Rattle.vectors.specs.Vectors.{wbit, Holds, upTo, from, joined, twice}
 use Rattle.vectors.proofs.Cells.{joined-below, joined-above}
 use Rattle.vectors.proofs.Filling.{Filled, filled-from, filled-more, word-at}

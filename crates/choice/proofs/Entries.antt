@@ -12,9 +12,8 @@ use borrow.Author.Tests.{lt-ltb, le-ltb}
 use lib.Dec.{ltb}
 use lib.ListN.{getD, length, set, length-set}
 use lib.Seq.{getD-set-same, getD-set-other}
-use Rattle.rules.specs.Bits.{Word, count, tally, if_then_else_}
-use Rattle.rules.proofs.Blocks.{countOf}
-use Rattle.rules.proofs.Counting.{count-same, count-next, tally-le}
+use Rattle.bits.specs.Bits.{Word, count, tally, if_then_else_, countOf}
+use Rattle.bits.proofs.Counting.{count-same, count-next, tally-le}
 use Rattle.layout.specs.declared.Shape.{Shape}
 use Rattle.layout.specs.Lent.{kept, total, placeOf, shiftsOf}
 use Rattle.choice.specs.Reading.{Noted, Listed, asked}

@@ -11,11 +11,11 @@ use borrow.Author.Tests.{lt-ltb, le-ltb}
 use lib.Dec.{ltb}
 use lib.IntN.{pos, negsuc, subℕ}
 use lib.Signed.{ltZ}
-use Rattle.rules.specs.Bits.{Word, if_then_else_}
+use Rattle.bits.specs.Bits.{Word, if_then_else_}
 use Rattle.rules.specs.Codes.{Code, bits}
-use Rattle.rules.specs.Checks.{broken, excess}
+use Rattle.rules.specs.Checks.{broken, excess, brokenOf, degreeOf, metOf}
 use Rattle.rules.specs.Flipping.{flip, stuck, greatest, byExcess}
-use Rattle.rules.proofs.Flips.{brokenOf, metOf, degreeOf, broken-met, excess-is}
+use Rattle.rules.proofs.Flips.{broken-met, excess-is}
 use Rattle.rules.proofs.Choosing.{flip-next, stuck-next}
 use Rattle.planes.specs.Ranges.{Top}
 use Rattle.planes.proofs.Choice.{top-greatest, top-excess, top-above}
@@ -72,12 +72,12 @@ module _ {c : Code} {h : List ℕ} {sh : Shape} (lent : Lent c h sh) (x : Word) 
     best-above = top-above (excess c x) (score c x) 8 (bits c) bit top score-excess t
 
     -- What comes next for a word that has a broken check.
-    pub best-next : (broken c x ≡ 0 → ⊥) → byExcess c x ≡ (if ltb 8 top then flip bit (subℕ top 8) else stuck)
+    pub best-next : (broken c x ≡ 0 → ⊥) → byExcess c x ≡ (if ltb 8 top then flip bit (subℕ top 8) else stuck bit (subℕ top 8))
     best-next some = go (ltb 8 top) refl
       where
         chosen : (b : Bool) → ltb 8 top ≡ b → ltZ (pos 0) (excess c x (greatest (bits c) (excess c x))) ≡ b
         chosen b e = ap (λ n. ltZ (pos 0) (excess c x n)) best-greatest ∙ best-above ∙ e
 
-        go : (b : Bool) → ltb 8 top ≡ b → byExcess c x ≡ (if b then flip bit (subℕ top 8) else stuck)
+        go : (b : Bool) → ltb 8 top ≡ b → byExcess c x ≡ (if b then flip bit (subℕ top 8) else stuck bit (subℕ top 8))
         go true e = flip-next c x some (chosen true e) ∙ ap₂ flip best-greatest (ap (excess c x) best-greatest ∙ best-excess)
-        go false e = stuck-next c x some (chosen false e)
+        go false e = stuck-next c x some (chosen false e) ∙ ap₂ stuck best-greatest (ap (excess c x) best-greatest ∙ best-excess)

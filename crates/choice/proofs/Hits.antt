@@ -9,14 +9,14 @@ use native.Mathlib.Decide.{decLt}
 use native.Mathlib.Numerals.{add-one}
 use native.Mathlib.Omega.{arith}
 use lib.ListN.{getD}
-use Rattle.rules.specs.Bits.{Word, digit, count, tally}
-use Rattle.rules.proofs.Counting.{count-le, count-next}
+use Rattle.bits.specs.Bits.{Word, digit, count, tally}
+use Rattle.bits.proofs.Counting.{count-le, count-next}
 use Rattle.planes.specs.declared.Planes.{Planes}
 use Rattle.planes.specs.Counts.{value}
 use Rattle.planes.specs.declared.Best.{Best}
-use Rattle.planes.specs.Ranges.{Top, greaterOf}
-use Rattle.planes.proofs.Ranges.{Running, running-more, top-most}
-use Rattle.rules.proofs.Orders.{le-or-lt}
+use Rattle.planes.specs.Ranges.{Top, greaterOf, Running}
+use Rattle.planes.proofs.Ranges.{running-more, top-most}
+use Rattle.bits.proofs.Orders.{le-or-lt}
 use Rattle.choice.specs.Reading.{hits, Scored}
 
 -- A row more is within all rows.

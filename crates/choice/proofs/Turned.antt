@@ -9,11 +9,10 @@ use native.Mathlib.Omega.{arith}
 use borrow.Author.Tests.{ltb-true, lt-ltb}
 use lib.Dec.{ltb}
 use lib.ListN.{getD, length}
-use Rattle.rules.specs.Bits.{Word, count, tally, if_then_else_}
+use Rattle.bits.specs.Bits.{Word, count, tally, if_then_else_, countOf}
 use Rattle.rules.specs.Codes.{Code}
-use Rattle.rules.specs.Checks.{check}
-use Rattle.rules.proofs.Blocks.{countOf, count-all as entries-all}
-use Rattle.rules.proofs.Flips.{brokenOf}
+use Rattle.rules.specs.Checks.{check, brokenOf}
+use Rattle.rules.proofs.Blocks.{count-all as entries-all}
 use Rattle.layout.specs.declared.Shape.{Shape}
 use Rattle.layout.specs.Lent.{kept, entries, total, placeOf, shiftsOf, Lent, laid, score}
 use Rattle.layout.proofs.Lending.{total-same}

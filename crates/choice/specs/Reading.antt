@@ -4,8 +4,7 @@ use mathlib.Core.List.{List}
 use Prim.Native.Nat.{ℕ, _+_, _-_, _*_, _%_, _≤_, _<_}
 use lib.Dec.{ltb}
 use lib.ListN.{length, getD, set}
-use Rattle.rules.specs.Bits.{Word, count, tally, if_then_else_}
-use Rattle.rules.proofs.Blocks.{countOf}
+use Rattle.bits.specs.Bits.{Word, count, tally, if_then_else_, countOf}
 use Rattle.layout.specs.declared.Shape.{Shape}
 use Rattle.layout.specs.Lent.{total, shiftsOf}
 

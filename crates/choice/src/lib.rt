@@ -2,12 +2,11 @@
 ghost use mathlib.Core.Path.{_≡_};
 ghost use Prim.Native.Nat.{ℕ, _+_, _-_, _*_, _^_, _<_, _≤_};
 ghost use lib.ListN.{length, getD};
-ghost use Rattle.rules.specs.Bits.{Word};
+ghost use Rattle.bits.specs.Bits.{Word};
 ghost use Rattle.rules.specs.Codes.{Code, bits};
 ghost use Rattle.vectors.specs.Vectors.{wbit, Holds, upTo, from};
 ghost use Rattle.planes.specs.Counts.{value};
-ghost use Rattle.planes.specs.Ranges.{Top};
-ghost use Rattle.planes.proofs.Ranges.{Running};
+ghost use Rattle.planes.specs.Ranges.{Top, Running};
 ghost use Rattle.layout.specs.Lent.{Fit, Lent, laid, score};
 ghost use Rattle.choice.specs.Reading.{Twice, Placed, hits, Scored, Noted, Starts};
 use layout::Shape;

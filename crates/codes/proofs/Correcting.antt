@@ -1,68 +1,34 @@
 -- Correct and step, put together from what the engine ensures.
 use mathlib.Core.Path.{_≡_, sym, ap, ap₂, _∙_, subst}
-use mathlib.Core.Bool.{Bool, true, false, cond}
+use mathlib.Core.Bool.{Bool, true, false}
 use mathlib.Core.List.{List}
-use Prim.Native.Nat.{ℕ, suc, _-_, _≤_, _<_}
-use native.Mathlib.Omega.{arith}
+use Prim.Native.Nat.{ℕ, _≤_, _<_}
 use lib.Dec.{eqb, lit≤}
-use lib.IntN.{pos, negsuc, subℕ, natAbs}
 use lib.ListN.{length}
-use borrow.Author.Tests.{eq-eqb, ne-eqb, le-ltb}
-use Rattle.rules.specs.Bits.{Word, bit, if_then_else_}
+use borrow.Author.Tests.{eq-eqb, ne-eqb}
+use Rattle.bits.specs.Bits.{Word, bit, if_then_else_}
 use Rattle.rules.specs.Codes.{Code, code, bits}
 use Rattle.rules.specs.Checks.{broken}
-use Rattle.rules.specs.Encoding.{lifted}
-use Rattle.rules.specs.Flipping.{Next, flip, byExcess, run}
-use Rattle.rules.specs.Calls.{written, judged, ranCorrect, nextStep}
-use Rattle.rules.proofs.Runs.{run-ends, End, ends-quiet, ends-stuck, ends-limit}
-use Rattle.rules.proofs.Choosing.{next-quiet, next-flip, Chosen, chosen-lt}
-use Rattle.rules.proofs.Flips.{brokenOf, metOf, excess-is, broken-met}
-use Rattle.choice.proofs.Excesses.{degree-le}
-use Rattle.rules.proofs.Answers.{ranFrom, steppedFrom}
+use Rattle.rules.specs.Encoding.{lifted, written}
+use Rattle.rules.specs.Flipping.{Next as NextOf, byExcess, run}
+use Rattle.answers.specs.Calls.{judged, ranCorrect, nextStep, ranFrom, steppedFrom}
+use Rattle.rules.proofs.Ways.{run-met}
+use Rattle.rules.proofs.Choosing.{by-excess}
 use Rattle.layout.specs.declared.Shape.{Shape}
 use Rattle.layout.specs.Lent.{Fit, Lent, laid}
-use Rattle.tables.specs.Flat.{shapeOfCode}
-use Rattle.received.specs.Measured.{Measured}
+use Rattle.measured.specs.Measured.{Measured}
 use Rattle.runs.specs.declared.Ran.{Ran}
-use Rattle.runs.specs.declared.Turn.{Turn}
+use Rattle.runs.specs.declared.Next.{Next}
 use Rattle.runs.specs.Turns.{Holding, RunsTo, comesNext}
 
--- every shape has blocks
-shape-blocks : (n : ℕ) → 1 ≤ shapeOfCode n .blocks
-shape-blocks n = go (eqb n 1) (eqb n 2) (eqb n 3)
-  where
-    shape : Bool → Bool → Bool → Shape
-    shape a b d =
-        if a then record { size = 16; words = 1; blocks = 8; rows = 4 }
-        else if b then record { size = 32; words = 1; blocks = 8; rows = 4 }
-        else if d then record { size = 64; words = 1; blocks = 8; rows = 4 }
-        else record { size = 511; words = 8; blocks = 16; rows = 2 }
-
-    go : (a b d : Bool) → 1 ≤ shape a b d .blocks
-    go true b d = lit≤ tt
-    go false true d = lit≤ tt
-    go false false true = lit≤ tt
-    go false false false = lit≤ tt
-
--- a run that ends quiet ends with every check met
-quiet-met : (c : Code) (limit : ℕ) (x : Word) → run (byExcess c) limit x .number ≡ 0 → broken c (run (byExcess c) limit x .word) ≡ 0
-quiet-met c limit x e = go (run-ends (byExcess c) limit x)
-  where
-    go : End (byExcess c) limit (run (byExcess c) limit x) → broken c (run (byExcess c) limit x .word) ≡ 0
-    go (ends-quiet f w) = next-quiet c (run (byExcess c) limit x .word) w
-    go (ends-stuck f w) = let z : _≡_ {A = ℕ} 5 0 = sym f ∙ e in absurd (omega arith)
-    go (ends-limit f l k ex w) = let z : _≡_ {A = ℕ} 6 0 = sym f ∙ e in absurd (omega arith)
 
 module _ (n : ℕ) (word t : List ℕ) (y s : Word) (sh : Shape) (m : Measured n word t y s sh) where
-  pub blocks-some : 1 ≤ sh .blocks
-  blocks-some = subst (λ z. 1 ≤ z .blocks) (sym (m .lends .shape)) (shape-blocks n)
-
   pub holding : Holding t sh s
   holding = record { code = code n; word = y; lent = m .lends .lent; held = m .held }
 
   -- ---- correct
 
-  module _ (limit : ℕ) (ran : Ran) (y′ s′ : Word) (to : RunsTo (code n) sh limit y ran y′ s′) where
+  module _ (limit : ℕ) (ran : Ran) (y′ s′ : Word) (to : RunsTo (byExcess (code n)) (code n) sh limit y ran y′ s′) where
     same-run : run (byExcess (code n)) limit y ≡ run (byExcess (code n)) limit (lifted (code n) (bit word))
     same-run = ap (run (byExcess (code n)) limit) (m .bits)
 
@@ -72,8 +38,8 @@ module _ (n : ℕ) (word t : List ℕ) (y s : Word) (sh : Shape) (m : Measured n
     pub ran-word : run (byExcess (code n)) limit (lifted (code n) (bit word)) .word ≡ y′
     ran-word = sym (to .word ∙ ap (λ r. r .word) same-run)
 
-    pub ran-met : ran .number ≡ 0 → broken (code n) y′ ≡ 0
-    ran-met e = ap (broken (code n)) (sym ran-word) ∙ quiet-met (code n) limit (lifted (code n) (bit word)) (ran-number ∙ e)
+    pub ran-met : 0 < bits (code n) → ran .number ≡ 0 → broken (code n) y′ ≡ 0
+    ran-met some e = ap (broken (code n)) (sym ran-word) ∙ run-met (by-excess (code n) some) limit (lifted (code n) (bit word)) (ran-number ∙ e)
 
     module _ (first last number : ℕ)
         (at-first : (c : Code) (h : List ℕ) (sh : Shape) (x : Word) → Fit h sh → Lent c h sh → s ≡ laid c sh x → first ≡ broken c x)
@@ -106,7 +72,7 @@ module _ (n : ℕ) (word t : List ℕ) (y s : Word) (sh : Shape) (m : Measured n
 
   -- ---- step
 
-  module _ (out : List ℕ) (turn : Turn) (nx : Next)
+  module _ (out : List ℕ) (turn : Next) (nx : NextOf)
       (next : (c : Code) → Lent c t sh → (x : Word) → s ≡ laid c sh x → byExcess c x ≡ comesNext turn) (is : comesNext turn ≡ nx) where
     comes : byExcess (code n) (lifted (code n) (bit word)) ≡ nx
     comes = ap (byExcess (code n)) (sym (m .bits)) ∙ next (code n) (m .lends .lent) y (m .held) ∙ is
@@ -120,16 +86,3 @@ wrote-word number w out out′ e f = f ∙ sym (ap (λ b. if b then w else out) 
 
 pub wrote-none : (number : ℕ) (w out : List ℕ) → (number ≡ 0 → ⊥) → out ≡ (if eqb number 0 then w else out)
 wrote-none number w out d = sym (ap (λ b. if b then w else out) (ne-eqb number 0 d))
-
--- ---- the excess of a flip is small
-
--- where more checks are broken than met
-more-broken : (b m : ℕ) → m < b → subℕ b m ≡ pos (b - m)
-more-broken b m l = ap (λ t. cond t (negsuc (m - suc b)) (pos (b - m))) (le-ltb b m (omega arith))
-
-pub small-excess : (c : Code) (h : List ℕ) (sh : Shape) → Lent c h sh → 0 < bits c → (x : Word) (k ex : ℕ) → byExcess c x ≡ flip k (pos ex) → ex ≤ 7
-small-excess c h sh lent some x k ex e =
-    let ch : Chosen c x k (pos ex) = next-flip c x k (pos ex) e in
-    let l : k < bits c = subst (λ z. z < bits c) (sym (ch .bit)) (chosen-lt c some x) in
-    let is : ex ≡ brokenOf c x k - metOf c x k = ap natAbs (ch .value ∙ excess-is c x k ∙ more-broken (brokenOf c x k) (metOf c x k) (ch .above)) in
-    omega (arith, is, broken-met c x k, degree-le lent x k l)

@@ -1,4 +1,4 @@
--- Encode: its refusals, and the word that it writes.
+-- Encode: the information's spare bits, and the word that is written.
 use mathlib.Core.Path.{_≡_, refl, sym, ap, ap₂, _∙_, subst, fun-ext}
 use mathlib.Core.Bool.{Bool, true, false, not, _&&_, true≢false}
 use mathlib.Core.List.{List}
@@ -9,42 +9,30 @@ use native.Mathlib.Omega.{arith}
 use lib.Dec.{T, eqb, lit≤}
 use lib.ListN.{length, getD}
 use borrow.Author.Tests.{eq-eqb, eqb-true, lt-ltb, le-ltb}
-use Rattle.rules.specs.Bits.{Word, digit, bit, octets, if_then_else_}
-use Rattle.rules.specs.Codes.{code, code1, code2, code3, code4, code5, bits, information}
+use Rattle.bits.specs.Bits.{Word, digit, bit, octets, if_then_else_}
+use Rattle.rules.specs.Codes.{code, code1, code2, code3, code4, code5, bits, information, offered}
 use Rattle.rules.specs.Tables.{generator16, generator32, generator64, generator511}
-use Rattle.rules.specs.Encoding.{lifted, encoded}
-use Rattle.rules.specs.Calls.{offered, written, sixSet, encodeAnswer}
-use Rattle.rules.proofs.Octets.{bit-past}
+use Rattle.rules.specs.Encoding.{lifted, encoded, written}
+use Rattle.answers.specs.Calls.{sixSet}
+use Rattle.bits.proofs.Octets.{bit-past}
 use Rattle.rules.proofs.Codewords.{lifted-sent-bit, sent-same}
-use Rattle.rules.proofs.Answers.{five, published, if-yes, if-long}
+use Rattle.rules.proofs.Numbers.{five, published}
 use Rattle.vectors.specs.Vectors.{upTo}
-use Rattle.received.proofs.Handed.{is-offered}
-use Rattle.codes.proofs.Refusals.{out-of, other}
+use Rattle.offer.specs.declared.Offer.{Offer}
+use Rattle.offer.specs.Offers.{offerOf}
+use Rattle.offer.proofs.Offers.{is-offered}
 
--- ---- refusals
+-- ---- the spare bits, by the code's record
 
-module _ (n : ℕ) (info out : List ℕ) where
-  pub encode-one : offered n ≡ false → encodeAnswer n info out ≡ record { number = 1; out = out }
-  unfolding encodeAnswer
-  encode-one e = out-of (offered n) (record { number = 1; out = out }) _ e
+-- every number is a multiple of 1
+one-divides : (x : ℕ) → not (eqb (x % 1) 0) ≡ false
+one-divides x = ap not (eq-eqb (x % 1) 0 (omega arith))
 
-  pub encode-two : offered n ≡ true → (length info ≡ code n .informationOctets → ⊥) → encodeAnswer n info out ≡ record { number = 2; out = out }
-  unfolding encodeAnswer
-  encode-two e d = if-yes (offered n) (record { number = 1; out = out }) _ (is-offered n e) ∙ other info (code n .informationOctets) (record { number = 2; out = out }) _ d
-
-  pub encode-three : offered n ≡ true → length info ≡ code n .informationOctets → (length out ≡ code n .wordOctets → ⊥) → encodeAnswer n info out ≡ record { number = 3; out = out }
-  unfolding encodeAnswer
-  encode-three e li d =
-      if-yes (offered n) (record { number = 1; out = out }) _ (is-offered n e)
-      ∙ if-long info (code n .informationOctets) (record { number = 2; out = out }) _ li ∙ other out (code n .wordOctets) (record { number = 3; out = out }) _ d
-
-  pub encode-four : offered n ≡ true → length info ≡ code n .informationOctets → length out ≡ code n .wordOctets → sixSet n info ≡ true → encodeAnswer n info out ≡ record { number = 4; out = out }
-  unfolding encodeAnswer
-  encode-four e li lo six =
-      if-yes (offered n) (record { number = 1; out = out }) _ (is-offered n e)
-      ∙ if-long info (code n .informationOctets) (record { number = 2; out = out }) _ li
-      ∙ if-long out (code n .wordOctets) (record { number = 3; out = out }) _ lo
-      ∙ ap (λ b. if b then record { number = 4; out = out } else record { number = 0; out = written (code n) (encoded (code n) (lifted (code n) (bit info))) }) six
+pub six-is : (n : ℕ) → offered n ≡ true → {o : Offer} → o ≡ offerOf n → (info : List ℕ) → not (eqb (getD info (o .information - 1) 0 % o .multiple) 0) ≡ sixSet n info
+six-is n off {o} is info =
+    ap (λ z. not (eqb (getD info (z .information - 1) 0 % z .multiple) 0)) is
+    ∙ five (λ k. not (eqb (getD info (offerOf k .information - 1) 0 % offerOf k .multiple) 0) ≡ sixSet k info)
+    (one-divides (getD info 7 0)) (one-divides (getD info 15 0)) (one-divides (getD info 31 0)) refl (one-divides (getD info 891 0)) n (is-offered n off)
 
 -- ---- the information's octets hold the information bits and no more
 
@@ -111,9 +99,6 @@ module _ (n : ℕ) (off : offered n ≡ true) (info : List ℕ) (long : length i
 -- only the bits that the checks are over are written
 pub written-upTo : (n : ℕ) (x : Word) → written (code n) (upTo (bits (code n)) x) ≡ written (code n) x
 written-upTo n x = ap (octets (code n .wordOctets)) (sent-same (code n) (upTo (bits (code n)) x) x (λ i l. ap (λ b. b && x i) (lt-ltb i (bits (code n)) l)))
-
-pub six-length : (n : ℕ) (info : List ℕ) → length info ≡ code n .informationOctets → n ≡ 4 → length info ≡ 895
-six-length n info e f = e ∙ ap (λ k. code k .informationOctets) f ∙ four-sizes .1
 
 pub few-information : (n : ℕ) → offered n ≡ true → code n .informationOctets ≤ 1022
 unfolding code code1 code2 code3 code4 code5

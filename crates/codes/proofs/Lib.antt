@@ -1,5 +1,4 @@
-pub mod Refusals
+pub mod Admitted
 pub mod Encoding
-pub mod Judging
 pub mod Correcting
 pub mod Outcomes

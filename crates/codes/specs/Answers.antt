@@ -1,7 +1,7 @@
 -- The calls' results as the definition's answers.
 use mathlib.Core.List.{List}
 use Prim.Native.Nat.{ℕ}
-use Rattle.rules.specs.Calls.{Encoded as EncodedAnswer, Checked as CheckedAnswer, Opened as OpenedAnswer, Corrected as CorrectedAnswer, Stepped as SteppedAnswer}
+use Rattle.answers.specs.Calls.{Encoded as EncodedAnswer, Checked as CheckedAnswer, Opened as OpenedAnswer, Corrected as CorrectedAnswer, Stepped as SteppedAnswer}
 use Rattle.codes.specs.declared.Checked.{Checked}
 use Rattle.codes.specs.declared.Corrected.{Corrected}
 use Rattle.codes.specs.declared.Stepped.{Stepped}

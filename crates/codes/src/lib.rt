@@ -2,20 +2,16 @@
 ghost use mathlib.Core.Path.{_≡_};
 ghost use mathlib.Core.Bool.{true, false};
 ghost use mathlib.Core.List.{List};
-ghost use Prim.Native.Nat.{ℕ};
-ghost use lib.Dec.{ltb};
+ghost use Prim.Native.Nat.{ℕ, _≤_};
 ghost use lib.ListN.{length};
-ghost use Rattle.rules.specs.Bits.{bit, count};
-ghost use Rattle.rules.specs.Codes.{code as codeOf};
-ghost use Rattle.rules.specs.Checks.{broken};
-ghost use Rattle.rules.specs.Encoding.{lifted, encoded, codeword};
-ghost use Rattle.rules.specs.Flipping.{Run};
-ghost use Rattle.rules.specs.Calls.{offered, written, sixSet, judged, encodeAnswer, checkAnswer, openAnswer, correctAnswer, stepAnswer};
-ghost use Rattle.rules.proofs.Answers.{ranFrom, steppedFrom};
-ghost use Rattle.layout.specs.declared.Shape.{Shape};
-ghost use Rattle.vectors.specs.Vectors.{wbit};
-ghost use Rattle.received.specs.Measured.{Measured};
+ghost use Rattle.bits.specs.Bits.{bit};
+ghost use Rattle.rules.specs.Codes.{code as codeOf, offered};
+ghost use Rattle.rules.specs.Encoding.{lifted, encoded, written, codeword};
+ghost use Rattle.answers.specs.Calls.{sixSet, ranFrom, steppedFrom, refusedCheck, refusedCorrect, refusedStep, encodeAnswer, checkAnswer, openAnswer, correctAnswer, stepAnswer};
+ghost use Rattle.offer.specs.Offers.{offerOf, Known};
 ghost use Rattle.codes.specs.Answers.{asEncoded, asChecked, asOpened, asCorrected, asStepped};
+use offer::Offer;
+use runs::Next;
 
 #[repr(C)]
 pub struct Checked {
@@ -39,100 +35,79 @@ pub struct Stepped {
     pub excess: i8,
 }
 
-// Whether an unsent bit of code 5 is set.
-fn unsent_set(y: &[u64]) -> bool
-    requires { ⌜ length (now y) ≡ 130 ⌝ }
-    ensures { λ r. ⌜ r ≡ ltb 0 (count 18 (wbit (now (y .entry)))) ⌝ }
+// What a refused check gives besides its number.
+fn refused_check(number: u8) -> Checked
+    ensures { λ r. ⌜ asChecked r ≡ refusedCheck number ⌝ }
 {
-    let mut v = [0u64; 1];
-    vectors::cut(y, 0, 18, &mut v);
-    0 < vectors::ones(&v)
+    Checked {
+        number: number,
+        broken: 0,
+    }
 }
 
-// The number of a run: after a quiet end 7 for an unsent bit, then 8 for parity unlike the encoder's.
-fn judge(code: u8, y: &[u64], number: u8) -> u8
-    requires { ⌜ (offered code ≡ true) × (length (now y) ≡ 130) ⌝ }
-    ensures { λ r. ⌜ ((run : Run) → run .number ≡ number → run .word ≡ wbit (now (y .entry)) → (number ≡ 0 → broken (codeOf code) (wbit (now (y .entry))) ≡ 0) → r ≡ judged (codeOf code) run) ⌝ }
+// What a correct refused by 1 to 3 gives besides its number.
+fn refused_correct(number: u8) -> Corrected
+    ensures { λ r. ⌜ ((out : List ℕ) → asCorrected r out ≡ refusedCorrect out number) ⌝ }
 {
-    if number != 0 {
-        return number;
+    Corrected {
+        number: number,
+        flips: 0,
+        first: 0,
+        last: 0,
     }
-    if code < 4 {
-        return 0;
-    }
-    if code == 5 {
-        if unsent_set(y) {
-            return 7;
-        }
-    }
-    if ownparity::own_parity(y) { 0 } else { 8 }
 }
 
-// Whether a measured word is a codeword.
-fn is_codeword(code: u8, y: &[u64], s: &[u64]) -> bool
-    requires { ⌜ (offered code ≡ true) × (length (now y) ≡ 130) × (length (now s) ≡ 16) ⌝ }
-    ensures { λ r. ⌜ ((word t : List ℕ) (sh : Shape) → length word ≡ codeOf code .wordOctets → Measured code word t (wbit (now (y .entry))) (wbit (now (s .entry))) sh → r ≡ codeword (codeOf code) (bit word)) ⌝ }
+// What a refused step gives besides its number.
+fn refused_step(number: u8) -> Stepped
+    ensures { λ r. ⌜ ((out : List ℕ) → asStepped r out ≡ refusedStep out number) ⌝ }
 {
-    if syndromes::broken(s) != 0 {
-        return false;
+    Stepped {
+        number: number,
+        quiet: false,
+        bit: 0,
+        excess: 0,
     }
-    if code < 4 {
-        return true;
-    }
-    if !ownparity::own_parity(y) {
-        return false;
-    }
-    if code == 5 {
-        if vectors::is_set(y, 8176) {
-            return false;
-        }
-        if vectors::is_set(y, 8177) {
-            return false;
-        }
-    }
-    true
 }
 
-// Whether one of the six last bits of code 4's information is set.
-fn six_set(code: u8, information: &[u8]) -> bool
-    requires { ⌜ (code ≡ 4 → length (now information) ≡ 895) ⌝ }
-    ensures { λ r. ⌜ r ≡ sixSet code (now (information .entry)) ⌝ }
+// Whether the last octet of the information is not a multiple of what it must be: one of code 4's last six bits is set.
+fn six_set(o: Offer, information: &[u8]) -> bool
+    requires { ⌜ Known o × (length (now information) ≡ o .information) ⌝ }
+    ensures { λ r. ⌜ ((n : ℕ) → offered n ≡ true → o ≡ offerOf n → r ≡ sixSet n (now (information .entry))) ⌝ }
 {
-    if code == 4 {
-        information[894] % 64 != 0
-    } else {
-        false
-    }
+    let last = o.information - 1;
+    information[last] % o.multiple != 0
 }
 
 // The encoding of information of the right length, whose spare bits are 0, into a word of the right length.
-fn encode_taken(code: u8, information: &[u8], word: &mut [u8])
-    requires { ⌜ (offered code ≡ true) × (length (now information) ≡ codeOf code .informationOctets) × (length (now word) ≡ codeOf code .wordOctets) × (sixSet code (now information) ≡ false) ⌝ }
+fn encode_taken(code: u8, o: Offer, information: &[u8], word: &mut [u8])
+    requires { ⌜ (offered code ≡ true) × (o ≡ offerOf code) × (length (now information) ≡ codeOf code .informationOctets) × (length (now word) ≡ codeOf code .wordOctets) × (sixSet code (now information) ≡ false) ⌝ }
     ensures { λ _. ⌜ now (word .exit) ≡ written (codeOf code) (encoded (codeOf code) (lifted (codeOf code) (bit (now (information .entry))))) ⌝ }
 {
     let mut y = [0u64; 130];
-    received::take(code, information, &mut y);
+    received::take(information, o.unsent, &mut y);
     generators::encode(code, &mut y);
-    received::write(code, &mut y, word);
+    received::write(&mut y, o.unsent, o.bits, word);
 }
 
 // Information in, word out.
 pub fn encode(code: u8, information: &[u8], word: &mut [u8]) -> u8
     ensures { λ r. ⌜ asEncoded r (now (word .exit)) ≡ encodeAnswer code (now (information .entry)) (now (word .entry)) ⌝ }
 {
-    if !received::is_offered(code) {
-        return 1;
+    let o = offer::of(code);
+    let number = ladder::refusal(
+        o.offered,
+        information.len(),
+        o.information,
+        word.len(),
+        o.word,
+    );
+    if number != 0 {
+        return number;
     }
-    if information.len() != received::information_octets(code) {
-        return 2;
-    }
-    if word.len() != received::word_octets(code) {
-        return 3;
-    }
-    if six_set(code, information) {
+    if six_set(o, information) {
         return 4;
     }
-    encode_taken(code, information, word);
+    encode_taken(code, o, information, word);
     0
 }
 
@@ -140,80 +115,68 @@ pub fn encode(code: u8, information: &[u8], word: &mut [u8]) -> u8
 pub fn check(code: u8, word: &[u8]) -> Checked
     ensures { λ r. ⌜ asChecked r ≡ checkAnswer code (now (word .entry)) ⌝ }
 {
-    if !received::is_offered(code) {
-        return Checked {
-            number: 1,
-            broken: 0,
-        };
-    }
-    if word.len() != received::word_octets(code) {
-        return Checked {
-            number: 2,
-            broken: 0,
-        };
+    let o = offer::of(code);
+    let number = ladder::refusal(o.offered, word.len(), o.word, 0, 0);
+    if number != 0 {
+        return refused_check(number);
     }
     let mut t = [0u16; 64];
     let mut y = [0u64; 130];
     let mut s = [0u64; 16];
-    received::measure(code, word, &mut t, &mut y, &mut s);
+    measured::measure(o, word, &mut t, &mut y, &mut s);
     Checked {
         number: 0,
         broken: syndromes::broken(&s),
     }
 }
 
+// Whether a word of the right length is a codeword.
+fn opens(o: Offer, word: &[u8]) -> bool
+    requires { ⌜ Known o × (length (now word) ≡ o .word) ⌝ }
+    ensures { λ r. ⌜ ((n : ℕ) → offered n ≡ true → o ≡ offerOf n → r ≡ codeword (codeOf n) (bit (now (word .entry)))) ⌝ }
+{
+    let mut t = [0u16; 64];
+    let mut y = [0u64; 130];
+    let mut s = [0u64; 16];
+    measured::measure(o, word, &mut t, &mut y, &mut s);
+    judging::is_codeword(o, &y, &s)
+}
+
 // The information octets of a codeword, lent back as a part of the word.
 pub fn open<'a>(code: u8, word: &'a [u8], number: &mut u8) -> &'a [u8]
     ensures { λ r. ⌜ asOpened (now (number .exit)) (now r) ≡ openAnswer code (now (word .entry)) ⌝ }
 {
-    if !received::is_offered(code) {
-        *number = 1;
+    let o = offer::of(code);
+    let refused = ladder::refusal(o.opens, word.len(), o.word, 0, 0);
+    if refused != 0 {
+        *number = refused;
         return &word[..0];
     }
-    if code == 4 {
-        *number = 1;
-        return &word[..0];
-    }
-    if word.len() != received::word_octets(code) {
-        *number = 2;
-        return &word[..0];
-    }
-    if !opens(code, word) {
+    if !opens(o, word) {
         *number = 9;
         return &word[..0];
     }
     *number = 0;
-    let end = received::information_octets(code);
+    let end = o.information;
     &word[..end]
 }
 
-// Whether a word of the right length is a codeword.
-fn opens(code: u8, word: &[u8]) -> bool
-    requires { ⌜ (offered code ≡ true) × (length (now word) ≡ codeOf code .wordOctets) ⌝ }
-    ensures { λ r. ⌜ r ≡ codeword (codeOf code) (bit (now (word .entry))) ⌝ }
-{
-    let mut t = [0u16; 64];
-    let mut y = [0u64; 130];
-    let mut s = [0u64; 16];
-    received::measure(code, word, &mut t, &mut y, &mut s);
-    is_codeword(code, &y, &s)
-}
-
 // The flipping run on a word of the right length, into an output of the right length.
-fn correct_taken(code: u8, word: &[u8], limit: u16, out: &mut [u8]) -> Corrected
-    requires { ⌜ (offered code ≡ true) × (length (now word) ≡ codeOf code .wordOctets) × (length (now out) ≡ codeOf code .wordOctets) ⌝ }
-    ensures { λ r. ⌜ asCorrected r (now (out .exit)) ≡ ranFrom code (now (word .entry)) limit (now (out .entry)) ⌝ }
+fn correct_taken(o: Offer, word: &[u8], limit: u16, out: &mut [u8]) -> Corrected
+    requires { ⌜ Known o × (length (now word) ≡ o .word) × (length (now out) ≡ o .word) ⌝ }
+    ensures { λ r. ⌜ ((n : ℕ) → offered n ≡ true → o ≡ offerOf n → asCorrected r (now (out .exit)) ≡ ranFrom n (now (word .entry)) limit (now (out .entry))) ⌝ }
 {
     let mut t = [0u16; 64];
     let mut y = [0u64; 130];
     let mut s = [0u64; 16];
-    let sh = received::measure(code, word, &mut t, &mut y, &mut s);
+    measured::measure(o, word, &mut t, &mut y, &mut s);
     let first = syndromes::broken(&s);
+    let sh = o.shape;
     let ran = runs::run(&mut y, &mut s, &t, sh, limit);
     let last = syndromes::broken(&s);
-    let number = judge(code, &y, ran.number);
+    let number = judging::judge(o, &y, ran.number);
     if number == 0 {
-        received::write(code, &mut y, out);
+        received::write(&mut y, o.unsent, o.bits, out);
     }
     Corrected {
         number: number,
@@ -227,67 +190,46 @@ fn correct_taken(code: u8, word: &[u8], limit: u16, out: &mut [u8]) -> Corrected
 pub fn correct(code: u8, word: &[u8], limit: u16, out: &mut [u8]) -> Corrected
     ensures { λ r. ⌜ asCorrected r (now (out .exit)) ≡ correctAnswer code (now (word .entry)) limit (now (out .entry)) ⌝ }
 {
-    if !received::is_offered(code) {
-        return Corrected {
-            number: 1,
-            flips: 0,
-            first: 0,
-            last: 0,
-        };
+    let o = offer::of(code);
+    let number = ladder::refusal(o.offered, word.len(), o.word, out.len(), o.word);
+    if number != 0 {
+        return refused_correct(number);
     }
-    if word.len() != received::word_octets(code) {
-        return Corrected {
-            number: 2,
-            flips: 0,
-            first: 0,
-            last: 0,
-        };
-    }
-    if out.len() != received::word_octets(code) {
-        return Corrected {
-            number: 3,
-            flips: 0,
-            first: 0,
-            last: 0,
-        };
-    }
-    correct_taken(code, word, limit, out)
+    correct_taken(o, word, limit, out)
 }
 
 // One flip of the run on a word of the right length, into an output of the right length.
-fn step_taken(code: u8, word: &[u8], out: &mut [u8]) -> Stepped
-    requires { ⌜ (offered code ≡ true) × (length (now word) ≡ codeOf code .wordOctets) × (length (now out) ≡ codeOf code .wordOctets) ⌝ }
-    ensures { λ r. ⌜ asStepped r (now (out .exit)) ≡ steppedFrom code (now (word .entry)) (now (out .entry)) ⌝ }
+fn step_taken(o: Offer, word: &[u8], out: &mut [u8]) -> Stepped
+    requires { ⌜ Known o × (length (now word) ≡ o .word) × (length (now out) ≡ o .word) ⌝ }
+    ensures { λ r. ⌜ ((n : ℕ) → offered n ≡ true → o ≡ offerOf n → asStepped r (now (out .exit)) ≡ steppedFrom n (now (word .entry)) (now (out .entry))) ⌝ }
 {
     let mut t = [0u16; 64];
     let mut y = [0u64; 130];
     let mut s = [0u64; 16];
-    let sh = received::measure(code, word, &mut t, &mut y, &mut s);
-    let next = runs::next(&s, &t, sh);
-    if next.quiet {
-        copy(word, out);
-        return Stepped {
-            number: 0,
-            quiet: true,
-            bit: 0,
-            excess: 0,
-        };
-    }
-    if next.number == 5 {
-        return Stepped {
-            number: 5,
-            quiet: false,
-            bit: 0,
-            excess: 0,
-        };
-    }
-    vectors::turn_over(&mut y, next.bit);
-    received::write(code, &mut y, out);
-    Stepped {
-        number: 0,
-        quiet: false,
-        bit: next.bit as u32,
-        excess: next.excess as i8,
+    measured::measure(o, word, &mut t, &mut y, &mut s);
+    let sh = o.shape;
+    let next = runs::comes_next(&s, &t, sh);
+    match next {
+        Next::Quiet => {
+            copy(word, out);
+            Stepped {
+                number: 0,
+                quiet: true,
+                bit: 0,
+                excess: 0,
+            }
+        }
+        Next::Stuck(_, _) => refused_step(5),
+        Next::Flip(bit, excess) => {
+            vectors::turn_over(&mut y, bit);
+            received::write(&mut y, o.unsent, o.bits, out);
+            Stepped {
+                number: 0,
+                quiet: false,
+                bit: bit as u32,
+                excess: excess,
+            }
+        }
     }
 }
 
@@ -295,39 +237,12 @@ fn step_taken(code: u8, word: &[u8], out: &mut [u8]) -> Stepped
 pub fn step(code: u8, word: &[u8], out: &mut [u8]) -> Stepped
     ensures { λ r. ⌜ asStepped r (now (out .exit)) ≡ stepAnswer code (now (word .entry)) (now (out .entry)) ⌝ }
 {
-    if !received::is_offered(code) {
-        return Stepped {
-            number: 1,
-            quiet: false,
-            bit: 0,
-            excess: 0,
-        };
+    let o = offer::of(code);
+    let number = ladder::refusal(o.steps, word.len(), o.word, out.len(), o.word);
+    if number != 0 {
+        return refused_step(number);
     }
-    if code == 5 {
-        return Stepped {
-            number: 1,
-            quiet: false,
-            bit: 0,
-            excess: 0,
-        };
-    }
-    if word.len() != received::word_octets(code) {
-        return Stepped {
-            number: 2,
-            quiet: false,
-            bit: 0,
-            excess: 0,
-        };
-    }
-    if out.len() != received::word_octets(code) {
-        return Stepped {
-            number: 3,
-            quiet: false,
-            bit: 0,
-            excess: 0,
-        };
-    }
-    step_taken(code, word, out)
+    step_taken(o, word, out)
 }
 
 // The octets of a word into an output of the same length.

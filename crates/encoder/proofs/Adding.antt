@@ -7,10 +7,10 @@ use native.Mathlib.Nat.{add-zero, add-suc}
 use native.Mathlib.Numerals.{add-one}
 use native.Mathlib.Omega.{arith}
 use lib.Dec.{ltb, leb}
-use Rattle.rules.specs.Bits.{Word, _⊕_, sum}
-use Rattle.rules.proofs.Sums.{⊕-false}
+use Rattle.bits.specs.Bits.{Word, _⊕_, sum}
+use Rattle.bits.proofs.Sums.{⊕-false}
 use Rattle.vectors.specs.Vectors.{upTo, from, added}
-use Rattle.rules.proofs.Orders.{le-or-lt}
+use Rattle.bits.proofs.Orders.{le-or-lt}
 use Rattle.vectors.proofs.Places.{and-none, xor-none}
 use Rattle.vectors.proofs.Spans.{upTo-below, upTo-above, added-before, added-after, added-inside, added-twice}
 use Rattle.encoder.specs.Rows.{turns}

@@ -5,10 +5,10 @@ use mathlib.Core.Logic.{⊎-elim}
 use Prim.Native.Nat.{ℕ, suc, _+_, _-_, _*_, _%_, _^_, _≤_, _<_}
 use native.Mathlib.Omega.{arith}
 use lib.Count.{leadingZeros}
-use Rattle.rules.specs.Bits.{Word, digit}
+use Rattle.bits.specs.Bits.{Word, digit}
 use Rattle.vectors.specs.Vectors.{Holds, upTo, from}
-use Rattle.rules.proofs.Orders.{le-or-lt}
-use Rattle.rules.proofs.Octets.{digit-zero}
+use Rattle.bits.proofs.Orders.{le-or-lt}
+use Rattle.bits.proofs.Octets.{digit-zero}
 use Rattle.vectors.proofs.Places.{place, place-up, place-below, place-cut}
 use Rattle.vectors.proofs.Firsts.{First, first-digit}
 use Rattle.vectors.proofs.Spans.{upTo-below, upTo-above}

@@ -7,14 +7,14 @@ use Prim.Native.Nat.{ℕ, zero, suc, _+_, _-_, _*_, _/_, _%_, _≤_, _<_}
 use native.Mathlib.Nat.{mod-lt, add-mul, suc-mul}
 use native.Mathlib.Omega.{arith}
 use lib.Arith.{digits-div, digits-mod}
-use Rattle.rules.specs.Bits.{Word, _⊕_, sum}
+use Rattle.bits.specs.Bits.{Word, _⊕_, sum}
 use Rattle.rules.specs.Codes.{Code, information}
 use Rattle.rules.specs.Encoding.{printedBit, rowBit, parityBit, encoded}
-use Rattle.rules.proofs.Sums.{sum-same}
+use Rattle.bits.proofs.Sums.{sum-same}
 use Rattle.rules.proofs.Blocks.{sum-blocks}
 use Rattle.rules.proofs.Codewords.{parity-same, encoded-information, encoded-parity}
 use Rattle.vectors.specs.Vectors.{wbit, upTo, from, twice, added}
-use Rattle.rules.proofs.Orders.{le-or-lt}
+use Rattle.bits.proofs.Orders.{le-or-lt}
 use Rattle.vectors.proofs.Cells.{joined-above}
 use Rattle.vectors.proofs.Spans.{upTo-below, upTo-above, twice-turned, added-before, added-after, added-inside}
 use Rattle.layout.specs.declared.Shape.{Shape}

@@ -4,7 +4,7 @@ use mathlib.Core.Bool.{_&&_}
 use mathlib.Core.List.{List}
 use Prim.Native.Nat.{ℕ, _+_, _-_, _*_, _≤_, _<_}
 use lib.ListN.{length}
-use Rattle.rules.specs.Bits.{Word, sum}
+use Rattle.bits.specs.Bits.{Word, sum}
 use Rattle.rules.specs.Codes.{Code, bits, information}
 use Rattle.rules.specs.Encoding.{printedBit}
 use Rattle.vectors.specs.Vectors.{wbit, upTo, from, twice}

@@ -4,7 +4,7 @@ ghost use mathlib.Core.Path.{_≡_};
 ghost use mathlib.Core.Bool.{false};
 ghost use Prim.Native.Nat.{ℕ, _+_, _-_, _*_, _/_, _%_, _<_, _≤_};
 ghost use lib.ListN.{length};
-ghost use Rattle.rules.specs.Bits.{Word};
+ghost use Rattle.bits.specs.Bits.{Word};
 ghost use Rattle.rules.specs.Codes.{Code, bits};
 ghost use Rattle.rules.specs.Encoding.{encoded};
 ghost use Rattle.vectors.specs.Vectors.{wbit, Holds, upTo, from, added};

@@ -13,7 +13,8 @@ use Rattle.vectors.proofs.Places.{place, place-down, place-cut}
 use Rattle.vectors.proofs.Filling.{word-at}
 use Rattle.layout.specs.declared.Shape.{Shape}
 use Rattle.encoder.specs.Rows.{LentRows, rowStart}
-use Rattle.generators.specs.Words.{wordOf, printedWord, Prints}
+use Rattle.printed.specs.Words.{wordOf}
+use Rattle.generators.specs.Words.{printedWord, Prints}
 
 -- a place of a number, in its words
 place-word : (words number q j : ℕ) → j < 64 → place (wordOf words number q) j ≡ place number (64 * (words - suc q) + j)

@@ -7,27 +7,12 @@ use native.Mathlib.Decide.{ℕ-discrete}
 use native.Mathlib.Omega.{arith}
 use lib.Dec.{T, eqb, leb, eqb→eq, leb→le}
 use lib.ListN.{length, getD}
-use Rattle.rules.specs.Bits.{Word}
-use Rattle.rules.specs.Codes.{Code, code, bits, information}
+use Rattle.bits.specs.Bits.{Word, below}
+use Rattle.rules.specs.Codes.{Code, code, bits, information, offered}
 use Rattle.rules.specs.Encoding.{encoded}
-use Rattle.rules.specs.Calls.{offered}
-use Rattle.rules.specs.Identity.{below}
-use Rattle.rules.proofs.Sums.{and-l, and-r, below-at}
+use Rattle.bits.proofs.Sums.{and-l, and-r, below-at}
 use Rattle.vectors.specs.Vectors.{upTo}
-use Rattle.generators.specs.Words.{wordOf, printedWord, Prints}
-
--- the words of a number, of a row of numbers, and of a table
-abbrev wordsOf : ℕ → ℕ → ℕ → List ℕ
-wordsOf words number zero = []
-wordsOf words number (suc n) = wordOf words number (words - suc n) ∷ wordsOf words number n
-
-abbrev rowWords : ℕ → List ℕ → List (List ℕ)
-rowWords words [] = []
-rowWords words (number ∷ row) = wordsOf words number words ∷ rowWords words row
-
-abbrev pub tableWords : ℕ → List (List ℕ) → List (List (List ℕ))
-tableWords words [] = []
-tableWords words (row ∷ table) = rowWords words row ∷ tableWords words table
+use Rattle.generators.specs.Words.{printedWord, Prints}
 
 -- the test of a constant's words, laid flat, by the table's
 abbrev pub sameWords : {A : Type 0} → (A → ℕ → ℕ) → A → ℕ → ℕ → ℕ → List (List ℕ) → Bool

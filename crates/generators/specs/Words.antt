@@ -4,10 +4,7 @@ use mathlib.Core.List.{List, []}
 use Prim.Native.Nat.{ℕ, suc, _+_, _-_, _*_, _/_, _%_, _^_, _≤_, _<_}
 use lib.ListN.{length, getD}
 use Rattle.rules.specs.Codes.{Code}
-
--- Word q of a number that is written with so many words of 64 bits, the most significant first.
-abbrev pub wordOf : ℕ → ℕ → ℕ → ℕ
-wordOf words number q = number / 2 ^ (64 * (words - suc q)) % 2 ^ 64
+use Rattle.printed.specs.Words.{wordOf}
 
 -- Word i of all the numbers of a table, row after row, that has so many parts in a row and so many words in a number.
 abbrev pub printedWord : ℕ → ℕ → List (List ℕ) → ℕ → ℕ

@@ -7,14 +7,13 @@ use native.Mathlib.Nat.{zero-lt-suc, not-suc-le-zero, le-of-suc-le-suc, mod-lt, 
 use lib.Arith.{digits-div, digits-mod, digits-lt}
 use lib.Dec.{T, eqb, leb, ltb, eqb→eq, leb→le, ltb→lt}
 use lib.ListN.{length, getD}
-use Rattle.rules.specs.Bits.{Word, _⊕_, sum, flipped}
+use Rattle.bits.specs.Bits.{Word, _⊕_, sum, flipped, below, over, blocks, countOf}
 use Rattle.rules.specs.Codes.{Code, bits}
-use Rattle.rules.specs.Checks.{oneAt, check}
-use Rattle.rules.specs.Identity.{below, over, blocks}
-use Rattle.rules.proofs.Sums.{and-l, and-r, below-at, sum-same, pick, blocks-sum}
-use Rattle.rules.proofs.Counting.{each}
-use Rattle.rules.proofs.Blocks.{blk, checkIn, countOf, brokenIn, degree, distinct, shaped, Row, shaped-at, at-shift, one-sum, withTables, check-in, broken-in, degree-in}
-use Rattle.rules.proofs.Flips.{brokenOf, degreeOf, check-flip}
+use Rattle.rules.specs.Checks.{oneAt, check, brokenOf, degreeOf}
+use Rattle.bits.proofs.Sums.{and-l, and-r, below-at, sum-same, pick, blocks-sum}
+use Rattle.bits.proofs.Counting.{each}
+use Rattle.rules.proofs.Blocks.{blk, checkIn, brokenIn, degree, distinct, shaped, Row, shaped-at, at-shift, one-sum, withTables, check-in, broken-in, degree-in}
+use Rattle.rules.proofs.Flips.{check-flip}
 use Rattle.layout.specs.declared.Shape.{Shape}
 use Rattle.layout.specs.Lent.{shiftsOf, total, Lent}
 

@@ -5,12 +5,9 @@ use mathlib.Core.List.{List, [], _∷_}
 use Prim.Native.Nat.{ℕ, zero, suc, _+_, _-_, _*_, _/_, _%_, _≤_, _<_}
 use lib.Dec.{eqb, ltb}
 use lib.ListN.{length, getD}
-use Rattle.rules.specs.Bits.{Word, _⊕_, sum, flipped, if_then_else_}
+use Rattle.bits.specs.Bits.{Word, _⊕_, sum, flipped, if_then_else_, over, countOf}
 use Rattle.rules.specs.Codes.{Code, bits, checks}
-use Rattle.rules.specs.Checks.{check}
-use Rattle.rules.specs.Identity.{over}
-use Rattle.rules.proofs.Blocks.{countOf}
-use Rattle.rules.proofs.Flips.{brokenOf, degreeOf}
+use Rattle.rules.specs.Checks.{check, brokenOf, degreeOf}
 use Rattle.layout.specs.declared.Shape.{Shape}
 
 -- The numbers of a shape fit the engine's arrays; the flat table h has two places for each block.

@@ -9,11 +9,10 @@ use lib.Dec.{leb}
 use borrow.Author.Tests.{leb-true, leb-false}
 use lib.ListN.{length, take, drop, length-drop}
 use lib.Seq.{take-all, drop-append-le, take-append-le, drop-append-add}
-use Rattle.rules.specs.Codes.{code, code1, code2, code3, code4, code5}
-use Rattle.rules.specs.Calls.{offered}
+use Rattle.rules.specs.Codes.{code, code1, code2, code3, code4, code5, offered}
 use Rattle.lines.specs.Log.{lines, wordLine, word}
-use Rattle.rules.proofs.Answers.{five}
-use Rattle.received.proofs.Handed.{is-offered}
+use Rattle.rules.proofs.Numbers.{five}
+use Rattle.offer.proofs.Offers.{is-offered}
 
 -- the shortest words have 16 octets
 pub at-least : (n : ℕ) → offered n ≡ true → 16 ≤ code n .wordOctets

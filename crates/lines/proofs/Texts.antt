@@ -1,21 +1,21 @@
 -- Numbers and lines as text.
-use mathlib.Core.Path.{_≡_, refl, ap, _∙_}
+use mathlib.Core.Path.{_≡_, refl, sym, ap, ap₂, _∙_}
 use mathlib.Core.Bool.{Bool, true, false, not}
-use mathlib.Core.List.{List, [], _∷_, _++_, append-assoc}
+use mathlib.Core.List.{List, [], _∷_, _++_, append-nil, append-assoc}
 use Prim.Native.Nat.{ℕ, zero, suc, _+_, _-_, _/_, _%_, _^_, _≤_, _<_}
 use native.Mathlib.Nat.{pow-suc, div-lt-iff-lt-mul}
 use native.Mathlib.Numerals.{add-one}
 use native.Mathlib.Omega.{arith}
 use lib.Dec.{ltb, eqb}
-use lib.ListN.{length, take, set, length-append}
-use lib.Seq.{take-suc-set}
+use lib.ListN.{length, getD, take, set, length-append}
+use lib.Seq.{take-suc, take-suc-set}
 use borrow.Author.Tests.{ltb-true, ltb-false, lt-ltb, le-ltb}
-use Rattle.rules.specs.Bits.{bit, if_then_else_}
-use Rattle.rules.specs.Codes.{code}
+use Rattle.bits.specs.Bits.{bit, if_then_else_}
+use Rattle.rules.specs.Codes.{code, offered}
 use Rattle.rules.specs.Encoding.{lifted}
 use Rattle.rules.specs.Flipping.{byExcess, run}
-use Rattle.rules.specs.Calls.{offered, unlike, Corrected, refusedCorrect, ranCorrect, correctAnswer}
-use Rattle.lines.specs.Log.{digits, decimal, field, line}
+use Rattle.answers.specs.Calls.{refusal, unless, Corrected, refusedCorrect, ranCorrect, ranFrom, correctAnswer}
+use Rattle.lines.specs.Log.{digits, decimal, fields, numbers, line}
 
 -- ---- the digits of a number
 
@@ -85,33 +85,63 @@ long64 n h = decimal-long 19 n (omega arith)
 pub one-more : (t p x : List ℕ) (end v : ℕ) → end < length t → take end t ≡ p ++ x → take (end + 1) (set t end v) ≡ p ++ (x ++ (v ∷ []))
 one-more t p x end v h e = rw add-one (take-suc-set t end v h ∙ ap (λ (l : List ℕ). l ++ (v ∷ [])) e ∙ append-assoc p x (v ∷ []))
 
+-- an octet, and what is put behind it
+pub one-before : (t u x : List ℕ) (at r v : ℕ) → at < length t → take r u ≡ take (at + 1) (set t at v) ++ x → take r u ≡ take at t ++ (v ∷ x)
+one-before t u x at r v h e =
+    let f : take (at + 1) (set t at v) ≡ take at t ++ (v ∷ []) = rw add-one (take-suc-set t at v h) in
+    e ∙ ap (λ (l : List ℕ). l ++ x) f ∙ append-assoc (take at t) (v ∷ []) x
+
+-- one octet more of a text
+pub text-more : (t p s : List ℕ) (end k : ℕ) → end < length t → k < length s → take end t ≡ p ++ take k s
+    → take (end + 1) (set t end (getD s k 0)) ≡ p ++ take (k + 1) s
+text-more t p s end k h l e =
+    let f : take k s ++ (getD s k 0 ∷ []) ≡ take (k + 1) s = rw add-one (sym (take-suc s k 0 l)) in
+    one-more t p (take k s) end (getD s k 0) h e ∙ ap (λ (x : List ℕ). p ++ x) f
+
 -- ---- a line
 
--- one field more
-pub one-field : (t a p : List ℕ) (n m end : ℕ) → t ≡ a ++ field n end → n ≡ m → a ≡ p → t ≡ p ++ field m end
-one-field t a p n m end e f g = cc
+-- one number more
+pub fields-more : (ns : List ℕ) (n : ℕ) → fields (ns ++ (n ∷ [])) ≡ fields ns ++ (32 ∷ decimal n)
+unfolding fields
+fields-more [] n = ap (λ (l : List ℕ). 32 ∷ l) (append-nil (decimal n))
+fields-more (m ∷ ns) n = ap (λ (l : List ℕ). 32 ∷ l) (ap (λ (l : List ℕ). decimal m ++ l) (fields-more ns n) ∙ sym (append-assoc (decimal m) (fields ns) (32 ∷ decimal n)))
 
-pub line-joined : (p : List ℕ) (i : ℕ) (a : Corrected)
-    → ((((p ++ field i 32) ++ field (a .number) 32) ++ field (a .flips) 32) ++ field (a .first) 32) ++ field (a .last) 10 ≡ p ++ line i a
+pub fields-next : (ns p t u : List ℕ) (k : ℕ) → k < length ns → t ≡ u ++ (32 ∷ decimal (getD ns k 0)) → u ≡ p ++ fields (take k ns)
+    → t ≡ p ++ fields (take (k + 1) ns)
+fields-next ns p t u k h e f =
+    let g : take k ns ++ (getD ns k 0 ∷ []) ≡ take (k + 1) ns = rw add-one (sym (take-suc ns k 0 h)) in
+    e
+    ∙ ap (λ (l : List ℕ). l ++ (32 ∷ decimal (getD ns k 0))) f
+    ∙ append-assoc p (fields (take k ns)) (32 ∷ decimal (getD ns k 0))
+    ∙ ap (λ (l : List ℕ). p ++ l) (sym (fields-more (take k ns) (getD ns k 0)) ∙ ap fields g)
+
+-- a number, and those behind it
+pub both : {m n : ℕ} {ms ns : List ℕ} → m ≡ n → ms ≡ ns → m ∷ ms ≡ n ∷ ns
+both e f = ap₂ (λ (n : ℕ) (ns : List ℕ). n ∷ ns) e f
+
+-- index, numbers, the end of the line
+pub line-whole : {ns : List ℕ} (p t u : List ℕ) (i end : ℕ) (a : Corrected) → end < length t → take end t ≡ u ++ fields ns → u ≡ p ++ decimal i → ns ≡ numbers a
+    → take (end + 1) (set t end 10) ≡ p ++ line i a
 unfolding line
-line-joined p i a = simp append-assoc
+line-whole {ns} p t u i end a h e f g =
+    one-more t u (fields ns) end 10 h e
+    ∙ ap₂ (λ (x y : List ℕ). x ++ (fields y ++ (10 ∷ []))) f g
+    ∙ append-assoc p (decimal i) (fields (numbers a) ++ (10 ∷ []))
 
 -- a line does not show what the output was
 pub same-line : (i n : ℕ) (word : List ℕ) (limit : ℕ) (out other : List ℕ) → length out ≡ length other
     → line i (correctAnswer n word limit out) ≡ line i (correctAnswer n word limit other)
 unfolding line correctAnswer ranCorrect
 same-line i n word limit out other e =
-    ap (λ (long : ℕ). line i (answer (not (offered n)) (unlike word (code n .wordOctets)) (not (eqb long (code n .wordOctets))) out)) e
-    ∙ go (not (offered n)) (unlike word (code n .wordOctets)) (unlike other (code n .wordOctets))
+    ap (λ (long : ℕ). line i (answer (refusal (offered n) (length word) (code n .wordOctets) long (code n .wordOctets)) out)) e
+    ∙ go (refusal (offered n) (length word) (code n .wordOctets) (length other) (code n .wordOctets))
   where
-    answer : Bool → Bool → Bool → List ℕ → Corrected
-    answer b1 b2 b3 o =
-        let x = lifted (code n) (bit word) in
-        if b1 then refusedCorrect 1 o else if b2 then refusedCorrect 2 o else if b3 then refusedCorrect 3 o
-        else ranCorrect (code n) x (run (byExcess (code n)) limit x) o
+    answer : ℕ → List ℕ → Corrected
+    answer k o = unless k (refusedCorrect o) (ranFrom n word limit o)
 
-    go : (b1 b2 b3 : Bool) → line i (answer b1 b2 b3 out) ≡ line i (answer b1 b2 b3 other)
-    go true b2 b3 = refl
-    go false true b3 = refl
-    go false false true = refl
-    go false false false = refl
+    go : (k : ℕ) → line i (answer k out) ≡ line i (answer k other)
+    go k = by (eqb k 0)
+      where
+        by : (b : Bool) → line i (if b then ranFrom n word limit out else refusedCorrect out k) ≡ line i (if b then ranFrom n word limit other else refusedCorrect other k)
+        by true = refl
+        by false = refl

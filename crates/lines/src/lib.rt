@@ -1,13 +1,15 @@
-// The log of a recording: a line of five numbers for each word that is corrected.
+// The log of a recording, in parts: what its head gives, and what each block of words adds.
 ghost use mathlib.Core.Path.{_≡_};
-ghost use mathlib.Core.Bool.{true};
-ghost use mathlib.Core.List.{[], _++_};
-ghost use Prim.Native.Nat.{_+_, _-_, _*_, _/_, _≤_, _<_, _^_};
+ghost use mathlib.Core.Bool.{true, false};
+ghost use mathlib.Core.List.{List, [], _∷_, _++_};
+ghost use Prim.Native.Nat.{ℕ, _+_, _-_, _*_, _/_, _%_, _≤_, _<_, _^_};
 ghost use lib.ListN.{length, take};
-ghost use Rattle.rules.specs.Codes.{code as codeOf};
-ghost use Rattle.rules.specs.Calls.{offered};
+ghost use Rattle.rules.specs.Codes.{code as codeOf, offered};
+ghost use Rattle.answers.specs.Calls.{refusedCorrect};
 ghost use Rattle.codes.specs.Answers.{asCorrected};
-ghost use Rattle.lines.specs.Log.{decimal, field, line as lineOf, wordLine, lines as linesOf, words as wordsOf};
+ghost use Rattle.lines.specs.Log.{decimal, fields, numbers as numbersOf, header, line as lineOf, wordLine};
+ghost use Rattle.lines.specs.Log.{lines as linesOf, words as wordsOf, bad, log};
+ghost use Rattle.lines.specs.Parts.{Taken, Room, Counted, Adds};
 
 fn octet(n: u8) -> u64
     ensures { λ r. ⌜ (r ≡ n) × (r < 2 ^ 8) ⌝ }
@@ -43,26 +45,71 @@ fn put(n: u64, text: &mut [u8], at: usize) -> usize
     end + 1
 }
 
-// A number and the octet that ends it.
-fn put_field(n: u64, end: u8, text: &mut [u8], at: usize) -> usize
-    requires { ⌜ at + length (decimal n) < length (now text) ⌝ }
-    ensures { λ r. ⌜ (r ≡ at + length (decimal n) + 1) × (take r (now (text .exit)) ≡ take at (now (text .entry)) ++ field n end) ⌝ }
+// A space and a number. 21 octets hold any.
+fn put_field(n: u64, text: &mut [u8], at: usize) -> usize
+    requires { ⌜ at + 21 ≤ length (now text) ⌝ }
+    ensures { λ r. ⌜ (r ≤ at + 21) × (take r (now (text .exit)) ≡ take at (now (text .entry)) ++ (32 ∷ decimal n)) ⌝ }
 {
-    let stop = put(n, text, at);
-    text[stop] = end;
-    stop + 1
+    text[at] = b' ';
+    put(n, text, at + 1)
 }
 
-// The line of a word. 64 octets hold any.
-fn put_line(index: u64, a: codes::Corrected, text: &mut [u8], at: usize) -> usize
-    requires { ⌜ at + 64 ≤ length (now text) ⌝ }
-    ensures { λ r. ⌜ (r ≤ at + 64) × (take r (now (text .exit)) ≡ take at (now (text .entry)) ++ lineOf index (asCorrected a [])) ⌝ }
+// Numbers, a space before each.
+fn put_fields(numbers: &[u64], text: &mut [u8], at: usize) -> usize
+    requires { ⌜ at + 21 * length (now numbers) ≤ length (now text) ⌝ }
+    ensures { λ r. ⌜ r ≤ at + 21 * length (now (numbers .entry)) ⌝ }
+    ensures { λ r. ⌜ take r (now (text .exit)) ≡ take at (now (text .entry)) ++ fields (now (numbers .entry)) ⌝ }
 {
-    let number = put_field(index, b' ', text, at);
-    let flips = put_field(octet(a.number), b' ', text, number);
-    let first = put_field(wide(a.flips), b' ', text, flips);
-    let last = put_field(wide(a.first), b' ', text, first);
-    put_field(wide(a.last), b'\n', text, last)
+    let mut end = at;
+    let mut k: usize = 0;
+    while k < numbers.len() {
+        end = put_field(numbers[k], text, end);
+        k += 1;
+    }
+    end
+}
+
+// What a line gives of an answer. A further field of the answer is one entry here, one in the definition, and one in the proof.
+fn numbers(a: codes::Corrected) -> [u64; 4]
+    ensures { λ r. ⌜ r ≡ numbersOf (asCorrected a []) ⌝ }
+{
+    [octet(a.number), wide(a.flips), wide(a.first), wide(a.last)]
+}
+
+// The line of an answer. 128 octets hold any.
+fn put_line(index: u64, a: codes::Corrected, text: &mut [u8], at: usize) -> usize
+    requires { ⌜ at + 128 ≤ length (now text) ⌝ }
+    ensures { λ r. ⌜ (r ≤ at + 128) × (take r (now (text .exit)) ≡ take at (now (text .entry)) ++ lineOf index (asCorrected a [])) ⌝ }
+{
+    let values = numbers(a);
+    let start = put(index, text, at);
+    let end = put_fields(&values, text, start);
+    text[end] = b'\n';
+    end + 1
+}
+
+// A text as it stands, behind the text so far.
+fn put_text(octets: &[u8], text: &mut [u8], at: usize) -> usize
+    requires { ⌜ at + length (now octets) ≤ length (now text) ⌝ }
+    ensures { λ r. ⌜ r ≡ at + length (now (octets .entry)) ⌝ }
+    ensures { λ r. ⌜ take r (now (text .exit)) ≡ take at (now (text .entry)) ++ now (octets .entry) ⌝ }
+{
+    let mut end = at;
+    let mut k: usize = 0;
+    while k < octets.len() {
+        text[end] = octets[k];
+        end += 1;
+        k += 1;
+    }
+    end
+}
+
+// The header, at the start of the text.
+fn put_header(text: &mut [u8]) -> usize
+    requires { ⌜ 128 ≤ length (now text) ⌝ }
+    ensures { λ r. ⌜ (r ≤ 128) × (take r (now (text .exit)) ≡ header) ⌝ }
+{
+    put_text(b"word answer flips first last\n", text, 0)
 }
 
 // The lesser of two numbers.
@@ -82,15 +129,42 @@ fn write_word(
     text: &mut [u8],
     at: usize,
 ) -> usize
-    requires { ⌜ (length (now out) ≡ codeOf code .wordOctets) × (at + 64 ≤ length (now text)) ⌝ }
-    ensures { λ r. ⌜ (r ≤ at + 64) × (take r (now (text .exit)) ≡ take at (now (text .entry)) ++ wordLine code limit index (now (word .entry))) ⌝ }
+    requires { ⌜ (length (now out) ≡ codeOf code .wordOctets) × (at + 128 ≤ length (now text)) ⌝ }
+    ensures { λ r. ⌜ r ≤ at + 128 ⌝ }
+    ensures { λ r. ⌜ take r (now (text .exit)) ≡ take at (now (text .entry)) ++ wordLine code limit index (now (word .entry)) ⌝ }
 {
     let answer = codes::correct(code, word, limit, out);
     put_line(index, answer, text, at)
 }
 
-// Corrects the words of a part of a recording, one after another, and writes their lines: answers where the text ends.
-pub fn write(
+// Refusal 1, from correct itself, to which code 0 is not offered: a further field of the answer is no change here.
+fn refusal() -> codes::Corrected
+    ensures { λ r. ⌜ lineOf 0 (asCorrected r []) ≡ lineOf 0 (refusedCorrect [] 1) ⌝ }
+{
+    let word = [0u8; 1];
+    let mut out = [0u8; 1];
+    codes::correct(0, &word, 0, &mut out)
+}
+
+// The octets of a word.
+pub fn word_octets(code: u8) -> usize
+    requires { ⌜ offered code ≡ true ⌝ }
+    ensures { λ r. ⌜ (r ≡ codeOf code .wordOctets) × (16 ≤ r) × (r ≤ 1022) ⌝ }
+{
+    offer::word_octets(code)
+}
+
+// How many octets of whole words 64 KiB hold.
+pub fn block_octets(code: u8) -> usize
+    requires { ⌜ offered code ≡ true ⌝ }
+    ensures { λ r. ⌜ (r % codeOf code .wordOctets ≡ 0) × (0 < r) × (r ≤ 65536) ⌝ }
+{
+    let size = word_octets(code);
+    65536 / size * size
+}
+
+// Corrects words that are numbered from index on, one after another, and writes their lines: answers where the text ends.
+fn write_words(
     code: u8,
     limit: u16,
     index: u64,
@@ -98,10 +172,12 @@ pub fn write(
     out: &mut [u8],
     text: &mut [u8],
 ) -> usize
-    requires { ⌜ (offered code ≡ true) × (length (now out) ≡ codeOf code .wordOctets) × (4 * length (now words) + 64 ≤ length (now text)) × (index + length (now words) < 2 ^ 64) ⌝ }
-    ensures { λ r. ⌜ (r ≤ length (now (text .exit))) × (take r (now (text .exit)) ≡ linesOf code limit index (now (words .entry)) (wordsOf code (now (words .entry)))) ⌝ }
+    requires { ⌜ (offered code ≡ true) × (length (now out) ≡ codeOf code .wordOctets) ⌝ }
+    requires { ⌜ (8 * length (now words) + 128 ≤ length (now text)) × (index + length (now words) < 2 ^ 64) ⌝ }
+    ensures { λ r. ⌜ r ≤ length (now (text .exit)) ⌝ }
+    ensures { λ r. ⌜ take r (now (text .exit)) ≡ linesOf code limit index (now (words .entry)) (wordsOf code (now (words .entry))) ⌝ }
 {
-    let size = received::word_octets(code);
+    let size = word_octets(code);
     let count = (words.len() + (size - 1)) / size;
     let mut end: usize = 0;
     let mut k: usize = 0;
@@ -122,17 +198,38 @@ pub fn write(
     end
 }
 
-// How many whole words 64 KiB hold.
-pub fn words_held(code: u8) -> usize
-    requires { ⌜ offered code ≡ true ⌝ }
-    ensures { λ r. ⌜ (r ≡ 65536 / codeOf code .wordOctets) × (0 < r) × (r * codeOf code .wordOctets ≤ 65536) ⌝ }
-{
-    65536 / received::word_octets(code)
-}
-
 // The limit, high octet first.
-pub fn limit(high: u8, low: u8) -> u16
+fn limit(high: u8, low: u8) -> u16
     ensures { λ r. ⌜ r ≡ 256 * high + low ⌝ }
 {
     256 * high as u16 + low as u16
+}
+
+// Whether a recording has fewer than three octets, or a bad code.
+pub fn is_bad(head: &[u8]) -> bool
+    ensures { λ r. ⌜ r ≡ bad (now (head .entry)) ⌝ }
+{
+    head.len() < 3 || !offer::is_offered(head[0])
+}
+
+// The log of a recording's first three octets, or of the fewer that it has.
+pub fn begin(head: &[u8], text: &mut [u8]) -> usize
+    requires { ⌜ (length (now head) ≤ 3) × (256 ≤ length (now text)) ⌝ }
+    ensures { λ r. ⌜ (r ≤ length (now (text .exit))) × (take r (now (text .exit)) ≡ log (now (head .entry))) ⌝ }
+{
+    let end = put_header(text);
+    if is_bad(head) {
+        return put_line(0, refusal(), text, end);
+    }
+    end
+}
+
+// What the log grows by: corrects a block of words, before which so many octets of words were read, and writes their lines.
+pub fn go_on(head: &[u8], read: u64, words: &[u8], out: &mut [u8], text: &mut [u8]) -> usize
+    requires { ⌜ Taken (now head) × Room (now head) (now words) (now out) (now text) × Counted (now head) read (now words) ⌝ }
+    ensures { λ r. ⌜ (r ≤ length (now (text .exit))) × Adds (now (head .entry)) read (now (words .entry)) (take r (now (text .exit))) ⌝ }
+{
+    let code = head[0];
+    let index = read / word_octets(code) as u64;
+    write_words(code, limit(head[1], head[2]), index, words, out, text)
 }

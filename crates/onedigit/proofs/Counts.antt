@@ -7,8 +7,8 @@ use native.Mathlib.Omega.{arith}
 use mathlib.Core.List.{List}
 use lib.ListN.{getD, set}
 use lib.Seq.{set-set, set-getD}
-use Rattle.rules.specs.Bits.{count, tally}
-use Rattle.rules.proofs.Counting.{count-next}
+use Rattle.bits.specs.Bits.{count, tally}
+use Rattle.bits.proofs.Counting.{count-next}
 
 pub count-more : (t : ℕ) (f : ℕ → Bool) {n r : ℕ} {b : Bool} → n ≡ count t f → b ≡ f t → r ≡ tally b → n + r ≡ count (t + 1) f
 count-more t f {n} {r} {b} e p q = ap₂ (λ (x y : ℕ). x + y) e (q ∙ ap tally p) ∙ sym (count-next t f)

@@ -6,7 +6,7 @@ use native.Mathlib.Nat.{add-zero, zero-mul, zero-add}
 use lib.Bits.{bitXor, xor-block, xor-zero-r}
 use lib.Dec.{eqb, ltb}
 use lib.Pow.{pow-pos}
-use Rattle.rules.specs.Identity.{below}
+use Rattle.bits.specs.Bits.{below}
 
 -- A word is what is in front of a digit, the digit, and what is behind it.
 pub another-digit : (k front digit behind x : ℕ) → digit < 2 ^ 4 → x < 2 ^ 4 → behind < 2 ^ k

@@ -5,6 +5,7 @@ use Prim.Native.Nat.{ℕ, _+_, _*_, _/_, _%_, _^_}
 use lib.Bits.{bitXor}
 use lib.Dec.{eqb, ltb}
 use lib.ListN.{getD, set}
+use Rattle.bits.specs.Bits.{if_then_else_}
 use Rattle.ties.specs.Flat.{flatTied}
 
 -- One hex digit of one word is another: the digits differ by one of 15 numbers. The digits of a word are counted from the last.
@@ -19,11 +20,15 @@ otherDigit digits generator t =
 abbrev pub inBlock : List ℕ → ℕ → ℕ → Bool
 inBlock parity first s = eqb (getD parity first 0) s || (eqb (getD parity (first + 1) 0) s || eqb (getD parity (first + 2) 0) s)
 
--- A place holds something else, a shift or, as M is no shift, none. That is a wrong entry where the block does not have that shift, and
--- either the place has a shift, which is then another or left out, or it is the third place of its block, and the shift is added.
+-- A shift is added: the third place of a block has none, and is given one that the block does not have.
+abbrev pub added : ℕ → List ℕ → ℕ → ℕ → Bool
+added M parity place s = eqb (place % 3) 2 && (ltb s M && not (inBlock parity (place / 3 * 3) s))
+
+-- A place holds s instead: a shift or, as M is no shift, none. Where it has a shift, any other s is a wrong entry: another shift, also one
+-- that the block has already, or the shift left out. Where it has none, one is added.
 abbrev pub wrongEntry : ℕ → List ℕ → ℕ → ℕ → Bool
 wrongEntry M parity place s =
-    not (inBlock parity (place / 3 * 3) s) && (ltb (getD parity place 0) M || (eqb (place % 3) 2 && ltb s M))
+    if ltb (getD parity place 0) M then not (eqb (getD parity place 0) s) else added M parity place s
 
 -- What the identity notices: wrong digit t, and wrong entry t.
 abbrev pub digitNoticed : ℕ → ℕ → ℕ → ℕ → ℕ → ℕ → List ℕ → List ℕ → ℕ → Bool

@@ -1,13 +1,13 @@
 // Who would notice one wrong digit in a table? Tries every one, and counts those that break the identity between the two tables.
-mod tables;
+mod laid;
 
 ghost use mathlib.Core.Path.{_≡_};
 ghost use mathlib.Core.Bool.{not};
 ghost use Prim.Native.Nat.{ℕ, _+_, _*_, _/_, _%_, _^_, _<_, _≤_};
 ghost use lib.Bits.{bitXor};
 ghost use lib.ListN.{length, set};
-ghost use Rattle.rules.specs.Bits.{tally};
-ghost use Rattle.rules.specs.Bits as bits;
+ghost use Rattle.bits.specs.Bits.{tally};
+ghost use Rattle.bits.specs.Bits as bits;
 ghost use Rattle.rules.specs.Codes.{code};
 ghost use Rattle.rules.specs.Identity.{tied};
 ghost use Rattle.ties.specs.Flat.{Sizes, flatTied};
@@ -20,22 +20,15 @@ fn published(n: u8) -> bool
     ensures { λ r. ⌜ r ≡ tied (code n) ⌝ }
 {
     if n == 1 {
-        return ties::tied(16, 4, 4, 4, &tables::parity_16(), &tables::generator_16());
+        return ties::tied(16, 4, 4, 4, &laid::parity_16(), &laid::generator_16());
     }
     if n == 2 {
-        return ties::tied(32, 4, 4, 4, &tables::parity_32(), &tables::generator_32());
+        return ties::tied(32, 4, 4, 4, &laid::parity_32(), &laid::generator_32());
     }
     if n == 3 {
-        return ties::tied(64, 4, 4, 4, &tables::parity_64(), &tables::generator_64());
+        return ties::tied(64, 4, 4, 4, &laid::parity_64(), &laid::generator_64());
     }
-    ties::tied(
-        511,
-        2,
-        14,
-        2,
-        &tables::parity_511(),
-        &tables::generator_511(),
-    )
+    ties::tied(511, 2, 14, 2, &laid::parity_511(), &laid::generator_511())
 }
 
 // A try that counts.
@@ -159,8 +152,11 @@ fn wrong_entry(m: usize, parity: &[u16], place: usize, s: usize) -> bool
     requires { ⌜ (place < length (now parity)) × (length (now parity) % 3 ≡ 0) ⌝ }
     ensures { λ r. ⌜ r ≡ wrongEntry m (now (parity .entry)) place s ⌝ }
 {
-    let known = in_block(parity, place / 3 * 3, s);
-    !known & ((wide(parity[place]) < m) | ((place % 3 == 2) & (s < m)))
+    let held = wide(parity[place]);
+    if held < m {
+        return held != s;
+    }
+    (place % 3 == 2) & ((s < m) & !in_block(parity, place / 3 * 3, s))
 }
 
 // Whether that is a wrong entry and is noticed.
@@ -309,26 +305,8 @@ fn main() {
     answer(4);
     answer(5);
     text(b"\nOne wrong digit, tried everywhere. Code 5 has the tables of code 4.\n");
-    try_telecommand(
-        1,
-        16,
-        4,
-        &mut tables::parity_16(),
-        &mut tables::generator_16(),
-    );
-    try_telecommand(
-        2,
-        32,
-        8,
-        &mut tables::parity_32(),
-        &mut tables::generator_32(),
-    );
-    try_telecommand(
-        3,
-        64,
-        16,
-        &mut tables::parity_64(),
-        &mut tables::generator_64(),
-    );
-    try_near_earth(4, &mut tables::parity_511(), &mut tables::generator_511());
+    try_telecommand(1, 16, 4, &mut laid::parity_16(), &mut laid::generator_16());
+    try_telecommand(2, 32, 8, &mut laid::parity_32(), &mut laid::generator_32());
+    try_telecommand(3, 64, 16, &mut laid::parity_64(), &mut laid::generator_64());
+    try_near_earth(4, &mut laid::parity_511(), &mut laid::generator_511());
 }

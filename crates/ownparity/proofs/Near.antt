@@ -7,15 +7,13 @@ use native.Mathlib.Nat.{zero-lt-suc, div-lt-iff-lt-mul}
 use native.Mathlib.Omega.{arith}
 use lib.Dec.{T}
 use lib.ListN.{getD}
-use Rattle.rules.specs.Bits.{Word, digit, _⊕_, sum}
+use Rattle.bits.specs.Bits.{Word, digit, _⊕_, sum, below}
 use Rattle.rules.specs.Tables.{parity511, generator511}
 use Rattle.rules.specs.Codes.{Code, nearEarth}
 use Rattle.rules.specs.Checks.{broken}
-use Rattle.rules.specs.Encoding.{parityBit}
-use Rattle.rules.specs.Identity.{below}
-use Rattle.rules.proofs.Sums.{⊕-false, ⊕-self, ⊕-assoc, ⊕-eq, sum-same, below-at, not-true}
+use Rattle.rules.specs.Encoding.{parityBit, OwnParity}
+use Rattle.bits.proofs.Sums.{⊕-false, ⊕-self, ⊕-assoc, ⊕-eq, sum-same, below-at, not-true}
 use Rattle.rules.proofs.Quiet.{drawn}
-use Rattle.rules.proofs.Parity.{OwnParity}
 use Rattle.rules.proofs.Published.{nearInverted, near-inverted}
 use Rattle.ownparity.specs.Odd.{oddBlock, counted, oddTogether, evenTogether}
 use Rattle.ownparity.proofs.Ones.{sum-of-one, oddPairs, inverted-odd}

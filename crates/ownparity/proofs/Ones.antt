@@ -6,10 +6,10 @@ use Prim.Native.Nat.{ℕ, suc, _+_, _-_, _*_, _/_, _%_, _<_}
 use native.Mathlib.Nat.{add-assoc, add-mul}
 use lib.Arith.{digits-div, digits-mod, digits-lt}
 use lib.ListN.{getD, length}
-use Rattle.rules.specs.Bits.{Word, _⊕_, sum}
+use Rattle.bits.specs.Bits.{Word, _⊕_, sum}
 use Rattle.rules.specs.Codes.{Code}
 use Rattle.rules.specs.Encoding.{rowBit, parityBit}
-use Rattle.rules.proofs.Sums.{into, swap, turn, sum-linear, sum-same}
+use Rattle.bits.proofs.Sums.{into, swap, turn, sum-linear, sum-same}
 use Rattle.rules.proofs.Blocks.{blk, withTables, sum-blocks}
 use Rattle.rules.proofs.Quiet.{drawn}
 

@@ -10,14 +10,14 @@ use lib.Bits.{bitXor, bitAnd, and-le-l}
 use lib.Count.{ones}
 use lib.Dec.{eqb}
 use lib.ListN.{getD, length}
-use Rattle.rules.specs.Bits.{Word, digit, tally, number, _⊕_, sum, count}
-use Rattle.rules.proofs.Sums.{sum-linear, sum-same, sum-none}
+use Rattle.bits.specs.Bits.{Word, digit, tally, number, _⊕_, sum, count}
+use Rattle.bits.proofs.Sums.{sum-linear, sum-same, sum-none}
 use Rattle.rules.proofs.Blocks.{sum-blocks}
 use Rattle.vectors.specs.Vectors.{wbit, upTo}
-use Rattle.rules.proofs.Octets.{digit-zero}
+use Rattle.bits.proofs.Octets.{digit-zero}
 use Rattle.vectors.proofs.Places.{digit-xor, digit-and}
 use Rattle.vectors.proofs.Filling.{word-holds}
-use Rattle.rules.proofs.Octets.{digit-number}
+use Rattle.bits.proofs.Octets.{digit-number}
 use Rattle.vectors.proofs.Counts.{count-upTo, ones-count}
 
 -- ---- counts

@@ -3,8 +3,7 @@ use mathlib.Core.Bool.{Bool, not, _&&_}
 use mathlib.Core.List.{List, [], _∷_}
 use Prim.Native.Nat.{ℕ, _+_, _*_}
 use lib.ListN.{getD}
-use Rattle.rules.specs.Bits.{Word, digit, sum}
-use Rattle.rules.specs.Identity.{below}
+use Rattle.bits.specs.Bits.{Word, digit, sum, below}
 
 -- Whether block j has an odd number of ones.
 abbrev pub oddBlock : Word → ℕ → Bool

@@ -3,10 +3,10 @@ ghost use mathlib.Core.Path.{_≡_};
 ghost use mathlib.Core.Bool.{true};
 ghost use Prim.Native.Nat.{ℕ, _+_, _*_, _/_, _^_, _<_, _≤_};
 ghost use lib.ListN.{length};
-ghost use Rattle.rules.specs.Bits.{digit, tally, number, sum};
+ghost use Rattle.bits.specs.Bits.{digit, tally, number, sum};
 ghost use Rattle.rules.specs.Codes.{nearEarth};
 ghost use Rattle.rules.specs.Checks.{broken};
-ghost use Rattle.rules.proofs.Parity.{OwnParity};
+ghost use Rattle.rules.specs.Encoding.{OwnParity};
 ghost use Rattle.vectors.specs.Vectors.{wbit, from};
 ghost use Rattle.ownparity.specs.Odd.{oddBlock};
 

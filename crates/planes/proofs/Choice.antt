@@ -11,7 +11,7 @@ use lib.Dec.{T, ltb, ltb→lt, lt→ltb}
 use lib.IntN.{ℤ, pos, negsuc, subℕ}
 use lib.Signed.{ltZ, ltZ-yes, clashℤ}
 use Rattle.rules.specs.Flipping.{greatest}
-use Rattle.rules.proofs.Orders.{ltb-iff}
+use Rattle.bits.proofs.Orders.{ltb-iff}
 use Rattle.rules.proofs.Greatest.{Greatest, greatest-has}
 use Rattle.planes.specs.Ranges.{Top}
 

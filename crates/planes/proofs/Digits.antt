@@ -11,7 +11,7 @@ use lib.Arith.{mod-mul}
 use lib.Bits.{shifted-even}
 use lib.Dec.{eqb, ltb}
 use lib.Pow.{pow-pos, pow-add, shr-shr, shl-shr, high, low, ones-lt, ones-split}
-use Rattle.rules.specs.Bits.{digit, tally, _⊕_}
+use Rattle.bits.specs.Bits.{digit, tally, _⊕_}
 
 pub half : (a x : Bool) → tally (a ⊕ x) + 2 * tally (a && x) ≡ tally a + tally x
 half true true = refl

@@ -8,14 +8,14 @@ use native.Mathlib.Omega.{arith}
 use lib.Bits.{bitAnd}
 use lib.Dec.{ltb, lit<, lit≤}
 use borrow.Author.Tests.{ltb-true, lt-ltb}
-use Rattle.rules.specs.Bits.{digit, tally}
+use Rattle.bits.specs.Bits.{digit, tally}
 use Rattle.planes.specs.declared.Planes.{Planes}
 use Rattle.planes.specs.declared.Narrowed.{Narrowed}
 use Rattle.planes.specs.Counts.{value}
 use Rattle.planes.specs.Masks.{Narrow}
 use Rattle.planes.specs.Ranges.{Top}
-use Rattle.rules.proofs.Counting.{tally-le}
-use Rattle.rules.proofs.Octets.{digit-zero}
+use Rattle.bits.proofs.Counting.{tally-le}
+use Rattle.bits.proofs.Octets.{digit-zero}
 use Rattle.vectors.proofs.Places.{digit-and}
 use Rattle.vectors.proofs.Firsts.{First}
 

@@ -7,12 +7,12 @@ use native.Mathlib.Nat.{lt-of-not-le}
 use native.Mathlib.Decide.{decLe, decLt}
 use native.Mathlib.Omega.{arith}
 use borrow.Author.Tests.{lt-ltb, le-ltb}
-use Rattle.rules.specs.Bits.{digit, if_then_else_}
+use Rattle.bits.specs.Bits.{digit, if_then_else_}
 use Rattle.planes.specs.declared.Planes.{Planes}
 use Rattle.planes.specs.declared.Best.{Best}
 use Rattle.planes.specs.Counts.{value}
-use Rattle.planes.specs.Ranges.{Top, greaterOf}
-use Rattle.rules.proofs.Counting.{tally-le}
+use Rattle.planes.specs.Ranges.{Running, Top, greaterOf}
+use Rattle.bits.proofs.Counting.{tally-le}
 
 pub later : (b : Best) (score bit : ℕ) → b .score < score → greaterOf b score bit ≡ record { score = score; bit = bit }
 later b score bit l = ap (λ (t : Bool). if t then record { score = score; bit = bit } else b) (lt-ltb (b .score) score l)
@@ -90,11 +90,6 @@ count-le p {from} {to} {at} t =
     omega (arith, t .is, tally-le (digit 64 (p .one) at), tally-le (digit 64 (p .two) at), tally-le (digit 64 (p .four) at))
 
 -- ---- a best that is kept up from range to range
-
--- The best of the numbers below n; while there are none, bit 0 with the score 0.
-pub record Running (g : ℕ → ℕ) (n : ℕ) (b : Best) : Type 0 where
-  pub none : n ≡ 0 → b ≡ record { score = 0; bit = 0 }
-  pub best : 0 < n → Top g 0 n (b .bit) (b .score)
 
 pub running-none : (g : ℕ → ℕ) → Running g 0 (record { score = 0; bit = 0 })
 running-none g = record { none = λ e. refl; best = λ l. absurd (omega arith) }

@@ -1,6 +1,6 @@
 -- 64 counts in three planes of bits.
 use Prim.Native.Nat.{ℕ, _+_, _*_}
-use Rattle.rules.specs.Bits.{digit, tally}
+use Rattle.bits.specs.Bits.{digit, tally}
 use Rattle.planes.specs.declared.Planes.{Planes}
 
 -- Count i is written with bit i of each plane.

@@ -3,7 +3,7 @@ use mathlib.Core.Bool.{true}
 use mathlib.Core.Path.{_≡_}
 use mathlib.Core.Logic.{_⊎_}
 use Prim.Native.Nat.{ℕ, _≤_, _<_}
-use Rattle.rules.specs.Bits.{digit, tally}
+use Rattle.bits.specs.Bits.{digit, tally}
 use Rattle.planes.specs.declared.Narrowed.{Narrowed}
 
 -- Of the places in a mask, those are left where the plane's digit is the greatest that it has at any of them.

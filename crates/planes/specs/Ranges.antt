@@ -2,7 +2,7 @@
 use mathlib.Core.Path.{_≡_}
 use Prim.Native.Nat.{ℕ, _≤_, _<_}
 use lib.Dec.{ltb}
-use Rattle.rules.specs.Bits.{if_then_else_}
+use Rattle.bits.specs.Bits.{if_then_else_}
 use Rattle.planes.specs.declared.Best.{Best}
 
 -- In the range from `from` to below `to`, g is greatest at `bit`, where it is `score`, and it is less at every lower number.
@@ -16,3 +16,8 @@ pub record Top (g : ℕ → ℕ) (from to bit score : ℕ) : Type 0 where
 -- Of a bit and a later one, the later one only if its score is greater.
 abbrev pub greaterOf : Best → ℕ → ℕ → Best
 greaterOf b score bit = if ltb (b .score) score then record { score = score; bit = bit } else b
+
+-- The best of the numbers below n; while there are none, bit 0 with the score 0.
+pub record Running (g : ℕ → ℕ) (n : ℕ) (b : Best) : Type 0 where
+  pub none : n ≡ 0 → b ≡ record { score = 0; bit = 0 }
+  pub best : 0 < n → Top g 0 n (b .bit) (b .score)

@@ -1,7 +1,7 @@
 // 64 small counts side by side in three bit planes, the greatest of them, and the best bit of several ranges.
 ghost use mathlib.Core.Path.{_≡_};
 ghost use Prim.Native.Nat.{ℕ, _+_, _<_, _≤_};
-ghost use Rattle.rules.specs.Bits.{digit, tally};
+ghost use Rattle.bits.specs.Bits.{digit, tally};
 ghost use Rattle.planes.specs.Counts.{value};
 ghost use Rattle.planes.specs.Ranges.{Top, greaterOf};
 ghost use Rattle.planes.specs.Masks.{Narrow};

@@ -2,19 +2,22 @@
 use mathlib.Core.Path.{_≡_, refl, sym, ap, ap₂, _∙_, fun-ext, subst}
 use mathlib.Core.Bool.{Bool, true, false, not, _&&_, _||_, and-true, and-comm}
 use mathlib.Core.List.{List, [], _∷_}
-use Prim.Native.Nat.{ℕ, zero, suc, _+_, _-_, _*_, _/_, _%_, _<_, zero-le}
+use Prim.Native.Nat.{ℕ, zero, suc, _+_, _-_, _*_, _/_, _%_, _<_, zero-le, suc-le-suc}
 use native.Mathlib.Nat.{zero-lt-suc, mod-lt, add-zero, zero-add, add-comm, add-assoc, add-suc, suc-mul, zero-mul, mod-eq-of-lt, mod-add-mod, add-mod-right, le-of-lt, sub-add-cancel, add-sub-of-le, not-suc-le-zero, le-of-suc-le-suc, div-lt-iff-lt-mul, lt-of-le-of-lt}
 use native.Mathlib.Numerals.{one-add}
 use lib.Arith.{digits-div, digits-mod}
 use lib.Dec.{T, eqb, eqb→eq, ltb, ltb→lt}
 use lib.ListN.{length, getD}
-use Rattle.rules.specs.Bits.{Word, _⊕_, tally, sum, count}
-use Rattle.rules.specs.Codes.{Code, checks}
+use Rattle.bits.specs.Bits.{Word, _⊕_, tally, sum, count, below, over, blocks, countOf}
+use Rattle.rules.specs.Codes.{Code, bits, checks}
 use Rattle.rules.specs.Checks.{oneAt, covers, check}
-use Rattle.rules.specs.Identity.{below, over, blocks}
-use Rattle.rules.proofs.Sums.{⊕-false, ⊕-assoc, sum-linear, sum-same, pick, blocks-sum, and-l, and-r, below-at, not-true, eqb-iff}
-use Rattle.rules.proofs.Cyclic.{cancel}
-use Rattle.rules.proofs.Counting.{count-same, count-none, count-pick, count-apart, count-rows, each}
+use Rattle.bits.proofs.Sums.{⊕-false, ⊕-assoc, sum-linear, sum-same, pick, blocks-sum, and-l, and-r, below-at, not-true, eqb-iff}
+use Rattle.bits.proofs.Cyclic.{cancel}
+use Rattle.bits.proofs.Counting.{count-same, count-none, count-pick, count-apart, count-rows, each}
+
+-- an entry 7, M = 16: row 9 has its one at column 0
+pub entry-column : oneAt 16 (7 ∷ []) 9 0 ≡ true
+entry-column = refl
 
 -- ---- words by blocks
 
@@ -25,11 +28,6 @@ blk M x b k = x (b * M + k)
 -- check i of a row of blocks, by its shifts
 abbrev pub checkIn : ℕ → List (List ℕ) → (ℕ → ℕ → Bool) → ℕ → Bool
 checkIn M row w i = blocks row 0 (λ b s. w b ((i + s) % M))
-
--- a count over the shifts of a block
-abbrev pub countOf : List ℕ → (ℕ → Bool) → ℕ
-countOf [] f = 0
-countOf (s ∷ S) f = tally (f s) + countOf S f
 
 pub count-all : (S : List ℕ) → countOf S (λ s. true) ≡ length S
 count-all [] = refl
@@ -143,6 +141,18 @@ module _ (m : ℕ) where
       ∙ count-pick (suc m) ((k + (suc m - s)) % suc m) g (mod-lt (k + (suc m - s)) (zero-lt-suc m)))
       (one-count S k g h (rest s S t))
 
+  -- the columns that have a one in row i
+  pub one-wide : (S : List ℕ) (i : ℕ) → T (distinct (suc m) S) → count (suc m) (λ k. oneAt (suc m) S i k) ≡ length S
+  one-wide [] i t = count-none (suc m) (λ k. false) (λ k l. refl)
+  one-wide (s ∷ S) i t =
+      count-apart (suc m) (λ k. eqb k ((i + s) % suc m) && true) (λ k. oneAt (suc m) S i k) (λ k. oneAt (suc m) (s ∷ S) i k)
+      (λ k l. ap tally (sym (and-true (oneAt (suc m) (s ∷ S) i k)))
+      ∙ tally-apart (eqb ((i + s) % suc m) k) (oneAt (suc m) S i k) true (λ e.
+      ap (oneAt (suc m) S i) (sym (eqb→eq ((i + s) % suc m) k (subst T (sym e) tt))) ∙ one-elsewhere S i s (low s S t) (alone s S t))
+      ∙ ap₂ (λ a b. tally (a && true) + tally b) (eqb-iff ((i + s) % suc m) k k ((i + s) % suc m) sym sym) (and-true (oneAt (suc m) S i k)))
+      ∙ ap₂ (λ a b. a + b) (count-pick (suc m) ((i + s) % suc m) (λ k. true) (mod-lt (i + s) (zero-lt-suc m))) (one-wide S i (rest s S t))
+      ∙ one-add (length S)
+
 sum-add : (a b : ℕ) (f : ℕ → Bool) → sum (a + b) f ≡ sum a f ⊕ sum b (λ i. f (a + i))
 unfolding sum
 sum-add a zero f = ap (λ z. sum z f) (add-zero a) ∙ sym (⊕-false (sum a f))
@@ -219,3 +229,17 @@ module _ (wordOctets informationOctets unsent m : ℕ) (H : List (List (List ℕ
       go : (H : List (List (List ℕ))) → each H (λ row. countOf (getD row (n / suc m) []) (λ s. true)) ≡ each H (λ row. length (getD row (n / suc m) []))
       go [] = refl
       go (row ∷ H) = ap₂ (λ a b. a + b) (count-all (getD row (n / suc m) [])) (go H)
+
+  -- how many bits a check covers, by the entries of its row
+  pub check-wide : (k : ℕ) → k < checks c → count (bits c) (λ n. covers c k n) ≡ each (getD H (k / suc m) []) length
+  check-wide k h =
+      let first : Row (suc m) B (getD H 0 []) = shaped-at (suc m) B H shape 0 (lt-of-le-of-lt zero-le (row-of k h)) in
+      let here : Row (suc m) B (getD H (k / suc m) []) = shaped-at (suc m) B H shape (k / suc m) (row-of k h) in
+      ap (λ z. count (z * suc m) (λ n. covers c k n)) (first .long ∙ sym (here .long))
+      ∙ count-rows m (getD H (k / suc m) []) [] (λ S. oneAt (suc m) S (k % suc m))
+      ∙ go (getD H (k / suc m) []) (λ b l. here .apart b (subst (λ z. b < z) (here .long) l))
+    where
+      go : (row : List (List ℕ)) → ((b : ℕ) → b < length row → T (distinct (suc m) (getD row b [])))
+          → each row (λ S. count (suc m) (oneAt (suc m) S (k % suc m))) ≡ each row length
+      go [] t = refl
+      go (S ∷ row) t = ap₂ (λ a b. a + b) (one-wide m S (k % suc m) (t 0 (zero-lt-suc (length row)))) (go row (λ b l. t (suc b) (suc-le-suc l)))

@@ -10,15 +10,22 @@ use lib.Dec.{T, ltb}
 use lib.ListN.{length, take}
 use lib.Seq.{getD-take}
 use borrow.Author.Tests.{lt-ltb, le-ltb}
-use Rattle.rules.specs.Bits.{Word, digit, bit, octets, _⊕_, agree, if_then_else_}
-use Rattle.rules.specs.Codes.{Code, bits, information}
+use Rattle.bits.specs.Bits.{Word, digit, bit, octets, _⊕_, agree, if_then_else_}
+use Rattle.rules.specs.Codes.{Code, bits, information, code5}
 use Rattle.rules.specs.Checks.{covers, check, broken}
-use Rattle.rules.specs.Encoding.{rowBit, parityBit, encoded, lifted, sent, codeword}
-use Rattle.rules.specs.Calls.{written}
-use Rattle.rules.proofs.Sums.{⊕-eq, ⊕-self, sum-same}
-use Rattle.rules.proofs.Octets.{bit-octets, octets-same, octets-bit, Octets}
-use Rattle.rules.proofs.Parity.{OwnParity}
+use Rattle.rules.specs.Encoding.{rowBit, parityBit, encoded, lifted, sent, codeword, written, OwnParity}
+use Rattle.bits.proofs.Sums.{⊕-eq, ⊕-self, sum-same}
+use Rattle.bits.proofs.Octets.{bit-octets, octets-same, octets-bit, Octets}
 use Rattle.rules.proofs.Published.{Published}
+
+-- code 5: the unsent bits stand before the information, and the first bit sent comes next
+pub unsent-before : lifted code5 (λ n. true) 17 ≡ false
+unfolding lifted code5
+unsent-before = refl
+
+pub sent-next : lifted code5 (λ n. true) 18 ≡ true
+unfolding lifted code5
+sent-next = refl
 
 -- ---- agreement
 

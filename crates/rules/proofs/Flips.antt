@@ -7,27 +7,16 @@ use lib.Dec.{T, eqb, ltb, ltb→lt, nltb→le}
 use lib.IntN.{pos, negsuc, subℕ}
 use lib.Signed.{ltZ}
 use borrow.Author.Tests.{lt-ltb, le-ltb}
-use Rattle.rules.specs.Bits.{Word, _⊕_, sum, count, flipped}
+use Rattle.bits.specs.Bits.{Word, _⊕_, sum, count, flipped}
 use Rattle.rules.specs.Codes.{Code, bits, checks}
-use Rattle.rules.specs.Checks.{covers, check, broken, excess}
-use Rattle.rules.proofs.Orders.{ltb-iff}
-use Rattle.rules.proofs.Sums.{and-⊕, ⊕-assoc, ⊕-self, ⊕-false, sum-linear, pick}
-use Rattle.rules.proofs.Counting.{count-same, count-xor, count-split}
+use Rattle.rules.specs.Checks.{covers, check, broken, brokenOf, metOf, degreeOf, excess}
+use Rattle.bits.proofs.Orders.{ltb-iff}
+use Rattle.bits.proofs.Sums.{and-⊕, ⊕-assoc, ⊕-self, ⊕-false, sum-linear, pick}
+use Rattle.bits.proofs.Counting.{count-same, count-xor, count-split}
 
 -- a flip of a flip is none; two flips may change places
 pub flip-back : (x : Word) (n : ℕ) → flipped (flipped x n) n ≡ x
 flip-back x n = fun-ext (λ i. ⊕-assoc (x i) (eqb i n) (eqb i n) ∙ ap (λ z. x i ⊕ z) (⊕-self (eqb i n)) ∙ ⊕-false (x i))
-
-module _ (c : Code) (x : Word) (n : ℕ) where
-  -- of the checks that cover bit n: the broken ones, the met ones, all
-  unfoldable pub brokenOf : ℕ
-  brokenOf = count (checks c) (λ k. covers c k n && check c x k)
-
-  unfoldable pub metOf : ℕ
-  metOf = count (checks c) (λ k. covers c k n && not (check c x k))
-
-unfoldable pub degreeOf : Code → ℕ → ℕ
-degreeOf c n = count (checks c) (λ k. covers c k n)
 
 module _ (c : Code) (x : Word) (n : ℕ) where
   pub broken-met : brokenOf c x n + metOf c x n ≡ degreeOf c n
@@ -35,7 +24,7 @@ module _ (c : Code) (x : Word) (n : ℕ) where
   broken-met = count-split (checks c) (check c x) (λ k. covers c k n)
 
   pub excess-is : excess c x n ≡ subℕ (brokenOf c x n) (metOf c x n)
-  unfolding excess brokenOf metOf
+  unfolding excess
   excess-is = refl
 
   -- the checks that cover the bit are turned over, no others

@@ -8,7 +8,7 @@ use native.Mathlib.Omega.{arith}
 use lib.Dec.{T, ltb→lt, lt→ltb, leb→le, le→leb}
 use lib.IntN.{ℤ, pos, negsuc}
 use lib.Signed.{ltZ, leZ, _≤ℤ_, _<ℤ_, ltZ-yes, ltZ-no, ≤ℤ-refl, clashℤ}
-use Rattle.rules.specs.Bits.{if_then_else_}
+use Rattle.bits.specs.Bits.{if_then_else_}
 use Rattle.rules.specs.Flipping.{greatest}
 
 -- ---- the order of signed numbers
@@ -34,6 +34,11 @@ pub <ℤ-≤ℤ : {a b : ℤ} → a <ℤ b → a ≤ℤ b
 <ℤ-≤ℤ {a} {b} h = record { le = lt-le a b (h .lt) }
 
 -- ---- `greatest`
+
+-- of two bits of equal excess, the lower number
+pub lowest-of-equals : greatest 2 (λ n. pos 1) ≡ 0
+unfolding greatest
+lowest-of-equals = refl
 
 -- Below n, f is greatest at `bit`, and less at every lower number.
 pub record Greatest (n : ℕ) (f : ℕ → ℤ) (bit : ℕ) : Type 0 where

@@ -1,11 +1,8 @@
-pub mod Orders
-pub mod Sums
-pub mod Cyclic
-pub mod Counting
 pub mod Blocks
 pub mod Greatest
 pub mod Flips
 pub mod Runs
+pub mod Ways
 pub mod Choosing
 pub mod Shared
 pub mod Quiet
@@ -14,10 +11,5 @@ pub mod Inverse
 pub mod Parity
 pub mod Published
 pub mod Codewords
-pub mod Answers
-pub mod Demands
-pub mod Corrections
-pub mod Steps
-pub mod Refusals
-pub mod Cases
-pub mod Octets
+pub mod Numbers
+pub mod Degrees

@@ -1,26 +1,33 @@
 -- Words whose parity is the encoder's, and words that meet every check: the laws of the tables, said of a code.
 use mathlib.Core.Path.{_≡_, refl, sym, ap, ap₂, _∙_, fun-ext, subst}
-use mathlib.Core.Bool.{Bool, false, not, _&&_}
+use mathlib.Core.Bool.{Bool, true, false, not, _&&_}
 use mathlib.Core.List.{List, [], _∷_}
 use Prim.Native.Nat.{ℕ, suc, _+_, _-_, _*_, _/_, _%_, _<_}
 use native.Mathlib.Nat.{zero-lt-suc, mod-lt, add-zero, add-suc, suc-add, zero-add, add-assoc, add-mul, div-add-mod', div-lt-iff-lt-mul}
 use lib.Arith.{digits-div, digits-mod, digits-lt}
 use lib.Dec.{T, eqb}
 use lib.ListN.{getD, length}
-use Rattle.rules.specs.Bits.{Word, _⊕_, sum}
-use Rattle.rules.specs.Codes.{Code, bits, checks, information}
+use Rattle.bits.specs.Bits.{Word, _⊕_, sum}
+use Rattle.rules.specs.Tables.{generator16, generator511}
+use Rattle.rules.specs.Codes.{Code, bits, checks, information, code1, code4}
 use Rattle.rules.specs.Checks.{check, broken}
-use Rattle.rules.specs.Encoding.{parityBit}
+use Rattle.rules.specs.Encoding.{OwnParity, parityBit, printedBit, rowBit}
 use Rattle.rules.specs.Identity.{rowsTied}
-use Rattle.rules.proofs.Sums.{⊕-self, ⊕-assoc, sum-same, sum-front}
-use Rattle.rules.proofs.Counting.{count-none, none-counted}
+use Rattle.bits.proofs.Sums.{⊕-self, ⊕-assoc, sum-same, sum-front}
+use Rattle.bits.proofs.Counting.{count-none, none-counted}
 use Rattle.rules.proofs.Blocks.{blk, checkIn, shaped, withTables, check-in, sum-blocks}
 use Rattle.rules.proofs.Quiet.{drawn, shiftedSum, parityIn, drops, sized, quiet-all, differ}
 use Rattle.rules.proofs.Unique.{Invertible, unique, constant, turned, evens}
 
--- the parity of a word is what the encoder gives for its information bits
-abbrev pub OwnParity : Code → Word → Type 0
-OwnParity c x = (p : ℕ) → p < bits c - information c → x (information c + p) ≡ parityBit c x p
+-- the row of information bit 1 is the printed row shifted right: it begins with the last bit of 0E69
+pub shifted-right : rowBit code1 1 0 ≡ true
+unfolding code1 generator16
+shifted-right = refl
+
+-- of the digits 55.. the first bit is dropped, and the next is bit 0 of the row
+pub pad-dropped : printedBit code4 0 0 0 ≡ true
+unfolding code4 generator511
+pad-dropped = refl
 
 parity-sum : (M printed : ℕ) (gs : List (List ℕ)) (j : ℕ) (w : ℕ → ℕ → Bool) (c k : ℕ)
     → parityIn M printed gs j w c k ≡ sum (length gs) (λ i. shiftedSum M (drawn M printed (getD (getD gs i []) c 0)) (w (j + i)) k)

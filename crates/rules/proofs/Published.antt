@@ -6,21 +6,20 @@ use Prim.Native.Nat.{ℕ, suc, _+_, _-_, _*_, _/_, _≤_, _<_}
 use native.Mathlib.Nat.{zero-lt-suc, div-lt-iff-lt-mul, le-trans, le-of-eq}
 use lib.Dec.{T, eqb, leb, eqb→eq, leb→le, lit<, lit≤}
 use lib.ListN.{length, getD}
-use Rattle.rules.specs.Bits.{Word, _⊕_}
+use Rattle.bits.specs.Bits.{Word, _⊕_, below}
 use Rattle.rules.specs.Tables.{parity16, parity32, parity64, parity511, generator16, generator32, generator64, generator511}
 use Rattle.rules.specs.Codes.{Code, bits, information, code1, code2, code3, code4, code5}
-use Rattle.rules.specs.Checks.{broken}
-use Rattle.rules.specs.Encoding.{parityBit}
-use Rattle.rules.specs.Identity.{below, rowsTied, allPadded, tied}
-use Rattle.rules.proofs.Sums.{below-at}
+use Rattle.rules.specs.Checks.{broken, degreeOf}
+use Rattle.rules.specs.Encoding.{parityBit, OwnParity}
+use Rattle.rules.specs.Identity.{rowsTied, allPadded, tied}
+use Rattle.bits.proofs.Sums.{below-at}
 use Rattle.rules.proofs.Blocks.{degree, shaped, withTables, degree-in}
-use Rattle.rules.proofs.Flips.{degreeOf}
-use Rattle.rules.proofs.Choosing.{Girth}
+use Rattle.rules.proofs.Ways.{Girth}
 use Rattle.rules.proofs.Shared.{sharedOnce, shared-few}
 use Rattle.rules.proofs.Quiet.{drops, sized}
 use Rattle.rules.proofs.Unique.{Invertible, evens}
 use Rattle.rules.proofs.Inverse.{inverse16, inverse32, inverse64, inverse511}
-use Rattle.rules.proofs.Parity.{OwnParity, own-met, met-own, inverted, met-inverted, inverted-met}
+use Rattle.rules.proofs.Parity.{own-met, met-own, inverted, met-inverted, inverted-met}
 
 -- ---- the tests of one pair of tables
 
@@ -67,15 +66,15 @@ module _ (wordOctets informationOctets unsent m : ℕ) (H : List (List (List ℕ
 
 -- ---- computed, once for each table
 
-tests1 : Tests 16 8 0 15 parity16 generator16 16 8 4
+pub tests1 : Tests 16 8 0 15 parity16 generator16 16 8 4
 unfolding parity16 generator16
 tests1 = record { shape = tt; wide = refl; room = refl; tables = tt; size = tt; many = tt; apart = tt }
 
-tests2 : Tests 32 16 0 31 parity32 generator32 32 8 4
+pub tests2 : Tests 32 16 0 31 parity32 generator32 32 8 4
 unfolding parity32 generator32
 tests2 = record { shape = tt; wide = refl; room = refl; tables = tt; size = tt; many = tt; apart = tt }
 
-tests3 : Tests 64 32 0 63 parity64 generator64 64 8 4
+pub tests3 : Tests 64 32 0 63 parity64 generator64 64 8 4
 unfolding parity64 generator64
 tests3 = record { shape = tt; wide = refl; room = refl; tables = tt; size = tt; many = tt; apart = tt }
 
@@ -83,7 +82,7 @@ rows511 : T (rowsTied 511 512 parity511 generator511)
 unfolding parity511 generator511
 rows511 = tt
 
-nearTests : (wordOctets informationOctets unsent : ℕ) → Tests wordOctets informationOctets unsent 510 parity511 generator511 512 16 2
+pub nearTests : (wordOctets informationOctets unsent : ℕ) → Tests wordOctets informationOctets unsent 510 parity511 generator511 512 16 2
 unfolding parity511 generator511
 nearTests wordOctets informationOctets unsent = record { shape = tt; wide = refl; room = refl; tables = rows511; size = tt; many = tt; apart = tt }
 

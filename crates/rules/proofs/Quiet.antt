@@ -6,10 +6,10 @@ use Prim.Native.Nat.{ℕ, zero, suc, _+_, _-_, _%_, _<_}
 use native.Mathlib.Nat.{zero-lt-suc, mod-lt, add-zero, add-suc, suc-add, zero-add, not-suc-le-zero, le-of-suc-le-suc}
 use lib.Dec.{T, eqb, eqb→eq}
 use lib.ListN.{getD, length, drop}
-use Rattle.rules.specs.Bits.{digit, _⊕_, sum}
-use Rattle.rules.specs.Identity.{below, over, blocks, cancels, rowTied, rowsTied}
-use Rattle.rules.proofs.Sums.{⊕-eq, ⊕-self, ⊕-assoc, and-⊕, into, swap, sum-linear, over-linear, blocks-linear, blocks′, sum-same, sum-none, pick, blocks-from, blocks-same, and-l, and-r, below-at, not-true}
-use Rattle.rules.proofs.Cyclic.{either, near}
+use Rattle.bits.specs.Bits.{digit, _⊕_, sum, below, over, blocks}
+use Rattle.rules.specs.Identity.{cancels, rowTied, rowsTied}
+use Rattle.bits.proofs.Sums.{⊕-eq, ⊕-self, ⊕-assoc, and-⊕, into, swap, sum-linear, over-linear, blocks-linear, blocks′, sum-same, sum-none, pick, blocks-from, blocks-same, and-l, and-r, below-at, not-true}
+use Rattle.bits.proofs.Cyclic.{either, near}
 use Rattle.rules.proofs.Blocks.{checkIn}
 
 -- bit k of a printed row

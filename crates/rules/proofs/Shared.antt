@@ -9,14 +9,13 @@ use native.Mathlib.Omega.{arith}
 use lib.Dec.{T, eqb, eqb→eq}
 use lib.ListN.{getD}
 use borrow.Author.Tests.{eq-eqb, ne-eqb}
-use Rattle.rules.specs.Bits.{tally}
+use Rattle.bits.specs.Bits.{tally, below, countOf}
 use Rattle.rules.specs.Checks.{oneAt}
-use Rattle.rules.specs.Identity.{below}
-use Rattle.rules.proofs.Sums.{and-l, and-r, below-at, eqb-iff}
-use Rattle.rules.proofs.Cyclic.{cancel, near}
-use Rattle.rules.proofs.Counting.{each}
-use Rattle.rules.proofs.Blocks.{countOf, shaped, withTables, cover-rows}
-use Rattle.rules.proofs.Choosing.{shared}
+use Rattle.bits.proofs.Sums.{and-l, and-r, below-at, eqb-iff}
+use Rattle.bits.proofs.Cyclic.{cancel, near}
+use Rattle.bits.proofs.Counting.{each}
+use Rattle.rules.proofs.Blocks.{shaped, withTables, cover-rows}
+use Rattle.rules.proofs.Ways.{shared}
 
 -- ---- the test: over all block rows, no difference of a shift of one block and a shift of another stands twice
 

@@ -8,11 +8,11 @@ use native.Mathlib.Nat.{zero-lt-suc, mod-lt, add-zero, add-suc, suc-add, zero-ad
 use native.Mathlib.Omega.{arith}
 use lib.Dec.{T, eqb}
 use lib.ListN.{getD, length}
-use Rattle.rules.specs.Bits.{digit, _⊕_, sum}
-use Rattle.rules.specs.Identity.{below, over, blocks, rowsTied}
-use Rattle.rules.proofs.Sums.{⊕-eq, and-⊕, into, swap, sum-linear, over-linear, sum-same, sum-none, pick, turn, blocks-sum, blocks-same, and-l, and-r, below-at, not-true, eqb-iff}
+use Rattle.bits.specs.Bits.{digit, _⊕_, sum, below, over, blocks}
+use Rattle.rules.specs.Identity.{rowsTied}
+use Rattle.bits.proofs.Sums.{⊕-eq, and-⊕, into, swap, sum-linear, over-linear, sum-same, sum-none, pick, turn, blocks-sum, blocks-same, and-l, and-r, below-at, not-true, eqb-iff}
 use Rattle.rules.proofs.Quiet.{parityIn, drops, sized, differ, reduce-all, sized-at, length-drops}
-use Rattle.rules.proofs.Cyclic.{either, near, undo}
+use Rattle.bits.proofs.Cyclic.{either, near, undo}
 use Rattle.rules.proofs.Blocks.{checkIn}
 
 -- ---- the tests

@@ -5,7 +5,7 @@ use Prim.Native.Nat.{ℕ, _+_, _/_, _%_}
 use lib.Dec.{eqb}
 use lib.ListN.{getD}
 use lib.IntN.{ℤ, subℕ}
-use Rattle.rules.specs.Bits.{Word, sum, count}
+use Rattle.bits.specs.Bits.{Word, sum, count}
 use Rattle.rules.specs.Codes.{Code, bits, checks}
 
 -- A block is a square circulant of size M. An entry s means: in row i, a one at column (i + s) mod M. Two entries mean both ones.
@@ -27,9 +27,16 @@ check c x k = sum (bits c) (λ n. covers c k n && x n)
 unfoldable pub broken : Code → Word → ℕ
 broken c x = count (checks c) (check c x)
 
+-- Of the checks that cover a bit: the broken ones, the met ones, all of them.
+unfoldable pub brokenOf : Code → Word → ℕ → ℕ
+brokenOf c x n = count (checks c) (λ k. covers c k n && check c x k)
+
+unfoldable pub metOf : Code → Word → ℕ → ℕ
+metOf c x n = count (checks c) (λ k. covers c k n && not (check c x k))
+
+unfoldable pub degreeOf : Code → ℕ → ℕ
+degreeOf c n = count (checks c) (λ k. covers c k n)
+
 -- For a bit, its excess is the number of its broken checks less the number of its met checks: a signed number.
 unfoldable pub excess : Code → Word → ℕ → ℤ
-excess c x n =
-    subℕ
-    (count (checks c) (λ k. covers c k n && check c x k))
-    (count (checks c) (λ k. covers c k n && not (check c x k)))
+excess c x n = subℕ (brokenOf c x n) (metOf c x n)

@@ -1,6 +1,8 @@
 -- The five codes: their lengths and their tables.
+use mathlib.Core.Bool.{Bool, _&&_}
 use mathlib.Core.List.{List, [], _∷_}
 use Prim.Native.Nat.{ℕ, _-_, _*_}
+use lib.Dec.{leb}
 use lib.ListN.{length, getD}
 use Rattle.rules.specs.Tables.{parity16, parity32, parity64, parity511, generator16, generator32, generator64, generator511}
 
@@ -76,3 +78,11 @@ code5 = nearEarth 1020 892 18
 -- The code with a number from 1 to 5.
 unfoldable pub code : ℕ → Code
 code n = getD (code1 ∷ code2 ∷ code3 ∷ code4 ∷ code5 ∷ []) (n - 1) code1
+
+-- Codes 1 to 5 are offered.
+abbrev pub offered : ℕ → Bool
+offered n = leb 1 n && leb n 5
+
+-- Codes 1 to 3 are the telecommand codes.
+abbrev pub telecommanded : ℕ → Bool
+telecommanded n = leb 1 n && leb n 3

@@ -1,10 +1,11 @@
 -- Encoding, and what a codeword is.
 use mathlib.Core.Bool.{Bool, not, _&&_}
-use mathlib.Core.List.{[]}
-use Prim.Native.Nat.{ℕ, _+_, _-_, _*_, _/_, _%_}
+use mathlib.Core.Path.{_≡_}
+use mathlib.Core.List.{List, []}
+use Prim.Native.Nat.{ℕ, _+_, _-_, _*_, _/_, _%_, _<_}
 use lib.Dec.{ltb}
 use lib.ListN.{getD}
-use Rattle.rules.specs.Bits.{Word, digit, sum, agree, if_then_else_}
+use Rattle.bits.specs.Bits.{Word, digit, octets, sum, agree, if_then_else_}
 use Rattle.rules.specs.Codes.{Code, bits, information}
 
 -- Bit k of a printed row: where its digits carry more than M bits, the one in front is dropped, and the next bit is bit 0 of the row.
@@ -25,13 +26,22 @@ parityBit c x p = sum (information c) (λ n. x n && rowBit c n p)
 unfoldable pub encoded : Code → Word → Word
 encoded c x n = if ltb n (information c) then x n else parityBit c x (n - information c)
 
--- The bits that the checks are over, from those that are sent: the unsent ones in front are 0, and what is sent after the parity is not read.
+-- The bits that the checks are over, from those that are sent: the unsent ones in front are 0. What is sent after the parity, the last two
+-- bits of code 5, comes behind the bits that the checks are over: no check and no encoding reads it.
 unfoldable pub lifted : Code → Word → Word
 lifted c y n = not (ltb n (c .unsent)) && y (n - c .unsent)
 
 -- The bits that are sent: the unsent ones are left out, and zero bits follow the parity.
 unfoldable pub sent : Code → Word → Word
 sent c x n = ltb n (bits c - c .unsent) && x (n + c .unsent)
+
+-- The octets of a word as it is sent.
+abbrev pub written : Code → Word → List ℕ
+written c x = octets (c .wordOctets) (sent c x)
+
+-- Whether a word's parity is what the encoder gives for its information bits.
+abbrev pub OwnParity : Code → Word → Type 0
+OwnParity c x = (p : ℕ) → p < bits c - information c → x (information c + p) ≡ parityBit c x p
 
 -- A codeword is a word the encoder can give: what is encoded of its own information bits.
 unfoldable pub codeword : Code → Word → Bool

@@ -4,14 +4,15 @@ use Prim.Native.Nat.{ℕ, zero, suc}
 use lib.Dec.{eqb}
 use lib.IntN.{ℤ, pos}
 use lib.Signed.{ltZ}
-use Rattle.rules.specs.Bits.{Word, flipped, if_then_else_}
+use Rattle.bits.specs.Bits.{Word, flipped, if_then_else_}
 use Rattle.rules.specs.Codes.{Code, bits}
 use Rattle.rules.specs.Checks.{broken, excess}
 
--- What comes next for a word: no check is broken; or no bit has an excess above 0; or this bit, of this excess, is to be flipped.
+-- What comes next for a word: no check is broken; or no bit has an excess above 0, the greatest being this bit's; or this bit, of this excess,
+-- is to be flipped.
 pub data Next : Type 0 where
   quiet : Next
-  stuck : Next
+  stuck : ℕ → ℤ → Next
   flip : ℕ → ℤ → Next
 
 -- A way of choosing says what comes next for each word.
@@ -29,7 +30,7 @@ greatest (suc n) f = greater f (greatest n f) n
 
 -- A flip, if the excess is above 0.
 abbrev pub flipAbove : ℕ → ℤ → Next
-flipAbove n e = if ltZ (pos 0) e then flip n e else stuck
+flipAbove n e = if ltZ (pos 0) e then flip n e else stuck n e
 
 -- The way of the flipping run: the one bit of greatest excess; of several, the lowest number.
 unfoldable pub byExcess : Code → Way
@@ -56,5 +57,5 @@ after n e r = record { flips = record { bit = n; excess = e } ∷ r .flips; word
 -- A run repeats, in this order: 1. no check broken: the run ends quiet; 2. no bit has an excess above 0: refusal 5;
 -- 3. as many flips made as the limit allows: refusal 6; 4. flip the bit that is chosen.
 unfoldable pub run : Way → ℕ → Word → Run
-run way zero x = elim (way x) [ quiet ↦ ended 0 x | stuck ↦ ended 5 x | flip n e ↦ ended 6 x ]
-run way (suc limit) x = elim (way x) [ quiet ↦ ended 0 x | stuck ↦ ended 5 x | flip n e ↦ after n e (run way limit (flipped x n)) ]
+run way zero x = elim (way x) [ quiet ↦ ended 0 x | stuck n e ↦ ended 5 x | flip n e ↦ ended 6 x ]
+run way (suc limit) x = elim (way x) [ quiet ↦ ended 0 x | stuck n e ↦ ended 5 x | flip n e ↦ after n e (run way limit (flipped x n)) ]

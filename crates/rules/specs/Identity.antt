@@ -4,22 +4,8 @@ use mathlib.Core.List.{List, [], _∷_}
 use Prim.Native.Nat.{ℕ, zero, suc, _+_, _-_, _%_, _^_}
 use lib.Dec.{eqb, ltb}
 use lib.ListN.{length, getD, drop}
-use Rattle.rules.specs.Bits.{digit, _⊕_}
+use Rattle.bits.specs.Bits.{digit, _⊕_, below, over, blocks}
 use Rattle.rules.specs.Codes.{Code}
-
--- Whether something holds of every number below n.
-abbrev pub below : ℕ → (ℕ → Bool) → Bool
-below zero f = true
-below (suc n) f = f n && below n f
-
--- The sum modulo 2 over the shifts of a block, and over the shifts of several blocks, which are numbered from b.
-abbrev pub over : List ℕ → (ℕ → Bool) → Bool
-over [] f = false
-over (s ∷ shifts) f = f s ⊕ over shifts f
-
-abbrev pub blocks : List (List ℕ) → ℕ → (ℕ → ℕ → Bool) → Bool
-blocks [] b f = false
-blocks (shifts ∷ rest) b f = over shifts (f b) ⊕ blocks rest (suc b) f
 
 -- An information bit and a check that is d rows before it in its block: the bit's own ones there, and those of its parity, add up to 0.
 -- S is the information block, P the parity blocks of the same row, and g the printed row of the information block.

@@ -1,8 +1,6 @@
-pub mod Bits
 pub mod Tables
 pub mod Codes
 pub mod Checks
 pub mod Encoding
 pub mod Flipping
-pub mod Calls
 pub mod Identity

@@ -1,60 +1,81 @@
--- What comes next by score, and a run that goes on flip by flip.
-use mathlib.Core.Path.{_≡_, sym, ap, ap₂, _∙_, subst}
-use mathlib.Core.Bool.{true, false, cond}
+-- What comes next by score; and a run that goes on flip by flip, under any way of choosing.
+use mathlib.Core.Path.{_≡_, sym, ap, _∙_, subst}
+use mathlib.Core.Bool.{Bool, true, false, cond}
 use mathlib.Core.List.{List}
 use Prim.Native.Nat.{ℕ, suc, _+_, _-_, _*_, _≤_, _<_}
-use native.Mathlib.Nat.{mul-pos, zero-add, add-zero}
+use native.Mathlib.Nat.{zero-add, add-zero, lt-of-le-of-lt}
 use native.Mathlib.Omega.{arith}
-use borrow.Author.Tests.{lt-ltb, le-ltb, ne-eqb}
-use lib.Dec.{eqb}
-use lib.IntN.{ℤ, pos, negsuc, subℕ}
+use borrow.Author.Tests.{lt-ltb, le-ltb}
+use lib.IntN.{ℤ, pos, negsuc, subℕ, _-ℤ_}
+use lib.Signed.{mag}
+use lib.Dec.{ltb, lit<}
+use mir.Syntax.{w8}
+use mir.Val.{SFits, toZ, ofZ}
+use mir.Facts.{toZ-pos}
+use mir.ValLaws.{toZ-ofZ}
 use lib.ListN.{length}
-use Rattle.rules.specs.Bits.{Word, flipped, if_then_else_}
+use Rattle.bits.specs.Bits.{Word, flipped, if_then_else_}
 use Rattle.rules.specs.Codes.{Code, bits}
 use Rattle.rules.specs.Checks.{broken}
-use Rattle.rules.specs.Flipping.{quiet, stuck, flip, byExcess, ended, after, run}
+use Rattle.rules.specs.Flipping.{quiet, stuck, flip, Way, byExcess, ended, after, run}
+use Rattle.rules.proofs.Flips.{broken-met}
 use Rattle.rules.proofs.Runs.{run-quiet, run-stuck, run-limit, run-flip}
 use Rattle.layout.specs.declared.Shape.{Shape}
-use Rattle.layout.specs.Lent.{Fit, Lent, laid, score}
+use Rattle.layout.specs.Lent.{Lent, laid, score}
 use Rattle.planes.specs.Ranges.{Top}
-use Rattle.choice.proofs.Excesses.{best-next}
-use Rattle.runs.specs.declared.Turn.{Turn}
-use Rattle.runs.specs.Turns.{comesNext, RunsTo, Going}
+use Rattle.choice.proofs.Excesses.{best-next, degree-le}
+use Rattle.runs.specs.Turns.{RunsTo, Going}
 
--- a shape that fits has bits
-pub some-bits : {h : List ℕ} (sh : Shape) → Fit h sh → 1 ≤ sh .blocks → 0 < sh .blocks * sh .size
-some-bits sh fit h = mul-pos h (fit .some)
+-- a score of at most 15, less 8, as a signed octet
+module _ (top : ℕ) (small : top ≤ 15) where
+  pub score-fits : SFits w8 (pos top)
+  score-fits = record { sfits = lt-of-le-of-lt small (lit< tt) }
+
+  less : toZ w8 top -ℤ pos 8 ≡ subℕ top 8
+  less = ap (λ z. z -ℤ pos 8) (toZ-pos w8 (lt-of-le-of-lt small (lit< tt)))
+
+  in-range : (b : Bool) → mag (cond b (negsuc (8 - suc top)) (pos (top - 8))) < 128
+  in-range true = omega arith
+  in-range false = omega arith
+
+  pub excess-fits : SFits w8 (toZ w8 top -ℤ pos 8)
+  excess-fits = subst (SFits w8) (sym less) (record { sfits = in-range (ltb top 8) })
+
+  pub excess-kept : toZ w8 (ofZ w8 (toZ w8 top -ℤ pos 8)) ≡ subℕ top 8
+  excess-kept = toZ-ofZ w8 (toZ w8 top -ℤ pos 8) excess-fits ∙ less
 
 module _ {c : Code} {h : List ℕ} {sh : Shape} (lent : Lent c h sh) (x : Word) {bit top : ℕ} (t : Top (score c x) 0 (bits c) bit top) where
   pub top-lt : bit < sh .blocks * sh .size
   top-lt = subst (λ z. bit < z) (lent .bits-are) (t .under)
 
-  pub next-stuck : (broken c x ≡ 0 → ⊥) → top ≤ 8 → byExcess c x ≡ stuck
-  next-stuck d l = best-next lent x t d ∙ ap (λ b. if b then flip bit (subℕ top 8) else stuck) (le-ltb 8 top l)
+  -- a score is small, so that it has a sign's room
+  pub top-small : top ≤ 15
+  unfolding score
+  top-small = omega (arith, t .is, broken-met c x bit, degree-le lent x bit (t .under))
 
-  pub next-flip : (broken c x ≡ 0 → ⊥) → 8 < top → byExcess c x ≡ flip bit (pos (top - 8))
-  next-flip d l =
-      best-next lent x t d
-      ∙ ap (λ b. if b then flip bit (subℕ top 8) else stuck) (lt-ltb 8 top l)
-      ∙ ap (λ b. flip bit (cond b (negsuc (8 - suc top)) (pos (top - 8)))) (le-ltb top 8 (omega arith))
+  pub next-stuck : (broken c x ≡ 0 → ⊥) → top ≤ 8 → byExcess c x ≡ stuck bit (subℕ top 8)
+  next-stuck d l = best-next lent x t d ∙ ap (λ b. if b then flip bit (subℕ top 8) else stuck bit (subℕ top 8)) (le-ltb 8 top l)
+
+  pub next-flip : (broken c x ≡ 0 → ⊥) → 8 < top → byExcess c x ≡ flip bit (subℕ top 8)
+  next-flip d l = best-next lent x t d ∙ ap (λ b. if b then flip bit (subℕ top 8) else stuck bit (subℕ top 8)) (lt-ltb 8 top l)
 
 -- ---- the run, flip by flip
 
-module _ (c : Code) (sh : Shape) (limit : ℕ) (x : Word) where
-  pub going-start : (s : Word) → s ≡ laid c sh x → Going c sh limit x 0 x s
+module _ (way : Way) (c : Code) (sh : Shape) (limit : ℕ) (x : Word) where
+  pub going-start : (s : Word) → s ≡ laid c sh x → Going way c sh limit x 0 x s
   going-start s e =
       let z : limit - 0 ≡ limit = omega arith in
       record {
         within = omega arith;
         held = e;
-        number = ap (λ l. run (byExcess c) l x .number) (sym z);
-        count = ap (λ l. length (run (byExcess c) l x .flips)) (sym z) ∙ sym (zero-add (length (run (byExcess c) (limit - 0) x .flips)));
-        word = ap (λ l. run (byExcess c) l x .word) (sym z);
+        number = ap (λ l. run way l x .number) (sym z);
+        count = ap (λ l. length (run way l x .flips)) (sym z) ∙ sym (zero-add (length (run way (limit - 0) x .flips)));
+        word = ap (λ l. run way l x .word) (sym z);
       }
 
-  module _ (flips : ℕ) (y s : Word) (g : Going c sh limit x flips y s) where
+  module _ (flips : ℕ) (y s : Word) (g : Going way c sh limit x flips y s) where
     -- a run that ends where it has come to
-    ends : (n : ℕ) → run (byExcess c) (limit - flips) y ≡ ended n y → RunsTo c sh limit x (record { number = n; flips = flips }) y s
+    ends : (n : ℕ) → run way (limit - flips) y ≡ ended n y → RunsTo way c sh limit x (record { number = n; flips = flips }) y s
     ends n e = record {
       number = sym (g .number ∙ ap (λ r. r .number) e);
       flips = sym (g .count ∙ ap (λ r. flips + length (r .flips)) e ∙ add-zero flips);
@@ -62,22 +83,22 @@ module _ (c : Code) (sh : Shape) (limit : ℕ) (x : Word) where
       held = g .held;
     }
 
-    pub ends-quiet : byExcess c y ≡ quiet → RunsTo c sh limit x (record { number = 0; flips = flips }) y s
-    ends-quiet e = ends 0 (run-quiet (byExcess c) (limit - flips) y e)
+    pub ends-quiet : way y ≡ quiet → RunsTo way c sh limit x (record { number = 0; flips = flips }) y s
+    ends-quiet e = ends 0 (run-quiet way (limit - flips) y e)
 
-    pub ends-stuck : byExcess c y ≡ stuck → RunsTo c sh limit x (record { number = 5; flips = flips }) y s
-    ends-stuck e = ends 5 (run-stuck (byExcess c) (limit - flips) y e)
+    pub ends-stuck : (n : ℕ) (ex : ℤ) → way y ≡ stuck n ex → RunsTo way c sh limit x (record { number = 5; flips = flips }) y s
+    ends-stuck n ex e = ends 5 (run-stuck way (limit - flips) y n ex e)
 
-    pub ends-limit : (n : ℕ) (ex : ℤ) → byExcess c y ≡ flip n ex → limit ≤ flips → RunsTo c sh limit x (record { number = 6; flips = flips }) y s
+    pub ends-limit : (n : ℕ) (ex : ℤ) → way y ≡ flip n ex → limit ≤ flips → RunsTo way c sh limit x (record { number = 6; flips = flips }) y s
     ends-limit n ex e l =
         let z : limit - flips ≡ 0 = omega arith in
-        ends 6 (ap (λ k. run (byExcess c) k y) z ∙ run-limit (byExcess c) y n ex e)
+        ends 6 (ap (λ k. run way k y) z ∙ run-limit way y n ex e)
 
     -- and one that goes on
-    pub goes-on : (n : ℕ) (ex : ℤ) → byExcess c y ≡ flip n ex → flips < limit → (y′ s′ : Word) → y′ ≡ flipped y n → s′ ≡ laid c sh (flipped y n)
-        → Going c sh limit x (flips + 1) y′ s′
+    pub goes-on : (n : ℕ) (ex : ℤ) → way y ≡ flip n ex → flips < limit → (y′ s′ : Word) → y′ ≡ flipped y n → s′ ≡ laid c sh (flipped y n)
+        → Going way c sh limit x (flips + 1) y′ s′
     goes-on n ex e l y′ s′ here held =
-        subst (λ w. Going c sh limit x (flips + 1) w s′) (sym here) (record {
+        subst (λ w. Going way c sh limit x (flips + 1) w s′) (sym here) (record {
           within = omega arith;
           held = held;
           number = g .number ∙ ap (λ r. r .number) turns;
@@ -88,16 +109,5 @@ module _ (c : Code) (sh : Shape) (limit : ℕ) (x : Word) where
         left : limit - flips ≡ suc (limit - (flips + 1))
         left = omega arith
 
-        turns : run (byExcess c) (limit - flips) y ≡ after n ex (run (byExcess c) (limit - (flips + 1)) (flipped y n))
-        turns = ap (λ k. run (byExcess c) k y) left ∙ run-flip (byExcess c) (limit - (flips + 1)) y n ex e
-
--- ---- a turn, by its marks
-
-pub comes-quiet : (t : Turn) → t .quiet ≡ true → comesNext t ≡ quiet
-comes-quiet t e = ap (λ b. if b then quiet else if eqb (t .number) 5 then stuck else flip (t .bit) (pos (t .excess))) e
-
-pub comes-stuck : (t : Turn) → t .quiet ≡ false → t .number ≡ 5 → comesNext t ≡ stuck
-comes-stuck t e f = ap₂ (λ b k. if b then quiet else if eqb k 5 then stuck else flip (t .bit) (pos (t .excess))) e f
-
-pub comes-flip : (t : Turn) → t .quiet ≡ false → (t .number ≡ 5 → ⊥) → comesNext t ≡ flip (t .bit) (pos (t .excess))
-comes-flip t e f = ap₂ (λ b d. if b then quiet else if d then stuck else flip (t .bit) (pos (t .excess))) e (ne-eqb (t .number) 5 f)
+        turns : run way (limit - flips) y ≡ after n ex (run way (limit - (flips + 1)) (flipped y n))
+        turns = ap (λ k. run way k y) left ∙ run-flip way (limit - (flips + 1)) y n ex e

@@ -10,14 +10,13 @@ use native.Mathlib.Omega.{arith}
 use lib.Dec.{eqb, ltb}
 use lib.Arith.{digits-div, digits-mod}
 use borrow.Author.Tests.{lt-ltb, le-ltb, eq-eqb, ne-eqb}
-use Rattle.rules.specs.Bits.{Word, _⊕_, sum, count, flipped}
+use Rattle.bits.specs.Bits.{Word, _⊕_, sum, count, flipped, over}
 use Rattle.rules.specs.Codes.{Code}
 use Rattle.rules.specs.Checks.{check, broken}
-use Rattle.rules.specs.Identity.{over}
-use Rattle.rules.proofs.Sums.{over-linear, sum-same}
-use Rattle.rules.proofs.Counting.{count-same, count-none, count-add}
+use Rattle.bits.proofs.Sums.{over-linear, sum-same}
+use Rattle.bits.proofs.Counting.{count-same, count-none, count-add}
 use Rattle.vectors.specs.Vectors.{upTo}
-use Rattle.rules.proofs.Orders.{le-or-lt}
+use Rattle.bits.proofs.Orders.{le-or-lt}
 use Rattle.vectors.proofs.Cells.{low}
 use Rattle.vectors.proofs.Counts.{count-upTo}
 use Rattle.vectors.proofs.Spans.{upTo-below, upTo-above}

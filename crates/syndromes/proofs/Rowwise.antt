@@ -9,10 +9,10 @@ use native.Mathlib.Omega.{arith}
 use lib.Dec.{ltb}
 use lib.ListN.{length}
 use borrow.Author.Tests.{lt-ltb, le-ltb}
-use Rattle.rules.specs.Bits.{Word, _⊕_}
-use Rattle.rules.proofs.Sums.{⊕-false, and-⊕}
+use Rattle.bits.specs.Bits.{Word, _⊕_}
+use Rattle.bits.proofs.Sums.{⊕-false, and-⊕}
 use Rattle.vectors.specs.Vectors.{wbit, added}
-use Rattle.rules.proofs.Orders.{le-or-lt, eq-or-not}
+use Rattle.bits.proofs.Orders.{le-or-lt, eq-or-not}
 use Rattle.vectors.proofs.Cells.{split, low, high}
 use Rattle.vectors.proofs.Spans.{added-before, added-after, added-inside}
 use Rattle.syndromes.specs.Rows.{plus, rowed}

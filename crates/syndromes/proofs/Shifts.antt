@@ -9,11 +9,10 @@ use native.Mathlib.Omega.{arith}
 use lib.Dec.{ltb, leb, eqb}
 use lib.ListN.{getD}
 use borrow.Author.Tests.{lt-ltb, le-ltb, ne-eqb}
-use Rattle.rules.specs.Bits.{Word, _⊕_, flipped, if_then_else_}
-use Rattle.rules.specs.Identity.{over}
-use Rattle.rules.proofs.Sums.{⊕-false, eqb-iff}
+use Rattle.bits.specs.Bits.{Word, _⊕_, flipped, if_then_else_, over}
+use Rattle.bits.proofs.Sums.{⊕-false, eqb-iff}
 use Rattle.vectors.specs.Vectors.{added, upTo, from}
-use Rattle.rules.proofs.Orders.{le-or-lt}
+use Rattle.bits.proofs.Orders.{le-or-lt}
 use Rattle.vectors.proofs.Spans.{added-before, added-after, added-inside, added-twice, twice-turned, upTo-below}
 use Rattle.layout.specs.Lent.{kept, entries, placeOf}
 use Rattle.layout.specs.declared.Shape.{Shape}

@@ -10,9 +10,9 @@ use lib.Dec.{ltb}
 use lib.ListN.{length, getD, set}
 use lib.Arith.{digits-div, digits-mod}
 use borrow.Author.Tests.{lt-ltb, le-ltb}
-use Rattle.rules.specs.Bits.{Word, digit}
+use Rattle.bits.specs.Bits.{Word, digit}
 use Rattle.vectors.specs.Vectors.{wbit, Holds, upTo}
-use Rattle.rules.proofs.Orders.{le-or-lt, eq-or-not}
+use Rattle.bits.proofs.Orders.{le-or-lt, eq-or-not}
 use Rattle.vectors.proofs.Cells.{joined-start, joined-end}
 use Rattle.vectors.proofs.Filling.{word-holds, word-stored}
 use Rattle.vectors.proofs.Spans.{upTo-below, upTo-above}

@@ -3,8 +3,7 @@ use mathlib.Core.Bool.{not, _&&_, _||_}
 use mathlib.Core.List.{List}
 use Prim.Native.Nat.{ℕ, _+_, _-_, _*_, _/_, _%_}
 use lib.Dec.{eqb, ltb}
-use Rattle.rules.specs.Bits.{Word, _⊕_, sum}
-use Rattle.rules.specs.Identity.{over}
+use Rattle.bits.specs.Bits.{Word, _⊕_, sum, over}
 use Rattle.vectors.specs.Vectors.{upTo, from, twice}
 use Rattle.layout.specs.Lent.{shiftsOf}
 use Rattle.layout.specs.declared.Shape.{Shape}

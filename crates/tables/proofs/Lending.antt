@@ -1,65 +1,67 @@
 -- The constants are the codes' parity tables: each is compared with the definition's print by a computed test.
 use mathlib.Core.Path.{_≡_, refl, sym, subst}
+use mathlib.Core.Bool.{true}
 use mathlib.Core.List.{List}
 use Prim.Native.Nat.{ℕ, _≤_, _<_}
 use native.Mathlib.Decide.{ℕ-discrete}
 use native.Mathlib.Omega.{arith}
 use lib.Dec.{lit<, lit≤}
 use Rattle.rules.specs.Tables.{parity16, parity32, parity64, parity511, generator16, generator32, generator64, generator511}
-use Rattle.rules.specs.Codes.{code, code1, code2, code3, code4, code5}
-use Rattle.layout.specs.declared.Shape.{Shape}
+use Rattle.rules.specs.Codes.{code, code1, code2, code3, code4, code5, offered}
+use Rattle.rules.proofs.Numbers.{five}
 use Rattle.layout.proofs.Lending.{lent}
-use Rattle.tables.specs.Flat.{places16, places32, places64, places511, flat8, flat16, shapeOfCode, Lends}
+use Rattle.offer.specs.Offers.{offerOf}
+use Rattle.offer.proofs.Offers.{is-offered}
+use Rattle.tables.specs.Flat.{pairs, flat8, flat16, Lends}
 
-pub lends1 : Lends 1 (flat8 places16) (shapeOfCode 1)
+lends1 : Lends 1 (flat8 (pairs parity16)) (offerOf 1 .shape)
 unfolding code code1 parity16 generator16 flat8
 lends1 = record {
-  shape = refl;
   fit = record { some = lit≤ tt; held = lit≤ tt; close = lit< tt; words = lit≤ tt; blocks = lit≤ tt; rows = lit≤ tt; room = lit≤ tt; bits = lit≤ tt; flat = refl };
-  lent = lent 16 8 0 15 parity16 generator16 16 8 1 (flat8 places16) tt refl tt tt;
+  lent = lent 16 8 0 15 parity16 generator16 16 8 1 (flat8 (pairs parity16)) tt refl tt tt;
 }
 
-pub lends2 : Lends 2 (flat8 places32) (shapeOfCode 2)
+lends2 : Lends 2 (flat8 (pairs parity32)) (offerOf 2 .shape)
 unfolding code code2 parity32 generator32 flat8
 lends2 = record {
-  shape = refl;
   fit = record { some = lit≤ tt; held = lit≤ tt; close = lit< tt; words = lit≤ tt; blocks = lit≤ tt; rows = lit≤ tt; room = lit≤ tt; bits = lit≤ tt; flat = refl };
-  lent = lent 32 16 0 31 parity32 generator32 32 8 1 (flat8 places32) tt refl tt tt;
+  lent = lent 32 16 0 31 parity32 generator32 32 8 1 (flat8 (pairs parity32)) tt refl tt tt;
 }
 
-pub lends3 : Lends 3 (flat8 places64) (shapeOfCode 3)
+lends3 : Lends 3 (flat8 (pairs parity64)) (offerOf 3 .shape)
 unfolding code code3 parity64 generator64 flat8
 lends3 = record {
-  shape = refl;
   fit = record { some = lit≤ tt; held = lit≤ tt; close = lit< tt; words = lit≤ tt; blocks = lit≤ tt; rows = lit≤ tt; room = lit≤ tt; bits = lit≤ tt; flat = refl };
-  lent = lent 64 32 0 63 parity64 generator64 64 8 1 (flat8 places64) tt refl tt tt;
+  lent = lent 64 32 0 63 parity64 generator64 64 8 1 (flat8 (pairs parity64)) tt refl tt tt;
 }
 
-lends4 : Lends 4 (flat16 places511) (shapeOfCode 4)
+lends4 : Lends 4 (flat16 (pairs parity511)) (offerOf 4 .shape)
 unfolding code code4 parity511 generator511 flat16
 lends4 = record {
-  shape = refl;
   fit = record { some = lit≤ tt; held = lit≤ tt; close = lit< tt; words = lit≤ tt; blocks = lit≤ tt; rows = lit≤ tt; room = lit≤ tt; bits = lit≤ tt; flat = refl };
-  lent = lent 1022 895 0 510 parity511 generator511 512 16 8 (flat16 places511) tt refl tt tt;
+  lent = lent 1022 895 0 510 parity511 generator511 512 16 8 (flat16 (pairs parity511)) tt refl tt tt;
 }
 
-lends5 : Lends 5 (flat16 places511) (shapeOfCode 5)
+lends5 : Lends 5 (flat16 (pairs parity511)) (offerOf 5 .shape)
 unfolding code code5 parity511 generator511 flat16
 lends5 = record {
-  shape = refl;
   fit = lends4 .fit;
-  lent = lent 1020 892 18 510 parity511 generator511 512 16 8 (flat16 places511) tt refl tt tt;
+  lent = lent 1020 892 18 510 parity511 generator511 512 16 8 (flat16 (pairs parity511)) tt refl tt tt;
 }
 
--- a code's places and shape, by its number
-pub near-lends : (n : ℕ) → 1 ≤ n → n ≤ 5 → (n ≡ 1 → ⊥) → (n ≡ 2 → ⊥) → (n ≡ 3 → ⊥) → Lends n (flat16 places511) (record { size = 511; words = 8; blocks = 16; rows = 2 })
-near-lends n l h d1 d2 d3 = go (ℕ-discrete n 4)
-  where
-    go : Dec (n ≡ 4) → Lends n (flat16 places511) (record { size = 511; words = 8; blocks = 16; rows = 2 })
-    go (yes e) = subst (λ k. Lends k (flat16 places511) (record { size = 511; words = 8; blocks = 16; rows = 2 })) (sym e) lends4
-    go (no d) =
-        let e : n ≡ 5 = omega arith in
-        subst (λ k. Lends k (flat16 places511) (record { size = 511; words = 8; blocks = 16; rows = 2 })) (sym e) lends5
+-- the places of the table whose blocks have this size are those of every code that has them
+pub record Chosen (size : ℕ) (t : List ℕ) : Type 0 where
+  pub small : size ≡ 16 → t ≡ flat8 (pairs parity16)
+  pub middle : size ≡ 32 → t ≡ flat8 (pairs parity32)
+  pub large : size ≡ 64 → t ≡ flat8 (pairs parity64)
+  pub near : size ≡ 511 → t ≡ flat16 (pairs parity511)
 
-pub lends-as : (n k : ℕ) (t t′ : List ℕ) (sh : Shape) → n ≡ k → t ≡ t′ → Lends k t′ sh → Lends n t sh
-lends-as n k t t′ sh e f l = subst (λ z. Lends z t sh) (sym e) (subst (λ z. Lends k z sh) (sym f) l)
+pub by-size : (size : ℕ) (t : List ℕ) → Chosen size t → (n : ℕ) → offered n ≡ true → size ≡ offerOf n .shape .size → Lends n t (offerOf n .shape)
+by-size size t ch n o =
+    five (λ n. size ≡ offerOf n .shape .size → Lends n t (offerOf n .shape))
+    (λ e. subst (λ z. Lends 1 z (offerOf 1 .shape)) (sym (ch .small e)) lends1)
+    (λ e. subst (λ z. Lends 2 z (offerOf 2 .shape)) (sym (ch .middle e)) lends2)
+    (λ e. subst (λ z. Lends 3 z (offerOf 3 .shape)) (sym (ch .large e)) lends3)
+    (λ e. subst (λ z. Lends 4 z (offerOf 4 .shape)) (sym (ch .near e)) lends4)
+    (λ e. subst (λ z. Lends 5 z (offerOf 5 .shape)) (sym (ch .near e)) lends5)
+    n (is-offered n o)

@@ -1,9 +1,12 @@
 // The parity tables as nested constants, rows of blocks of shift pairs, and how they are lent to the engine.
 ghost use mathlib.Core.Path.{_≡_};
-ghost use Prim.Native.Nat.{_+_, _≤_, _*_};
+ghost use mathlib.Core.Bool.{true};
+ghost use Prim.Native.Nat.{ℕ, _+_, _≤_, _*_};
 ghost use lib.ListN.{length};
-ghost use Rattle.tables.specs.Flat.{RowLaid, flat8, flat16, places16, places32, places64, places511, Lends};
-use layout::Shape;
+ghost use Rattle.rules.specs.Codes.{offered};
+ghost use Rattle.rules.specs.Tables.{parity16, parity32, parity64, parity511};
+ghost use Rattle.offer.specs.Offers.{offerOf};
+ghost use Rattle.tables.specs.Flat.{RowLaid, pairs, flat8, flat16, Lends};
 
 // No entry: a number that is no shift of any table.
 const NONE: u16 = 65535;
@@ -217,75 +220,55 @@ fn flatten16(h: &[[[u16; 2]; 16]; 2], t: &mut [u16])
     }
 }
 
-fn lend16(t: &mut [u16])
+// The places of each table, laid flat.
+pub fn lend16(t: &mut [u16])
     requires { ⌜ length (now t) ≡ 64 ⌝ }
-    ensures { λ _. ⌜ now (t .exit) ≡ flat8 places16 ⌝ }
+    ensures { λ _. ⌜ now (t .exit) ≡ flat8 (pairs parity16) ⌝ }
 {
     let h = PARITY16;
     flatten8(&h, t);
 }
 
-fn lend32(t: &mut [u16])
+pub fn lend32(t: &mut [u16])
     requires { ⌜ length (now t) ≡ 64 ⌝ }
-    ensures { λ _. ⌜ now (t .exit) ≡ flat8 places32 ⌝ }
+    ensures { λ _. ⌜ now (t .exit) ≡ flat8 (pairs parity32) ⌝ }
 {
     let h = PARITY32;
     flatten8(&h, t);
 }
 
-fn lend64(t: &mut [u16])
+pub fn lend64(t: &mut [u16])
     requires { ⌜ length (now t) ≡ 64 ⌝ }
-    ensures { λ _. ⌜ now (t .exit) ≡ flat8 places64 ⌝ }
+    ensures { λ _. ⌜ now (t .exit) ≡ flat8 (pairs parity64) ⌝ }
 {
     let h = PARITY64;
     flatten8(&h, t);
 }
 
-fn lend511(t: &mut [u16])
+pub fn lend511(t: &mut [u16])
     requires { ⌜ length (now t) ≡ 64 ⌝ }
-    ensures { λ _. ⌜ now (t .exit) ≡ flat16 places511 ⌝ }
+    ensures { λ _. ⌜ now (t .exit) ≡ flat16 (pairs parity511) ⌝ }
 {
     let h = PARITY511;
     flatten16(&h, t);
 }
 
-// The parity table of a code, lent: its places into t, and its shape.
-pub fn lend(code: u8, t: &mut [u16]) -> Shape
-    requires { ⌜ (1 ≤ code) × (code ≤ 5) × (length (now t) ≡ 64) ⌝ }
-    ensures { λ r. ⌜ Lends code (now (t .exit)) r ⌝ }
+// The parity table whose blocks have this size, lent: its places into t.
+pub fn lend(size: usize, t: &mut [u16])
+    requires { ⌜ length (now t) ≡ 64 ⌝ }
+    ensures { λ _. ⌜ ((n : ℕ) → offered n ≡ true → size ≡ offerOf n .shape .size → Lends n (now (t .exit)) (offerOf n .shape)) ⌝ }
 {
-    if code == 1 {
+    if size == 16 {
         lend16(t);
-        return Shape {
-            size: 16,
-            words: 1,
-            blocks: 8,
-            rows: 4,
-        };
+        return;
     }
-    if code == 2 {
+    if size == 32 {
         lend32(t);
-        return Shape {
-            size: 32,
-            words: 1,
-            blocks: 8,
-            rows: 4,
-        };
+        return;
     }
-    if code == 3 {
+    if size == 64 {
         lend64(t);
-        return Shape {
-            size: 64,
-            words: 1,
-            blocks: 8,
-            rows: 4,
-        };
+        return;
     }
     lend511(t);
-    Shape {
-        size: 511,
-        words: 8,
-        blocks: 16,
-        rows: 2,
-    }
 }

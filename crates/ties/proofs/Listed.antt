@@ -7,8 +7,7 @@ use native.Mathlib.Nat.{suc-mul, mul-le-mul-right}
 use native.Mathlib.Omega.{arith}
 use borrow.Author.Tests.{not-true, not-false}
 use lib.ListN.{length, getD, drop}
-use Rattle.rules.specs.Bits.{_⊕_}
-use Rattle.rules.specs.Identity.{over, blocks, below}
+use Rattle.bits.specs.Bits.{_⊕_, over, blocks, below}
 use Rattle.ties.specs.Flat.{pieces}
 use Rattle.ties.proofs.Sums.{xor-is, ⊕-assoc}
 

@@ -9,7 +9,7 @@ use lib.Pow.{pow-pos, pow-add, shr-shr, high}
 use lib.Dec.{eqb, ltb}
 use lib.ListN.{getD}
 use borrow.Author.Tests.{eq-eqb, ne-eqb, lt-ltb, le-ltb}
-use Rattle.rules.proofs.Orders.{le-or-lt}
+use Rattle.bits.proofs.Orders.{le-or-lt}
 use Rattle.ties.specs.Flat.{joined}
 
 -- The places of the last word do not see the words in front of it; the others do not see the last word.

@@ -7,8 +7,8 @@ use native.Mathlib.Nat.{mod-lt, le-refl}
 use native.Mathlib.Omega.{arith}
 use lib.Dec.{eqb}
 use lib.ListN.{length, getD, drop}
-use Rattle.rules.specs.Bits.{digit, _⊕_}
-use Rattle.rules.specs.Identity.{over, blocks, below, cancels, rowTied, rowsTied}
+use Rattle.bits.specs.Bits.{digit, _⊕_, over, blocks, below}
+use Rattle.rules.specs.Identity.{cancels, rowTied, rowsTied}
 
 module _ (M printed : ℕ) (pos : 0 < M) (fits : M ≤ printed) where
   pub printed-digit : (x t : ℕ) → t < M → digit printed x (printed - M + t) ≡ digit M x t

@@ -6,8 +6,7 @@ use Prim.Native.Nat.{ℕ, _+_, _≤_, _<_}
 use lib.Dec.{ltb}
 use lib.ListN.{getD}
 use borrow.Author.Tests.{lt-ltb, le-ltb}
-use Rattle.rules.specs.Bits.{_⊕_, if_then_else_}
-use Rattle.rules.specs.Identity.{over}
+use Rattle.bits.specs.Bits.{_⊕_, if_then_else_, over}
 use Rattle.ties.specs.Flat.{kept, block}
 
 -- The machine's exclusive or.

@@ -5,7 +5,7 @@ use mathlib.Core.List.{List, [], _∷_}
 use Prim.Native.Nat.{ℕ, zero, suc, _+_, _*_, _/_, _%_, _^_, _<_}
 use lib.Dec.{eqb, ltb}
 use lib.ListN.{length, getD}
-use Rattle.rules.specs.Bits.{digit, if_then_else_}
+use Rattle.bits.specs.Bits.{digit, if_then_else_}
 use Rattle.rules.specs.Identity.{rowsTied, allPadded}
 
 -- n things one after the other: the first is read at a place, and each other a step further on.

@@ -4,8 +4,8 @@ ghost use mathlib.Core.List.{[]};
 ghost use Prim.Native.Nat.{ℕ, _+_, _*_, _%_, _^_, _<_, _≤_};
 ghost use lib.Dec.{ltb};
 ghost use lib.ListN.{length, getD};
-ghost use Rattle.rules.specs.Bits.{digit};
-ghost use Rattle.rules.specs.Identity.{over, blocks, cancels, below, rowTied, rowsTied, padded, allPadded};
+ghost use Rattle.bits.specs.Bits.{digit, over, blocks, below};
+ghost use Rattle.rules.specs.Identity.{cancels, rowTied, rowsTied, padded, allPadded};
 ghost use Rattle.ties.specs.Flat.{kept, block, row, joined, words, met, own, numbers, parityOf, generatorOf, Sizes, flatTied};
 
 // How many words of 64 bits hold m bits.

@@ -10,9 +10,9 @@ use lib.Arith.{digits-div, digits-mod, lt-of-le-ne}
 use lib.ListN.{getD, length, set, List·getD-eq-default}
 use lib.Seq.{getD-set-same, getD-set-other, ext-getD}
 use borrow.Author.Tests.{lt-ltb, le-ltb}
-use Rattle.rules.specs.Bits.{Word, digit, if_then_else_}
+use Rattle.bits.specs.Bits.{Word, digit, if_then_else_}
 use Rattle.vectors.specs.Vectors.{joined}
-use Rattle.rules.proofs.Orders.{le-or-lt, eq-or-not}
+use Rattle.bits.proofs.Orders.{le-or-lt, eq-or-not}
 use Rattle.vectors.proofs.Places.{place-zero, same-digits}
 
 -- Bit n of a list of numbers of w bits: `bit` at w = 8, `wbit` at w = 64.

@@ -12,11 +12,11 @@ use lib.Count.{ones, ones-step}
 use lib.Dec.{eqb, ltb, lit<}
 use lib.ListN.{getD}
 use borrow.Author.Tests.{lt-ltb, le-ltb, eq-eqb, ne-eqb}
-use Rattle.rules.specs.Bits.{Word, digit, count}
-use Rattle.rules.proofs.Counting.{count-start, count-same, count-add, none-counted, count-none}
+use Rattle.bits.specs.Bits.{Word, digit, count}
+use Rattle.bits.proofs.Counting.{count-start, count-same, count-add, none-counted, count-none}
 use Rattle.vectors.specs.Vectors.{wbit, upTo, from}
-use Rattle.rules.proofs.Orders.{eq-or-not}
-use Rattle.rules.proofs.Octets.{digit-half, digit-zero}
+use Rattle.bits.proofs.Orders.{eq-or-not}
+use Rattle.bits.proofs.Octets.{digit-half, digit-zero}
 use Rattle.vectors.proofs.Places.{digit-odd, digit-or, same-digits}
 use Rattle.vectors.proofs.Filling.{word-holds}
 use Rattle.vectors.proofs.Spans.{upTo-below, upTo-above}

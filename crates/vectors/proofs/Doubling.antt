@@ -9,9 +9,9 @@ use lib.Bits.{bitOr}
 use lib.Pow.{shr-shr}
 use lib.ListN.{getD, length, set, length-set}
 use lib.Seq.{getD-set-same, getD-set-other}
-use Rattle.rules.specs.Bits.{Word, digit}
-use Rattle.rules.proofs.Orders.{le-or-lt}
-use Rattle.rules.proofs.Octets.{digit-zero}
+use Rattle.bits.specs.Bits.{Word, digit}
+use Rattle.bits.proofs.Orders.{le-or-lt}
+use Rattle.bits.proofs.Octets.{digit-zero}
 use Rattle.vectors.specs.Vectors.{wbit, Holds, upTo, from, twice, Doubled}
 use Rattle.vectors.proofs.Cells.{joined-above}
 use Rattle.vectors.proofs.Filling.{word-at, word-holds, word-past}

@@ -6,9 +6,9 @@ use Prim.Native.Nat.{ℕ, suc, _+_, _-_, _*_, _/_, _%_, _≤_, _<_}
 use native.Mathlib.Omega.{arith}
 use lib.Dec.{lit<}
 use lib.ListN.{getD, length, set, replicate, length-set}
-use Rattle.rules.specs.Bits.{Word, digit}
+use Rattle.bits.specs.Bits.{Word, digit}
 use Rattle.vectors.specs.Vectors.{wbit, Holds, from, joined}
-use Rattle.rules.proofs.Octets.{zeros-at, digit-zero}
+use Rattle.bits.proofs.Octets.{zeros-at, digit-zero}
 use Rattle.vectors.proofs.Places.{place}
 use Rattle.vectors.proofs.Cells.{cell-at, cell-past, unread, stored, joined-start, joined-end}
 

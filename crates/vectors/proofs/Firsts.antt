@@ -6,7 +6,7 @@ use native.Mathlib.Nat.{pow-suc, div-eq-of-lt-le}
 use native.Mathlib.Omega.{arith}
 use lib.Count.{leadingZeros, leading-top}
 use lib.Dec.{eqb}
-use Rattle.rules.specs.Bits.{digit}
+use Rattle.bits.specs.Bits.{digit}
 use Rattle.vectors.proofs.Places.{place, place-above}
 
 -- Bit i of a number of w bits is its first that is set.

@@ -11,10 +11,10 @@ use lib.Arith.{digits-lt}
 use lib.Bits.{bitOr}
 use lib.Pow.{pow-add, pow-mono}
 use lib.ListN.{getD, length}
-use Rattle.rules.specs.Bits.{Word, digit, bit, octets}
-use Rattle.rules.proofs.Octets.{length-octets, bit-octets, octets-lt, bit-past}
+use Rattle.bits.specs.Bits.{Word, digit, bit, octets}
+use Rattle.bits.proofs.Octets.{length-octets, bit-octets, octets-lt, bit-past}
 use Rattle.vectors.specs.Vectors.{wbit, Holds, upTo, from, joined}
-use Rattle.rules.proofs.Orders.{le-or-lt}
+use Rattle.bits.proofs.Orders.{le-or-lt}
 use Rattle.vectors.proofs.Places.{or-none, place, place-or, place-above, place-front, place-behind, place-zero, place-cut, place-up, place-down, place-below}
 use Rattle.vectors.proofs.Cells.{cell-at, same-cells, joined-below, joined-above, joined-end}
 use Rattle.vectors.proofs.Spans.{upTo-below, upTo-above}

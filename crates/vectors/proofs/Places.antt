@@ -10,10 +10,10 @@ use lib.Arith.{lt-one}
 use lib.Pow.{pow-pos, pow-mono, pow-lt, pow-add, shr-shr, shl-shr, field, mod-mod-pow}
 use lib.Bits.{bitXor, bitAnd, bitOr, differ, xor-step, and-step, or-step, xor-shr, and-shr, or-shr, or-shifted}
 use borrow.Author.Tests.{eq-eqb, ne-eqb}
-use Rattle.rules.specs.Bits.{digit, tally, _⊕_}
-use Rattle.rules.proofs.Orders.{le-or-lt, eq-or-not}
-use Rattle.rules.proofs.Sums.{eqb-iff}
-use Rattle.rules.proofs.Octets.{digit-half}
+use Rattle.bits.specs.Bits.{digit, tally, _⊕_}
+use Rattle.bits.proofs.Orders.{le-or-lt, eq-or-not}
+use Rattle.bits.proofs.Sums.{eqb-iff}
+use Rattle.bits.proofs.Octets.{digit-half}
 
 pub or-none : (p : Bool) → (p || false) ≡ p
 or-none true = refl

@@ -11,10 +11,10 @@ use lib.Pow.{pow-pos, shr-shr}
 use lib.Bits.{bitXor, bitOr}
 use lib.ListN.{getD, length, set}
 use borrow.Author.Tests.{lt-ltb, le-ltb, le-leb, lt-leb, ne-eqb}
-use Rattle.rules.specs.Bits.{Word, digit, flipped, _⊕_}
-use Rattle.rules.proofs.Sums.{⊕-assoc, and-⊕, eqb-iff}
+use Rattle.bits.specs.Bits.{Word, digit, flipped, _⊕_}
+use Rattle.bits.proofs.Sums.{⊕-assoc, and-⊕, eqb-iff}
 use Rattle.vectors.specs.Vectors.{wbit, Holds, upTo, from, later, joined, twice, added}
-use Rattle.rules.proofs.Orders.{le-or-lt}
+use Rattle.bits.proofs.Orders.{le-or-lt}
 use Rattle.vectors.proofs.Places.{or-none, and-none, xor-none, xor-same, digit-xor, digit-power, place, place-or, place-xor, place-up, place-down, place-below, place-above, place-cut, place-zero}
 use Rattle.vectors.proofs.Cells.{joined-below, joined-above, joined-start, joined-end}
 use Rattle.vectors.proofs.Filling.{word-at, word-holds, word-past, word-stored}

@@ -5,7 +5,7 @@ use mathlib.Core.List.{List, [], _∷_}
 use Prim.Native.Nat.{ℕ, _+_, _-_, _*_, _/_, _%_, _<_}
 use lib.Dec.{leb, ltb}
 use lib.ListN.{getD}
-use Rattle.rules.specs.Bits.{Word, digit, _⊕_, if_then_else_}
+use Rattle.bits.specs.Bits.{Word, digit, _⊕_, if_then_else_}
 use Rattle.vectors.specs.declared.Pair.{Pair}
 
 -- Bit n stands in word n / 64, and bit 0 is the most significant bit of word 0. Past the last word every bit is 0.

@@ -5,7 +5,7 @@ ghost use mathlib.Core.Bool.{false};
 ghost use Prim.Native.Nat.{ℕ, _+_, _-_, _*_, _/_, _%_, _^_, _<_, _≤_};
 ghost use lib.Dec.{ltb};
 ghost use lib.ListN.{length};
-ghost use Rattle.rules.specs.Bits.{Word, bit, digit, octets, count, flipped};
+ghost use Rattle.bits.specs.Bits.{Word, bit, digit, octets, count, flipped};
 ghost use Rattle.vectors.specs.Vectors.{wbit, both, Holds, upTo, from, later, joined, twice, added, Doubled};
 
 // The 64 bits of a and then b from bit t on.
@@ -50,7 +50,7 @@ fn gathered(octets: &[u8], at: usize, n: usize) -> u64
 }
 
 // The 64 bits of the eight octets from octet at on: in two halves the compiler knows them as one load.
-fn eight(octets: &[u8], at: usize) -> u64
+pub fn eight(octets: &[u8], at: usize) -> u64
     requires { ⌜ at + 8 ≤ length (now octets) ⌝ }
     ensures { λ r. ⌜ Holds r (from (8 * at) (bit (now (octets .entry)))) ⌝ }
 {
@@ -58,7 +58,7 @@ fn eight(octets: &[u8], at: usize) -> u64
 }
 
 // The last octets, fewer than eight, from octet at on, and zeros behind them.
-fn last(octets: &[u8], at: usize) -> u64
+pub fn last(octets: &[u8], at: usize) -> u64
     requires { ⌜ (at ≤ length (now octets)) × (length (now octets) < at + 8) ⌝ }
     ensures { λ r. ⌜ Holds r (from (8 * at) (bit (now (octets .entry)))) ⌝ }
 {

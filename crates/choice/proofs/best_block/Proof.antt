@@ -3,7 +3,7 @@ use mathlib.Core.Path.{_≡_, subst}
 use Prim.Native.Nat.{ℕ, _+_, _-_, _≤_}
 use native.Mathlib.Omega.{arith}
 use Rattle.vectors.specs.Vectors.{wbit}
-use Rattle.planes.proofs.Ranges.{Running}
+use Rattle.planes.specs.Ranges.{Running}
 use Rattle.choice.specs.Reading.{Scored}
 use Rattle.choice.proofs.Hits.{full-best}
 use Rattle.choice.proofs.best_block.Statement.{statement}

@@ -4,10 +4,11 @@ use Prim.Native.Nat.{_+_, _-_, _*_, _≤_}
 use native.Mathlib.Omega.{arith}
 use borrow.Author.Needs.{needs}
 use lib.ListN.{length}
-use Rattle.rules.specs.Bits.{Word}
+use Rattle.bits.specs.Bits.{Word}
 use Rattle.rules.specs.Codes.{Code}
 use Rattle.vectors.specs.Vectors.{wbit}
-use Rattle.planes.proofs.Ranges.{Running, running-none}
+use Rattle.planes.proofs.Ranges.{running-none}
+use Rattle.planes.specs.Ranges.{Running}
 use Rattle.layout.specs.Lent.{Lent, laid, score}
 use Rattle.choice.specs.Reading.{Twice}
 use Rattle.choice.proofs.Hits.{within}

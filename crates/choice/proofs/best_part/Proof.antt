@@ -4,7 +4,8 @@ use Prim.Native.Nat.{_+_}
 use native.Mathlib.Omega.{arith}
 use borrow.Author.Needs.{needs}
 use Rattle.vectors.specs.Vectors.{wbit}
-use Rattle.planes.proofs.Ranges.{Running, count-le}
+use Rattle.planes.proofs.Ranges.{count-le}
+use Rattle.planes.specs.Ranges.{Running}
 use Rattle.choice.proofs.Hits.{part-best}
 use Rattle.choice.proofs.best_part.Statement.{statement}
 use Rattle.choice.proofs.best_part.Tie as tie

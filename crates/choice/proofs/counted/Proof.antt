@@ -3,7 +3,7 @@ use mathlib.Core.Path.{_≡_, ap, _∙_}
 use Prim.Native.Nat.{ℕ, _+_, _-_, _≤_, _<_}
 use native.Mathlib.Omega.{arith}
 use Rattle.vectors.specs.Vectors.{wbit}
-use Rattle.rules.proofs.Counting.{count-start}
+use Rattle.bits.proofs.Counting.{count-start}
 use Rattle.planes.specs.Counts.{value}
 use Rattle.choice.specs.Reading.{hits}
 use Rattle.choice.proofs.Hits.{hit-more}

@@ -2,7 +2,7 @@
 use native.Mathlib.Omega.{arith}
 use borrow.Author.Needs.{needs}
 use lib.ListN.{length-set}
-use Rattle.rules.specs.Bits.{digit}
+use Rattle.bits.specs.Bits.{digit}
 use Rattle.choice.proofs.Doubled.{placed-number}
 use Rattle.choice.proofs.double_narrow_row.Statement.{statement}
 use Rattle.choice.proofs.double_narrow_row.Tie as tie

@@ -1,10 +1,14 @@
 -- `codes::correct_taken`: the run's numbers, its judgement and its word. Assumes nothing.
-use Rattle.rules.specs.Bits.{bit}
+use native.Mathlib.Omega.{arith}
+use Rattle.bits.specs.Bits.{bit}
+use Rattle.rules.specs.Codes.{code}
 use Rattle.rules.specs.Encoding.{lifted}
 use Rattle.rules.specs.Flipping.{byExcess, run}
-use Rattle.rules.specs.Codes.{code}
-use Rattle.codes.proofs.Correcting.{blocks-some, holding, ran-number, ran-word, ran-met, corrected-is, wrote-word, wrote-none}
 use Rattle.vectors.proofs.Filling.{zero-words}
+use Rattle.rules.proofs.Numbers.{published}
+use Rattle.offer.proofs.Offers.{small, is-offered}
+use Rattle.codes.proofs.Admitted.{word-long, unsent-is, bits-are}
+use Rattle.codes.proofs.Correcting.{holding, ran-number, ran-word, ran-met, corrected-is, wrote-word, wrote-none}
 use borrow.Author.Needs.{needs}
 use Rattle.codes.proofs.correct_taken.Statement.{statement}
 use Rattle.codes.proofs.correct_taken.Tie as tie
@@ -41,10 +45,11 @@ slice-aggregate-run-3 c = search needs
 
 run-requires : tie.Need-run-requires
 run-requires c κs =
-    let m = c .before .before .before .before .before .before .before .before in
+    let m = c .before .before .before .before .before .before .before .before .before in
     let a = m .before .before .before .before .before .before in
-    let e = m .measure .ensures in
-    (e .lends .fit, search needs, search needs, blocks-some (a .args .code) (a .args .word .now) _ _ _ _ e, holding (a .args .code) (a .args .word .now) _ _ _ _ e)
+    let k = a .pre .0 in
+    let e = m .measure .ensures (k .number) (k .offers) (k .is) in
+    (e .lends .fit, search needs, search needs, small k .blocks, holding (k .number) (a .args .word .now) _ _ _ _ e)
 
 slice-aggregate-broken-2 : tie.Need-slice-aggregate-broken-2
 slice-aggregate-broken-2 c = search needs
@@ -62,7 +67,9 @@ slice-aggregate-write : tie.Need-slice-aggregate-write
 slice-aggregate-write c = search needs
 
 write-requires : tie.Need-write-requires
-write-requires c κs = search needs
+write-requires c κs =
+    let a = c .before .before .before .before .before .before .before .before .before .before .before .before .before .before .before .before .before .before .before .before .before .before .before .before .before in
+    (search needs, small (a .pre .0) .unsent, omega (arith, a .pre .2, small (a .pre .0) .word))
 
 same-length : tie.Need-same-length
 same-length c = search needs
@@ -72,35 +79,36 @@ returns c =
     let j = c .before .before .before .before .before .before .before in
     let b2 = j .before .before in
     let g = b2 .before .before .before .before in
-    let b1 = g .before .before .before .before in
+    let b1 = g .before .before .before .before .before in
     let m = b1 .before .before .before .before .before in
     let a = m .before .before .before .before .before .before in
-    let n = a .args .code in
+    λ n off is.
     let word = a .args .word .now in
-    let e = m .measure .ensures in
+    let e = m .measure .ensures n off is in
     let to = g .run .ensures (code n) (e .lends .lent) (e .held) in
     corrected-is n word _ _ _ _ e (a .args .limit) (g .run .result) _ _ to (b1 .broken .result) (b2 .broken2 .result) (j .judge .result)
     (b1 .broken .ensures) (b2 .broken2 .ensures)
-    (j .judge .ensures (run (byExcess (code n)) (a .args .limit) (lifted (code n) (bit word)))
-    (ran-number n word _ _ _ _ e (a .args .limit) (g .run .result) _ _ to) (ran-word n word _ _ _ _ e (a .args .limit) (g .run .result) _ _ to) (ran-met n word _ _ _ _ e (a .args .limit) (g .run .result) _ _ to))
-    (a .args .out .now) _ (wrote-word _ _ _ _ (c .before .before .before .before .before .before .if1 .taken) (c .before .before .before .write .ensures))
+    (j .judge .ensures n off is (run (byExcess (code n)) (a .args .limit) (lifted (code n) (bit word)))
+    (ran-number n word _ _ _ _ e (a .args .limit) (g .run .result) _ _ to) (ran-word n word _ _ _ _ e (a .args .limit) (g .run .result) _ _ to) (ran-met n word _ _ _ _ e (a .args .limit) (g .run .result) _ _ to (published n (is-offered n off) .some)))
+    (a .args .out .now) _ (wrote-word _ _ _ _ (c .before .before .before .before .before .before .if1 .taken)
+    (c .before .before .before .write .ensures (code n) (unsent-is n is off) (bits-are n is off) (word-long n is off (a .pre .2))))
 
 returns-2 : tie.Need-returns-2
 returns-2 c =
     let j = c .before in
     let b2 = j .before .before in
     let g = b2 .before .before .before .before in
-    let b1 = g .before .before .before .before in
+    let b1 = g .before .before .before .before .before in
     let m = b1 .before .before .before .before .before in
     let a = m .before .before .before .before .before .before in
-    let n = a .args .code in
+    λ n off is.
     let word = a .args .word .now in
-    let e = m .measure .ensures in
+    let e = m .measure .ensures n off is in
     let to = g .run .ensures (code n) (e .lends .lent) (e .held) in
     corrected-is n word _ _ _ _ e (a .args .limit) (g .run .result) _ _ to (b1 .broken .result) (b2 .broken2 .result) (j .judge .result)
     (b1 .broken .ensures) (b2 .broken2 .ensures)
-    (j .judge .ensures (run (byExcess (code n)) (a .args .limit) (lifted (code n) (bit word)))
-    (ran-number n word _ _ _ _ e (a .args .limit) (g .run .result) _ _ to) (ran-word n word _ _ _ _ e (a .args .limit) (g .run .result) _ _ to) (ran-met n word _ _ _ _ e (a .args .limit) (g .run .result) _ _ to))
+    (j .judge .ensures n off is (run (byExcess (code n)) (a .args .limit) (lifted (code n) (bit word)))
+    (ran-number n word _ _ _ _ e (a .args .limit) (g .run .result) _ _ to) (ran-word n word _ _ _ _ e (a .args .limit) (g .run .result) _ _ to) (ran-met n word _ _ _ _ e (a .args .limit) (g .run .result) _ _ to (published n (is-offered n off) .some)))
     (a .args .out .now) _ (wrote-none _ _ _ (c .if1 .left))
 
 pub correct-taken-spec : {M : Type 1} → statement M

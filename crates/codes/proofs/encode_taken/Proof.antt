@@ -2,11 +2,12 @@
 use mathlib.Core.Path.{refl, sym, ap, _∙_}
 use native.Mathlib.Omega.{arith}
 use Rattle.rules.specs.Codes.{code, information}
-use Rattle.rules.specs.Encoding.{encoded}
-use Rattle.rules.specs.Calls.{written}
+use Rattle.rules.specs.Encoding.{encoded, written}
 use Rattle.vectors.specs.Vectors.{upTo}
-use Rattle.codes.proofs.Encoding.{few-information, information-only, written-upTo}
 use Rattle.vectors.proofs.Filling.{zero-words}
+use Rattle.offer.proofs.Offers.{fixed}
+use Rattle.codes.proofs.Admitted.{unsent-is, bits-are}
+use Rattle.codes.proofs.Encoding.{few-information, information-only, written-upTo}
 use borrow.Author.Needs.{needs}
 use Rattle.codes.proofs.encode_taken.Statement.{statement}
 use Rattle.codes.proofs.encode_taken.Tie as tie
@@ -17,7 +18,8 @@ slice-aggregate-take c = search needs
 take-requires : tie.Need-take-requires
 take-requires c κs =
     let a = c .before .before .before in
-    (a .pre .0, omega (arith, a .pre .1, few-information (a .args .code) (a .pre .0)), refl, zero-words 130)
+    let f = fixed (a .args .code) (a .pre .0) in
+    (omega (arith, a .pre .2, few-information (a .args .code) (a .pre .0)), omega (arith, unsent-is (a .args .code) (a .pre .1) (a .pre .0), f .low), refl, zero-words 130)
 
 slice-aggregate-encode : tie.Need-slice-aggregate-encode
 slice-aggregate-encode c = search needs
@@ -25,17 +27,21 @@ slice-aggregate-encode c = search needs
 encode-requires : tie.Need-encode-requires
 encode-requires c κs =
     let t = c .before .before in
-    let a = t .before .before .before .before in (
-      a .pre .0,
-      search needs,
-      t .take .ensures ∙ information-only (a .args .code) (a .pre .0) (a .args .information .now) (a .pre .1) (a .pre .3) ∙ ap (upTo (information (code (a .args .code)))) (sym (t .take .ensures)),
-    )
+    let a = t .before .before .before .before in
+    let n = a .args .code in
+    let e = t .take .ensures (code n) (unsent-is n (a .pre .1) (a .pre .0)) in
+    (a .pre .0, search needs, e ∙ information-only n (a .pre .0) (a .args .information .now) (a .pre .2) (a .pre .4) ∙ ap (upTo (information (code n))) (sym e))
 
 slice-aggregate-write : tie.Need-slice-aggregate-write
 slice-aggregate-write c = search needs
 
 write-requires : tie.Need-write-requires
-write-requires c κs = search needs
+write-requires c κs =
+    let e = c .before .before .before in
+    let t = e .before .before .before in
+    let a = t .before .before .before .before in
+    let f = fixed (a .args .code) (a .pre .0) in
+    (search needs, omega (arith, unsent-is (a .args .code) (a .pre .1) (a .pre .0), f .low), omega (arith, a .pre .3, f .few))
 
 same-length : tie.Need-same-length
 same-length c = search needs
@@ -47,7 +53,9 @@ returns c =
     let t = e .before .before .before in
     let a = t .before .before .before .before in
     let n = a .args .code in
-    w .write .ensures ∙ ap (written (code n)) (e .encode .ensures) ∙ written-upTo n _ ∙ ap (λ z. written (code n) (encoded (code n) z)) (t .take .ensures)
+    let u = unsent-is n (a .pre .1) (a .pre .0) in
+    w .write .ensures (code n) u (bits-are n (a .pre .1) (a .pre .0)) (a .pre .3)
+    ∙ ap (written (code n)) (e .encode .ensures) ∙ written-upTo n _ ∙ ap (λ z. written (code n) (encoded (code n) z)) (t .take .ensures (code n) u)
 
 pub encode-taken-spec : {M : Type 1} → statement M
 encode-taken-spec =

@@ -1,5 +1,6 @@
 -- `codes::opens`: a measured word is tested. Assumes nothing.
 use Rattle.vectors.proofs.Filling.{zero-words}
+use Rattle.codes.proofs.Admitted.{word-long}
 use borrow.Author.Needs.{needs}
 use Rattle.codes.proofs.opens.Statement.{statement}
 use Rattle.codes.proofs.opens.Tie as tie
@@ -32,7 +33,7 @@ returns : tie.Need-returns
 returns c =
     let m = c .before .before .before .before .before .before in
     let a = m .before .before .before .before .before in
-    c .is-codeword .ensures (a .args .word .now) _ _ (a .pre .1) (m .measure .ensures)
+    λ n off is. c .is-codeword .ensures n off is (a .args .word .now) _ (word-long n is off (a .pre .1)) (m .measure .ensures n off is)
 
 pub opens-spec : {M : Type 1} → statement M
 opens-spec =

@@ -1,17 +1,26 @@
--- `codes::six_set`: the six last bits of octet 894. Assumes nothing.
+-- `codes::six_set`: the last octet and its multiple. Assumes nothing.
 use native.Mathlib.Omega.{arith}
-use borrow.Author.Tests.{eq-eqb, ne-eqb}
+use Rattle.offer.proofs.Offers.{small}
+use Rattle.codes.proofs.Encoding.{six-is}
 use Rattle.codes.proofs.six_set.Statement.{statement}
 use Rattle.codes.proofs.six_set.Tie as tie
 
+sub-last : tie.Need-sub-last
+sub-last c =
+    small (c .before .pre .0) .some
+
 shared-slice-read-result : tie.Need-shared-slice-read-result
-shared-slice-read-result c = omega (arith, c .before .before .pre (c .before .if1 .taken))
+shared-slice-read-result c =
+    let a = c .before .before in
+    omega (arith, a .pre .1, small (a .pre .0) .some)
+
+rem-result : tie.Need-rem-result
+rem-result c =
+    small (c .before .before .before .pre .0) .multiple
 
 returns : tie.Need-returns
-returns c = simp (eq-eqb _ _ (c .before .if1 .taken))
-
-returns-2 : tie.Need-returns-2
-returns-2 c = simp (ne-eqb _ _ (c .if1 .left))
+returns c =
+    λ n off is. six-is n off is (c .before .before .before .args .information .now)
 
 pub six-set-spec : {M : Type 1} → statement M
-six-set-spec = tie.close (tie.spec shared-slice-read-result returns returns-2)
+six-set-spec = tie.close (tie.spec sub-last shared-slice-read-result rem-result returns)

@@ -1,18 +1,20 @@
 -- `codes::step_taken`: quiet, stuck, or one flip. Assumes nothing.
-use mathlib.Core.Path.{ap, ap₂, _∙_}
+use mathlib.Core.Path.{ap, ap₂, _∙_, subst}
 use mathlib.Core.Bool.{true, false}
-use native.Mathlib.Nat.{lt-of-le-of-lt}
+use Prim.Native.Nat.{_*_, _≤_, _<_}
+use native.Mathlib.Omega.{arith}
 use mir.Syntax.{w8}
-use mir.Facts.{toZ-pos}
-use lib.Dec.{lit<}
+use mir.Val.{SFits}
+use mir.ValLaws.{toZ-ofZ}
 use lib.IntN.{pos}
-use Rattle.rules.specs.Bits.{flipped}
+use Rattle.bits.specs.Bits.{flipped}
 use Rattle.rules.specs.Codes.{code}
-use Rattle.rules.specs.Calls.{written, nextStep}
-use Rattle.rules.specs.Flipping.{quiet, stuck, flip}
-use Rattle.runs.proofs.Turning.{comes-quiet, comes-stuck, comes-flip}
-use Rattle.codes.proofs.Judging.{pb}
-use Rattle.codes.proofs.Correcting.{blocks-some, holding, stepped-is, small-excess}
+use Rattle.rules.specs.Encoding.{written}
+use Rattle.answers.specs.Calls.{nextStep}
+use Rattle.runs.specs.Turns.{comesNext, Within}
+use Rattle.offer.proofs.Offers.{small}
+use Rattle.codes.proofs.Admitted.{word-long, unsent-is, bits-are}
+use Rattle.codes.proofs.Correcting.{holding, stepped-is}
 use Rattle.vectors.proofs.Filling.{zero-words}
 use borrow.Author.Needs.{needs}
 use Rattle.codes.proofs.step_taken.Statement.{statement}
@@ -33,21 +35,66 @@ measure-requires c κs =
     let s = zero-words 16 in
     search needs
 
-slice-aggregate-next : tie.Need-slice-aggregate-next
-slice-aggregate-next c = search needs
+slice-aggregate-comes-next : tie.Need-slice-aggregate-comes-next
+slice-aggregate-comes-next c = search needs
 
-slice-aggregate-next-2 : tie.Need-slice-aggregate-next-2
-slice-aggregate-next-2 c = search needs
+slice-aggregate-comes-next-2 : tie.Need-slice-aggregate-comes-next-2
+slice-aggregate-comes-next-2 c = search needs
 
-next-requires : tie.Need-next-requires
-next-requires c κs =
-    let m = c .before .before .before .before .before in
+comes-next-requires : tie.Need-comes-next-requires
+comes-next-requires c κs =
+    let m = c .before .before .before .before .before .before in
     let a = m .before .before .before .before .before .before in
-    let e = m .measure .ensures in
-    (e .lends .fit, search needs, blocks-some (a .args .code) (a .args .word .now) _ _ _ _ e, holding (a .args .code) (a .args .word .now) _ _ _ _ e)
+    let k = a .pre .0 in
+    let e = m .measure .ensures (k .number) (k .offers) (k .is) in
+    (e .lends .fit, search needs, small k .blocks, holding (k .number) (a .args .word .now) _ _ _ _ e)
+
+enum-told : tie.Need-enum-told
+enum-told c = search needs
 
 copy-requires : tie.Need-copy-requires
 copy-requires c κs = search needs
+
+enum-told-2 : tie.Need-enum-told-2
+enum-told-2 c = search needs
+
+enum-known-next : tie.Need-enum-known-next
+enum-known-next c = search needs
+
+slice-aggregate-turn-over : tie.Need-slice-aggregate-turn-over
+slice-aggregate-turn-over c = search needs
+
+turn-over-requires : tie.Need-turn-over-requires
+turn-over-requires c κs =
+    let f = c .before .before in
+    let x = f .before .before in
+    let m = x .before .before .before .before .before .before .before in
+    let a = m .before .before .before .before .before .before in
+    let k = a .pre .0 in
+    let e = m .measure .ensures (k .number) (k .offers) (k .is) in
+    let l = subst (Within (a .args .o .shape .blocks * a .args .o .shape .size)) (f .next .given .1) (x .comes-next .ensures .0) in
+    let b : a .args .o .shape .blocks * a .args .o .shape .size ≤ 8176 = e .lends .fit .bits in
+    search needs
+
+slice-aggregate-write : tie.Need-slice-aggregate-write
+slice-aggregate-write c = search needs
+
+write-requires : tie.Need-write-requires
+write-requires c κs =
+    let a = c .before .before .before .before .before .before .before .before .before .before .before .before .before .before .before .before .before .before .before .before .before in
+    (search needs, small (a .pre .0) .unsent, omega (arith, a .pre .2, small (a .pre .0) .word))
+
+cast-t33 : tie.Need-cast-t33
+cast-t33 c =
+    let f = c .before .before .before .before .before .before .before .before .before .before in
+    let x = f .before .before in
+    let m = x .before .before .before .before .before .before .before in
+    let a = m .before .before .before .before .before .before in
+    let k = a .pre .0 in
+    let e = m .measure .ensures (k .number) (k .offers) (k .is) in
+    let l = subst (Within (a .args .o .shape .blocks * a .args .o .shape .size)) (f .next .given .1) (x .comes-next .ensures .0) in
+    let b : a .args .o .shape .blocks * a .args .o .shape .size ≤ 8176 = e .lends .fit .bits in
+    search needs
 
 same-length : tie.Need-same-length
 same-length c = search needs
@@ -55,47 +102,23 @@ same-length c = search needs
 returns : tie.Need-returns
 unfolding nextStep
 returns c =
-    let x = c .before .before .before .before .before in
-    let m = x .before .before .before .before .before .before in
+    let told = c .before .before .before .before in
+    let x = told .before .before in
+    let m = x .before .before .before .before .before .before .before in
     let a = m .before .before .before .before .before .before in
-    let e = m .measure .ensures in
+    λ n off is.
     ap (λ z. record { number = 0; quiet = true; bit = 0; excess = pos 0; out = z }) (c .before .before .copy .ensures)
-    ∙ stepped-is (a .args .code) (a .args .word .now) _ _ _ _ e (a .args .out .now) (x .next .result) quiet (x .next .ensures .1) (comes-quiet (x .next .result) (c .before .before .before .before .if1 .taken))
+    ∙ stepped-is n (a .args .word .now) _ _ _ _ (m .measure .ensures n off is) (a .args .out .now) (x .comes-next .result) _ (x .comes-next .ensures .1) (ap comesNext (told .enum-told .given .1))
 
 returns-2 : tie.Need-returns-2
 unfolding nextStep
 returns-2 c =
     let x = c .before .before .before in
-    let m = x .before .before .before .before .before .before in
+    let m = x .before .before .before .before .before .before .before in
     let a = m .before .before .before .before .before .before in
-    stepped-is (a .args .code) (a .args .word .now) _ _ _ _ (m .measure .ensures) (a .args .out .now) (x .next .result) stuck (x .next .ensures .1) (comes-stuck (x .next .result) (c .before .before .if1 .left) (c .if2 .taken))
-
-slice-aggregate-turn-over : tie.Need-slice-aggregate-turn-over
-slice-aggregate-turn-over c = search needs
-
-turn-over-requires : tie.Need-turn-over-requires
-turn-over-requires c κs = search needs
-
-slice-aggregate-write : tie.Need-slice-aggregate-write
-slice-aggregate-write c = search needs
-
-write-requires : tie.Need-write-requires
-write-requires c κs = search needs
-
-cast-t30 : tie.Need-cast-t30
-cast-t30 c = search needs
-
-cast-t31 : tie.Need-cast-t31
-cast-t31 c =
-    let x = c .before .before .before .before .before .before .before .before .before .before .before .before .before .before in
-    let m = x .before .before .before .before .before .before in
-    let a = m .before .before .before .before .before .before in
-    let n = a .args .code in
-    let e = m .measure .ensures in
-    let k = c .before .before .before .before .before .before .before .before .before .before .before in
-    let f = comes-flip (x .next .result) (k .before .before .if1 .left) (k .if2 .left) in
-    let l = small-excess (code n) _ _ (e .lends .lent) (pb n (a .pre .0) .some) _ (x .next .result .bit) (x .next .result .excess) (x .next .ensures .1 (code n) (e .lends .lent) _ (e .held) ∙ f) in
-    record { sfits = lt-of-le-of-lt l (lit< tt) }
+    λ n off is.
+    c .refused-step .ensures (a .args .out .now)
+    ∙ stepped-is n (a .args .word .now) _ _ _ _ (m .measure .ensures n off is) (a .args .out .now) (x .comes-next .result) _ (x .comes-next .ensures .1) (ap comesNext (c .before .enum-told2 .given .1))
 
 same-length-2 : tie.Need-same-length-2
 same-length-2 c = search needs
@@ -103,19 +126,23 @@ same-length-2 c = search needs
 returns-3 : tie.Need-returns-3
 unfolding nextStep
 returns-3 c =
-    let x = c .before .before .before .before .before .before .before .before .before .before .before .before .before .before in
-    let m = x .before .before .before .before .before .before in
+    let f = c .before .before .before .before .before .before .before .before .before .before in
+    let x = f .before .before in
+    let m = x .before .before .before .before .before .before .before in
     let a = m .before .before .before .before .before .before in
-    let n = a .args .code in
-    let e = m .measure .ensures in
-    let k = c .before .before .before .before .before .before .before .before .before .before .before in
-    let f = comes-flip (x .next .result) (k .before .before .if1 .left) (k .if2 .left) in
-    let l = small-excess (code n) _ _ (e .lends .lent) (pb n (a .pre .0) .some) _ (x .next .result .bit) (x .next .result .excess) (x .next .ensures .1 (code n) (e .lends .lent) _ (e .held) ∙ f) in
-    let b = x .next .result .bit in
-    ap₂ (λ z o. record { number = 0; quiet = false; bit = b; excess = z; out = o }) (toZ-pos w8 (lt-of-le-of-lt l (lit< tt)))
-    (c .before .before .before .before .before .write .ensures
-    ∙ ap (written (code n)) (c .before .before .before .before .before .before .before .before .before .turn-over .ensures ∙ ap (λ z. flipped z b) (e .bits)))
-    ∙ stepped-is n (a .args .word .now) _ _ _ _ e (a .args .out .now) (x .next .result) (flip b (pos (x .next .result .excess))) (x .next .ensures .1) f
+    λ n off is.
+    let e = m .measure .ensures n off is in
+    let b = f .next .given .0 .0 in
+    let ex = f .next .given .0 .1 .0 in
+    let known = c .before .before .before .before .before .before .before .before .before .known-told .given in
+    let fits : SFits w8 ex = search (needs, known) in
+    ap₂ (λ z o. record { number = 0; quiet = false; bit = b; excess = z; out = o }) (toZ-ofZ w8 ex fits)
+    (c .before .before .before .write .ensures (code n) (unsent-is n is off) (bits-are n is off) (word-long n is off (a .pre .2))
+    ∙ ap (written (code n)) (c .before .before .before .before .before .before .before .turn-over .ensures ∙ ap (λ z. flipped z b) (e .bits)))
+    ∙ stepped-is n (a .args .word .now) _ _ _ _ e (a .args .out .now) (x .comes-next .result) _ (x .comes-next .ensures .1) (ap comesNext (f .next .given .1))
+
+refused-step-requires : tie.Need-refused-step-requires
+refused-step-requires c κs = search needs
 
 pub step-taken-spec : {M : Type 1} → statement M
 step-taken-spec =
@@ -125,18 +152,21 @@ step-taken-spec =
     slice-aggregate-measure-2
     slice-aggregate-measure-3
     measure-requires
-    slice-aggregate-next
-    slice-aggregate-next-2
-    next-requires
+    slice-aggregate-comes-next
+    slice-aggregate-comes-next-2
+    comes-next-requires
+    enum-told
     copy-requires
-    same-length
-    returns
-    returns-2
+    enum-told-2
+    refused-step-requires
+    enum-known-next
     slice-aggregate-turn-over
     turn-over-requires
     slice-aggregate-write
     write-requires
-    cast-t30
-    cast-t31
+    cast-t33
+    same-length
+    returns
+    returns-2
     same-length-2
     returns-3)

@@ -7,7 +7,7 @@ use native.Mathlib.Omega.{arith}
 use lib.Count.{leadingZeros}
 use lib.ListN.{length}
 use lib.Pow.{pow-pos}
-use Rattle.rules.specs.Bits.{Word, digit}
+use Rattle.bits.specs.Bits.{Word, digit}
 use Rattle.vectors.specs.Vectors.{wbit, Holds, upTo, from, added}
 use Rattle.encoder.specs.Rows.{turns}
 use Rattle.encoder.proofs.Adding.{turns-skip, turns-one}

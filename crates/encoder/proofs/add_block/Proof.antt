@@ -6,9 +6,9 @@ use native.Mathlib.Nat.{add-assoc}
 use native.Mathlib.Omega.{arith}
 use lib.ListN.{length}
 use borrow.Author.Needs.{needs}
-use Rattle.rules.specs.Bits.{digit}
+use Rattle.bits.specs.Bits.{digit}
 use Rattle.vectors.specs.Vectors.{wbit, from, added}
-use Rattle.rules.proofs.Octets.{digit-zero}
+use Rattle.bits.proofs.Octets.{digit-zero}
 use Rattle.encoder.specs.Rows.{turns}
 use Rattle.encoder.proofs.Adding.{sum-start, turns-skip}
 use Rattle.encoder.proofs.add_block.Statement.{statement}

@@ -5,7 +5,7 @@ use native.Mathlib.Omega.{arith}
 use lib.Arith.{digits-lt}
 use lib.ListN.{length}
 use borrow.Author.Needs.{needs}
-use Rattle.rules.specs.Bits.{Word}
+use Rattle.bits.specs.Bits.{Word}
 use Rattle.vectors.specs.Vectors.{wbit, from, added}
 use Rattle.encoder.specs.Rows.{turns, doubledRow, partSum}
 use Rattle.encoder.proofs.Adding.{sum-start, sum-more}

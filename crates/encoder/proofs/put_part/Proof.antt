@@ -3,7 +3,7 @@ use mathlib.Core.Path.{ap, _∙_}
 use Prim.Native.Nat.{_+_, _-_, _*_, _/_, _%_}
 use native.Mathlib.Omega.{arith}
 use borrow.Author.Needs.{needs}
-use Rattle.rules.specs.Bits.{Word}
+use Rattle.bits.specs.Bits.{Word}
 use Rattle.vectors.specs.Vectors.{wbit, from, added}
 use Rattle.encoder.proofs.Adding.{put-added}
 use Rattle.encoder.proofs.put_part.Statement.{statement}

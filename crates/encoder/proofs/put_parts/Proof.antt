@@ -4,7 +4,7 @@ use Prim.Native.Nat.{ℕ, _+_, _-_, _*_, _≤_}
 use native.Mathlib.Omega.{arith}
 use lib.ListN.{length}
 use borrow.Author.Needs.{needs}
-use Rattle.rules.specs.Bits.{Word}
+use Rattle.bits.specs.Bits.{Word}
 use Rattle.rules.specs.Codes.{Code}
 use Rattle.rules.specs.Encoding.{encoded}
 use Rattle.vectors.specs.Vectors.{wbit, upTo, added}

@@ -1,80 +1,79 @@
--- `lines::put_line` meets its contract: five fields, one after the other. Assumes nothing.
-use mathlib.Core.Path.{_∙_}
-use mathlib.Core.List.{[], _++_}
-use lib.ListN.{take}
+-- `lines::put_line` meets its contract: index, numbers, the end of the line. Assumes nothing.
+use mathlib.Core.Path.{sym, ap}
+use mathlib.Core.List.{[]}
+use Prim.Native.Nat.{_+_, _<_}
 use native.Mathlib.Omega.{arith}
+use lib.ListN.{length, take, length-set}
 use Rattle.codes.specs.Answers.{asCorrected}
-use Rattle.lines.specs.Log.{field}
-use Rattle.lines.proofs.Texts.{long8, long32, long64, one-field, line-joined}
+use Rattle.lines.proofs.Texts.{long64, line-whole}
 use borrow.Author.Needs.{needs}
 use Rattle.lines.proofs.put_line.Statement.{statement}
 use Rattle.lines.proofs.put_line.Tie as tie
+use Rattle.lines.proofs.put_line.Reads as reads
+use Rattle.lines.proofs.put_line.Lts as lts
+use Rattle.lines.proofs.numbers.Reads as numbers-reads
+use Rattle.lines.proofs.put.Reads as put-reads
+use Rattle.lines.proofs.put_fields.Reads as put-fields-reads
 
-put-field-requires : tie.Need-put-field-requires
-put-field-requires c κs = omega (arith, long64 (c .before .before .args .index) (omega arith))
+numbers-requires : tie.Need-numbers-requires
+numbers-requires c κs = search needs
 
-octet-requires : tie.Need-octet-requires
-octet-requires c κs = search needs
+put-requires : tie.Need-put-requires
+put-requires c κs = omega (arith, long64 (c .before .before .before .args .index) (omega arith))
 
-put-field-requires-2 : tie.Need-put-field-requires-2
-put-field-requires-2 c κs = omega (arith, long64 (c .before .before .before .before .before .before .before .args .index) (omega arith), long8 (c .before .octet .result) (c .before .octet .ensures .1))
+slice-aggregate-put-fields : tie.Need-slice-aggregate-put-fields
+slice-aggregate-put-fields c = sym (ap length (c .before .before .before .before .before .numbers .ensures))
 
-wide-requires : tie.Need-wide-requires
-wide-requires c κs = search needs
+put-fields-requires : tie.Need-put-fields-requires
+put-fields-requires c κs =
+    let n = ap length (c .before .before .before .before .before .before .numbers .ensures) in
+    let p = c .before .before .before .before .put in
+    omega (arith, n, p .ensures .0, long64 (c .before .before .before .before .before .before .before .before .args .index) (omega arith))
 
-put-field-requires-3 : tie.Need-put-field-requires-3
-put-field-requires-3 c κs = omega (arith, long64 (c .before .before .before .before .before .before .before .before .before .before .before .before .args .index) (omega arith), long8 (c .before .before .before .before .before .before .octet .result) (c .before .before .before .before .before .before .octet .ensures .1), long32 (c .before .wide .result) (c .before .wide .ensures .1))
+-- where the numbers end
+ends : (c : lts.After-slice-known3 (
+  numbers-reads.Asked,
+  numbers-reads.Learnt,
+  put-reads.Asked,
+  put-reads.Learnt,
+  put-fields-reads.Asked,
+  put-fields-reads.Learnt,
+) reads.Pre reads.Post) → c .before .before .put-fields .result < c .before .before .before .before .before .before .before .before .before .before .before .args .at + 128
+ends c =
+    let n = ap length (c .before .before .before .before .before .before .before .before .before .numbers .ensures) in
+    let f = c .before .before .put-fields in
+    let p = c .before .before .before .before .before .before .before .put in
+    omega (arith, n, f .ensures .0, p .ensures .0, long64 (c .before .before .before .before .before .before .before .before .before .before .before .args .index) (omega arith))
 
-wide-requires-2 : tie.Need-wide-requires-2
-wide-requires-2 c κs = search needs
+slice-write-text : tie.Need-slice-write-text
+slice-write-text c = omega (arith, ends c)
 
-put-field-requires-4 : tie.Need-put-field-requires-4
-put-field-requires-4 c κs = omega (arith, long64 (c .before .before .before .before .before .before .before .before .before .before .before .before .before .before .before .before .before .args .index) (omega arith), long8 (c .before .before .before .before .before .before .before .before .before .before .before .octet .result) (c .before .before .before .before .before .before .before .before .before .before .before .octet .ensures .1), long32 (c .before .before .before .before .before .before .wide .result) (c .before .before .before .before .before .before .wide .ensures .1), long32 (c .before .wide2 .result) (c .before .wide2 .ensures .1))
-
-wide-requires-3 : tie.Need-wide-requires-3
-wide-requires-3 c κs = search needs
-
-put-field-requires-5 : tie.Need-put-field-requires-5
-put-field-requires-5 c κs = omega (arith, long64 (c .before .before .before .before .before .before .before .before .before .before .before .before .before .before .before .before .before .before .before .before .before .before .args .index) (omega arith), long8 (c .before .before .before .before .before .before .before .before .before .before .before .before .before .before .before .before .octet .result) (c .before .before .before .before .before .before .before .before .before .before .before .before .before .before .before .before .octet .ensures .1), long32 (c .before .before .before .before .before .before .before .before .before .before .before .wide .result) (c .before .before .before .before .before .before .before .before .before .before .before .wide .ensures .1), long32 (c .before .before .before .before .before .before .wide2 .result) (c .before .before .before .before .before .before .wide2 .ensures .1), long32 (c .before .wide3 .result) (c .before .wide3 .ensures .1))
+add-result : tie.Need-add-result
+add-result c = omega (arith, ends c)
 
 same-length : tie.Need-same-length
-same-length c = search needs
+same-length c = simp length-set (omega arith)
 
 returns : tie.Need-returns
 returns c =
-    let f5 = c .before .before .put-field5 in
-    let w3 = c .before .before .before .before .wide3 in
-    let f4 = c .before .before .before .before .before .before .before .put-field4 in
-    let w2 = c .before .before .before .before .before .before .before .before .before .wide2 in
-    let f3 = c .before .before .before .before .before .before .before .before .before .before .before .before .put-field3 in
-    let w1 = c .before .before .before .before .before .before .before .before .before .before .before .before .before .before .wide in
-    let f2 = c .before .before .before .before .before .before .before .before .before .before .before .before .before .before .before .before .before .put-field2 in
-    let o = c .before .before .before .before .before .before .before .before .before .before .before .before .before .before .before .before .before .before .before .octet in
-    let f1 = c .before .before .before .before .before .before .before .before .before .before .before .before .before .before .before .before .before .before .before .before .before .before .put-field in
-    let a = c .before .before .before .before .before .before .before .before .before .before .before .before .before .before .before .before .before .before .before .before .before .before .before .before .before .args in
-    let g = c .before .before .before .before .before .before .before .before .before .before .before .before .before .before .before .before .before .before .before .before .before .before .before .before .before .good in
-    let p = take (a .at) (a .text .now) ++ field (a .index) 32 in
-    let p2 = p ++ field (a .a .number) 32 in
-    let p3 = p2 ++ field (a .a .flips) 32 in
-    let p4 = p3 ++ field (a .a .first) 32 in
-    let t2 = one-field (take (f2 .result) (f2 .last .1 .1 .0)) (take (f1 .result) (f1 .last .1 .1 .0)) p (o .result) (a .a .number) 32 (f2 .ensures .1) (o .ensures .0) (f1 .ensures .1) in
-    let t3 = one-field (take (f3 .result) (f3 .last .1 .1 .0)) (take (f2 .result) (f2 .last .1 .1 .0)) p2 (w1 .result) (a .a .flips) 32 (f3 .ensures .1) (w1 .ensures .0) t2 in
-    let t4 = one-field (take (f4 .result) (f4 .last .1 .1 .0)) (take (f3 .result) (f3 .last .1 .1 .0)) p3 (w2 .result) (a .a .first) 32 (f4 .ensures .1) (w2 .ensures .0) t3 in
-    let t5 = one-field (take (f5 .result) (f5 .last .1 .1 .0)) (take (f4 .result) (f4 .last .1 .1 .0)) p4 (w3 .result) (a .a .last) 10 (f5 .ensures .1) (w3 .ensures .0) t4 in
-    (omega (arith, f1 .ensures .0, f2 .ensures .0, f3 .ensures .0, f4 .ensures .0, f5 .ensures .0, long64 (a .index) (omega arith), long8 (o .result) (o .ensures .1), long32 (w1 .result) (w1 .ensures .1), long32 (w2 .result) (w2 .ensures .1), long32 (w3 .result) (w3 .ensures .1)), t5 ∙ line-joined (take (a .at) (a .text .now)) (a .index) (asCorrected (a .a) []))
+    let f = c .before .before .put-fields in
+    let p = c .before .before .before .before .before .before .before .put in
+    let ns = c .before .before .before .before .before .before .before .before .before .numbers in
+    let a = c .before .before .before .before .before .before .before .before .before .before .before .args in
+    let before = take (a .at) (a .text .now) in
+    let first = take (p .result) (p .last .1 .0) in
+    let e : f .result < length (f .last .1 .0) = omega (arith, ends c) in
+    (omega (arith, ends c), line-whole before (f .last .1 .0) first (a .index) (f .result) (asCorrected (a .a) []) e (f .ensures .1) (p .ensures .1) (ns .ensures))
 
 pub put-line-spec : {M : Type 1} → statement M
 put-line-spec =
     tie.close
     (tie.spec
-    put-field-requires
-    octet-requires
-    put-field-requires-2
-    wide-requires
-    put-field-requires-3
-    wide-requires-2
-    put-field-requires-4
-    wide-requires-3
-    put-field-requires-5
+    numbers-requires
+    put-requires
+    slice-aggregate-put-fields
+    put-fields-requires
+    slice-write-text
+    add-result
     same-length
     returns)

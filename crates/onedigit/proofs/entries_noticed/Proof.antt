@@ -5,10 +5,10 @@ use Prim.Native.Nat.{ℕ, _+_, _-_, _*_, _/_, _%_, _≤_, _<_}
 use native.Mathlib.Nat.{mod-lt}
 use native.Mathlib.Omega.{arith}
 use lib.ListN.{length}
-use Rattle.rules.specs.Bits as bits
+use Rattle.bits.specs.Bits as bits
 use Rattle.ties.specs.Flat.{Sizes}
 use Rattle.onedigit.specs.Wrong.{placeNoticed, entryNoticed}
-use Rattle.rules.proofs.Counting.{tally-le, count-start}
+use Rattle.bits.proofs.Counting.{tally-le, count-start}
 use Rattle.onedigit.proofs.Counts.{count-more, within, product-fits}
 use Rattle.onedigit.proofs.entries_noticed.Statement.{statement}
 use Rattle.onedigit.proofs.entries_noticed.Tie as tie

@@ -3,9 +3,9 @@ use mathlib.Core.Path.{_≡_, ap, _∙_}
 use Prim.Native.Nat.{ℕ, _+_, _-_, _*_, _≤_, _<_}
 use native.Mathlib.Omega.{arith}
 use lib.ListN.{length}
-use Rattle.rules.specs.Bits.{count}
+use Rattle.bits.specs.Bits.{count}
 use Rattle.onedigit.specs.Wrong.{entryWrong}
-use Rattle.rules.proofs.Counting.{tally-le, count-start}
+use Rattle.bits.proofs.Counting.{tally-le, count-start}
 use Rattle.onedigit.proofs.Counts.{count-more, within, product-fits}
 use Rattle.onedigit.proofs.entries_tried.Statement.{statement}
 use Rattle.onedigit.proofs.entries_tried.Tie as tie

@@ -4,7 +4,7 @@ use native.Mathlib.Nat.{le-refl}
 use native.Mathlib.Omega.{arith}
 use lib.ListN.{length}
 use Rattle.onedigit.specs.Wrong.{digitNoticed, entryWrong, entryNoticed}
-use Rattle.rules.proofs.Counting.{count-le}
+use Rattle.bits.proofs.Counting.{count-le}
 use Rattle.onedigit.proofs.Counts.{product-fits}
 use borrow.Author.Needs.{needs}
 use Rattle.onedigit.proofs.try_code.Statement.{statement}

@@ -3,7 +3,7 @@ use mathlib.Core.Path.{_≡_, ap, _∙_}
 use Prim.Native.Nat.{ℕ, _-_, _≤_}
 use native.Mathlib.Omega.{arith}
 use lib.ListN.{length}
-use Rattle.rules.specs.Bits.{digit, sum}
+use Rattle.bits.specs.Bits.{digit, sum}
 use Rattle.ownparity.proofs.Words.{oddWord, fold-start, fold-more, fold-all}
 use Rattle.ownparity.proofs.folded.Statement.{statement}
 use Rattle.ownparity.proofs.folded.Tie as tie

@@ -2,9 +2,9 @@
 use mathlib.Core.Path.{_≡_, sym, ap, _∙_, subst}
 use Prim.Native.Nat.{ℕ, _+_, _-_, _*_, _^_, _≤_, _<_}
 use native.Mathlib.Omega.{arith}
-use Rattle.rules.specs.Bits.{number}
+use Rattle.bits.specs.Bits.{number}
 use Rattle.vectors.specs.Vectors.{wbit}
-use Rattle.rules.proofs.Octets.{number-lt}
+use Rattle.bits.proofs.Octets.{number-lt}
 use Rattle.vectors.proofs.Octets.{fits}
 use Rattle.ownparity.specs.Odd.{oddBlock}
 use Rattle.ownparity.proofs.Words.{number-start, number-more}

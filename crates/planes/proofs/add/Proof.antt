@@ -2,9 +2,9 @@
 -- Assumes nothing.
 use mathlib.Core.Bool.{_&&_}
 use native.Mathlib.Omega.{arith}
-use Rattle.rules.specs.Bits.{digit}
+use Rattle.bits.specs.Bits.{digit}
 use Rattle.planes.specs.Counts.{value}
-use Rattle.rules.proofs.Counting.{tally-le}
+use Rattle.bits.proofs.Counting.{tally-le}
 use Rattle.vectors.proofs.Places.{digit-xor, digit-and}
 use Rattle.planes.proofs.Digits.{half}
 use Rattle.planes.proofs.add.Statement.{statement}

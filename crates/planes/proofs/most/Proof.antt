@@ -6,7 +6,7 @@ use native.Mathlib.Nat.{mul-pos}
 use native.Mathlib.Omega.{arith}
 use lib.Count.{leadingZeros, leading-le}
 use lib.Pow.{pow-mono, pow-pos}
-use Rattle.rules.specs.Bits.{digit}
+use Rattle.bits.specs.Bits.{digit}
 use Rattle.vectors.proofs.Firsts.{first-digit}
 use Rattle.planes.proofs.Digits.{ones-shl, places}
 use Rattle.planes.proofs.Narrowing.{narrowed}

@@ -1,7 +1,7 @@
 -- `planes::none` meets its contract.
 -- Assumes nothing.
 use Rattle.planes.specs.Counts.{value}
-use Rattle.rules.proofs.Octets.{digit-zero}
+use Rattle.bits.proofs.Octets.{digit-zero}
 use Rattle.planes.proofs.none.Statement.{statement}
 use Rattle.planes.proofs.none.Tie as tie
 

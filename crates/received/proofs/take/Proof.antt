@@ -1,11 +1,10 @@
--- `received::take`: code 5 is lifted by 18 bits, the others are taken as they are. Assumes nothing.
+-- `received::take`: lifted by the unsent bits, where there are any. Assumes nothing.
 use mathlib.Core.Path.{sym, ap, _∙_}
 use native.Mathlib.Omega.{arith}
-use lib.Dec.{lit<}
-use Rattle.rules.specs.Bits.{bit}
-use Rattle.rules.proofs.Octets.{bit-past}
+use Rattle.bits.specs.Bits.{bit}
+use Rattle.bits.proofs.Octets.{bit-past}
 use Rattle.vectors.specs.Vectors.{later}
-use Rattle.received.proofs.Handed.{taken-whole, taken-five}
+use Rattle.received.proofs.Handed.{taken-whole, taken-later}
 use borrow.Author.Needs.{needs}
 use Rattle.received.proofs.take.Statement.{statement}
 use Rattle.received.proofs.take.Tie as tie
@@ -17,7 +16,7 @@ lift-requires : tie.Need-lift-requires
 lift-requires c κs =
     let d = c .before .before .before .before in
     let a = d .before .before .before .before in
-    (lit< tt, λ n l. ap (λ w. w n) (d .load .ensures) ∙ bit-past (a .args .octets .now) n (omega arith))
+    (omega arith, λ n l. ap (λ w. w n) (d .load .ensures) ∙ bit-past (a .args .octets .now) n (omega arith))
 
 same-length : tie.Need-same-length
 same-length c = search needs
@@ -27,7 +26,7 @@ returns c =
     let d = c .before .before in
     let b = d .before .before .before .before .before in
     let a = b .before .before .before .before in
-    d .lift .ensures ∙ ap (later 18) (b .load .ensures) ∙ sym (taken-five (a .args .code) (omega arith) (bit (a .args .octets .now)))
+    λ k e. d .lift .ensures ∙ ap (later (a .args .unsent)) (b .load .ensures) ∙ taken-later k (a .args .unsent) e (bit (a .args .octets .now))
 
 same-length-2 : tie.Need-same-length-2
 same-length-2 c = search needs
@@ -36,7 +35,7 @@ returns-2 : tie.Need-returns-2
 returns-2 c =
     let b = c .before .before .before in
     let a = b .before .before .before .before in
-    b .load .ensures ∙ sym (taken-whole (a .args .code) (a .pre .0) (λ e. c .if1 .left e) (bit (a .args .octets .now)))
+    λ k e. b .load .ensures ∙ taken-whole k (omega arith) (bit (a .args .octets .now))
 
 pub take-spec : {M : Type 1} → statement M
 take-spec =

@@ -1,26 +1,28 @@
--- `received::write`: code 5 is trimmed and sent from bit 18 on, the others from bit 0. Assumes nothing.
+-- `received::write`: trimmed where more is sent than there are bits, and sent from the first sent bit on. Assumes nothing.
 use mathlib.Core.Path.{ap, _∙_}
 use native.Mathlib.Omega.{arith}
 use lib.ListN.{length}
-use Rattle.rules.specs.Bits.{octets}
+use Rattle.bits.specs.Bits.{octets}
 use Rattle.vectors.specs.Vectors.{wbit, from}
-use Rattle.received.proofs.Handed.{word-few, written-whole, written-five}
+use Rattle.received.proofs.Handed.{written-trimmed, written-whole}
 use borrow.Author.Needs.{needs}
 use Rattle.received.proofs.write.Statement.{statement}
 use Rattle.received.proofs.write.Tie as tie
+
+mul-if1 : tie.Need-mul-if1
+mul-if1 c = search needs
+
+add-if1 : tie.Need-add-if1
+add-if1 c = search needs
 
 trim-requires : tie.Need-trim-requires
 trim-requires c κs = search needs
 
 store-requires : tie.Need-store-requires
-store-requires c κs =
-    let a = c .before .before .before .before .before .before .before .before .before in
-    omega (arith, word-few (a .args .code) (a .pre .0), a .pre .2)
+store-requires c κs = search needs
 
 store-requires-2 : tie.Need-store-requires-2
-store-requires-2 c κs =
-    let a = c .before .before .before .before .before in
-    omega (arith, word-few (a .args .code) (a .pre .0), a .pre .2)
+store-requires-2 c κs = search needs
 
 same-length : tie.Need-same-length
 same-length c = search needs
@@ -33,9 +35,10 @@ returns c =
     let d = c .before .before in
     let t = d .before .before .before .before .before in
     let a = t .before .before .before .before .before in
+    λ k e f g.
     d .store .ensures
-    ∙ ap (λ w. octets (length (a .args .out .now)) (from 18 w)) (t .trim .ensures)
-    ∙ written-five (a .args .code) (length (a .args .out .now)) (omega arith) (a .pre .2) (wbit (a .args .y .now))
+    ∙ ap (λ w. octets (length (a .args .out .now)) (from (a .args .unsent) w)) (t .trim .ensures)
+    ∙ written-trimmed k (a .args .unsent) (a .args .bits) e f (wbit (a .args .y .now)) (length (a .args .out .now)) g
 
 same-length-3 : tie.Need-same-length-3
 same-length-3 c = search needs
@@ -47,12 +50,14 @@ returns-2 : tie.Need-returns-2
 returns-2 c =
     let d = c .before .before in
     let a = d .before .before .before .before .before .before in
-    d .store2 .ensures ∙ written-whole (a .args .code) _ (a .pre .0) (λ e. d .before .before .before .if1 .left e) (a .pre .2) (wbit (a .args .y .now))
+    λ k e f g. d .store2 .ensures ∙ written-whole k (a .args .unsent) (a .args .bits) e f (wbit (a .args .y .now)) (length (a .args .out .now)) g (omega arith)
 
 pub write-spec : {M : Type 1} → statement M
 write-spec =
     tie.close
     (tie.spec
+    mul-if1
+    add-if1
     trim-requires
     store-requires
     store-requires-2

@@ -4,7 +4,7 @@ use Prim.Native.Nat.{ℕ, _-_, _*_, _≤_}
 use native.Mathlib.Omega.{arith}
 use lib.ListN.{length}
 use borrow.Author.Needs.{needs}
-use Rattle.rules.specs.Bits.{Word}
+use Rattle.bits.specs.Bits.{Word}
 use Rattle.vectors.specs.Vectors.{wbit, from, twice}
 use Rattle.vectors.proofs.Spans.{upTo-again}
 use Rattle.syndromes.specs.Rows.{plus, rowed, wide, spread, turned, summed}

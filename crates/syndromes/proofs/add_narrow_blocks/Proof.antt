@@ -6,7 +6,7 @@ use native.Mathlib.Omega.{arith}
 use lib.Dec.{ltb}
 use lib.ListN.{length}
 use borrow.Author.Needs.{needs}
-use Rattle.rules.specs.Bits.{Word}
+use Rattle.bits.specs.Bits.{Word}
 use Rattle.vectors.specs.Vectors.{wbit, Holds, upTo, from}
 use Rattle.syndromes.specs.Rows.{plus, rowed, wide, spread, turned, summed}
 use Rattle.syndromes.proofs.Bounds.{block-room}

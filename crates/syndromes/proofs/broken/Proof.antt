@@ -3,8 +3,8 @@ use mathlib.Core.Path.{ap, _∙_}
 use Prim.Native.Nat.{_*_}
 use native.Mathlib.Omega.{arith}
 use lib.ListN.{length}
-use Rattle.rules.specs.Bits.{count}
-use Rattle.rules.proofs.Counting.{count-le}
+use Rattle.bits.specs.Bits.{count}
+use Rattle.bits.proofs.Counting.{count-le}
 use Rattle.vectors.specs.Vectors.{wbit}
 use Rattle.syndromes.proofs.Laid.{laid-count}
 use borrow.Author.Needs.{needs}

@@ -2,7 +2,7 @@
 use mathlib.Core.Path.{ap, _∙_}
 use Prim.Native.Nat.{ℕ, _/_, _%_}
 use native.Mathlib.Nat.{mod-lt, div-lt-iff-lt-mul, div-add-mod'}
-use Rattle.rules.specs.Bits.{Word, flipped}
+use Rattle.bits.specs.Bits.{Word, flipped}
 use Rattle.layout.specs.Lent.{laid}
 use Rattle.syndromes.specs.Rows.{plus, rowed, wide, spread, covering}
 use Rattle.syndromes.proofs.Laid.{laid-flipped}

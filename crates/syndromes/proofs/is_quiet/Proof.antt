@@ -5,7 +5,7 @@ use Prim.Native.Nat.{ℕ, _*_}
 use native.Mathlib.Omega.{arith}
 use lib.Dec.{ltb}
 use lib.ListN.{length}
-use Rattle.rules.specs.Bits.{count}
+use Rattle.bits.specs.Bits.{count}
 use Rattle.rules.specs.Checks.{broken}
 use Rattle.syndromes.proofs.Laid.{laid-count, none-test}
 use borrow.Author.Needs.{needs}

@@ -1,9 +1,7 @@
--- `tables::lend`: each code's places and shape. Assumes nothing.
-use mathlib.Core.Path.{refl}
+-- `tables::lend`: each size has its table. Assumes nothing.
 use borrow.Author.Needs.{needs}
 use native.Mathlib.Omega.{arith}
-use Rattle.tables.specs.Flat.{places16, places32, places64, places511, flat8, flat16}
-use Rattle.tables.proofs.Lending.{lends1, lends2, lends3, near-lends, lends-as}
+use Rattle.tables.proofs.Lending.{by-size}
 use Rattle.tables.proofs.lend.Statement.{statement}
 use Rattle.tables.proofs.lend.Tie as tie
 
@@ -14,7 +12,12 @@ same-length : tie.Need-same-length
 same-length c = search needs
 
 returns : tie.Need-returns
-returns c = lends-as _ 1 _ (flat8 places16) _ (omega arith) (c .before .before .lend16 .ensures) lends1
+returns c = by-size _ _ (record {
+  small = λ e. c .before .before .lend16 .ensures;
+  middle = λ e. absurd (omega arith);
+  large = λ e. absurd (omega arith);
+  near = λ e. absurd (omega arith);
+})
 
 lend32-requires : tie.Need-lend32-requires
 lend32-requires c κs = search needs
@@ -23,7 +26,12 @@ same-length-2 : tie.Need-same-length-2
 same-length-2 c = search needs
 
 returns-2 : tie.Need-returns-2
-returns-2 c = lends-as _ 2 _ (flat8 places32) _ (omega arith) (c .before .before .lend32 .ensures) lends2
+returns-2 c = by-size _ _ (record {
+  small = λ e. absurd (omega arith);
+  middle = λ e. c .before .before .lend32 .ensures;
+  large = λ e. absurd (omega arith);
+  near = λ e. absurd (omega arith);
+})
 
 lend64-requires : tie.Need-lend64-requires
 lend64-requires c κs = search needs
@@ -32,7 +40,12 @@ same-length-3 : tie.Need-same-length-3
 same-length-3 c = search needs
 
 returns-3 : tie.Need-returns-3
-returns-3 c = lends-as _ 3 _ (flat8 places64) _ (omega arith) (c .before .before .lend64 .ensures) lends3
+returns-3 c = by-size _ _ (record {
+  small = λ e. absurd (omega arith);
+  middle = λ e. absurd (omega arith);
+  large = λ e. c .before .before .lend64 .ensures;
+  near = λ e. absurd (omega arith);
+})
 
 lend511-requires : tie.Need-lend511-requires
 lend511-requires c κs = search needs
@@ -41,7 +54,12 @@ same-length-4 : tie.Need-same-length-4
 same-length-4 c = search needs
 
 returns-4 : tie.Need-returns-4
-returns-4 c = lends-as _ _ _ (flat16 places511) _ refl (c .before .before .lend511 .ensures) (near-lends _ (omega arith) (omega arith) (λ e. omega arith) (λ e. omega arith) (λ e. omega arith))
+returns-4 c = by-size _ _ (record {
+  small = λ e. absurd (omega arith);
+  middle = λ e. absurd (omega arith);
+  large = λ e. absurd (omega arith);
+  near = λ e. c .before .before .lend511 .ensures;
+})
 
 pub lend-spec : {M : Type 1} → statement M
 lend-spec =

@@ -1,7 +1,8 @@
--- `tables::lend511`: the constant is the table's places. Assumes nothing.
+-- `tables::lend511`: the constant is the published table's places. Assumes nothing.
 use mathlib.Core.Path.{refl}
 use borrow.Author.Needs.{needs}
-use Rattle.tables.specs.Flat.{places511, flat16}
+use Rattle.rules.specs.Tables.{parity511}
+use Rattle.tables.specs.Flat.{pairs, flat16}
 use Rattle.tables.proofs.Listed.{flat-as}
 use Rattle.tables.proofs.lend511.Statement.{statement}
 use Rattle.tables.proofs.lend511.Tie as tie
@@ -13,7 +14,8 @@ same-length : tie.Need-same-length
 same-length c = search needs
 
 returns : tie.Need-returns
-returns c = flat-as flat16 places511 (c .before .before .flatten16 .ensures) refl
+unfolding parity511
+returns c = flat-as flat16 (pairs parity511) (c .before .before .flatten16 .ensures) refl
 
 pub lend511-spec : {M : Type 1} → statement M
 lend511-spec = tie.close (tie.spec flatten16-requires same-length returns)

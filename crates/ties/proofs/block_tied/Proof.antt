@@ -4,7 +4,8 @@ use mathlib.Core.Bool.{Bool}
 use mathlib.Core.List.{List}
 use Prim.Native.Nat.{ℕ, _-_, _≤_}
 use native.Mathlib.Omega.{arith}
-use Rattle.rules.specs.Identity.{below, cancels}
+use Rattle.rules.specs.Identity.{cancels}
+use Rattle.bits.specs.Bits.{below}
 use Rattle.ties.specs.Flat.{block, row, numbers}
 use Rattle.ties.proofs.Listed.{stops, goes-on, below-step, below-none}
 use Rattle.ties.proofs.block_tied.Statement.{statement}

@@ -4,7 +4,7 @@ use mathlib.Core.Bool.{Bool, not}
 use Prim.Native.Nat.{_<_}
 use native.Mathlib.Nat.{le-refl}
 use native.Mathlib.Omega.{arith}
-use Rattle.rules.specs.Bits.{_⊕_}
+use Rattle.bits.specs.Bits.{_⊕_}
 use Rattle.ties.specs.Flat.{block, row, numbers}
 use Rattle.ties.proofs.Sums.{xor-is}
 use Rattle.ties.proofs.Printed.{printed-cancels}

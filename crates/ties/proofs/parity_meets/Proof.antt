@@ -6,8 +6,7 @@ use Prim.Native.Nat.{ℕ, suc, _+_, _-_, _*_, _%_, _≤_, _<_}
 use native.Mathlib.Nat.{add-mul}
 use native.Mathlib.Omega.{arith}
 use lib.ListN.{getD}
-use Rattle.rules.specs.Bits.{_⊕_, digit}
-use Rattle.rules.specs.Identity.{over, blocks}
+use Rattle.bits.specs.Bits.{_⊕_, digit, over, blocks}
 use Rattle.ties.specs.Flat.{pieces, block, row, joined, words, numbers}
 use Rattle.ties.proofs.Sums.{⊕-false}
 use Rattle.ties.proofs.Listed.{more-fits, pieces-at, pieces-none, blocks-step}

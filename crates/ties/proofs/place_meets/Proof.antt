@@ -3,7 +3,7 @@ use mathlib.Core.Path.{_≡_, sym, ap, _∙_}
 use Prim.Native.Nat.{ℕ, _+_, _%_}
 use native.Mathlib.Omega.{arith}
 use lib.ListN.{getD}
-use Rattle.rules.specs.Bits.{digit}
+use Rattle.bits.specs.Bits.{digit}
 use Rattle.ties.specs.Flat.{joined, words, met}
 use Rattle.ties.proofs.Sums.{over-one, over-none}
 use borrow.Author.Needs.{needs}

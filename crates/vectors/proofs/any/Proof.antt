@@ -4,7 +4,7 @@ use Prim.Native.Nat.{ℕ, _-_, _*_, _≤_}
 use native.Mathlib.Omega.{arith}
 use lib.Dec.{ltb}
 use lib.ListN.{length}
-use Rattle.rules.specs.Bits.{count}
+use Rattle.bits.specs.Bits.{count}
 use Rattle.vectors.specs.Vectors.{wbit}
 use Rattle.vectors.proofs.Counts.{Seen, seen-none, seen-more, seen-all}
 use Rattle.vectors.proofs.any.Statement.{statement}

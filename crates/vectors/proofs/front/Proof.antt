@@ -2,7 +2,7 @@
 use mathlib.Core.Path.{sym}
 use native.Mathlib.Omega.{arith}
 use borrow.Author.Needs.{needs}
-use Rattle.rules.specs.Bits.{digit}
+use Rattle.bits.specs.Bits.{digit}
 use Rattle.vectors.proofs.Spans.{first-holds, upTo-below}
 use Rattle.vectors.proofs.front.Statement.{statement}
 use Rattle.vectors.proofs.front.Tie as tie

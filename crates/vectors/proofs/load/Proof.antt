@@ -4,7 +4,7 @@ use Prim.Native.Nat.{_+_, _/_}
 use native.Mathlib.Omega.{arith}
 use lib.ListN.{length}
 use borrow.Author.Needs.{needs}
-use Rattle.rules.specs.Bits.{bit}
+use Rattle.bits.specs.Bits.{bit}
 use Rattle.vectors.specs.Vectors.{wbit}
 use Rattle.vectors.proofs.Octets.{zeros-behind}
 use Rattle.vectors.proofs.Filling.{word-stored}

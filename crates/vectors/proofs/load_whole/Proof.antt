@@ -3,7 +3,7 @@ use mathlib.Core.Path.{_≡_, ap, _∙_}
 use Prim.Native.Nat.{_-_, _/_, _≤_, _*_}
 use native.Mathlib.Omega.{arith}
 use lib.ListN.{length}
-use Rattle.rules.specs.Bits.{bit}
+use Rattle.bits.specs.Bits.{bit}
 use Rattle.vectors.specs.Vectors.{wbit, joined}
 use Rattle.vectors.proofs.Filling.{Filled, filled-start, filled-more}
 use Rattle.vectors.proofs.load_whole.Statement.{statement}

@@ -4,9 +4,9 @@ use Prim.Native.Nat.{ℕ, _-_, _*_, _≤_}
 use native.Mathlib.Omega.{arith}
 use lib.Count.{ones-le}
 use lib.ListN.{length, getD}
-use Rattle.rules.specs.Bits.{count}
+use Rattle.bits.specs.Bits.{count}
 use Rattle.vectors.specs.Vectors.{wbit}
-use Rattle.rules.proofs.Counting.{count-start, count-le}
+use Rattle.bits.proofs.Counting.{count-start, count-le}
 use Rattle.vectors.proofs.Counts.{count-word}
 use Rattle.vectors.proofs.ones.Statement.{statement}
 use Rattle.vectors.proofs.ones.Tie as tie

@@ -4,7 +4,7 @@ use Prim.Native.Nat.{ℕ, _+_, _-_, _*_, _/_, _%_, _^_, _≤_}
 use native.Mathlib.Omega.{arith}
 use lib.Dec.{lit<}
 use lib.ListN.{length, length-set}
-use Rattle.rules.specs.Bits.{Word, bit, digit}
+use Rattle.bits.specs.Bits.{Word, bit, digit}
 use Rattle.vectors.specs.Vectors.{joined}
 use Rattle.vectors.proofs.Cells.{stored, joined-start, joined-below, joined-above}
 use Rattle.vectors.proofs.Octets.{after, put-octet}

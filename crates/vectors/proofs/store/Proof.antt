@@ -4,7 +4,7 @@ use Prim.Native.Nat.{ℕ, _+_, _-_, _*_, _/_, _%_, _^_, _≤_, _<_}
 use native.Mathlib.Omega.{arith}
 use lib.ListN.{length, getD}
 use borrow.Author.Needs.{needs}
-use Rattle.rules.specs.Bits.{bit}
+use Rattle.bits.specs.Bits.{bit}
 use Rattle.vectors.specs.Vectors.{wbit, from, joined}
 use Rattle.vectors.proofs.Cells.{joined-start}
 use Rattle.vectors.proofs.Octets.{put-more, written}

@@ -1,22 +1,14 @@
 -- `wordbench::all`: the buffers are as long as `blocks` wants them. Assumes the kit's contracts of reading and writing.
-use mathlib.Core.Path.{sym, subst, _∙_}
-use Prim.Native.Nat.{_*_, _≤_}
-use native.Mathlib.Nat.{mul-le-mul-left}
+use mathlib.Core.Path.{ap, _∙_}
+use Prim.Native.Nat.{_%_}
 use native.Mathlib.Omega.{arith}
 use lib.ListN.{length-take}
 use lib.Seq.{length-take-le}
+use Rattle.lines.specs.Parts.{sizeIn}
+use Rattle.lines.proofs.Whole.{good}
 use borrow.Author.Needs.{needs}
-use Rattle.lines.proofs.Pieces.{at-least}
 use Rattle.wordbench.proofs.all.Statement.{statement}
 use Rattle.wordbench.proofs.all.Tie as tie
-use Rattle.wordbench.proofs.all.Reads as reads
-use Rattle.wordbench.proofs.all.Lts as lts
-use Rattle.io.proofs.large_buffer.Reads as large-buffer-reads
-use Rattle.lines.proofs.words_held.Reads as words-held-reads
-use Rattle.received.proofs.word_octets.Reads as word-octets-reads
-use Rattle.wordbench.proofs.blocks.Reads as blocks-reads
-use Rattle.wordbench.proofs.out_buffer.Reads as out-buffer-reads
-use Rattle.wordbench.proofs.text_buffer.Reads as text-buffer-reads
 
 large-buffer-requires : tie.Need-large-buffer-requires
 large-buffer-requires c κs = search needs
@@ -27,42 +19,23 @@ out-buffer-requires c κs = search needs
 text-buffer-requires : tie.Need-text-buffer-requires
 text-buffer-requires c κs = search needs
 
-words-held-requires : tie.Need-words-held-requires
-words-held-requires c κs = search needs
+shared-slice-read-word-octets : tie.Need-shared-slice-read-word-octets
+shared-slice-read-word-octets c = search needs
 
 word-octets-requires : tie.Need-word-octets-requires
-word-octets-requires c κs = search needs
+word-octets-requires c κs = good (c .before .before .before .before .before .args .head .now) (c .before .before .before .before .before .pre .1) .1
 
--- the words of a block fill at most 64 KiB
-fits : (c : lts.After-word-octets (
-  large-buffer-reads.Asked,
-  large-buffer-reads.Learnt,
-  out-buffer-reads.Asked,
-  out-buffer-reads.Learnt,
-  text-buffer-reads.Asked,
-  text-buffer-reads.Learnt,
-  words-held-reads.Asked,
-  words-held-reads.Learnt,
-  word-octets-reads.Asked,
-  word-octets-reads.Learnt,
-  blocks-reads.Asked,
-  blocks-reads.Learnt,
-) reads.Pre reads.Post) → (c .before .words-held .result * c .word-octets .result ≤ 65536) × (c .before .words-held .result ≤ 65536)
-fits c =
-    let h = c .before .words-held in
-    let z = c .word-octets in
-    let f : h .result * z .result ≤ 65536 = subst (λ m. h .result * m ≤ 65536) (sym (z .ensures .0)) (h .ensures .2) in
-    let l : 1 ≤ z .result = omega (arith, at-least (c .before .before .before .before .before .args .code) (c .before .before .before .before .before .pre)) in
-    (f, omega (arith, f, mul-le-mul-left (h .result) l))
+shared-slice-read-block-octets : tie.Need-shared-slice-read-block-octets
+shared-slice-read-block-octets c = search needs
 
-mul-full : tie.Need-mul-full
-mul-full c = omega (arith, fits c .0)
+block-octets-requires : tie.Need-block-octets-requires
+block-octets-requires c κs = good (c .before .before .before .before .before .before .before .args .head .now) (c .before .before .before .before .before .before .before .pre .1) .1
 
 array-borrow-prefix-words : tie.Need-array-borrow-prefix-words
-array-borrow-prefix-words c = omega (arith, fits c .0)
+array-borrow-prefix-words c = search needs
 
 slice-aggregate-blocks : tie.Need-slice-aggregate-blocks
-slice-aggregate-blocks c = simp length-take (omega (arith, fits (c .before) .0))
+slice-aggregate-blocks c = simp length-take (omega arith)
 
 array-borrow-prefix-out : tie.Need-array-borrow-prefix-out
 array-borrow-prefix-out c = search needs
@@ -75,11 +48,14 @@ slice-aggregate-blocks-3 c = search needs
 
 blocks-requires : tie.Need-blocks-requires
 blocks-requires c κs =
-    let d = c .before .before .before in
-    let b = d .before .before .before .before in
-    let words = length-take-le (d .before .words-held .result * d .word-octets .result) (b .large-buffer .result) (omega (arith, fits d .0)) in
-    let out = length-take-le (d .word-octets .result) (d .before .before .before .out-buffer .result) (omega arith) in
-    (c .before .before .before .before .before .before .before .before .pre, d .before .words-held .ensures .1, fits d .1, omega (arith, words, fits d .0), out ∙ d .word-octets .ensures .0, omega (arith, words, fits d .0))
+    let s = c .before .before .before .before .before .before .before .before .before .before .before in
+    let d = c .before .before .before .block-octets in
+    let z = c .before .before .before .before .before .word-octets in
+    let words = length-take-le (d .result) (c .before .before .before .before .before .before .before .before .before .large-buffer .result) (omega arith) in
+    let out = length-take-le (z .result) (c .before .before .before .before .before .before .before .before .out-buffer .result) (omega arith) in
+    let w = sizeIn (s .args .head .now) in
+    let whole = ap (λ n. n % w) words ∙ d .ensures .0 in
+    ((s .pre, (out ∙ z .ensures .0, omega (arith, words))), (whole, omega (arith, words), omega (arith, words)))
 
 returns : tie.Need-returns
 returns c = search needs
@@ -91,9 +67,10 @@ all-spec =
     large-buffer-requires
     out-buffer-requires
     text-buffer-requires
-    words-held-requires
+    shared-slice-read-word-octets
     word-octets-requires
-    mul-full
+    shared-slice-read-block-octets
+    block-octets-requires
     array-borrow-prefix-words
     slice-aggregate-blocks
     array-borrow-prefix-out

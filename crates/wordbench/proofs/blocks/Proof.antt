@@ -1,31 +1,45 @@
--- `wordbench::blocks`: the buffers keep their lengths, and the index stays in range. Assumes the kit's contracts of reading and writing.
-use mathlib.Core.Path.{_≡_}
-use Prim.Native.Nat.{_-_, _^_}
-use borrow.Author.Needs.{needs}
+-- `wordbench::blocks`: whole words stand before each block, and their count fits. Assumes the kit's contracts of reading and writing.
+use mathlib.Core.Path.{_≡_, refl, ap, _∙_}
+use Prim.Native.Nat.{_-_, _%_, _^_}
+use native.Mathlib.Nat.{zero-mod}
+use native.Mathlib.Omega.{arith}
 use lib.ListN.{length}
+use Rattle.lines.specs.Parts.{sizeIn}
+use Rattle.lines.proofs.Whole.{whole-sum}
+use borrow.Author.Needs.{needs}
 use Rattle.wordbench.proofs.blocks.Statement.{statement}
 use Rattle.wordbench.proofs.blocks.Tie as tie
 
 abbrev Inv-loop : tie.InvT-loop
-Inv-loop code limit each words₀ out₀ text₀ index₀ words out text index = (length words ≡ length words₀) × (length out ≡ length out₀) × (length text ≡ length text₀)
+Inv-loop head words₀ out₀ text₀ read₀ words out text read =
+    (read % sizeIn head ≡ 0) × (length words ≡ length words₀) × (length out ≡ length out₀) × (length text ≡ length text₀)
 
 abbrev μ-loop : tie.MeasureT-loop
-μ-loop code limit each words₀ out₀ text₀ index₀ words out text index = 2 ^ 64 - index
+μ-loop head words₀ out₀ text₀ read₀ words out text read = 2 ^ 64 - read
 
 loop-holds : tie.Need-loop-holds Inv-loop μ-loop
-loop-holds c = search needs
+loop-holds c = (zero-mod _, refl, refl, refl)
 
 block-requires : tie.Need-block-requires Inv-loop μ-loop
-block-requires c κs = search needs
+block-requires c κs =
+    let s = c .before .before .before .before .before .before .before .before .before in
+    let h = c .before .before .before .before .loop in
+    (s .pre .0 .0, (h .inv .2 ∙ s .pre .0 .1 .0, omega arith), (h .inv .0, omega arith))
 
-add-index : tie.Need-add-index Inv-loop μ-loop
-add-index c = search needs
+add-read : tie.Need-add-read Inv-loop μ-loop
+add-read c = search needs
 
 loop-less : tie.Need-loop-less Inv-loop μ-loop
 loop-less c = search needs
 
 loop-again : tie.Need-loop-again Inv-loop μ-loop
-loop-again c = search needs
+loop-again c =
+    let s = c .before .before .before .before .before .before .before .before .before .before .before .before .before .before .before .before .before in
+    let h = c .before .before .before .before .before .before .before .before .before .before .before .before .loop in
+    let words = c .before .before .before .before .before .before .before .block .last .1 .1 .0 in
+    let w = sizeIn (s .args .head .now) in
+    let e : length words ≡ length (s .args .words .now) = omega arith in
+    (whole-sum (h .read) (length words) w (h .inv .0) (ap (λ n. n % w) e ∙ s .pre .1 .0), e, omega arith, omega arith)
 
 same-length : tie.Need-same-length Inv-loop μ-loop
 same-length c = search needs
@@ -59,7 +73,7 @@ blocks-spec =
     μ-loop
     loop-holds
     block-requires
-    add-index
+    add-read
     loop-less
     loop-again
     same-length

@@ -1,0 +1,6 @@
+pub mod Answers
+pub mod Demands
+pub mod Corrections
+pub mod Steps
+pub mod Refusals
+pub mod Cases

@@ -1,0 +1,5 @@
+pub mod Orders
+pub mod Sums
+pub mod Cyclic
+pub mod Counting
+pub mod Octets

@@ -1,0 +1,59 @@
+-- Any two outcomes that one exported call's statement allows are equal: theorems over the contracts themselves, as the source has them.
+use mathlib.Core.Path.{_≡_, _∙_, sym, ap}
+use contract.Lifetimes.{Lfts}
+use borrow.Fn.World.{ArgsD, ResD}
+use borrow.Fn.Kinds.{endedOf}
+use denote.Triple.Clauses.{AtExit}
+use denote.Ref.{now}
+use Rattle.capi.proofs.pandoricchia_word_octets as word-octets
+use Rattle.capi.proofs.pandoricchia_word_octets.Kinds as word-octets-kinds
+use Rattle.capi.proofs.pandoricchia_word_octets.Reads as word-octets-reads
+use Rattle.capi.proofs.pandoricchia_information_octets as information-octets
+use Rattle.capi.proofs.pandoricchia_information_octets.Kinds as information-octets-kinds
+use Rattle.capi.proofs.pandoricchia_information_octets.Reads as information-octets-reads
+use Rattle.capi.proofs.pandoricchia_encode as encode
+use Rattle.capi.proofs.pandoricchia_encode.Kinds as encode-kinds
+use Rattle.capi.proofs.pandoricchia_encode.Reads as encode-reads
+use Rattle.capi.proofs.pandoricchia_check as check
+use Rattle.capi.proofs.pandoricchia_check.Kinds as check-kinds
+use Rattle.capi.proofs.pandoricchia_check.Reads as check-reads
+use Rattle.capi.proofs.pandoricchia_open as open-call
+use Rattle.capi.proofs.pandoricchia_open.Kinds as open-kinds
+use Rattle.capi.proofs.pandoricchia_open.Reads as open-reads
+use Rattle.capi.proofs.pandoricchia_correct as correct
+use Rattle.capi.proofs.pandoricchia_correct.Kinds as correct-kinds
+use Rattle.capi.proofs.pandoricchia_correct.Reads as correct-reads
+use Rattle.capi.proofs.pandoricchia_step as step
+use Rattle.capi.proofs.pandoricchia_step.Kinds as step-kinds
+use Rattle.capi.proofs.pandoricchia_step.Reads as step-reads
+
+pub word-octets-outcome : (κs : Lfts 0) (a : ArgsD word-octets.signature κs) (r₁ r₂ : ResD word-octets.signature κs) (s₁ s₂ : AtExit (endedOf 0 word-octets-kinds.ps word-octets-kinds.r) κs)
+    → word-octets-reads.Post κs a r₁ s₁ → word-octets-reads.Post κs a r₂ s₂ → r₁ ≡ r₂
+word-octets-outcome κs a r₁ r₂ s₁ s₂ p q = p ∙ sym q
+
+pub information-octets-outcome : (κs : Lfts 0) (a : ArgsD information-octets.signature κs) (r₁ r₂ : ResD information-octets.signature κs) (s₁ s₂ : AtExit (endedOf 0 information-octets-kinds.ps information-octets-kinds.r) κs)
+    → information-octets-reads.Post κs a r₁ s₁ → information-octets-reads.Post κs a r₂ s₂ → r₁ ≡ r₂
+information-octets-outcome κs a r₁ r₂ s₁ s₂ p q = p ∙ sym q
+
+pub encode-outcome : (κs : Lfts 2) (a : ArgsD encode.signature κs) (r₁ r₂ : ResD encode.signature κs) (s₁ s₂ : AtExit (endedOf 2 encode-kinds.ps encode-kinds.r) κs)
+    → encode-reads.Post κs a r₁ s₁ → encode-reads.Post κs a r₂ s₂ → (r₁ ≡ r₂) × (now (s₁ .1 .1 .0) ≡ now (s₂ .1 .1 .0))
+encode-outcome κs a r₁ r₂ s₁ s₂ p q = (ap (λ x. x .number) (p ∙ sym q), ap (λ x. x .out) (p ∙ sym q))
+
+pub check-outcome : (κs : Lfts 1) (a : ArgsD check.signature κs) (r₁ r₂ : ResD check.signature κs) (s₁ s₂ : AtExit (endedOf 1 check-kinds.ps check-kinds.r) κs)
+    → check-reads.Post κs a r₁ s₁ → check-reads.Post κs a r₂ s₂ → r₁ ≡ r₂
+check-outcome κs a r₁ r₂ s₁ s₂ p q = ap (λ x. record { number = x .number; broken = x .broken }) (p ∙ sym q)
+
+-- The length of the part: its octets are the word's leading ones.
+pub open-outcome : (κs : Lfts 2) (a : ArgsD open-call.signature κs) (r₁ r₂ : ResD open-call.signature κs) (s₁ s₂ : AtExit (endedOf 2 open-kinds.ps open-kinds.r) κs)
+    → open-reads.Post κs a r₁ s₁ → open-reads.Post κs a r₂ s₂ → (r₁ ≡ r₂) × (now (s₁ .1 .1 .0) ≡ now (s₂ .1 .1 .0))
+open-outcome κs a r₁ r₂ s₁ s₂ p q = (p .1 ∙ sym (q .1), p .0 ∙ sym (q .0))
+
+pub correct-outcome : (κs : Lfts 2) (a : ArgsD correct.signature κs) (r₁ r₂ : ResD correct.signature κs) (s₁ s₂ : AtExit (endedOf 2 correct-kinds.ps correct-kinds.r) κs)
+    → correct-reads.Post κs a r₁ s₁ → correct-reads.Post κs a r₂ s₂ → (r₁ ≡ r₂) × (now (s₁ .1 .1 .1 .0) ≡ now (s₂ .1 .1 .1 .0))
+correct-outcome κs a r₁ r₂ s₁ s₂ p q =
+    (ap (λ x. record { number = x .number; flips = x .flips; first = x .first; last = x .last }) (p ∙ sym q), ap (λ x. x .out) (p ∙ sym q))
+
+pub step-outcome : (κs : Lfts 2) (a : ArgsD step.signature κs) (r₁ r₂ : ResD step.signature κs) (s₁ s₂ : AtExit (endedOf 2 step-kinds.ps step-kinds.r) κs)
+    → step-reads.Post κs a r₁ s₁ → step-reads.Post κs a r₂ s₂ → (r₁ ≡ r₂) × (now (s₁ .1 .1 .0) ≡ now (s₂ .1 .1 .0))
+step-outcome κs a r₁ r₂ s₁ s₂ p q =
+    (ap (λ x. record { number = x .number; quiet = x .quiet; bit = x .bit; excess = x .excess }) (p ∙ sym q), ap (λ x. x .out) (p ∙ sym q))

@@ -1,0 +1,228 @@
+-- How a quiet word is judged, from the tests that the code makes.
+use mathlib.Core.Path.{_≡_, refl, sym, ap, ap₂, _∙_, subst, fun-ext}
+use mathlib.Core.Bool.{Bool, true, false, not, true≢false}
+use mathlib.Core.List.{List}
+use Prim.Native.Nat.{ℕ, _+_, _-_, _*_, _≤_, _<_}
+use native.Mathlib.Nat.{lt-of-not-le, lt-of-lt-of-le, zero-add}
+use native.Mathlib.Decide.{ℕ-discrete, decLt}
+use native.Mathlib.Omega.{arith}
+use lib.Dec.{T, eqb, leb, ltb, le→leb, nltb→le}
+use lib.ListN.{length}
+use borrow.Author.Tests.{eq-eqb, ne-eqb, eqb-true}
+use Rattle.bits.specs.Bits.{Word, bit, count, if_then_else_}
+use Rattle.rules.specs.Codes.{Code, code, code4, code5, nearEarth, bits, information, offered, telecommanded}
+use Rattle.rules.specs.Tables.{parity511}
+use Rattle.rules.specs.Checks.{broken}
+use Rattle.rules.specs.Encoding.{lifted, sent, encoded, codeword, OwnParity}
+use Rattle.rules.specs.Flipping.{Run}
+use Rattle.answers.specs.Calls.{judged}
+use Rattle.bits.proofs.Counting.{count-none, none-counted}
+use Rattle.rules.proofs.Published.{both, Published}
+use Rattle.rules.proofs.Codewords.{agree-all, own-encoded, own-codeword, codeword-own, codeword-quiet, codeword-bit, sent-bit, sent-fill, lifted-sent-bit, lifted-sent, parity-same}
+use Rattle.rules.proofs.Numbers.{published, whole, telecommand-whole, met-own-telecommand, met-codeword}
+use Rattle.layout.specs.declared.Shape.{Shape}
+use Rattle.layout.specs.Lent.{Fit, Lent, laid}
+use Rattle.vectors.specs.Vectors.{upTo, from}
+use Rattle.vectors.proofs.Counts.{count-upTo}
+use Rattle.offer.specs.declared.Offer.{Offer}
+use Rattle.offer.specs.Offers.{offerOf}
+use Rattle.offer.proofs.Offers.{offered-low, offered-high, fixed}
+use Rattle.measured.specs.Measured.{Measured}
+
+-- a Bool that can't be true is false
+pub not-so : (b : Bool) → (b ≡ true → ⊥) → b ≡ false
+not-so true h = absurd (h refl)
+not-so false h = refl
+
+module _ (n : ℕ) (off : offered n ≡ true) where
+  pub pb : Published (code n)
+  pb = published n (subst T (sym off) tt)
+
+  pub telecommand : {o : Offer} → o ≡ offerOf n → o .asked ≡ false → T (telecommanded n)
+  telecommand {o} e f = is-not (telecommanded n) (sym (fixed n off .asked) ∙ ap (λ z. z .asked) (sym e) ∙ f)
+    where
+      is-not : (b : Bool) → not b ≡ false → T b
+      is-not true q = tt
+      is-not false q = absurd (true≢false q)
+
+  pub near : {o : Offer} → o ≡ offerOf n → o .asked ≡ true → 4 ≤ n
+  near {o} e f = go (decLt n 4)
+    where
+      low : (b : Bool) → T b → not b ≡ true → ⊥
+      low true t r = true≢false (sym r)
+      low false t r = t
+
+      go : Dec (n < 4) → 4 ≤ n
+      go (yes l) =
+          absurd (low (telecommanded n) (both (leb 1 n) (leb n 3) (le→leb 1 n (offered-low n off)) (le→leb n 3 (omega arith)))
+          (sym (fixed n off .asked) ∙ ap (λ z. z .asked) (sym e) ∙ f))
+      go (no g) = omega (arith, lt-of-not-le g)
+
+  -- ---- a word is a codeword if its parity is the encoder's and what follows the parity is 0
+
+  pub fill-codeword : (y : Word) → OwnParity (code n) (lifted (code n) y)
+      → ((i : ℕ) → bits (code n) - code n .unsent ≤ i → i < 8 * code n .wordOctets → y i ≡ false) → codeword (code n) y ≡ true
+  unfolding codeword
+  fill-codeword y own fill =
+      agree-all (8 * code n .wordOctets) y (sent (code n) (encoded (code n) (lifted (code n) y))) (λ i l. go i l (decLt i (bits (code n) - code n .unsent)))
+    where
+      go : (i : ℕ) → i < 8 * code n .wordOctets → Dec (i < bits (code n) - code n .unsent) → y i ≡ sent (code n) (encoded (code n) (lifted (code n) y)) i
+      go i l (yes h) =
+          sym (sent-bit (code n) (encoded (code n) (lifted (code n) y)) i h
+          ∙ own-encoded (code n) (lifted (code n) y) own (i + code n .unsent) (omega arith) ∙ lifted-sent-bit (code n) y i)
+      go i l (no g) =
+          let h : bits (code n) - code n .unsent ≤ i = omega (arith, lt-of-not-le g) in
+          fill i h l ∙ sym (sent-fill (code n) (encoded (code n) (lifted (code n) y)) i h)
+
+  -- ---- the number of a run
+
+  module _ (r : Run) where
+    pub judged-other : (r .number ≡ 0 → ⊥) → r .number ≡ judged (code n) r
+    judged-other d =
+        sym (ap (λ b. if not b then r .number else if ltb 0 (count (code n .unsent) (r .word)) then 7 else if not (codeword (code n) (sent (code n) (r .word))) then 8 else 0) (ne-eqb (r .number) 0 d))
+
+    spelled : (a b : Bool) → r .number ≡ 0 → ltb 0 (count (code n .unsent) (r .word)) ≡ a → codeword (code n) (sent (code n) (r .word)) ≡ b
+        → (if a then 7 else if not b then 8 else 0) ≡ judged (code n) r
+    spelled a b e f g =
+        sym (ap (λ b. if not b then r .number else if ltb 0 (count (code n .unsent) (r .word)) then 7 else if not (codeword (code n) (sent (code n) (r .word))) then 8 else 0) (eq-eqb (r .number) 0 e)
+        ∙ ap₂ (λ a b. if a then 7 else if not b then 8 else 0) f g)
+
+    unsent-none : ltb 0 (count (code n .unsent) (r .word)) ≡ false → (i : ℕ) → i < code n .unsent → r .word i ≡ false
+    unsent-none e = none-counted (code n .unsent) (r .word) (omega (arith, nltb→le 0 (count (code n .unsent) (r .word)) (subst (λ b. T (not b)) (sym e) tt)))
+
+    -- code 5: an unsent bit is set
+    pub judged-unsent : r .number ≡ 0 → ltb 0 (count (code n .unsent) (r .word)) ≡ true → 7 ≡ judged (code n) r
+    judged-unsent e f = spelled true (codeword (code n) (sent (code n) (r .word))) e f refl
+
+    -- none is, and the parity is the encoder's
+    pub judged-own : r .number ≡ 0 → ltb 0 (count (code n .unsent) (r .word)) ≡ false → OwnParity (code n) (r .word) → 0 ≡ judged (code n) r
+    judged-own e f own = spelled false true e f (own-codeword (code n) pb (r .word) own (unsent-none f))
+
+    -- none is, and it is not
+    pub judged-other-parity : r .number ≡ 0 → ltb 0 (count (code n .unsent) (r .word)) ≡ false → (OwnParity (code n) (r .word) → ⊥) → 8 ≡ judged (code n) r
+    judged-other-parity e f no-own = spelled false false e f (not-so (codeword (code n) (sent (code n) (r .word))) (λ is. no-own (back is)))
+      where
+        back : codeword (code n) (sent (code n) (r .word)) ≡ true → OwnParity (code n) (r .word)
+        back is p h =
+            sym (lifted-sent (code n) (r .word) (unsent-none f) (information (code n) + p) (omega (arith, pb .after)))
+            ∙ codeword-own (code n) pb (sent (code n) (r .word)) is p h
+            ∙ parity-same (code n) (lifted (code n) (sent (code n) (r .word))) (r .word) (λ i l. lifted-sent (code n) (r .word) (unsent-none f) i (lt-of-lt-of-le l (pb .after))) p
+
+-- ---- the unsent bits
+
+pub unsent-whole : (n : ℕ) → T (telecommanded n) → (x : Word) → ltb 0 (count (code n .unsent) x) ≡ false
+unfolding count
+unsent-whole n t x = ap (λ u. ltb 0 (count u x)) (whole n (telecommand-whole n t) .unsent)
+
+-- a count that is not above 0
+pub zero-of : (k : ℕ) → false ≡ ltb 0 k → k ≡ 0
+zero-of k e = omega (arith, nltb→le 0 k (subst (λ b. T (not b)) e tt))
+
+-- the ones of m bits, cut out
+pub cut-count : (m long : ℕ) (v x : Word) → v ≡ upTo m x → m ≤ long → count long v ≡ count m x
+cut-count m long v x e l = ap (count long) e ∙ count-upTo m long x l
+
+-- ---- the parity of a near-Earth word, by code number
+
+abbrev Tells : Code → Word → Bool → Type 0
+Tells c x r = (r ≡ true → OwnParity c x) × (OwnParity c x → r ≡ true)
+
+pub near-tells : (n : ℕ) → offered n ≡ true → 4 ≤ n → (x : Word) (r : Bool)
+    → ((wordOctets informationOctets unsent : ℕ) → broken (nearEarth wordOctets informationOctets unsent) x ≡ 0 → Tells (nearEarth wordOctets informationOctets unsent) x r)
+    → broken (code n) x ≡ 0 → Tells (code n) x r
+unfolding code code4 code5
+near-tells n off h x r tells = go (ℕ-discrete n 4)
+  where
+    go : Dec (n ≡ 4) → broken (code n) x ≡ 0 → Tells (code n) x r
+    go (yes e) = subst (λ k. broken (code k) x ≡ 0 → Tells (code k) x r) (sym e) (tells 1022 895 0)
+    go (no d) =
+        let e : n ≡ 5 = omega (arith, offered-high n off) in
+        subst (λ k. broken (code k) x ≡ 0 → Tells (code k) x r) (sym e) (tells 1020 892 18)
+
+-- ---- a run that ended quiet, judged by the code's tests
+
+module _ (n : ℕ) (off : offered n ≡ true) (o : Offer) (is : o ≡ offerOf n) (number : ℕ) (y : Word) (quiet : number ≡ 0)
+    (r : Run) (e : r .number ≡ number) (w : r .word ≡ y) (met : number ≡ 0 → broken (code n) y ≡ 0) where
+  pub by-telecommand : o .asked ≡ false → 0 ≡ judged (code n) r
+  by-telecommand f =
+      let t : T (telecommanded n) = telecommand n off is f in
+      judged-own n off r (e ∙ quiet) (unsent-whole n t (r .word))
+      (met-own-telecommand n t (r .word) (ap (broken (code n)) w ∙ met quiet))
+
+  unsent-as : (b : Bool) → b ≡ ltb 0 (count (o .unsent) (from 0 y)) → ltb 0 (count (code n .unsent) (r .word)) ≡ b
+  unsent-as b s =
+      ap₂ (λ u x. ltb 0 (count u x)) (sym (ap (λ z. z .unsent) is ∙ fixed n off .unsent)) (w ∙ sym (fun-ext (λ i. ap y (zero-add i)))) ∙ sym s
+
+  pub by-unsent : true ≡ ltb 0 (count (o .unsent) (from 0 y)) → 7 ≡ judged (code n) r
+  by-unsent s = judged-unsent n off r (e ∙ quiet) (unsent-as true s)
+
+  module _ (asked : o .asked ≡ true) (none : false ≡ ltb 0 (count (o .unsent) (from 0 y))) (b : Bool)
+      (tells : (wordOctets informationOctets unsent : ℕ) → broken (nearEarth wordOctets informationOctets unsent) y ≡ 0 → Tells (nearEarth wordOctets informationOctets unsent) y b) where
+    told : Tells (code n) y b
+    told = near-tells n off (near n off is asked) y b tells (met quiet)
+
+    pub by-own : b ≡ true → 0 ≡ judged (code n) r
+    by-own t = judged-own n off r (e ∙ quiet) (unsent-as false none) (subst (OwnParity (code n)) (sym w) (told .0 t))
+
+    pub by-other : b ≡ false → 8 ≡ judged (code n) r
+    by-other f =
+        judged-other-parity n off r (e ∙ quiet) (unsent-as false none)
+        (λ own. true≢false (sym (told .1 (subst (OwnParity (code n)) w own)) ∙ f))
+
+-- ---- a measured word, by what is found of it
+
+module _ (n : ℕ) (off : offered n ≡ true) (o : Offer) (is : o ≡ offerOf n) (y s : Word) (word t : List ℕ) (long : length word ≡ code n .wordOctets)
+    (m : Measured n word t y s (o .shape)) (q : Bool)
+    (tells-quiet : (c : Code) (h : List ℕ) (sh : Shape) (x : Word) → Fit h sh → Lent c h sh → s ≡ laid c sh x → q ≡ eqb (broken c x) 0) where
+  found : q ≡ eqb (broken (code n) (lifted (code n) (bit word))) 0
+  found = tells-quiet (code n) t (o .shape) y (m .lends .fit) (m .lends .lent) (m .held) ∙ ap (λ x. eqb (broken (code n) x) 0) (m .bits)
+
+  met : q ≡ true → broken (code n) (lifted (code n) (bit word)) ≡ 0
+  met e = eqb-true (broken (code n) (lifted (code n) (bit word))) 0 (sym found ∙ e)
+
+  pub finds-broken : q ≡ false → false ≡ codeword (code n) (bit word)
+  finds-broken f =
+      sym (not-so (codeword (code n) (bit word)) (λ is.
+      true≢false (sym (found ∙ eq-eqb (broken (code n) (lifted (code n) (bit word))) 0 (codeword-quiet (code n) (pb n off) (bit word) is)) ∙ f)))
+
+  pub finds-telecommand : q ≡ true → o .asked ≡ false → true ≡ codeword (code n) (bit word)
+  finds-telecommand e f = sym (met-codeword n (telecommand n off is f) word long (met e))
+
+  -- the bits after the parity
+  after : (i : ℕ) → y (bits (code n) + i) ≡ bit word (bits (code n) + i - code n .unsent)
+  after i =
+      let e : bits (code n) + i - code n .unsent + code n .unsent ≡ bits (code n) + i = omega (arith, pb n off .before, pb n off .after) in
+      ap (λ x. x (bits (code n) + i)) (m .bits) ∙ ap (lifted (code n) (bit word)) (sym e) ∙ lifted-sent-bit (code n) (bit word) (bits (code n) + i - code n .unsent)
+
+  here : o .bits ≡ bits (code n)
+  here = ap (λ z. z .bits) is ∙ fixed n off .bits-are
+
+  filled : o .bits + o .fill ≡ 8 * code n .wordOctets + code n .unsent
+  filled = ap₂ (λ a b. a + b) here (ap (λ z. z .fill) is) ∙ fixed n off .fill
+
+  pub finds-fill : true ≡ ltb 0 (count (o .fill) (from (o .bits) y)) → false ≡ codeword (code n) (bit word)
+  finds-fill set =
+      sym (not-so (codeword (code n) (bit word)) (λ w.
+      true≢false (set ∙ ap (ltb 0) (count-none (o .fill) (from (o .bits) y) (λ i l.
+      ap (λ z. y (z + i)) here ∙ after i
+      ∙ codeword-bit (code n) (pb n off) (bit word) w (bits (code n) + i - code n .unsent) (omega (arith, filled, here, pb n off .before, pb n off .after))
+      ∙ sent-fill (code n) (encoded (code n) (lifted (code n) (bit word))) (bits (code n) + i - code n .unsent) (omega arith))))))
+
+  module _ (quiet : q ≡ true) (asked : o .asked ≡ true) (none : false ≡ ltb 0 (count (o .fill) (from (o .bits) y))) (b : Bool)
+      (tells : (wordOctets informationOctets unsent : ℕ) → broken (nearEarth wordOctets informationOctets unsent) y ≡ 0 → Tells (nearEarth wordOctets informationOctets unsent) y b) where
+    known : Tells (code n) (lifted (code n) (bit word)) b
+    known = subst (λ x. Tells (code n) x b) (m .bits) (near-tells n off (near n off is asked) y b tells (ap (broken (code n)) (m .bits) ∙ met quiet))
+
+    zeros : (i : ℕ) → bits (code n) - code n .unsent ≤ i → i < 8 * code n .wordOctets → bit word i ≡ false
+    zeros i l h =
+        let k = i + code n .unsent - bits (code n) in
+        let e : bits (code n) + k - code n .unsent ≡ i = omega (arith, pb n off .before, pb n off .after) in
+        ap (bit word) (sym e) ∙ sym (after k) ∙ ap (λ z. y (z + k)) (sym here)
+        ∙ none-counted (o .fill) (from (o .bits) y) (zero-of (count (o .fill) (from (o .bits) y)) none) k (omega (arith, filled, here, pb n off .before, pb n off .after))
+
+    pub finds-parity : b ≡ codeword (code n) (bit word)
+    finds-parity = go b refl
+      where
+        go : (v : Bool) → b ≡ v → b ≡ codeword (code n) (bit word)
+        go true e = e ∙ sym (fill-codeword n off (bit word) (known .0 e) zeros)
+        go false e = e ∙ sym (not-so (codeword (code n) (bit word)) (λ w. true≢false (sym (known .1 (codeword-own (code n) (pb n off) (bit word) w)) ∙ e)))

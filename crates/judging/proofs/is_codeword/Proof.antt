@@ -1,0 +1,70 @@
+-- `judging::is_codeword`: each answer by the tests that led to it. Assumes nothing.
+use mathlib.Core.Path.{sym, _∙_}
+use native.Mathlib.Omega.{arith}
+use borrow.Author.Tests.{not-true, not-false}
+use Rattle.vectors.specs.Vectors.{wbit}
+use Rattle.offer.proofs.Offers.{small}
+use Rattle.judging.proofs.Judging.{finds-broken, finds-telecommand, finds-fill, finds-parity}
+use borrow.Author.Needs.{needs}
+use Rattle.judging.proofs.is_codeword.Statement.{statement}
+use Rattle.judging.proofs.is_codeword.Tie as tie
+
+is-quiet-requires : tie.Need-is-quiet-requires
+is-quiet-requires c κs = search needs
+
+returns : tie.Need-returns
+returns c =
+    let q = c .before in
+    let a = q .before .before .before in
+    λ n off is word t long m.
+    finds-broken n off (a .args .o) is (wbit (a .args .y .now)) (wbit (a .args .s .now)) word t long m _ (q .is-quiet .ensures) (not-true _ (c .if1 .taken))
+
+returns-2 : tie.Need-returns-2
+returns-2 c =
+    let i = c .before .before in
+    let q = i .before in
+    let a = q .before .before .before in
+    λ n off is word t long m.
+    finds-telecommand n off (a .args .o) is (wbit (a .args .y .now)) (wbit (a .args .s .now)) word t long m _ (q .is-quiet .ensures)
+    (not-false _ (i .if1 .left)) (not-true _ (c .if2 .taken))
+
+some-set-requires : tie.Need-some-set-requires
+some-set-requires c κs =
+    let a = c .before .before .before .before .before .before in
+    let f = small (a .pre .0) in
+    (a .pre .1, omega (arith, f .fill), omega (arith, f .bits))
+
+returns-3 : tie.Need-returns-3
+returns-3 c =
+    let u = c .before in
+    let i = u .before .before .before in
+    let q = i .before in
+    let a = q .before .before .before in
+    λ n off is word t long m.
+    finds-fill n off (a .args .o) is (wbit (a .args .y .now)) (wbit (a .args .s .now)) word t long m _ (q .is-quiet .ensures) (sym (c .if3 .taken) ∙ u .some-set .ensures)
+
+own-parity-requires : tie.Need-own-parity-requires
+own-parity-requires c κs = search needs
+
+returns-4 : tie.Need-returns-4
+returns-4 c =
+    let j = c .before in
+    let u = j .before in
+    let i = u .before .before .before in
+    let q = i .before in
+    let a = q .before .before .before in
+    λ n off is word t long m.
+    finds-parity n off (a .args .o) is (wbit (a .args .y .now)) (wbit (a .args .s .now)) word t long m _ (q .is-quiet .ensures)
+    (not-false _ (i .if1 .left)) (not-false _ (u .before .if2 .left)) (sym (j .if3 .left) ∙ u .some-set .ensures) _ (c .own-parity .ensures)
+
+pub is-codeword-spec : {M : Type 1} → statement M
+is-codeword-spec =
+    tie.close
+    (tie.spec
+    is-quiet-requires
+    returns
+    returns-2
+    some-set-requires
+    returns-3
+    own-parity-requires
+    returns-4)

@@ -1,0 +1,61 @@
+// What is made of a quiet word: whether it is one that the encoder can give.
+ghost use mathlib.Core.Path.{_≡_};
+ghost use mathlib.Core.Bool.{true};
+ghost use mathlib.Core.List.{List};
+ghost use Prim.Native.Nat.{ℕ, _≤_, _<_, _/_, _+_};
+ghost use lib.Dec.{ltb};
+ghost use lib.ListN.{length};
+ghost use Rattle.bits.specs.Bits.{bit, count};
+ghost use Rattle.rules.specs.Codes.{code as codeOf, offered};
+ghost use Rattle.rules.specs.Checks.{broken};
+ghost use Rattle.rules.specs.Encoding.{codeword};
+ghost use Rattle.rules.specs.Flipping.{Run};
+ghost use Rattle.answers.specs.Calls.{judged};
+ghost use Rattle.vectors.specs.Vectors.{wbit, from};
+ghost use Rattle.offer.specs.Offers.{offerOf, Known};
+ghost use Rattle.measured.specs.Measured.{Measured};
+use offer::Offer;
+
+// Whether one of n bits from bit `at` on is set.
+fn some_set(y: &[u64], at: usize, n: usize) -> bool
+    requires { ⌜ (length (now y) ≡ 130) × (n ≤ 64) × (at / 64 + 1 < 130) ⌝ }
+    ensures { λ r. ⌜ r ≡ ltb 0 (count n (from at (wbit (now (y .entry))))) ⌝ }
+{
+    let mut v = [0u64; 1];
+    vectors::cut(y, at, n, &mut v);
+    0 < vectors::ones(&v)
+}
+
+// The number of a run: after a quiet end 7 for an unsent bit, then 8 for parity unlike the encoder's.
+pub fn judge(o: Offer, y: &[u64], number: u8) -> u8
+    requires { ⌜ Known o × (length (now y) ≡ 130) ⌝ }
+    ensures { λ r. ⌜ ((n : ℕ) → offered n ≡ true → o ≡ offerOf n → (run : Run) → run .number ≡ number → run .word ≡ wbit (now (y .entry)) → (number ≡ 0 → broken (codeOf n) (wbit (now (y .entry))) ≡ 0) → r ≡ judged (codeOf n) run) ⌝ }
+{
+    if number != 0 {
+        return number;
+    }
+    if !o.asked {
+        return 0;
+    }
+    if some_set(y, 0, o.unsent) {
+        return 7;
+    }
+    if ownparity::own_parity(y) { 0 } else { 8 }
+}
+
+// Whether a measured word is a codeword.
+pub fn is_codeword(o: Offer, y: &[u64], s: &[u64]) -> bool
+    requires { ⌜ Known o × (length (now y) ≡ 130) × (length (now s) ≡ 16) ⌝ }
+    ensures { λ r. ⌜ ((n : ℕ) → offered n ≡ true → o ≡ offerOf n → (word t : List ℕ) → length word ≡ codeOf n .wordOctets → Measured n word t (wbit (now (y .entry))) (wbit (now (s .entry))) (o .shape) → r ≡ codeword (codeOf n) (bit word)) ⌝ }
+{
+    if !syndromes::is_quiet(s) {
+        return false;
+    }
+    if !o.asked {
+        return true;
+    }
+    if some_set(y, o.bits, o.fill) {
+        return false;
+    }
+    ownparity::own_parity(y)
+}

@@ -1,0 +1,16 @@
+-- What is known of a word once it is measured.
+use mathlib.Core.Path.{_≡_}
+use mathlib.Core.List.{List}
+use Prim.Native.Nat.{ℕ}
+use Rattle.bits.specs.Bits.{Word, bit}
+use Rattle.rules.specs.Codes.{code}
+use Rattle.rules.specs.Encoding.{lifted}
+use Rattle.layout.specs.declared.Shape.{Shape}
+use Rattle.layout.specs.Lent.{laid}
+use Rattle.tables.specs.Flat.{Lends}
+
+-- The places t and the shape are the code's, y is the word, and s its syndrome.
+pub record Measured (n : ℕ) (word t : List ℕ) (y s : Word) (sh : Shape) : Type 0 where
+  pub lends : Lends n t sh
+  pub bits : y ≡ lifted (code n) (bit word)
+  pub held : s ≡ laid (code n) sh y

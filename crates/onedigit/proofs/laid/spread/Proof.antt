@@ -1,0 +1,57 @@
+-- `onedigit::laid::spread`: place i of the list is the one that it is for. Assumes nothing.
+use Prim.Native.Nat.{_-_}
+use native.Mathlib.Omega.{arith}
+use borrow.Author.Needs.{needs}
+use Rattle.tables.proofs.Listed.{Filled, filled-all}
+use Rattle.onedigit.specs.Laid.{thirdNone, threes}
+use Rattle.onedigit.proofs.Filling.{filled-more}
+use Rattle.onedigit.proofs.laid.spread.Statement.{statement}
+use Rattle.onedigit.proofs.laid.spread.Tie as tie
+
+abbrev Inv-loop : tie.InvT-loop
+Inv-loop t p₀ i₀ p i = Filled 96 (thirdNone t) p i
+
+abbrev μ-loop : tie.MeasureT-loop
+μ-loop t p₀ i₀ p i = 96 - i
+
+loop-holds : tie.Need-loop-holds Inv-loop μ-loop
+loop-holds c = record { below = omega arith; long = search needs; places = λ j l. absurd (omega arith) }
+
+place-requires : tie.Need-place-requires Inv-loop μ-loop
+place-requires c κs = search needs
+
+mul-p : tie.Need-mul-p Inv-loop μ-loop
+mul-p c = search needs
+
+array-write-p : tie.Need-array-write-p Inv-loop μ-loop
+array-write-p c = search needs
+
+add-i : tie.Need-add-i Inv-loop μ-loop
+add-i c = search needs
+
+loop-less : tie.Need-loop-less Inv-loop μ-loop
+loop-less c = search needs
+
+loop-again : tie.Need-loop-again Inv-loop μ-loop
+loop-again c =
+    let k = c .before .before .loop in
+    filled-more 96 _ (k .p) (k .i) (k .inv) (omega arith) (c .place .ensures)
+
+returns : tie.Need-returns Inv-loop μ-loop
+unfolding threes
+returns c = filled-all 96 _ (c .before .loop .p) (c .before .loop .i) (c .before .loop .inv) (omega arith)
+
+pub spread-spec : {M : Type 1} → statement M
+spread-spec =
+    tie.close
+    (tie.spec
+    Inv-loop
+    μ-loop
+    loop-holds
+    place-requires
+    mul-p
+    array-write-p
+    add-i
+    loop-less
+    loop-again
+    returns)

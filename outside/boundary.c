@@ -1,0 +1,169 @@
+/* What the header says beside the calls' answers: lengths, texts, NULL with length 0, odd addresses, stack. */
+#include "pandoricchia.h"
+
+#include <stdio.h>
+#include <string.h>
+
+static unsigned passed, failed;
+
+static void expect(int holds, const char *what, unsigned code)
+{
+    if (holds) {
+        passed++;
+        return;
+    }
+    failed++;
+    printf("boundary: %s, code %u\n", what, code);
+}
+
+static const size_t words[6] = {0,
+                                PANDORICCHIA_WORD_OCTETS_1,
+                                PANDORICCHIA_WORD_OCTETS_2,
+                                PANDORICCHIA_WORD_OCTETS_3,
+                                PANDORICCHIA_WORD_OCTETS_4,
+                                PANDORICCHIA_WORD_OCTETS_5};
+static const size_t informations[6] = {0,
+                                       PANDORICCHIA_INFORMATION_OCTETS_1,
+                                       PANDORICCHIA_INFORMATION_OCTETS_2,
+                                       PANDORICCHIA_INFORMATION_OCTETS_3,
+                                       PANDORICCHIA_INFORMATION_OCTETS_4,
+                                       PANDORICCHIA_INFORMATION_OCTETS_5};
+
+/* Octets at every distance from an aligned address; the information, and a word of it with three wrong bits. */
+static _Alignas(64) uint8_t information[PANDORICCHIA_MOST_INFORMATION_OCTETS + 16];
+static _Alignas(64) uint8_t word[PANDORICCHIA_MOST_WORD_OCTETS + 16];
+static _Alignas(64) uint8_t out[PANDORICCHIA_MOST_WORD_OCTETS + 16];
+
+static void fill(uint8_t code, size_t at)
+{
+    for (size_t i = 0; i < informations[code]; i++)
+        information[at + i] = (uint8_t)(37 * i + 11 * code);
+    if (code == 4)
+        information[at + informations[4] - 1] &= 0xC0;
+}
+
+static void test_lengths(void)
+{
+    for (unsigned code = 0; code < 256; code++) {
+        size_t wanted = code < 6 ? words[code] : 0;
+        expect(pandoricchia_word_octets((uint8_t)code) == wanted, "word octets", code);
+        wanted = code < 6 ? informations[code] : 0;
+        expect(pandoricchia_information_octets((uint8_t)code) == wanted, "information octets", code);
+        expect(words[code % 6] <= PANDORICCHIA_MOST_WORD_OCTETS, "most word octets", code % 6);
+        expect(informations[code % 6] <= PANDORICCHIA_MOST_INFORMATION_OCTETS, "most information octets", code % 6);
+    }
+}
+
+static void test_texts(void)
+{
+    const char *none = pandoricchia_text(255);
+    for (unsigned number = 0; number <= PANDORICCHIA_NO_CODEWORD; number++)
+        expect(strcmp(pandoricchia_text((uint8_t)number), none) != 0, "no text for a number", number);
+    expect(strcmp(pandoricchia_text(PANDORICCHIA_NO_CODEWORD + 1), none) == 0, "a text for no number", 0);
+}
+
+/* No code has a length of 0, so such a call is refused: 1 where the code is not offered, 2 for the input, 3 for the output. */
+static void test_null(void)
+{
+    for (unsigned code = 0; code < 256; code++) {
+        uint8_t c = (uint8_t)code, number = 255;
+        uint8_t input = 1 <= code && code <= 5 ? 2 : 1, output = input == 2 ? 3 : 1;
+        size_t info = pandoricchia_information_octets(c), long_word = pandoricchia_word_octets(c);
+        fill(code < 6 ? c : 0, 0);
+        expect(pandoricchia_encode(c, NULL, 0, NULL, 0) == input, "encode, both NULL", code);
+        expect(pandoricchia_encode(c, information, info, NULL, 0) == output, "encode, output NULL", code);
+        expect(pandoricchia_check(c, NULL, 0).number == input, "check, NULL", code);
+        expect(pandoricchia_open(c, NULL, 0, &number) == 0 && number == (code == 4 ? 1 : input), "open, NULL", code);
+        expect(pandoricchia_correct(c, NULL, 0, 9, NULL, 0).number == input, "correct, both NULL", code);
+        expect(pandoricchia_correct(c, word, long_word, 9, NULL, 0).number == output, "correct, output NULL", code);
+        expect(pandoricchia_step(c, NULL, 0, NULL, 0).number == (code == 5 ? 1 : input), "step, both NULL", code);
+        expect(pandoricchia_step(c, word, long_word, NULL, 0).number == (code == 5 ? 1 : output), "step, output NULL", code);
+    }
+}
+
+/* The same answers at each of sixteen addresses. */
+static void test_addresses(void)
+{
+    static uint8_t first[PANDORICCHIA_MOST_WORD_OCTETS];
+    for (uint8_t code = 1; code <= 5; code++) {
+        size_t n = words[code], info = informations[code];
+        for (size_t at = 0; at < 16; at++) {
+            uint8_t number = 255;
+            fill(code, at);
+            expect(pandoricchia_encode(code, information + at, info, word + (15 - at), n) == 0, "encode", code);
+            if (at == 0)
+                memcpy(first, word + 15, n);
+            expect(memcmp(word + (15 - at), first, n) == 0, "encode's octets", code);
+            expect(pandoricchia_check(code, word + (15 - at), n).broken == 0, "check", code);
+            size_t part = pandoricchia_open(code, word + (15 - at), n, &number);
+            expect(code == 4 ? number == 1 && part == 0 : number == 0 && part == info, "open", code);
+            word[15 - at + 3] ^= 0x10;
+            expect(pandoricchia_correct(code, word + (15 - at), n, 1, out + at, n).flips == 1, "correct", code);
+            expect(memcmp(out + at, first, n) == 0, "correct's octets", code);
+            memset(out, 0, sizeof out);
+            expect(pandoricchia_step(code, word + (15 - at), n, out + at, n).number == (code == 5 ? 1 : 0), "step", code);
+            expect(code == 5 || memcmp(out + at, first, n) == 0, "step's octets", code);
+        }
+    }
+}
+
+/* The stack that a call takes: what lies below is painted, and the deepest octet that was painted over is looked for. */
+enum { DEEP = 65536, PAINT = 0xA5 };
+
+__attribute__((noinline)) static void paint(void)
+{
+    volatile uint8_t *low = (volatile uint8_t *)__builtin_frame_address(0) - DEEP;
+    for (size_t i = 0; i < DEEP - 256; i++)
+        low[i] = PAINT;
+}
+
+__attribute__((noinline)) static size_t painted_over(void)
+{
+    volatile uint8_t *low = (volatile uint8_t *)__builtin_frame_address(0) - DEEP;
+    size_t i = 0;
+    while (i < DEEP - 256 && low[i] == PAINT)
+        i++;
+    return DEEP - i;
+}
+
+static void test_stack(void)
+{
+    static const char *names[5] = {"encode", "check", "open", "correct", "step"};
+    for (unsigned call = 0; call < 5; call++) {
+        size_t most = 0;
+        for (uint8_t code = 1; code <= 5; code++) {
+            size_t n = words[code];
+            uint8_t number;
+            fill(code, 0);
+            pandoricchia_encode(code, information, informations[code], word, n);
+            for (size_t i = 0; i < 4 && call > 2; i++)
+                word[2 * i] ^= 0x21;
+            paint();
+            if (call == 0)
+                pandoricchia_encode(code, information, informations[code], word, n);
+            else if (call == 1)
+                pandoricchia_check(code, word, n);
+            else if (call == 2)
+                pandoricchia_open(code, word, n, &number);
+            else if (call == 3)
+                pandoricchia_correct(code, word, n, 1000, out, n);
+            else
+                pandoricchia_step(code, word, n, out, n);
+            size_t taken = painted_over();
+            most = taken > most ? taken : most;
+        }
+        printf("boundary: stack of %s: %zu octets\n", names[call], most);
+        expect(most < PANDORICCHIA_STACK_OCTETS, "more stack than the header says", call);
+    }
+}
+
+int main(void)
+{
+    test_lengths();
+    test_texts();
+    test_null();
+    test_addresses();
+    test_stack();
+    printf("boundary: %u passed, %u failed\n", passed, failed);
+    return failed != 0;
+}
