@@ -1,14 +1,14 @@
 -- How a quiet word is judged, from the tests that the code makes.
-use mathlib.Core.Path.{_≡_, refl, sym, ap, ap₂, _∙_, subst, fun-ext}
+use mathlib.Core.Path.{_≡_, refl, sym, ap, ap₂, _∙_, subst}
 use mathlib.Core.Bool.{Bool, true, false, not, true≢false}
 use mathlib.Core.List.{List}
 use Prim.Native.Nat.{ℕ, _+_, _-_, _*_, _≤_, _<_}
-use native.Mathlib.Nat.{lt-of-not-le, lt-of-lt-of-le, zero-add}
+use native.Mathlib.Nat.{le-of-eq, lt-of-not-le, lt-of-lt-of-le}
 use native.Mathlib.Decide.{ℕ-discrete, decLt}
 use native.Mathlib.Omega.{arith}
-use lib.Dec.{T, leb, ltb, le→leb, nltb→le}
+use lib.Dec.{T, leb, ltb, le→leb}
 use lib.ListN.{length}
-use borrow.Author.Tests.{eq-eqb, ne-eqb}
+use borrow.Author.Tests.{eq-eqb, ne-eqb, le-ltb}
 use Rattle.bits.specs.Bits.{Word, bit, count, if_then_else_}
 use Rattle.rules.specs.Codes.{Code, code, code4, code5, nearEarth, bits, information, offered, telecommanded}
 use Rattle.rules.specs.Tables.{parity511}
@@ -16,14 +16,12 @@ use Rattle.rules.specs.Checks.{broken}
 use Rattle.rules.specs.Encoding.{lifted, sent, encoded, codeword, OwnParity}
 use Rattle.rules.specs.Flipping.{Run}
 use Rattle.answers.specs.Calls.{judged}
-use Rattle.bits.proofs.Counting.{none-counted}
+use Rattle.bits.proofs.Counting.{count-none}
 use Rattle.rules.proofs.Published.{both, Published}
 use Rattle.rules.proofs.Codewords.{agree-all, own-encoded, own-codeword, codeword-own, codeword-quiet, codeword-bit, sent-bit, sent-fill, lifted-sent-bit, lifted-sent, parity-same}
 use Rattle.rules.proofs.Numbers.{published, Whole, whole, met-own-telecommand, met-codeword}
 use Rattle.layout.specs.declared.Shape.{Shape}
 use Rattle.layout.specs.Lent.{Fit, Lent, laid}
-use Rattle.vectors.specs.Vectors.{upTo, from}
-use Rattle.vectors.proofs.Counts.{count-upTo}
 use Rattle.received.specs.Measured.{Measured}
 use Rattle.received.proofs.Handed.{offered-low, offered-high}
 use Rattle.codes.proofs.Refusals.{but}
@@ -69,36 +67,22 @@ module _ (n : ℕ) (off : offered n ≡ true) where
         sym (ap (λ b. if not b then r .number else if ltb 0 (count (code n .unsent) (r .word)) then 7 else if not (codeword (code n) (sent (code n) (r .word))) then 8 else 0) (eq-eqb (r .number) 0 e)
         ∙ ap₂ (λ a b. if a then 7 else if not b then 8 else 0) f g)
 
-    unsent-none : ltb 0 (count (code n .unsent) (r .word)) ≡ false → (i : ℕ) → i < code n .unsent → r .word i ≡ false
-    unsent-none e = none-counted (code n .unsent) (r .word) (omega (arith, nltb→le 0 (count (code n .unsent) (r .word)) (subst (λ b. T (not b)) (sym e) tt)))
+    no-unsent : ((i : ℕ) → i < code n .unsent → r .word i ≡ false) → ltb 0 (count (code n .unsent) (r .word)) ≡ false
+    no-unsent none = le-ltb 0 (count (code n .unsent) (r .word)) (le-of-eq (count-none (code n .unsent) (r .word) none))
 
-    -- code 5: an unsent bit is set
-    pub judged-unsent : r .number ≡ 0 → ltb 0 (count (code n .unsent) (r .word)) ≡ true → 7 ≡ judged (code n) r
-    judged-unsent e f = spelled true (codeword (code n) (sent (code n) (r .word))) e f refl
+    -- the parity is the encoder's
+    pub judged-own : r .number ≡ 0 → ((i : ℕ) → i < code n .unsent → r .word i ≡ false) → OwnParity (code n) (r .word) → 0 ≡ judged (code n) r
+    judged-own e none own = spelled false true e (no-unsent none) (own-codeword (code n) pb (r .word) own none)
 
-    -- none is, and the parity is the encoder's
-    pub judged-own : r .number ≡ 0 → ltb 0 (count (code n .unsent) (r .word)) ≡ false → OwnParity (code n) (r .word) → 0 ≡ judged (code n) r
-    judged-own e f own = spelled false true e f (own-codeword (code n) pb (r .word) own (unsent-none f))
-
-    -- none is, and it is not
-    pub judged-unlike : r .number ≡ 0 → ltb 0 (count (code n .unsent) (r .word)) ≡ false → (OwnParity (code n) (r .word) → ⊥) → 8 ≡ judged (code n) r
-    judged-unlike e f no-own = spelled false false e f (not-so (codeword (code n) (sent (code n) (r .word))) (λ is. no-own (back is)))
+    -- it is not
+    pub judged-unlike : r .number ≡ 0 → ((i : ℕ) → i < code n .unsent → r .word i ≡ false) → (OwnParity (code n) (r .word) → ⊥) → 8 ≡ judged (code n) r
+    judged-unlike e none no-own = spelled false false e (no-unsent none) (not-so (codeword (code n) (sent (code n) (r .word))) (λ is. no-own (back is)))
       where
         back : codeword (code n) (sent (code n) (r .word)) ≡ true → OwnParity (code n) (r .word)
         back is p h =
-            sym (lifted-sent (code n) (r .word) (unsent-none f) (information (code n) + p) (omega (arith, pb .after)))
+            sym (lifted-sent (code n) (r .word) none (information (code n) + p) (omega (arith, pb .after)))
             ∙ codeword-own (code n) pb (sent (code n) (r .word)) is p h
-            ∙ parity-same (code n) (lifted (code n) (sent (code n) (r .word))) (r .word) (λ i l. lifted-sent (code n) (r .word) (unsent-none f) i (lt-of-lt-of-le l (pb .after))) p
-
--- ---- the unsent bits, by code number
-
-pub unsent-five : (n : ℕ) → n ≡ 5 → (x : Word) (b : Bool) → ltb 0 (count 18 x) ≡ b → ltb 0 (count (code n .unsent) x) ≡ b
-unfolding code code5
-unsent-five n e x b f = ap (λ k. ltb 0 (count (code k .unsent) x)) e ∙ f
-
-pub unsent-whole : (n : ℕ) → offered n ≡ true → (n ≡ 5 → ⊥) → (x : Word) → ltb 0 (count (code n .unsent) x) ≡ false
-unfolding count
-unsent-whole n off d x = ap (λ u. ltb 0 (count u x)) (whole n (but n 5 off d) .unsent)
+            ∙ parity-same (code n) (lifted (code n) (sent (code n) (r .word))) (r .word) (λ i l. lifted-sent (code n) (r .word) none i (lt-of-lt-of-le l (pb .after))) p
 
 -- ---- the parity of a near-Earth word, by code number
 
@@ -175,32 +159,35 @@ module _ (n : ℕ) (off : offered n ≡ true) (word : List ℕ) (long : length w
 -- ---- a run that ended quiet, judged by the code's tests
 
 module _ (n : ℕ) (off : offered n ≡ true) (number : ℕ) (y : Word) (quiet : number ≡ 0)
-    (r : Run) (e : r .number ≡ number) (w : r .word ≡ y) (met : number ≡ 0 → broken (code n) y ≡ 0) where
+    (r : Run) (e : r .number ≡ number) (w : r .word ≡ y) (met : number ≡ 0 → broken (code n) y ≡ 0) (unset : (i : ℕ) → i < code n .unsent → y i ≡ false) where
+  none : (i : ℕ) → i < code n .unsent → r .word i ≡ false
+  none i h = ap (λ x. x i) w ∙ unset i h
+
   pub by-telecommand : n < 4 → 0 ≡ judged (code n) r
   by-telecommand l =
-      judged-own n off r (e ∙ quiet) (unsent-whole n off (λ q. omega arith) (r .word))
+      judged-own n off r (e ∙ quiet) none
       (met-own-telecommand n (telecommand n off l) (r .word) (ap (broken (code n)) w ∙ met quiet))
 
-  pub by-unsent : n ≡ 5 → ltb 0 (count 18 y) ≡ true → 7 ≡ judged (code n) r
-  by-unsent f s = judged-unsent n off r (e ∙ quiet) (ap (λ x. ltb 0 (count (code n .unsent) x)) w ∙ unsent-five n f y true s)
-
-  module _ (l : 4 ≤ n) (none : ltb 0 (count (code n .unsent) y) ≡ false) (b : Bool)
+  module _ (l : 4 ≤ n) (b : Bool)
       (tells : (wordOctets informationOctets unsent : ℕ) → broken (nearEarth wordOctets informationOctets unsent) y ≡ 0 → Tells (nearEarth wordOctets informationOctets unsent) y b) where
     told : Tells (code n) y b
     told = near-tells n off l y b tells (met quiet)
 
     pub by-own : b ≡ true → 0 ≡ judged (code n) r
     by-own t =
-        judged-own n off r (e ∙ quiet) (ap (λ x. ltb 0 (count (code n .unsent) x)) w ∙ none) (subst (OwnParity (code n)) (sym w) (told .0 t))
+        judged-own n off r (e ∙ quiet) none (subst (OwnParity (code n)) (sym w) (told .0 t))
 
     pub by-unlike : b ≡ false → 8 ≡ judged (code n) r
     by-unlike f =
-        judged-unlike n off r (e ∙ quiet) (ap (λ x. ltb 0 (count (code n .unsent) x)) w ∙ none)
+        judged-unlike n off r (e ∙ quiet) none
         (λ own. true≢false (sym (told .1 (subst (OwnParity (code n)) w own)) ∙ f))
 
--- the ones of the first bits, cut out
-pub front-count : (m long : ℕ) (v x : Word) → v ≡ upTo m (from 0 x) → m ≤ long → count long v ≡ count m x
-front-count m long v x e l = ap (count long) e ∙ count-upTo m long (from 0 x) l ∙ ap (count m) (fun-ext (λ i. ap x (zero-add i)))
+-- how many bits are not sent, by code number
+pub unsent-five : (n : ℕ) → n ≡ 5 → 18 ≡ code n .unsent
+unsent-five n e = sym (sizes5 n e .unsent)
+
+pub unsent-none : (n : ℕ) → offered n ≡ true → (n ≡ 5 → ⊥) → 0 ≡ code n .unsent
+unsent-none n off d = sym (whole n (but n 5 off d) .unsent)
 
 -- ---- the same of a measured word
 

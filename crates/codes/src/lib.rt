@@ -2,10 +2,9 @@
 ghost use mathlib.Core.Path.{_≡_};
 ghost use mathlib.Core.Bool.{true, false};
 ghost use mathlib.Core.List.{List};
-ghost use Prim.Native.Nat.{ℕ};
-ghost use lib.Dec.{ltb};
+ghost use Prim.Native.Nat.{ℕ, _<_};
 ghost use lib.ListN.{length};
-ghost use Rattle.bits.specs.Bits.{bit, count};
+ghost use Rattle.bits.specs.Bits.{bit};
 ghost use Rattle.rules.specs.Codes.{code as codeOf, offered};
 ghost use Rattle.rules.specs.Checks.{broken};
 ghost use Rattle.rules.specs.Encoding.{lifted, encoded, codeword, written};
@@ -39,31 +38,24 @@ pub struct Stepped {
     pub excess: i8,
 }
 
-// Whether an unsent bit of code 5 is set.
-fn unsent_set(y: &[u64]) -> bool
-    requires { ⌜ length (now y) ≡ 130 ⌝ }
-    ensures { λ r. ⌜ r ≡ ltb 0 (count 18 (wbit (now (y .entry)))) ⌝ }
+// How many bits of a code, its first ones, are not sent.
+fn unsent(code: u8) -> usize
+    requires { ⌜ offered code ≡ true ⌝ }
+    ensures { λ r. ⌜ r ≡ codeOf code .unsent ⌝ }
 {
-    let mut v = [0u64; 1];
-    vectors::cut(y, 0, 18, &mut v);
-    0 < vectors::ones(&v)
+    if code == 5 { 18 } else { 0 }
 }
 
-// The number of a run: after a quiet end 7 for an unsent bit, then 8 for parity unlike the encoder's.
+// The number of a run: after a quiet end 8 for parity unlike the encoder's.
 fn judge(code: u8, y: &[u64], number: u8) -> u8
     requires { ⌜ (offered code ≡ true) × (length (now y) ≡ 130) ⌝ }
-    ensures { λ r. ⌜ ((run : Run) → run .number ≡ number → run .word ≡ wbit (now (y .entry)) → (number ≡ 0 → broken (codeOf code) (wbit (now (y .entry))) ≡ 0) → r ≡ judged (codeOf code) run) ⌝ }
+    ensures { λ r. ⌜ ((run : Run) → run .number ≡ number → run .word ≡ wbit (now (y .entry)) → (number ≡ 0 → broken (codeOf code) (wbit (now (y .entry))) ≡ 0) → ((k : ℕ) → k < codeOf code .unsent → wbit (now (y .entry)) k ≡ false) → r ≡ judged (codeOf code) run) ⌝ }
 {
     if number != 0 {
         return number;
     }
     if code < 4 {
         return 0;
-    }
-    if code == 5 {
-        if unsent_set(y) {
-            return 7;
-        }
     }
     if ownparity::own_parity(y) { 0 } else { 8 }
 }
@@ -204,12 +196,13 @@ fn correct_taken(code: u8, word: &[u8], limit: u16, out: &mut [u8]) -> Corrected
     requires { ⌜ (offered code ≡ true) × (length (now word) ≡ codeOf code .wordOctets) × (length (now out) ≡ codeOf code .wordOctets) ⌝ }
     ensures { λ r. ⌜ asCorrected r (now (out .exit)) ≡ ranFrom code (now (word .entry)) limit (now (out .entry)) ⌝ }
 {
+    let from = unsent(code);
     let mut t = [0u16; 64];
     let mut y = [0u64; 130];
     let mut s = [0u64; 16];
     let sh = received::measure(code, word, &mut t, &mut y, &mut s);
     let first = syndromes::broken(&s);
-    let ran = runs::run(&mut y, &mut s, &t, sh, limit);
+    let ran = runs::run(&mut y, &mut s, &t, sh, from, limit);
     let last = syndromes::broken(&s);
     let number = judge(code, &y, ran.number);
     if number == 0 {
@@ -259,11 +252,12 @@ fn step_taken(code: u8, word: &[u8], out: &mut [u8]) -> Stepped
     requires { ⌜ (offered code ≡ true) × (length (now word) ≡ codeOf code .wordOctets) × (length (now out) ≡ codeOf code .wordOctets) ⌝ }
     ensures { λ r. ⌜ asStepped r (now (out .exit)) ≡ steppedFrom code (now (word .entry)) (now (out .entry)) ⌝ }
 {
+    let from = unsent(code);
     let mut t = [0u16; 64];
     let mut y = [0u64; 130];
     let mut s = [0u64; 16];
     let sh = received::measure(code, word, &mut t, &mut y, &mut s);
-    let next = runs::comes_next(&s, &t, sh);
+    let next = runs::comes_next(&s, &t, sh, from);
     match next {
         Next::Quiet => {
             copy(word, out);

@@ -1,14 +1,18 @@
 -- `codes::correct_taken`: the run's numbers, its judgement and its word. Assumes nothing.
+use mathlib.Core.Path.{sym}
 use Rattle.bits.specs.Bits.{bit}
 use Rattle.rules.specs.Encoding.{lifted}
 use Rattle.rules.specs.Flipping.{byExcess, run}
 use Rattle.rules.specs.Codes.{code}
 use Rattle.codes.proofs.Judging.{pb}
-use Rattle.codes.proofs.Correcting.{blocks-some, holding, ran-number, ran-word, ran-met, corrected-is, wrote-word, wrote-none}
+use Rattle.codes.proofs.Correcting.{blocks-some, from-first, holding, ran-number, ran-word, ran-met, ran-unsent, corrected-is, wrote-word, wrote-none}
 use Rattle.vectors.proofs.Filling.{zero-words}
 use borrow.Author.Needs.{needs}
 use Rattle.codes.proofs.correct_taken.Statement.{statement}
 use Rattle.codes.proofs.correct_taken.Tie as tie
+
+unsent-requires : tie.Need-unsent-requires
+unsent-requires c κs = search needs
 
 slice-aggregate-measure : tie.Need-slice-aggregate-measure
 slice-aggregate-measure c = search needs
@@ -43,9 +47,15 @@ slice-aggregate-run-3 c = search needs
 run-requires : tie.Need-run-requires
 run-requires c κs =
     let m = c .before .before .before .before .before .before .before .before in
-    let a = m .before .before .before .before .before .before in
-    let e = m .measure .ensures in
-    (e .lends .fit, search needs, search needs, blocks-some (a .args .code) (a .args .word .now) _ _ _ _ e, holding (a .args .code) (a .args .word .now) _ _ _ _ e)
+    let a = m .before .before .before .before .before .before .before in
+    let e = m .measure .ensures in (
+      e .lends .fit,
+      search needs,
+      search needs,
+      blocks-some (a .args .code) (a .args .word .now) _ _ _ _ e,
+      from-first (a .args .code) (a .args .word .now) _ _ _ _ e _ (m .before .before .before .before .unsent .ensures) (pb (a .args .code) (a .pre .0) .early),
+      holding (a .args .code) (a .args .word .now) _ _ _ _ e,
+    )
 
 slice-aggregate-broken-2 : tie.Need-slice-aggregate-broken-2
 slice-aggregate-broken-2 c = search needs
@@ -63,7 +73,14 @@ slice-aggregate-write : tie.Need-slice-aggregate-write
 slice-aggregate-write c = search needs
 
 write-requires : tie.Need-write-requires
-write-requires c κs = search needs
+write-requires c κs =
+    let j = c .before .before .before in
+    let b2 = j .before .before in
+    let g = b2 .before .before .before .before in
+    let b1 = g .before .before .before .before in
+    let m = b1 .before .before .before .before .before in
+    let a = m .before .before .before .before .before .before .before in
+    search needs
 
 same-length : tie.Need-same-length
 same-length c = search needs
@@ -75,15 +92,16 @@ returns c =
     let g = b2 .before .before .before .before in
     let b1 = g .before .before .before .before in
     let m = b1 .before .before .before .before .before in
-    let a = m .before .before .before .before .before .before in
+    let a = m .before .before .before .before .before .before .before in
     let n = a .args .code in
     let word = a .args .word .now in
     let e = m .measure .ensures in
-    let to = g .run .ensures (code n) (e .lends .lent) (e .held) in
+    let to = g .run .ensures (code n) (e .lends .lent) (sym (m .before .before .before .before .unsent .ensures)) (e .held) in
     corrected-is n word _ _ _ _ e (a .args .limit) (g .run .result) _ _ to (b1 .broken .result) (b2 .broken2 .result) (j .judge .result)
     (b1 .broken .ensures) (b2 .broken2 .ensures)
     (j .judge .ensures (run (byExcess (code n)) (a .args .limit) (lifted (code n) (bit word)))
-    (ran-number n word _ _ _ _ e (a .args .limit) (g .run .result) _ _ to) (ran-word n word _ _ _ _ e (a .args .limit) (g .run .result) _ _ to) (ran-met n word _ _ _ _ e (a .args .limit) (g .run .result) _ _ to (pb n (a .pre .0) .some)))
+    (ran-number n word _ _ _ _ e (a .args .limit) (g .run .result) _ _ to) (ran-word n word _ _ _ _ e (a .args .limit) (g .run .result) _ _ to) (ran-met n word _ _ _ _ e (a .args .limit) (g .run .result) _ _ to (pb n (a .pre .0) .some))
+    (ran-unsent n word _ _ _ _ e (a .args .limit) (g .run .result) _ _ to (pb n (a .pre .0) .some)))
     (a .args .out .now) _ (wrote-word _ _ _ _ (c .before .before .before .before .before .before .if1 .taken) (c .before .before .before .write .ensures))
 
 returns-2 : tie.Need-returns-2
@@ -93,21 +111,23 @@ returns-2 c =
     let g = b2 .before .before .before .before in
     let b1 = g .before .before .before .before in
     let m = b1 .before .before .before .before .before in
-    let a = m .before .before .before .before .before .before in
+    let a = m .before .before .before .before .before .before .before in
     let n = a .args .code in
     let word = a .args .word .now in
     let e = m .measure .ensures in
-    let to = g .run .ensures (code n) (e .lends .lent) (e .held) in
+    let to = g .run .ensures (code n) (e .lends .lent) (sym (m .before .before .before .before .unsent .ensures)) (e .held) in
     corrected-is n word _ _ _ _ e (a .args .limit) (g .run .result) _ _ to (b1 .broken .result) (b2 .broken2 .result) (j .judge .result)
     (b1 .broken .ensures) (b2 .broken2 .ensures)
     (j .judge .ensures (run (byExcess (code n)) (a .args .limit) (lifted (code n) (bit word)))
-    (ran-number n word _ _ _ _ e (a .args .limit) (g .run .result) _ _ to) (ran-word n word _ _ _ _ e (a .args .limit) (g .run .result) _ _ to) (ran-met n word _ _ _ _ e (a .args .limit) (g .run .result) _ _ to (pb n (a .pre .0) .some)))
+    (ran-number n word _ _ _ _ e (a .args .limit) (g .run .result) _ _ to) (ran-word n word _ _ _ _ e (a .args .limit) (g .run .result) _ _ to) (ran-met n word _ _ _ _ e (a .args .limit) (g .run .result) _ _ to (pb n (a .pre .0) .some))
+    (ran-unsent n word _ _ _ _ e (a .args .limit) (g .run .result) _ _ to (pb n (a .pre .0) .some)))
     (a .args .out .now) _ (wrote-none _ _ _ (c .if1 .left))
 
 pub correct-taken-spec : {M : Type 1} → statement M
 correct-taken-spec =
     tie.close
     (tie.spec
+    unsent-requires
     slice-aggregate-measure
     slice-aggregate-measure-2
     slice-aggregate-measure-3

@@ -1,5 +1,5 @@
 -- `codes::step_taken`: quiet, stuck, or one flip. Assumes nothing.
-use mathlib.Core.Path.{ap, ap₂, _∙_, subst}
+use mathlib.Core.Path.{sym, ap, ap₂, _∙_, subst}
 use mathlib.Core.Bool.{true, false}
 use Prim.Native.Nat.{_*_, _<_}
 use mir.Syntax.{w8}
@@ -11,11 +11,15 @@ use Rattle.rules.specs.Codes.{code}
 use Rattle.rules.specs.Encoding.{written}
 use Rattle.answers.specs.Calls.{nextStep}
 use Rattle.runs.specs.Turns.{comesNext, Within}
-use Rattle.codes.proofs.Correcting.{blocks-some, holding, stepped-is}
+use Rattle.codes.proofs.Judging.{pb}
+use Rattle.codes.proofs.Correcting.{blocks-some, from-first, holding, stepped-is}
 use Rattle.vectors.proofs.Filling.{zero-words}
 use borrow.Author.Needs.{needs}
 use Rattle.codes.proofs.step_taken.Statement.{statement}
 use Rattle.codes.proofs.step_taken.Tie as tie
+
+unsent-requires : tie.Need-unsent-requires
+unsent-requires c κs = search needs
 
 slice-aggregate-measure : tie.Need-slice-aggregate-measure
 slice-aggregate-measure c = search needs
@@ -41,9 +45,14 @@ slice-aggregate-comes-next-2 c = search needs
 comes-next-requires : tie.Need-comes-next-requires
 comes-next-requires c κs =
     let m = c .before .before .before .before .before in
-    let a = m .before .before .before .before .before .before in
-    let e = m .measure .ensures in
-    (e .lends .fit, search needs, blocks-some (a .args .code) (a .args .word .now) _ _ _ _ e, holding (a .args .code) (a .args .word .now) _ _ _ _ e)
+    let a = m .before .before .before .before .before .before .before in
+    let e = m .measure .ensures in (
+      e .lends .fit,
+      search needs,
+      blocks-some (a .args .code) (a .args .word .now) _ _ _ _ e,
+      from-first (a .args .code) (a .args .word .now) _ _ _ _ e _ (m .before .before .before .before .unsent .ensures) (pb (a .args .code) (a .pre .0) .early),
+      holding (a .args .code) (a .args .word .now) _ _ _ _ e,
+    )
 
 enum-told : tie.Need-enum-told
 enum-told c = search needs
@@ -74,8 +83,8 @@ slice-aggregate-write c = search needs
 write-requires : tie.Need-write-requires
 write-requires c κs = search needs
 
-cast-t32 : tie.Need-cast-t32
-cast-t32 c =
+cast-t33 : tie.Need-cast-t33
+cast-t33 c =
     let f = c .before .before .before .before .before .before .before .before .before .before in
     let x = f .before .before in
     let m = x .before .before .before .before .before .before in
@@ -91,17 +100,17 @@ returns c =
     let told = c .before .before .before .before in
     let x = told .before .before in
     let m = x .before .before .before .before .before .before in
-    let a = m .before .before .before .before .before .before in
+    let a = m .before .before .before .before .before .before .before in
     ap (λ z. record { number = 0; quiet = true; bit = 0; excess = pos 0; out = z }) (c .before .before .copy .ensures)
-    ∙ stepped-is (a .args .code) (a .args .word .now) _ _ _ _ (m .measure .ensures) (a .args .out .now) (x .comes-next .result) _ (x .comes-next .ensures .1) (ap comesNext (told .enum-told .given .1))
+    ∙ stepped-is (a .args .code) (a .args .word .now) _ _ _ _ (m .measure .ensures) (a .args .out .now) (x .comes-next .result) _ _ (sym (m .before .before .before .before .unsent .ensures)) (x .comes-next .ensures .1) (ap comesNext (told .enum-told .given .1))
 
 returns-2 : tie.Need-returns-2
 unfolding nextStep
 returns-2 c =
     let x = c .before .before in
     let m = x .before .before .before .before .before .before in
-    let a = m .before .before .before .before .before .before in
-    stepped-is (a .args .code) (a .args .word .now) _ _ _ _ (m .measure .ensures) (a .args .out .now) (x .comes-next .result) _ (x .comes-next .ensures .1) (ap comesNext (c .enum-told2 .given .1))
+    let a = m .before .before .before .before .before .before .before in
+    stepped-is (a .args .code) (a .args .word .now) _ _ _ _ (m .measure .ensures) (a .args .out .now) (x .comes-next .result) _ _ (sym (m .before .before .before .before .unsent .ensures)) (x .comes-next .ensures .1) (ap comesNext (c .enum-told2 .given .1))
 
 same-length-2 : tie.Need-same-length-2
 same-length-2 c = search needs
@@ -112,7 +121,7 @@ returns-3 c =
     let f = c .before .before .before .before .before .before .before .before .before .before in
     let x = f .before .before in
     let m = x .before .before .before .before .before .before in
-    let a = m .before .before .before .before .before .before in
+    let a = m .before .before .before .before .before .before .before in
     let n = a .args .code in
     let e = m .measure .ensures in
     let b = f .next .given .0 .0 in
@@ -122,12 +131,13 @@ returns-3 c =
     ap₂ (λ z o. record { number = 0; quiet = false; bit = b; excess = z; out = o }) (toZ-ofZ w8 ex fits)
     (c .before .before .before .write .ensures
     ∙ ap (written (code n)) (c .before .before .before .before .before .before .before .turn-over .ensures ∙ ap (λ z. flipped z b) (e .bits)))
-    ∙ stepped-is n (a .args .word .now) _ _ _ _ e (a .args .out .now) (x .comes-next .result) _ (x .comes-next .ensures .1) (ap comesNext (f .next .given .1))
+    ∙ stepped-is n (a .args .word .now) _ _ _ _ e (a .args .out .now) (x .comes-next .result) _ _ (sym (m .before .before .before .before .unsent .ensures)) (x .comes-next .ensures .1) (ap comesNext (f .next .given .1))
 
 pub step-taken-spec : {M : Type 1} → statement M
 step-taken-spec =
     tie.close
     (tie.spec
+    unsent-requires
     slice-aggregate-measure
     slice-aggregate-measure-2
     slice-aggregate-measure-3
@@ -143,7 +153,7 @@ step-taken-spec =
     turn-over-requires
     slice-aggregate-write
     write-requires
-    cast-t32
+    cast-t33
     same-length
     returns
     returns-2
