@@ -59,7 +59,7 @@ enum pandoricchia_number {
     PANDORICCHIA_LAST_SIX = 4,       /* encode, code 4: one of the six last bits is set */
     PANDORICCHIA_STUCK = 5,          /* correct, step: checks are broken, and no bit has an excess above 0 */
     PANDORICCHIA_LIMIT = 6,          /* correct: the limit is reached */
-    PANDORICCHIA_UNSENT = 7,         /* correct, code 5: an unsent bit became 1 */
+    PANDORICCHIA_UNSENT = 7,         /* never given: no run sets a bit that is not sent */
     PANDORICCHIA_PARITY = 8,         /* correct, codes 4 and 5: quiet, but the parity is not the encoder's */
     PANDORICCHIA_NO_CODEWORD = 9     /* open: the word is not a codeword */
 };

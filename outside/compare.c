@@ -329,7 +329,7 @@ static void bring_unsent(const uint8_t *word, uint8_t *full)
             flip(full, n);
 }
 
-/* A code 5 word of the same parity as one that has unsent bits set: refusal 7, when the run finds them. */
+/* A code 5 word of the same parity as one that has unsent bits set. The run may not set them. */
 static void forget_unsent(uint8_t *word)
 {
     uint8_t info[LONGEST], full[LONGEST];

@@ -186,12 +186,12 @@ LEAF struct best best_part(const uint64_t *d, const unsigned *starts, unsigned n
     return best;
 }
 
-/* The bit of greatest excess, which is the score less 8. */
-static struct best choose(const uint64_t *s, const uint16_t *h, struct shape sh)
+/* The bit of greatest excess from bit `from` on; the excess is the score less 8. */
+static struct best choose(const uint64_t *s, const uint16_t *h, struct shape sh, unsigned from)
 {
     uint64_t d[4 * 17];
     unsigned room = 2 * sh.words + 1;
-    struct best best = {0, 0};
+    struct best best = {0, from};
     for (unsigned r = 0; r < sh.rows; r++)
         twice(s + r * sh.words, sh, d + r * room);
     for (unsigned b = 0; b < sh.blocks; b++) {
@@ -202,7 +202,7 @@ static struct best choose(const uint64_t *s, const uint16_t *h, struct shape sh)
                 if (shift < sh.size)
                     starts[n++] = 64 * room * r + (sh.size - shift);
             }
-        for (unsigned at = 0; at < sh.size && best.score < 8 + n; at += 64)
+        for (unsigned at = b == 0 ? from : 0; at < sh.size && best.score < 8 + n; at += 64)
             best = best_part(d, starts, n, b * sh.size, at, sh.size - at < 64 ? sh.size - at : 64, best);
     }
     return best;
@@ -222,12 +222,13 @@ LEAF void flip(uint64_t *y, uint64_t *s, const uint16_t *h, struct shape sh, uns
         }
 }
 
-static uint8_t run(uint64_t *y, uint64_t *s, const uint16_t *h, struct shape sh, uint16_t limit, uint32_t *flips)
+static uint8_t run(uint64_t *y, uint64_t *s, const uint16_t *h, struct shape sh, unsigned from, uint16_t limit,
+                   uint32_t *flips)
 {
     for (*flips = 0;; ++*flips) {
         if (quiet(s, sh))
             return 0;
-        struct best best = choose(s, h, sh);
+        struct best best = choose(s, h, sh, from);
         if (best.score <= 8)
             return 5;
         if (*flips >= limit)
@@ -366,11 +367,9 @@ struct judge_corrected fast_correct(uint8_t code, const uint8_t *word, size_t le
 #define RUN(h, g, sh, inform, parts) \
     syndrome(y, h, sh, s);           \
     answer.first = broken(s, sh);    \
-    answer.number = run(y, s, h, sh, limit, &answer.flips); \
+    answer.number = run(y, s, h, sh, code == 5 ? 18 : 0, limit, &answer.flips); \
     answer.last = broken(s, sh)
     FOR_CODE(code, RUN)
-    if (answer.number == 0 && code == 5 && y[0] >> 46 != 0)
-        answer.number = 7;
     if (answer.number == 0 && code >= 4 && !own_parity(y))
         answer.number = 8;
     if (answer.number == 0)
@@ -391,7 +390,7 @@ struct judge_stepped fast_step(uint8_t code, const uint8_t *word, size_t len, ui
     syndrome(y, h, sh, s);            \
     answer.quiet = quiet(s, sh);      \
     if (!answer.quiet)                \
-    best = choose(s, h, sh)
+    best = choose(s, h, sh, 0)
     FOR_CODE(code, STEP)
     if (answer.quiet) {
         memcpy(out, word, len);

@@ -317,12 +317,12 @@ static int excess_of(const struct code *c, const unsigned char *broken, unsigned
     return excess;
 }
 
-/* The bit of greatest excess; of several, the lowest number. */
+/* The sent bit of greatest excess; of several, the lowest number. */
 static unsigned choose(const struct code *c, const unsigned char *broken, int *excess)
 {
-    unsigned best = 0;
-    *excess = excess_of(c, broken, 0);
-    for (unsigned bit = 1; bit < c->bits; bit++) {
+    unsigned best = c->unsent;
+    *excess = excess_of(c, broken, best);
+    for (unsigned bit = best + 1; bit < c->bits; bit++) {
         int e = excess_of(c, broken, bit);
         if (e > *excess) {
             *excess = e;

@@ -263,7 +263,7 @@ static void other_cases(void)
     EXPECT(all_are(out, 0, 894) && (out[894] & 0xC0) == 0x40);
     end();
 
-    begin("code 5, an unsent bit becomes 1");
+    begin("code 5, the wrong bit is not sent");
     memset(info, 0, sizeof info);
     info[0] = 0x80;
     EXPECT(judge_encode(4, info, 895, word, 1022) == 0);
@@ -272,7 +272,7 @@ static void other_cases(void)
         if (bit_of(word, bit))
             flip(sent, bit - 18);
     memset(out, 0x5A, sizeof out);
-    EXPECT(are(correct(5, sent, 1, out), 7, 1, 4, 0));
+    EXPECT(are(correct(5, sent, 1, out), 5, 0, 4, 4));
     EXPECT(all_are(out, 0x5A, sizeof out));
     end();
 
@@ -502,10 +502,9 @@ static void bounds(uint8_t code, const uint8_t *word, uint16_t limit)
     EXPECT(a.flips <= limit);
     EXPECT(a.last + least * a.flips <= a.first);
     EXPECT(a.first == judge_check(code, word, len).broken);
-    EXPECT(a.number == 0 || (a.number >= 5 && a.number <= 8));
-    EXPECT((a.last == 0) == (a.number == 0 || a.number == 7 || a.number == 8));
+    EXPECT(a.number == 0 || a.number == 5 || a.number == 6 || a.number == 8);
+    EXPECT((a.last == 0) == (a.number == 0 || a.number == 8));
     EXPECT(a.number != 6 || a.flips == limit);
-    EXPECT(a.number != 7 || code == 5);
     EXPECT(a.number != 8 || code >= 4);
     if (a.number == 0)
         EXPECT(judge_check(code, out, len).broken == 0);

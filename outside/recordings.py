@@ -97,11 +97,16 @@ class Words:
             information[-1] &= 0xC0
         return self.judge.encode(self.code, bytes(information))
 
-    def wrong(self, n):
-        """A codeword with n wrong bits."""
+    def places(self, n, below):
+        """n different numbers below a bound."""
         places = set()
         while len(places) < n:
-            places.add(self.source.below(self.bits))
+            places.add(self.source.below(below))
+        return places
+
+    def wrong(self, n):
+        """A codeword with n wrong bits."""
+        places = self.places(n, self.bits)
         return flipped(self.quiet(), places)
 
     def answered(self, number, limit, fewest, most):
@@ -130,8 +135,16 @@ class Words:
                 return sent
 
     def unsent(self):
-        """Number 7, code 5: code 4's word of information bit 0 alone, without its first 18 bits."""
+        """Code 5: code 4's word of information bit 0 alone, without its first 18 bits."""
         return shortened(self.judge.encode(4, flipped(bytes(INFORMATION[4]), [0])))
+
+    def unsent_and_wrong(self, unsent, n):
+        """Code 5: a word of code 4 that has this many of its first 18 bits set, without them, and with n wrong bits."""
+        information = bytearray(self.source.octets(INFORMATION[4]))
+        information[:3] = bytes([0, 0, information[2] & 0x3F])
+        information[-1] &= 0xC0
+        word = shortened(self.judge.encode(4, flipped(information, self.places(unsent, 18))))
+        return flipped(word, self.places(n, self.bits))
 
     def other_parity(self):
         """Number 8, codes 4 and 5: a codeword with all of the first parity block turned over."""

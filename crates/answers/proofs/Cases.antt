@@ -3,7 +3,7 @@ use mathlib.Core.Path.{_≡_, refl, sym, ap, ap₂, _∙_, fun-ext, subst}
 use mathlib.Core.Bool.{Bool, true, false, not, _&&_, _||_, and-false}
 use mathlib.Core.List.{List, [], _∷_, _++_}
 use Prim.Native.Nat.{ℕ, _+_, _-_, _/_, _%_, _≤_, _<_, zero-le}
-use native.Mathlib.Nat.{lt-of-lt-of-le, le-of-eq, not-suc-le-zero, lt-of-not-le}
+use native.Mathlib.Nat.{lt-of-lt-of-le, lt-of-le-of-lt, le-of-eq, not-suc-le-zero, lt-of-not-le}
 use native.Mathlib.Decide.{decLt}
 use native.Mathlib.Omega.{arith}
 use lib.Dec.{T, eqb, leb, ltb, lit<, lit≤}
@@ -12,9 +12,9 @@ use lib.ListN.{length, getD, replicate, length-replicate}
 use borrow.Author.Tests.{eq-eqb, lt-ltb, le-ltb, le-leb, lt-leb}
 use Rattle.bits.specs.Bits.{Word, digit, bit, number, octets, count, _⊕_, sum, flipped, if_then_else_, below}
 use Rattle.rules.specs.Tables.{parity16, parity511, generator16, generator511}
-use Rattle.rules.specs.Codes.{code, code1, code4, bits, checks, information, offered}
+use Rattle.rules.specs.Codes.{code, code1, code4, code5, bits, checks, information, offered}
 use Rattle.rules.specs.Checks.{covers, check, broken, degreeOf}
-use Rattle.rules.specs.Encoding.{rowBit, parityBit, encoded, lifted, sent, codeword, OwnParity}
+use Rattle.rules.specs.Encoding.{rowBit, parityBit, encoded, lifted, sent, codeword, written, OwnParity}
 use Rattle.rules.specs.Flipping.{flip, byExcess, run, ended}
 use Rattle.answers.specs.Calls.{encodeAnswer, checkAnswer, openAnswer, judged, refusal, unless, refusedCorrect, ranCorrect, correctAnswer, refusedStep, nextStep, stepAnswer, ranFrom}
 use Rattle.bits.proofs.Sums.{⊕-eq, sum-none, below-at, not-true, and-l}
@@ -25,11 +25,11 @@ use Rattle.rules.proofs.Flips.{check-flip}
 use Rattle.rules.proofs.Runs.{run-limit, run-quiet}
 use Rattle.rules.proofs.Ways.{one-next}
 use Rattle.rules.proofs.Choosing.{quiet-next, by-excess, by-greatest}
-use Rattle.rules.proofs.Published.{published1, published4}
-use Rattle.rules.proofs.Codewords.{own-codeword, codeword-bit, sent-bit, encoded-parity, parity-same, lifted-sent}
+use Rattle.rules.proofs.Published.{published1, published4, published5}
+use Rattle.rules.proofs.Codewords.{own-codeword, codeword-bit, sent-bit, encoded-parity, encoded-information, parity-same, lifted-sent}
 use Rattle.answers.proofs.Answers.{correct-taken, step-taken, open-taken}
-use Rattle.rules.proofs.Numbers.{published, whole, lifted-whole, four-quiet, met-codeword}
-use Rattle.answers.proofs.Corrections.{oneWrong, bit-one-wrong, lifted-flip, one-back}
+use Rattle.rules.proofs.Numbers.{published, encoded-meets, whole, lifted-whole, four-quiet, met-codeword}
+use Rattle.answers.proofs.Corrections.{oneWrong, bit-one-wrong, lifted-flip, one-back, unsent-wrong, near-degree}
 
 -- whether a number stands in a list
 abbrev pub among : ℕ → List ℕ → Bool
@@ -94,6 +94,10 @@ blockBits n = leb 7154 n && ltb n 7665
 abbrev pub information80 : List ℕ
 information80 = 0x80 ∷ replicate 7 0
 
+-- code 4's word of information bit 0 alone: its first 18 bits dropped, two zeros appended
+abbrev pub shortened : List ℕ
+shortened = written code5 (encoded code4 (λ n. eqb n 0))
+
 pub starred : List Case
 starred =
     encodes 1 information80 (information80 ++ (0x0E ∷ 0x69 ∷ 0x16 ∷ 0x6B ∷ 0xEF ∷ 0x4C ∷ 0x0B ∷ 0xC2 ∷ []))
@@ -107,6 +111,7 @@ starred =
     ∷ corrects 4 (octets 1022 blockBits) 0 8 0 0 0
     ∷ corrects 1 (only 16 0) 0 6 0 5 5
     ∷ corrects 1 (only 16 0) 1 0 1 5 0
+    ∷ corrects 5 shortened 1 5 0 4 4
     ∷ lengths 1 15 16 2
     ∷ lengths 1 16 17 3
     ∷ unoffered 0
@@ -312,30 +317,51 @@ corrects10 out lo =
     ∙ ap (λ r. ranCorrect code1 (lifted code1 (bit (only 16 0))) r out) (run-limit (byExcess code1) (lifted code1 (bit (only 16 0))) 0 (pos 5) next1) in
     (ap (λ r. r .number) e, ap (λ r. r .flips) e, ap (λ r. r .first) e ∙ first-five, ap (λ r. r .last) e ∙ first-five)
 
+-- code 5, code 4's word of information bit 0: that bit is not sent, and no other is worth flipping
+same-encoded : encoded code4 (λ n. eqb n 0) ≡ encoded code5 (λ n. eqb n 0)
+unfolding encoded parityBit code4 code5
+same-encoded = fun-ext (λ n. refl)
+
+whole-met : broken code5 (encoded code4 (λ n. eqb n 0)) ≡ 0
+unfolding code
+whole-met = ap (broken code5) same-encoded ∙ encoded-meets 5 tt (λ n. eqb n 0)
+
+first-unsent : 0 < code5 .unsent
+unfolding code5
+first-unsent = lit< tt
+
+corrects12 : Holds (corrects 5 shortened 1 5 0 4 4)
+unfolding code
+corrects12 out lo =
+    let e = unsent-wrong 5 tt (encoded code4 (λ n. eqb n 0)) whole-met 0 first-unsent
+    (λ k h. ap (λ w. w k) same-encoded ∙ encoded-information code5 (λ n. eqb n 0) k (lt-of-lt-of-le h (published5 .before))) 1 out lo in
+    let four : degreeOf code5 0 ≡ 4 = near-degree 5 tt 0 (lt-of-le-of-lt zero-le (published5 .some)) in
+    (ap (λ r. r .number) e, ap (λ r. r .flips) e, ap (λ r. r .first) e ∙ four, ap (λ r. r .last) e ∙ four)
+
 -- lengths and code numbers
-lengths12 : Holds (lengths 1 15 16 2)
+lengths13 : Holds (lengths 1 15 16 2)
 unfolding correctAnswer code code1
-lengths12 word out limit lw lo = ap (λ z. unless (refusal true z 16 (length out) 16) (refusedCorrect out) (ranFrom 1 word limit out)) lw
+lengths13 word out limit lw lo = ap (λ z. unless (refusal true z 16 (length out) 16) (refusedCorrect out) (ranFrom 1 word limit out)) lw
 
-lengths13 : Holds (lengths 1 16 17 3)
+lengths14 : Holds (lengths 1 16 17 3)
 unfolding correctAnswer code code1
-lengths13 word out limit lw lo = ap₂ (λ z y. unless (refusal true z 16 y 16) (refusedCorrect out) (ranFrom 1 word limit out)) lw lo
+lengths14 word out limit lw lo = ap₂ (λ z y. unless (refusal true z 16 y 16) (refusedCorrect out) (ranFrom 1 word limit out)) lw lo
 
-unoffered14 : Holds (unoffered 0)
-unfolding encodeAnswer checkAnswer openAnswer correctAnswer stepAnswer
-unoffered14 = ((λ info out. refl), (λ word. refl), (λ word. refl), (λ word out limit. refl), (λ word out. refl))
-
-unoffered15 : Holds (unoffered 6)
+unoffered15 : Holds (unoffered 0)
 unfolding encodeAnswer checkAnswer openAnswer correctAnswer stepAnswer
 unoffered15 = ((λ info out. refl), (λ word. refl), (λ word. refl), (λ word out limit. refl), (λ word out. refl))
 
-unopened16 : Holds (unopened 4)
-unfolding openAnswer
-unopened16 word = refl
+unoffered16 : Holds (unoffered 6)
+unfolding encodeAnswer checkAnswer openAnswer correctAnswer stepAnswer
+unoffered16 = ((λ info out. refl), (λ word. refl), (λ word. refl), (λ word out limit. refl), (λ word out. refl))
 
-unstepped17 : Holds (unstepped 5)
+unopened17 : Holds (unopened 4)
+unfolding openAnswer
+unopened17 word = refl
+
+unstepped18 : Holds (unstepped 5)
 unfolding stepAnswer
-unstepped17 word out = refl
+unstepped18 word out = refl
 
 pub all-starred : All starred
 unfolding starred
@@ -361,7 +387,7 @@ all-starred = (
                     corrects10,
                     (
                       corrects11,
-                      (lengths12, (lengths13, (unoffered14, (unoffered15, (unopened16, (unstepped17, tt)))))),
+                      (corrects12, (lengths13, (lengths14, (unoffered15, (unoffered16, (unopened17, (unstepped18, tt))))))),
                     ),
                   ),
                 ),

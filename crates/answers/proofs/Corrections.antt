@@ -12,18 +12,18 @@ use lib.ListN.{length}
 use borrow.Author.Tests.{eq-eqb, ne-eqb, lt-ltb, le-ltb}
 use Rattle.bits.specs.Bits.{Word, bit, octets, count, _⊕_, flipped, if_then_else_}
 use Rattle.rules.specs.Codes.{Code, code, code4, code5, bits, offered}
-use Rattle.rules.specs.Checks.{broken, degreeOf}
+use Rattle.rules.specs.Checks.{check, broken, degreeOf}
 use Rattle.rules.specs.Encoding.{lifted, sent, codeword, written}
 use Rattle.rules.specs.Flipping.{Way, byExcess, Run, run, ended, after}
 use Rattle.answers.specs.Calls.{Corrected, differing, judged, unless, refusedCorrect, ranCorrect, ranFrom, correctAnswer}
-use Rattle.bits.proofs.Sums.{and-l, and-r, eqb-iff}
+use Rattle.bits.proofs.Sums.{⊕-self, ⊕-false, and-l, and-r, eqb-iff}
 use Rattle.bits.proofs.Counting.{count-none}
 use Rattle.bits.proofs.Octets.{Octets, length-octets, bit-octets, bit-past}
-use Rattle.rules.proofs.Runs.{run-within, run-quiet, run-unchanged}
+use Rattle.rules.proofs.Runs.{run-within, run-quiet, run-stuck, run-unchanged}
 use Rattle.rules.proofs.Ways.{Chooses, TakesGreatest, Girth, run-fall, limit-serves, run-half, half-serves, one-mended, first-count}
-use Rattle.rules.proofs.Choosing.{by-excess, by-greatest}
-use Rattle.rules.proofs.Published.{near-four}
-use Rattle.rules.proofs.Codewords.{own-codeword, codeword-own, codeword-quiet, codeword-sent, written-back, lifted-unsent, lifted-sent-bit}
+use Rattle.rules.proofs.Choosing.{by-excess, by-greatest, broken-same, next-same, unsent-stuck}
+use Rattle.rules.proofs.Published.{Published, near-four}
+use Rattle.rules.proofs.Codewords.{own-codeword, codeword-own, codeword-quiet, codeword-sent, written-back, bit-written, lifted-unsent, lifted-sent-bit, lifted-back, check-same}
 use Rattle.answers.proofs.Differing.{differ-self, differ-one}
 use Rattle.answers.proofs.Answers.{refusal-cases, correct-cases, correct-taken}
 use Rattle.rules.proofs.Numbers.{published}
@@ -34,6 +34,13 @@ module _ (c : Code) (r : Run) where
   -- a quiet end whose sent bits are no codeword is refused
   pub judged-parity : r .number ≡ 0 → count (c .unsent) (r .word) ≡ 0 → codeword c (sent c (r .word)) ≡ false → judged c r ≡ 8
   judged-parity e none otherLength = rw (e, none, otherLength)
+
+  -- what is not quiet is not judged again
+  pub judged-other : (m : ℕ) → r .number ≡ m → (m ≡ 0 → ⊥) → judged c r ≡ m
+  judged-other m e d =
+      ap (λ b. if not b then r .number else if ltb 0 (count (c .unsent) (r .word)) then 7 else if not (codeword c (sent c (r .word))) then 8 else 0)
+      (ne-eqb (r .number) 0 (λ q. d (sym e ∙ q)))
+      ∙ e
 
   -- refusal 6 is the run's own
   pub judged-limit : judged c r ≡ 6 → r .number ≡ 6
@@ -256,3 +263,34 @@ module _ (n : ℕ) (off : T (offered n)) (word out : List ℕ) (lw : length word
       correct-taken n (oneWrong (code n) word b) (suc limit) out off (length-octets (code n .wordOctets) (flipped (bit word) b)) lo
       ∙ ap (λ y. ranCorrect (code n) y (run (byExcess (code n)) (suc limit) y) out) same
       ∙ ran-one-back (chooses n off) (by-greatest (code n)) limit (b + code n .unsent) (omega arith) (omega arith)
+
+-- ---- a wrong bit that is not sent
+
+-- A word that meets every check and has, of the bits that are not sent, just one set: what is sent of it gets stuck at once.
+module _ (n : ℕ) (off : T (offered n)) (x : Word) (met : broken (code n) x ≡ 0) (n₀ : ℕ) (h₀ : n₀ < code n .unsent)
+    (one : (k : ℕ) → k < code n .unsent → x k ≡ eqb k n₀) where
+  abbrev got : Word
+  got = lifted (code n) (bit (written (code n) x))
+
+  got-is : (k : ℕ) → k < bits (code n) → got k ≡ flipped x n₀ k
+  got-is k h = ap (λ y. lifted (code n) y k) (bit-written (code n) (published n off) x) ∙ go (decLt k (code n .unsent))
+    where
+      go : Dec (k < code n .unsent) → lifted (code n) (sent (code n) x) k ≡ flipped x n₀ k
+      go (yes l) = lifted-unsent (code n) (sent (code n) x) k l ∙ sym (ap (λ b. b ⊕ eqb k n₀) (one k l) ∙ ⊕-self (eqb k n₀))
+      go (no g) =
+          lifted-back (code n) x k (omega (arith, lt-of-not-le g)) h
+          ∙ sym (ap (λ b. x k ⊕ b) (ne-eqb k n₀ (λ q. omega (arith, lt-of-not-le g))) ∙ ⊕-false (x k))
+
+  checks-are : check (code n) got ≡ check (code n) (flipped x n₀)
+  checks-are = fun-ext (check-same (code n) got (flipped x n₀) got-is)
+
+  pub unsent-wrong : (limit : ℕ) (out : List ℕ) → length out ≡ code n .wordOctets → correctAnswer n (written (code n) x) limit out
+      ≡ record { number = 5; flips = 0; first = degreeOf (code n) n₀; last = degreeOf (code n) n₀; out = out }
+  unfolding ranCorrect
+  unsent-wrong limit out lo =
+      let pb : Published (code n) = published n off in
+      correct-taken n (written (code n) x) limit out off (length-octets (code n .wordOctets) (sent (code n) x)) lo
+      ∙ ap (λ r. ranCorrect (code n) got r out) (run-stuck (byExcess (code n)) limit got _ _
+      (next-same (code n) got (flipped x n₀) checks-are ∙ unsent-stuck (code n) (pb .some) (pb .girth) x met n₀ h₀))
+      ∙ ap (λ z. record { number = 5; flips = 0; first = z; last = z; out = out })
+      (broken-same (code n) got (flipped x n₀) checks-are ∙ first-count (code n) (pb .girth) x met n₀ (omega (arith, pb .some)))

@@ -1,24 +1,24 @@
--- Numbers that a code never gives: for the telecommand codes a run that ends quiet is never refused.
-use mathlib.Core.Path.{_≡_, refl, sym, ap, _∙_, subst}
-use mathlib.Core.Bool.{not}
+-- Numbers that are never given: 7 by no code, and by the telecommand codes, whose runs that end quiet are never refused, no 8.
+use mathlib.Core.Path.{_≡_, refl, sym, ap, ap₂, _∙_, subst}
+use mathlib.Core.Bool.{Bool, true, false, not}
 use mathlib.Core.List.{List}
 use Prim.Native.Nat.{ℕ, _<_}
-use native.Mathlib.Nat.{not-suc-le-zero}
+use native.Mathlib.Nat.{not-suc-le-zero, le-of-eq}
 use native.Mathlib.Omega.{arith}
 use lib.Dec.{T, ltb}
-use borrow.Author.Tests.{ne-eqb}
+use borrow.Author.Tests.{eq-eqb, le-ltb}
+use Rattle.bits.proofs.Counting.{count-none}
 use Rattle.bits.specs.Bits.{Word, bit, count, if_then_else_}
-use Rattle.rules.specs.Codes.{code, telecommanded}
+use Rattle.rules.specs.Codes.{Code, code, telecommanded}
 use Rattle.rules.specs.Encoding.{lifted, sent, codeword}
 use Rattle.rules.specs.Flipping.{quiet, Way, byExcess, Run, run}
 use Rattle.answers.specs.Calls.{judged, ranCorrect, correctAnswer}
 use Rattle.rules.proofs.Runs.{run-ends, End, ends-quiet, ends-stuck, ends-limit}
-use Rattle.rules.proofs.Ways.{Chooses}
-use Rattle.rules.proofs.Choosing.{by-excess}
-use Rattle.rules.proofs.Codewords.{own-codeword}
+use Rattle.rules.proofs.Ways.{Chooses, run-unsent}
+use Rattle.rules.proofs.Codewords.{own-codeword, lifted-unsent}
 use Rattle.answers.proofs.Answers.{correct-cases}
 use Rattle.rules.proofs.Numbers.{published, telecommand-offered, telecommand-whole, whole, met-own-telecommand}
-use Rattle.answers.proofs.Corrections.{judged-done}
+use Rattle.answers.proofs.Corrections.{judged-done, judged-other, chooses}
 
 module _ (n : ℕ) (t : T (telecommanded n)) {way : Way} (ch : Chooses (code n) way) (limit : ℕ) (x : Word) where
   abbrev theRun : Run
@@ -36,16 +36,10 @@ module _ (n : ℕ) (t : T (telecommanded n)) {way : Way} (ch : Chooses (code n) 
   pub few-numbers : (k : ℕ) → judged (code n) theRun ≡ k → (k ≡ 7 → ⊥) × (k ≡ 8 → ⊥)
   few-numbers k e = go (run-ends way limit x)
     where
-      other : (m : ℕ) → theRun .number ≡ m → (m ≡ 0 → ⊥) → judged (code n) theRun ≡ m
-      other m f d =
-          ap (λ b. if not b then theRun .number else if ltb 0 (count (code n .unsent) (theRun .word)) then 7 else if not (codeword (code n) (sent (code n) (theRun .word))) then 8 else 0)
-          (ne-eqb (theRun .number) 0 (λ q. d (sym f ∙ q)))
-          ∙ f
-
       go : End way limit theRun → (k ≡ 7 → ⊥) × (k ≡ 8 → ⊥)
       go (ends-quiet f w) = let z = done f w in ((λ q. omega arith), (λ q. omega arith))
-      go (ends-stuck f b ex w) = let z = other 5 f (λ q. omega arith) in ((λ q. omega arith), (λ q. omega arith))
-      go (ends-limit f l b ex w) = let z = other 6 f (λ q. omega arith) in ((λ q. omega arith), (λ q. omega arith))
+      go (ends-stuck f b ex w) = let z = judged-other (code n) theRun 5 f (λ q. omega arith) in ((λ q. omega arith), (λ q. omega arith))
+      go (ends-limit f l b ex w) = let z = judged-other (code n) theRun 6 f (λ q. omega arith) in ((λ q. omega arith), (λ q. omega arith))
 
 -- correct gives neither 7 nor 8 for codes 1 to 3
 pub telecommand-numbers : (n : ℕ) → T (telecommanded n) → (word : List ℕ) (limit : ℕ) (out : List ℕ)
@@ -54,4 +48,34 @@ unfolding ranCorrect
 telecommand-numbers n t word limit out =
     correct-cases n word limit out (λ r. (r .number ≡ 7 → ⊥) × (r .number ≡ 8 → ⊥))
     ((λ q. omega arith), (λ q. omega arith)) ((λ q. omega arith), (λ q. omega arith)) ((λ q. omega arith), (λ q. omega arith))
-    (λ off lw lo. few-numbers n t (by-excess (code n) (published n off .some)) limit (lifted (code n) (bit word)) _ refl)
+    (λ off lw lo. few-numbers n t (chooses n off) limit (lifted (code n) (bit word)) _ refl)
+
+-- ---- number 7 never occurs
+
+-- no run sets a bit that is not sent, so none is 1 at its end
+module _ (c : Code) {way : Way} (ch : Chooses c way) (limit : ℕ) (x : Word) (none : (k : ℕ) → k < c .unsent → x k ≡ false) where
+  pub unsent-stay : (k : ℕ) → k < c .unsent → run way limit x .word k ≡ false
+  unsent-stay k h = run-unsent ch limit x k h ∙ none k h
+
+  pub never-seven : judged c (run way limit x) ≡ 7 → ⊥
+  never-seven e = go (run-ends way limit x)
+    where
+      go : End way limit (run way limit x) → ⊥
+      go (ends-quiet f w) = by (codeword c (sent c (run way limit x .word))) refl
+        where
+          spelled : (b : Bool) → codeword c (sent c (run way limit x .word)) ≡ b → _≡_ {A = ℕ} (if not b then 8 else 0) 7
+          spelled b is =
+              sym (ap (λ p. if not p then run way limit x .number else if ltb 0 (count (c .unsent) (run way limit x .word)) then 7 else if not (codeword c (sent c (run way limit x .word))) then 8 else 0) (eq-eqb (run way limit x .number) 0 f)
+              ∙ ap₂ (λ q s. if q then 7 else if not s then 8 else 0) (le-ltb 0 (count (c .unsent) (run way limit x .word)) (le-of-eq (count-none (c .unsent) (run way limit x .word) unsent-stay))) is) ∙ e
+
+          by : (b : Bool) → codeword c (sent c (run way limit x .word)) ≡ b → ⊥
+          by true is = let z = spelled true is in omega arith
+          by false is = let z = spelled false is in omega arith
+      go (ends-stuck f b ex w) = let z = judged-other c (run way limit x) 5 f (λ q. omega arith) in omega arith
+      go (ends-limit f l b ex w) = let z = judged-other c (run way limit x) 6 f (λ q. omega arith) in omega arith
+
+pub seven-never-given : (n : ℕ) (word : List ℕ) (limit : ℕ) (out : List ℕ) → correctAnswer n word limit out .number ≡ 7 → ⊥
+unfolding ranCorrect
+seven-never-given n word limit out =
+    correct-cases n word limit out (λ r. r .number ≡ 7 → ⊥) (λ q. omega arith) (λ q. omega arith) (λ q. omega arith)
+    (λ off lw lo. never-seven (code n) (chooses n off) limit (lifted (code n) (bit word)) (lifted-unsent (code n) (bit word)))

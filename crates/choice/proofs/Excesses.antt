@@ -14,10 +14,11 @@ use lib.Signed.{ltZ}
 use Rattle.bits.specs.Bits.{Word, if_then_else_}
 use Rattle.rules.specs.Codes.{Code, bits}
 use Rattle.rules.specs.Checks.{broken, excess, brokenOf, degreeOf, metOf}
-use Rattle.rules.specs.Flipping.{flip, stuck, greatest, byExcess}
+use Rattle.rules.specs.Flipping.{flip, stuck, greatestSent, byExcess}
 use Rattle.rules.proofs.Flips.{broken-met, excess-is}
 use Rattle.rules.proofs.Choosing.{flip-next, stuck-next}
 use Rattle.planes.specs.Ranges.{Top}
+use Rattle.planes.proofs.Ranges.{top-ends}
 use Rattle.planes.proofs.Choice.{top-greatest, top-excess, top-above}
 use Rattle.layout.specs.declared.Shape.{Shape}
 use Rattle.layout.specs.Lent.{Lent, score}
@@ -61,21 +62,33 @@ module _ {c : Code} {h : List ℕ} {sh : Shape} (lent : Lent c h sh) (x : Word) 
       excess-is c x n
       ∙ same-difference (brokenOf c x n) (metOf c x n) (2 * brokenOf c x n + 8 - degreeOf c n) 8 (omega (arith, degree-le n l, broken-met c x n))
 
-  module _ {bit top : ℕ} (t : Top (score c x) 0 (bits c) bit top) where
-    pub best-greatest : greatest (bits c) (excess c x) ≡ bit
-    best-greatest = top-greatest (excess c x) (score c x) 8 (bits c) bit top score-excess t
+  module _ {bit top : ℕ} (t : Top (score c x) (c .unsent) (bits c) bit top) where
+    -- all bits from the first sent one on
+    all : bits c ≡ c .unsent + (bits c - c .unsent)
+    all = omega (arith, t .above, t .under)
+
+    raised : (n : ℕ) → n < c .unsent + (bits c - c .unsent) → excess c x n ≡ subℕ (score c x n) 8
+    raised n l = score-excess n (omega (arith, l, all))
+
+    ranged : Top (score c x) (c .unsent) (c .unsent + (bits c - c .unsent)) bit top
+    ranged = top-ends refl all t
+
+    pub best-greatest : greatestSent c x ≡ bit
+    unfolding greatestSent
+    best-greatest = top-greatest (excess c x) (score c x) 8 (c .unsent) (bits c - c .unsent) bit top raised ranged
 
     pub best-excess : excess c x bit ≡ subℕ top 8
-    best-excess = ap (excess c x) (sym best-greatest) ∙ top-excess (excess c x) (score c x) 8 (bits c) bit top score-excess t
+    unfolding greatestSent
+    best-excess = ap (excess c x) (sym best-greatest) ∙ top-excess (excess c x) (score c x) 8 (c .unsent) (bits c - c .unsent) bit top raised ranged
 
     pub best-above : ltZ (pos 0) (excess c x bit) ≡ ltb 8 top
-    best-above = top-above (excess c x) (score c x) 8 (bits c) bit top score-excess t
+    best-above = top-above (excess c x) (score c x) 8 (c .unsent) (bits c - c .unsent) bit top raised ranged
 
     -- What comes next for a word that has a broken check.
     pub best-next : (broken c x ≡ 0 → ⊥) → byExcess c x ≡ (if ltb 8 top then flip bit (subℕ top 8) else stuck bit (subℕ top 8))
     best-next some = go (ltb 8 top) refl
       where
-        chosen : (b : Bool) → ltb 8 top ≡ b → ltZ (pos 0) (excess c x (greatest (bits c) (excess c x))) ≡ b
+        chosen : (b : Bool) → ltb 8 top ≡ b → ltZ (pos 0) (excess c x (greatestSent c x)) ≡ b
         chosen b e = ap (λ n. ltZ (pos 0) (excess c x n)) best-greatest ∙ best-above ∙ e
 
         go : (b : Bool) → ltb 8 top ≡ b → byExcess c x ≡ (if b then flip bit (subℕ top 8) else stuck bit (subℕ top 8))

@@ -35,9 +35,9 @@ hit-more d starts e at p q seen i few was sees adds =
 
 -- The greatest of v counts, as a score, against the best so far.
 module _ (g : ℕ → ℕ) (first at v : ℕ) (d : Word) (starts : List ℕ) (n : ℕ) (scored : Scored g first (at + v) d starts n) where
-  pub part-best : (p : Planes) (top count : ℕ) (best : Best) → ((i : ℕ) → i < v → value p i ≡ hits d starts n (at + i)) → Top (value p) 0 v top count
-      → Running g (first + at) best → Running g (first + at + v) (greaterOf best (2 * count + (8 - n)) (first + at + top))
-  part-best p top count best counts t was =
+  pub part-best : (p : Planes) (top count from : ℕ) (best : Best) → ((i : ℕ) → i < v → value p i ≡ hits d starts n (at + i)) → Top (value p) 0 v top count
+      → Running g from (first + at) best → Running g from (first + at + v) (greaterOf best (2 * count + (8 - n)) (first + at + top))
+  part-best p top count from best counts t was =
       running-more (2 * count + (8 - n)) (first + at + top) was (top-most (value p) g (first + at) v top count (8 - n) scores t)
     where
       scores : (i : ℕ) → i < v → g (first + at + i) ≡ 2 * value p i + (8 - n)
@@ -47,9 +47,10 @@ module _ (g : ℕ → ℕ) (first at v : ℕ) (d : Word) (starts : List ℕ) (n 
 
 -- A best whose score no bit of the block can pass is still the best after the block.
 module _ (g : ℕ → ℕ) (first at m : ℕ) (d : Word) (starts : List ℕ) (n : ℕ) (scored : Scored g first m d starts n) (within-block : at ≤ m) where
-  pub full-best : (best : Best) → 8 + n ≤ best .score → Running g (first + at) best → Running g (first + m) best
-  full-best best full was = record {
-    none = λ e. was .none (omega arith);
+  pub full-best : (from : ℕ) (best : Best) → 8 + n ≤ best .score → Running g from (first + at) best → Running g from (first + m) best
+  full-best from best full was = record {
+    seen = omega (arith, was .seen);
+    none = λ e. was .none (omega (arith, was .seen));
     best = λ l.
         let t = was .best some in
         record {
@@ -61,12 +62,12 @@ module _ (g : ℕ → ℕ) (first at m : ℕ) (d : Word) (starts : List ℕ) (n 
         };
   }
     where
-      some : 0 < first + at
-      some = go (decLt 0 (first + at))
+      some : from < first + at
+      some = go (decLt from (first + at))
         where
-          go : Dec (0 < first + at) → 0 < first + at
+          go : Dec (from < first + at) → from < first + at
           go (yes l) = l
-          go (no u) = absurd (omega (arith, ap (λ (b : Best). b .score) (was .none (omega (arith, lt-of-not-le u)))))
+          go (no u) = absurd (omega (arith, ap (λ (b : Best). b .score) (was .none (omega (arith, lt-of-not-le u, was .seen)))))
 
       late : (i : ℕ) → first + at ≤ i → i < first + m → g i ≤ best .score
       late i h u =

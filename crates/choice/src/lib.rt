@@ -54,21 +54,29 @@ fn best_part(
     best: Best,
 ) -> Best
     requires { ⌜ (1 ≤ v) × (v ≤ 64) × (n ≤ 8) × (n ≤ length (now starts)) × (length (now d) < 2 ^ 32) × (first < 2 ^ 32) × (at < 2 ^ 32) × ((e : ℕ) → e < n → 64 + (getD (now starts) e 0 + at) < 64 * length (now d)) ⌝ }
-    ensures { λ r. ⌜ ((g : ℕ → ℕ) → Scored g first (at + v) (wbit (now (d .entry))) (now (starts .entry)) n → Running g (first + at) best → Running g (first + at + v) r) ⌝ }
+    ensures { λ r. ⌜ ((g : ℕ → ℕ) (from : ℕ) → Scored g first (at + v) (wbit (now (d .entry))) (now (starts .entry)) n → Running g from (first + at) best → Running g from (first + at + v) r) ⌝ }
 {
     let peak = most(counted(d, starts, n, at), v);
     better(best, 2 * peak.count + (8 - n) as u32, first + at + peak.at)
 }
 
-// The best so far, and the best of a block of m bits from bit `first` on. A bit whose n checks are all broken has the score 8 + n: from there on
-// no bit of the block is better.
-fn best_block(d: &[u64], starts: &[usize], n: usize, m: usize, first: usize, best: Best) -> Best
-    requires { ⌜ (n ≤ 8) × (n ≤ length (now starts)) × (length (now d) < 2 ^ 32) × (first < 2 ^ 31) × (m < 2 ^ 31) × ((e : ℕ) → e < n → 64 + (getD (now starts) e 0 + m) ≤ 64 * length (now d)) ⌝ }
-    ensures { λ r. ⌜ ((g : ℕ → ℕ) → Scored g first m (wbit (now (d .entry))) (now (starts .entry)) n → Running g first best → Running g (first + m) r) ⌝ }
+// The best so far, and the best of a block of m bits, of which the first is bit `first` and the first `begin` are passed over. A bit whose n checks
+// are all broken has the score 8 + n: from there on no bit of the block is better.
+fn best_block(
+    d: &[u64],
+    starts: &[usize],
+    n: usize,
+    begin: usize,
+    m: usize,
+    first: usize,
+    best: Best,
+) -> Best
+    requires { ⌜ (begin ≤ m) × (n ≤ 8) × (n ≤ length (now starts)) × (length (now d) < 2 ^ 32) × (first < 2 ^ 31) × (m < 2 ^ 31) × ((e : ℕ) → e < n → 64 + (getD (now starts) e 0 + m) ≤ 64 * length (now d)) ⌝ }
+    ensures { λ r. ⌜ ((g : ℕ → ℕ) (from : ℕ) → Scored g first m (wbit (now (d .entry))) (now (starts .entry)) n → Running g from (first + begin) best → Running g from (first + m) r) ⌝ }
 {
     let full = 8 + n as u32;
     let mut b = best;
-    let mut at = 0;
+    let mut at = begin;
     while at < m {
         if full <= b.score {
             return b;
@@ -111,17 +119,22 @@ fn gather(h: &[u16], sh: Shape, b: usize, starts: &mut [usize]) -> usize
     n
 }
 
-// The best bit of all blocks.
-fn best_of(d: &[u64], h: &[u16], sh: Shape, starts: &mut [usize]) -> Best
-    requires { ⌜ Fit (now h) sh × (length (now d) ≡ 65) × (length (now starts) ≡ 8) ⌝ }
-    ensures { λ r. ⌜ ((c : Code) → Lent c (now (h .entry)) sh → (x : Word) → Twice sh (sh .rows) (laid c sh x) (wbit (now (d .entry))) → Running (score c x) (sh .blocks * sh .size) r) ⌝ }
+// The best bit of all blocks from bit `from` on, which is one of the first block.
+fn best_of(d: &[u64], h: &[u16], sh: Shape, from: usize, starts: &mut [usize]) -> Best
+    requires { ⌜ Fit (now h) sh × (1 ≤ sh .blocks) × (from < sh .size) × (length (now d) ≡ 65) × (length (now starts) ≡ 8) ⌝ }
+    ensures { λ r. ⌜ ((c : Code) → Lent c (now (h .entry)) sh → (x : Word) → Twice sh (sh .rows) (laid c sh x) (wbit (now (d .entry))) → Running (score c x) from (sh .blocks * sh .size) r) ⌝ }
 {
     let m = sh.size;
-    let mut best = Best { score: 0, bit: 0 };
+    let mut best = Best {
+        score: 0,
+        bit: from,
+    };
+    let mut begin = from;
     let mut b = 0;
     while b < sh.blocks {
         let n = gather(h, sh, b, starts);
-        best = best_block(d, starts, n, m, b * m, best);
+        best = best_block(d, starts, n, begin, m, b * m, best);
+        begin = 0;
         b += 1;
     }
     best
@@ -178,14 +191,14 @@ fn double_rows(s: &[u64], sh: Shape, v: &mut [u64], d: &mut [u64])
     }
 }
 
-// The bit of the greatest score; of several, the lowest number.
-pub fn choose(s: &[u64], h: &[u16], sh: Shape) -> Best
-    requires { ⌜ Fit (now h) sh × (length (now s) ≡ 16) × (1 ≤ sh .blocks) ⌝ }
-    ensures { λ r. ⌜ ((c : Code) → Lent c (now (h .entry)) sh → (x : Word) → wbit (now (s .entry)) ≡ laid c sh x → Top (score c x) 0 (bits c) (r .bit) (r .score)) ⌝ }
+// The bit of the greatest score from bit `from` on; of several, the lowest number.
+pub fn choose(s: &[u64], h: &[u16], sh: Shape, from: usize) -> Best
+    requires { ⌜ Fit (now h) sh × (length (now s) ≡ 16) × (1 ≤ sh .blocks) × (from < sh .size) ⌝ }
+    ensures { λ r. ⌜ ((c : Code) → Lent c (now (h .entry)) sh → (x : Word) → wbit (now (s .entry)) ≡ laid c sh x → Top (score c x) from (bits c) (r .bit) (r .score)) ⌝ }
 {
     let mut v: [u64; 8] = [0; 8];
     let mut d: [u64; 65] = [0; 65];
     let mut starts: [usize; 8] = [0; 8];
     double_rows(s, sh, &mut v, &mut d);
-    best_of(&d, h, sh, &mut starts)
+    best_of(&d, h, sh, from, &mut starts)
 }

@@ -14,6 +14,8 @@ use Rattle.rules.specs.Flipping.{Next as NextOf, byExcess, run}
 use Rattle.answers.specs.Calls.{judged, ranCorrect, nextStep, ranFrom, steppedFrom}
 use Rattle.rules.proofs.Ways.{run-met}
 use Rattle.rules.proofs.Choosing.{by-excess}
+use Rattle.rules.proofs.Codewords.{lifted-unsent}
+use Rattle.answers.proofs.Refusals.{unsent-stay}
 use Rattle.layout.specs.declared.Shape.{Shape}
 use Rattle.layout.specs.Lent.{Fit, Lent, laid}
 use Rattle.measured.specs.Measured.{Measured}
@@ -38,8 +40,14 @@ module _ (n : ℕ) (word t : List ℕ) (y s : Word) (sh : Shape) (m : Measured n
     pub ran-word : run (byExcess (code n)) limit (lifted (code n) (bit word)) .word ≡ y′
     ran-word = sym (to .word ∙ ap (λ r. r .word) same-run)
 
-    pub ran-met : 0 < bits (code n) → ran .number ≡ 0 → broken (code n) y′ ≡ 0
+    pub ran-met : code n .unsent < bits (code n) → ran .number ≡ 0 → broken (code n) y′ ≡ 0
     ran-met some e = ap (broken (code n)) (sym ran-word) ∙ run-met (by-excess (code n) some) limit (lifted (code n) (bit word)) (ran-number ∙ e)
+
+    -- no bit that is not sent is set
+    pub ran-unsent : code n .unsent < bits (code n) → (k : ℕ) → k < code n .unsent → y′ k ≡ false
+    ran-unsent some k h =
+        ap (λ z. z k) (sym ran-word)
+        ∙ unsent-stay (code n) (by-excess (code n) some) limit (lifted (code n) (bit word)) (lifted-unsent (code n) (bit word)) k h
 
     module _ (first last number : ℕ)
         (at-first : (c : Code) (h : List ℕ) (sh : Shape) (x : Word) → Fit h sh → Lent c h sh → s ≡ laid c sh x → first ≡ broken c x)
@@ -72,10 +80,10 @@ module _ (n : ℕ) (word t : List ℕ) (y s : Word) (sh : Shape) (m : Measured n
 
   -- ---- step
 
-  module _ (out : List ℕ) (turn : Next) (nx : NextOf)
-      (next : (c : Code) → Lent c t sh → (x : Word) → s ≡ laid c sh x → byExcess c x ≡ comesNext turn) (is : comesNext turn ≡ nx) where
+  module _ (out : List ℕ) (turn : Next) (nx : NextOf) (from : ℕ) (from-is : code n .unsent ≡ from)
+      (next : (c : Code) → Lent c t sh → c .unsent ≡ from → (x : Word) → s ≡ laid c sh x → byExcess c x ≡ comesNext turn) (is : comesNext turn ≡ nx) where
     comes : byExcess (code n) (lifted (code n) (bit word)) ≡ nx
-    comes = ap (byExcess (code n)) (sym (m .bits)) ∙ next (code n) (m .lends .lent) y (m .held) ∙ is
+    comes = ap (byExcess (code n)) (sym (m .bits)) ∙ next (code n) (m .lends .lent) from-is y (m .held) ∙ is
 
     pub stepped-is : nextStep (code n) word (lifted (code n) (bit word)) out nx ≡ steppedFrom n word out
     stepped-is = ap (nextStep (code n) word (lifted (code n) (bit word)) out) (sym comes)

@@ -187,7 +187,7 @@ fn correct_taken(o: Offer, word: &[u8], limit: u16, out: &mut [u8]) -> Corrected
     measured::measure(o, word, &mut t, &mut y, &mut s);
     let first = syndromes::broken(&s);
     let sh = o.shape;
-    let ran = runs::run(&mut y, &mut s, &t, sh, limit);
+    let ran = runs::run(&mut y, &mut s, &t, sh, o.unsent, limit);
     let last = syndromes::broken(&s);
     let unlike = unlike_after(o, word, &y, ran.flips);
     let number = judging::judge(o, &y, ran.number);
@@ -225,7 +225,7 @@ fn step_taken(o: Offer, word: &[u8], out: &mut [u8]) -> Stepped
     let mut s = [0u64; 16];
     measured::measure(o, word, &mut t, &mut y, &mut s);
     let sh = o.shape;
-    let next = runs::comes_next(&s, &t, sh);
+    let next = runs::comes_next(&s, &t, sh, o.unsent);
     match next {
         Next::Quiet => {
             copy(word, out);

@@ -1,14 +1,14 @@
 -- How a quiet word is judged, from the tests that the code makes.
-use mathlib.Core.Path.{_≡_, refl, sym, ap, ap₂, _∙_, subst, fun-ext}
+use mathlib.Core.Path.{_≡_, refl, sym, ap, ap₂, _∙_, subst}
 use mathlib.Core.Bool.{Bool, true, false, not, true≢false}
 use mathlib.Core.List.{List}
 use Prim.Native.Nat.{ℕ, _+_, _-_, _*_, _≤_, _<_}
-use native.Mathlib.Nat.{lt-of-not-le, lt-of-lt-of-le, zero-add}
+use native.Mathlib.Nat.{le-of-eq, lt-of-not-le, lt-of-lt-of-le}
 use native.Mathlib.Decide.{ℕ-discrete, decLt}
 use native.Mathlib.Omega.{arith}
 use lib.Dec.{T, eqb, leb, ltb, le→leb, nltb→le}
 use lib.ListN.{length}
-use borrow.Author.Tests.{eq-eqb, ne-eqb, eqb-true}
+use borrow.Author.Tests.{eq-eqb, ne-eqb, eqb-true, le-ltb}
 use Rattle.bits.specs.Bits.{Word, bit, count, if_then_else_}
 use Rattle.rules.specs.Codes.{Code, code, code4, code5, nearEarth, bits, information, offered, telecommanded}
 use Rattle.rules.specs.Tables.{parity511}
@@ -19,7 +19,7 @@ use Rattle.answers.specs.Calls.{judged}
 use Rattle.bits.proofs.Counting.{count-none, none-counted}
 use Rattle.rules.proofs.Published.{both, Published}
 use Rattle.rules.proofs.Codewords.{agree-all, own-encoded, own-codeword, codeword-own, codeword-quiet, codeword-bit, sent-bit, sent-fill, lifted-sent-bit, lifted-sent, parity-same}
-use Rattle.rules.proofs.Numbers.{published, whole, telecommand-whole, met-own-telecommand, met-codeword}
+use Rattle.rules.proofs.Numbers.{published, met-own-telecommand, met-codeword}
 use Rattle.layout.specs.declared.Shape.{Shape}
 use Rattle.layout.specs.Lent.{Fit, Lent, laid}
 use Rattle.vectors.specs.Vectors.{upTo, from}
@@ -87,32 +87,24 @@ module _ (n : ℕ) (off : offered n ≡ true) where
         sym (ap (λ b. if not b then r .number else if ltb 0 (count (code n .unsent) (r .word)) then 7 else if not (codeword (code n) (sent (code n) (r .word))) then 8 else 0) (eq-eqb (r .number) 0 e)
         ∙ ap₂ (λ a b. if a then 7 else if not b then 8 else 0) f g)
 
-    unsent-none : ltb 0 (count (code n .unsent) (r .word)) ≡ false → (i : ℕ) → i < code n .unsent → r .word i ≡ false
-    unsent-none e = none-counted (code n .unsent) (r .word) (omega (arith, nltb→le 0 (count (code n .unsent) (r .word)) (subst (λ b. T (not b)) (sym e) tt)))
+    no-unsent : ((i : ℕ) → i < code n .unsent → r .word i ≡ false) → ltb 0 (count (code n .unsent) (r .word)) ≡ false
+    no-unsent none = le-ltb 0 (count (code n .unsent) (r .word)) (le-of-eq (count-none (code n .unsent) (r .word) none))
 
-    -- code 5: an unsent bit is set
-    pub judged-unsent : r .number ≡ 0 → ltb 0 (count (code n .unsent) (r .word)) ≡ true → 7 ≡ judged (code n) r
-    judged-unsent e f = spelled true (codeword (code n) (sent (code n) (r .word))) e f refl
+    -- the parity is the encoder's
+    pub judged-own : r .number ≡ 0 → ((i : ℕ) → i < code n .unsent → r .word i ≡ false) → OwnParity (code n) (r .word) → 0 ≡ judged (code n) r
+    judged-own e none own = spelled false true e (no-unsent none) (own-codeword (code n) pb (r .word) own none)
 
-    -- none is, and the parity is the encoder's
-    pub judged-own : r .number ≡ 0 → ltb 0 (count (code n .unsent) (r .word)) ≡ false → OwnParity (code n) (r .word) → 0 ≡ judged (code n) r
-    judged-own e f own = spelled false true e f (own-codeword (code n) pb (r .word) own (unsent-none f))
-
-    -- none is, and it is not
-    pub judged-other-parity : r .number ≡ 0 → ltb 0 (count (code n .unsent) (r .word)) ≡ false → (OwnParity (code n) (r .word) → ⊥) → 8 ≡ judged (code n) r
-    judged-other-parity e f no-own = spelled false false e f (not-so (codeword (code n) (sent (code n) (r .word))) (λ is. no-own (back is)))
+    -- it is not
+    pub judged-other-parity : r .number ≡ 0 → ((i : ℕ) → i < code n .unsent → r .word i ≡ false) → (OwnParity (code n) (r .word) → ⊥) → 8 ≡ judged (code n) r
+    judged-other-parity e none no-own = spelled false false e (no-unsent none) (not-so (codeword (code n) (sent (code n) (r .word))) (λ is. no-own (back is)))
       where
         back : codeword (code n) (sent (code n) (r .word)) ≡ true → OwnParity (code n) (r .word)
         back is p h =
-            sym (lifted-sent (code n) (r .word) (unsent-none f) (information (code n) + p) (omega (arith, pb .after)))
+            sym (lifted-sent (code n) (r .word) none (information (code n) + p) (omega (arith, pb .after)))
             ∙ codeword-own (code n) pb (sent (code n) (r .word)) is p h
-            ∙ parity-same (code n) (lifted (code n) (sent (code n) (r .word))) (r .word) (λ i l. lifted-sent (code n) (r .word) (unsent-none f) i (lt-of-lt-of-le l (pb .after))) p
+            ∙ parity-same (code n) (lifted (code n) (sent (code n) (r .word))) (r .word) (λ i l. lifted-sent (code n) (r .word) none i (lt-of-lt-of-le l (pb .after))) p
 
--- ---- the unsent bits
-
-pub unsent-whole : (n : ℕ) → T (telecommanded n) → (x : Word) → ltb 0 (count (code n .unsent) x) ≡ false
-unfolding count
-unsent-whole n t x = ap (λ u. ltb 0 (count u x)) (whole n (telecommand-whole n t) .unsent)
+-- ---- counts
 
 -- a count that is not above 0
 pub zero-of : (k : ℕ) → false ≡ ltb 0 k → k ≡ 0
@@ -142,31 +134,27 @@ near-tells n off h x r tells = go (ℕ-discrete n 4)
 -- ---- a run that ended quiet, judged by the code's tests
 
 module _ (n : ℕ) (off : offered n ≡ true) (o : Offer) (is : o ≡ offerOf n) (number : ℕ) (y : Word) (quiet : number ≡ 0)
-    (r : Run) (e : r .number ≡ number) (w : r .word ≡ y) (met : number ≡ 0 → broken (code n) y ≡ 0) where
+    (r : Run) (e : r .number ≡ number) (w : r .word ≡ y) (met : number ≡ 0 → broken (code n) y ≡ 0) (none : (i : ℕ) → i < code n .unsent → y i ≡ false) where
+  none-set : (i : ℕ) → i < code n .unsent → r .word i ≡ false
+  none-set i h = ap (λ x. x i) w ∙ none i h
+
   pub by-telecommand : o .asked ≡ false → 0 ≡ judged (code n) r
   by-telecommand f =
       let t : T (telecommanded n) = telecommand n off is f in
-      judged-own n off r (e ∙ quiet) (unsent-whole n t (r .word))
+      judged-own n off r (e ∙ quiet) none-set
       (met-own-telecommand n t (r .word) (ap (broken (code n)) w ∙ met quiet))
 
-  unsent-as : (b : Bool) → b ≡ ltb 0 (count (o .unsent) (from 0 y)) → ltb 0 (count (code n .unsent) (r .word)) ≡ b
-  unsent-as b s =
-      ap₂ (λ u x. ltb 0 (count u x)) (sym (ap (λ z. z .unsent) is ∙ fixed n off .unsent)) (w ∙ sym (fun-ext (λ i. ap y (zero-add i)))) ∙ sym s
-
-  pub by-unsent : true ≡ ltb 0 (count (o .unsent) (from 0 y)) → 7 ≡ judged (code n) r
-  by-unsent s = judged-unsent n off r (e ∙ quiet) (unsent-as true s)
-
-  module _ (asked : o .asked ≡ true) (none : false ≡ ltb 0 (count (o .unsent) (from 0 y))) (b : Bool)
+  module _ (asked : o .asked ≡ true) (b : Bool)
       (tells : (wordOctets informationOctets unsent : ℕ) → broken (nearEarth wordOctets informationOctets unsent) y ≡ 0 → Tells (nearEarth wordOctets informationOctets unsent) y b) where
     told : Tells (code n) y b
     told = near-tells n off (near n off is asked) y b tells (met quiet)
 
     pub by-own : b ≡ true → 0 ≡ judged (code n) r
-    by-own t = judged-own n off r (e ∙ quiet) (unsent-as false none) (subst (OwnParity (code n)) (sym w) (told .0 t))
+    by-own t = judged-own n off r (e ∙ quiet) none-set (subst (OwnParity (code n)) (sym w) (told .0 t))
 
     pub by-other : b ≡ false → 8 ≡ judged (code n) r
     by-other f =
-        judged-other-parity n off r (e ∙ quiet) (unsent-as false none)
+        judged-other-parity n off r (e ∙ quiet) none-set
         (λ own. true≢false (sym (told .1 (subst (OwnParity (code n)) w own)) ∙ f))
 
 -- ---- a measured word, by what is found of it

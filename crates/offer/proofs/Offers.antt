@@ -4,7 +4,7 @@ use mathlib.Core.Bool.{Bool, true, false, not, _&&_}
 use mathlib.Core.List.{List}
 use Prim.Native.Nat.{ℕ, zero, suc, _+_, _-_, _*_, _≤_, _<_}
 use native.Mathlib.Omega.{arith}
-use lib.Dec.{T, eqb, leb, lit≤, leb→le}
+use lib.Dec.{T, eqb, leb, lit≤, lit<, leb→le}
 use borrow.Author.Tests.{eq-eqb, ne-eqb, lt-leb}
 use Rattle.bits.specs.Bits.{if_then_else_}
 use Rattle.rules.specs.Codes.{code, code1, code2, code3, code4, code5, bits, information, offered, telecommanded}
@@ -102,6 +102,7 @@ pub record Fixed (n : ℕ) : Type 0 where
   pub most : bits (code n) ≤ 8176
   pub fill : bits (code n) + offerOf n .fill ≡ 8 * code n .wordOctets + code n .unsent
   pub filled : offerOf n .fill ≤ 2
+  pub within : offerOf n .unsent < offerOf n .shape .size
   pub blocks : 1 ≤ offerOf n .shape .blocks
   pub asked : offerOf n .asked ≡ not (telecommanded n)
 
@@ -109,11 +110,11 @@ fixed-five : (n : ℕ) → T (offered n) → Fixed n
 unfolding code code1 code2 code3 code4 code5 parity16 parity32 parity64 parity511
 fixed-five =
     five Fixed
-    (record { word = refl; few = lit≤ tt; information = refl; some = lit≤ tt; less = lit≤ tt; multiple = lit≤ tt; unsent = refl; low = lit≤ tt; bits-are = refl; most = lit≤ tt; fill = refl; filled = lit≤ tt; blocks = lit≤ tt; asked = refl })
-    (record { word = refl; few = lit≤ tt; information = refl; some = lit≤ tt; less = lit≤ tt; multiple = lit≤ tt; unsent = refl; low = lit≤ tt; bits-are = refl; most = lit≤ tt; fill = refl; filled = lit≤ tt; blocks = lit≤ tt; asked = refl })
-    (record { word = refl; few = lit≤ tt; information = refl; some = lit≤ tt; less = lit≤ tt; multiple = lit≤ tt; unsent = refl; low = lit≤ tt; bits-are = refl; most = lit≤ tt; fill = refl; filled = lit≤ tt; blocks = lit≤ tt; asked = refl })
-    (record { word = refl; few = lit≤ tt; information = refl; some = lit≤ tt; less = lit≤ tt; multiple = lit≤ tt; unsent = refl; low = lit≤ tt; bits-are = refl; most = lit≤ tt; fill = refl; filled = lit≤ tt; blocks = lit≤ tt; asked = refl })
-    (record { word = refl; few = lit≤ tt; information = refl; some = lit≤ tt; less = lit≤ tt; multiple = lit≤ tt; unsent = refl; low = lit≤ tt; bits-are = refl; most = lit≤ tt; fill = refl; filled = lit≤ tt; blocks = lit≤ tt; asked = refl })
+    (record { word = refl; few = lit≤ tt; information = refl; some = lit≤ tt; less = lit≤ tt; multiple = lit≤ tt; unsent = refl; low = lit≤ tt; bits-are = refl; most = lit≤ tt; fill = refl; filled = lit≤ tt; within = lit< tt; blocks = lit≤ tt; asked = refl })
+    (record { word = refl; few = lit≤ tt; information = refl; some = lit≤ tt; less = lit≤ tt; multiple = lit≤ tt; unsent = refl; low = lit≤ tt; bits-are = refl; most = lit≤ tt; fill = refl; filled = lit≤ tt; within = lit< tt; blocks = lit≤ tt; asked = refl })
+    (record { word = refl; few = lit≤ tt; information = refl; some = lit≤ tt; less = lit≤ tt; multiple = lit≤ tt; unsent = refl; low = lit≤ tt; bits-are = refl; most = lit≤ tt; fill = refl; filled = lit≤ tt; within = lit< tt; blocks = lit≤ tt; asked = refl })
+    (record { word = refl; few = lit≤ tt; information = refl; some = lit≤ tt; less = lit≤ tt; multiple = lit≤ tt; unsent = refl; low = lit≤ tt; bits-are = refl; most = lit≤ tt; fill = refl; filled = lit≤ tt; within = lit< tt; blocks = lit≤ tt; asked = refl })
+    (record { word = refl; few = lit≤ tt; information = refl; some = lit≤ tt; less = lit≤ tt; multiple = lit≤ tt; unsent = refl; low = lit≤ tt; bits-are = refl; most = lit≤ tt; fill = refl; filled = lit≤ tt; within = lit< tt; blocks = lit≤ tt; asked = refl })
 
 pub fixed : (n : ℕ) → offered n ≡ true → Fixed n
 fixed n o = fixed-five n (is-offered n o)
@@ -128,6 +129,7 @@ pub record Small (o : Offer) : Type 0 where
   pub unsent : o .unsent ≤ 18
   pub bits : o .bits ≤ 8176
   pub fill : o .fill ≤ 2
+  pub within : o .unsent < o .shape .size
   pub blocks : 1 ≤ o .shape .blocks
 
 pub small : {o : Offer} → Known o → Small o
@@ -142,6 +144,7 @@ small {o} k =
       unsent = omega (arith, f .unsent, f .low);
       bits = omega (arith, f .bits-are, f .most);
       fill = omega (arith, f .filled);
+      within = f .within;
       blocks = f .blocks;
     })
 

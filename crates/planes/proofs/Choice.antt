@@ -2,7 +2,7 @@
 -- Assumes nothing.
 use mathlib.Core.Path.{_≡_, sym, ap, ap₂, _∙_, subst}
 use mathlib.Core.Bool.{Bool, cond}
-use Prim.Native.Nat.{ℕ, suc, _-_, _≤_, _<_}
+use Prim.Native.Nat.{ℕ, suc, _+_, _-_, _≤_, _<_}
 use native.Mathlib.Nat.{le-refl, lt-of-not-le}
 use native.Mathlib.Decide.{decLt}
 use native.Mathlib.Omega.{arith}
@@ -46,30 +46,30 @@ raised-above a k =
     let z : k - k ≡ 0 = omega arith in
     ap (λ (n : ℤ). ltZ n (subℕ a k)) (sym (more-is k k (le-refl k) ∙ ap pos z)) ∙ raised-lt k a k
 
-module _ (f : ℕ → ℤ) (g : ℕ → ℕ) (K n bit score : ℕ) (raised : (i : ℕ) → i < n → f i ≡ subℕ (g i) K) (t : Top g 0 n bit score) where
-  same-order : (i j : ℕ) → i < n → j < n → ltZ (f i) (f j) ≡ ltb (g i) (g j)
+module _ (f : ℕ → ℤ) (g : ℕ → ℕ) (K from n bit score : ℕ) (raised : (i : ℕ) → i < from + n → f i ≡ subℕ (g i) K) (t : Top g from (from + n) bit score) where
+  same-order : (i j : ℕ) → i < from + n → j < from + n → ltZ (f i) (f j) ≡ ltb (g i) (g j)
   same-order i j hi hj = ap₂ ltZ (raised i hi) (raised j hj) ∙ raised-lt (g i) (g j) K
 
   -- The bit of greatest score is the bit that is chosen.
-  pub top-greatest : greatest n f ≡ bit
-  top-greatest = go (decLt (greatest n f) bit) (decLt bit (greatest n f))
+  pub top-greatest : greatest from n f ≡ bit
+  top-greatest = go (decLt (greatest from n f) bit) (decLt bit (greatest from n f))
     where
-      b : Greatest n f (greatest n f)
-      b = greatest-has n f (omega (arith, t .under))
+      b : Greatest from n f (greatest from n f)
+      b = greatest-has from n f (omega (arith, t .above, t .under))
 
-      go : Dec (greatest n f < bit) → Dec (bit < greatest n f) → greatest n f ≡ bit
+      go : Dec (greatest from n f < bit) → Dec (bit < greatest from n f) → greatest from n f ≡ bit
       go (yes l) q =
-          let less : g (greatest n f) < g bit = omega (arith, t .first (greatest n f) (omega arith) l, t .is) in
-          clashℤ (ltZ-yes (subst T (sym (same-order (greatest n f) bit (b .under) (t .under))) (lt→ltb (g (greatest n f)) (g bit) less))) (b .most bit (t .under))
+          let less : g (greatest from n f) < g bit = omega (arith, t .first (greatest from n f) (b .from) l, t .is) in
+          clashℤ (ltZ-yes (subst T (sym (same-order (greatest from n f) bit (b .under) (t .under))) (lt→ltb (g (greatest from n f)) (g bit) less))) (b .most bit (t .above) (t .under))
       go (no p) (yes l) =
-          let less : g bit < g (greatest n f) = ltb→lt (g bit) (g (greatest n f)) (subst T (same-order bit (greatest n f) (t .under) (b .under)) (b .first bit l .lt)) in
-          absurd (omega (arith, t .is, t .most (greatest n f) (omega arith) (b .under)))
+          let less : g bit < g (greatest from n f) = ltb→lt (g bit) (g (greatest from n f)) (subst T (same-order bit (greatest from n f) (t .under) (b .under)) (b .lowest bit (t .above) l .lt)) in
+          absurd (omega (arith, t .is, t .most (greatest from n f) (b .from) (b .under)))
       go (no p) (no q) = omega (arith, lt-of-not-le p, lt-of-not-le q)
 
   score-is : f bit ≡ subℕ score K
   score-is = raised bit (t .under) ∙ ap (λ (s : ℕ). subℕ s K) (t .is)
 
-  pub top-excess : f (greatest n f) ≡ subℕ score K
+  pub top-excess : f (greatest from n f) ≡ subℕ score K
   top-excess = ap f top-greatest ∙ score-is
 
   pub top-above : ltZ (pos 0) (f bit) ≡ ltb K score

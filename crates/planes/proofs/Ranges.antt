@@ -3,7 +3,7 @@
 use mathlib.Core.Path.{_≡_, refl, sym, ap, subst}
 use mathlib.Core.Bool.{Bool}
 use Prim.Native.Nat.{ℕ, _+_, _-_, _*_, _≤_, _<_}
-use native.Mathlib.Nat.{lt-of-not-le}
+use native.Mathlib.Nat.{le-refl, lt-of-not-le}
 use native.Mathlib.Decide.{decLe, decLt}
 use native.Mathlib.Omega.{arith}
 use borrow.Author.Tests.{lt-ltb, le-ltb}
@@ -91,35 +91,36 @@ count-le p {from} {to} {at} t =
 
 -- ---- a best that is kept up from range to range
 
-pub running-none : (g : ℕ → ℕ) → Running g 0 (record { score = 0; bit = 0 })
-running-none g = record { none = λ e. refl; best = λ l. absurd (omega arith) }
+pub running-none : (g : ℕ → ℕ) (from : ℕ) → Running g from from (record { score = 0; bit = from })
+running-none g from = record { seen = le-refl from; none = λ e. refl; best = λ l. absurd (omega arith) }
 
--- Over no numbers, the next best takes over, unless its score is 0: then it is bit 0 itself.
-from-none : (g : ℕ → ℕ) (to score bit : ℕ) → Top g 0 to bit score
-    → Top g 0 to (greaterOf (record { score = 0; bit = 0 }) score bit .bit) (greaterOf (record { score = 0; bit = 0 }) score bit .score)
-from-none g to score bit t = go (decLt 0 score) (decLt 0 bit)
+-- Over no numbers, the next best takes over, unless its score is 0: then it is the first number itself.
+from-none : (g : ℕ → ℕ) (from to score bit : ℕ) → Top g from to bit score
+    → Top g from to (greaterOf (record { score = 0; bit = from }) score bit .bit) (greaterOf (record { score = 0; bit = from }) score bit .score)
+from-none g from to score bit t = go (decLt 0 score) (decLt from bit)
   where
     start : Best
-    start = record { score = 0; bit = 0 }
+    start = record { score = 0; bit = from }
 
-    go : Dec (0 < score) → Dec (0 < bit) → Top g 0 to (greaterOf start score bit .bit) (greaterOf start score bit .score)
-    go (yes l) q = subst (λ (r : Best). Top g 0 to (r .bit) (r .score)) (sym (later start score bit l)) t
-    go (no n) (yes l) = absurd (omega (arith, lt-of-not-le n, t .first 0 (omega arith) l))
+    go : Dec (0 < score) → Dec (from < bit) → Top g from to (greaterOf start score bit .bit) (greaterOf start score bit .score)
+    go (yes l) q = subst (λ (r : Best). Top g from to (r .bit) (r .score)) (sym (later start score bit l)) t
+    go (no n) (yes l) = absurd (omega (arith, lt-of-not-le n, t .first from (le-refl from) l))
     go (no n) (no m) =
         let s : score ≡ 0 = omega (arith, lt-of-not-le n) in
-        let b : bit ≡ 0 = omega (arith, lt-of-not-le m) in
-        subst (λ (r : Best). Top g 0 to (r .bit) (r .score)) (sym (earlier start score bit (omega arith)))
-        (subst (λ (k : ℕ). Top g 0 to k 0) b (subst (λ (k : ℕ). Top g 0 to bit k) s t))
+        let b : bit ≡ from = omega (arith, lt-of-not-le m, t .above) in
+        subst (λ (r : Best). Top g from to (r .bit) (r .score)) (sym (earlier start score bit (omega arith)))
+        (subst (λ (k : ℕ). Top g from to k 0) b (subst (λ (k : ℕ). Top g from to bit k) s t))
 
-pub running-more : {g : ℕ → ℕ} {mid to : ℕ} {b : Best} (score bit : ℕ) → Running g mid b → Top g mid to bit score → Running g to (greaterOf b score bit)
-running-more {g} {mid} {to} {b} score bit r t = record {
-  none = λ e. absurd (omega (arith, t .under));
-  best = λ l. go (decLt 0 mid);
+pub running-more : {g : ℕ → ℕ} {from mid to : ℕ} {b : Best} (score bit : ℕ) → Running g from mid b → Top g mid to bit score → Running g from to (greaterOf b score bit)
+running-more {g} {from} {mid} {to} {b} score bit r t = record {
+  seen = omega (arith, r .seen, t .above, t .under);
+  none = λ e. absurd (omega (arith, r .seen, t .above, t .under));
+  best = λ l. go (decLt from mid);
 }
   where
-    go : Dec (0 < mid) → Top g 0 to (greaterOf b score bit .bit) (greaterOf b score bit .score)
-    go (yes l) = top-more g 0 mid to b score bit (r .best l) t
+    go : Dec (from < mid) → Top g from to (greaterOf b score bit .bit) (greaterOf b score bit .score)
+    go (yes l) = top-more g from mid to b score bit (r .best l) t
     go (no n) =
-        let e : mid ≡ 0 = omega (arith, lt-of-not-le n) in
-        subst (λ (k : Best). Top g 0 to (greaterOf k score bit .bit) (greaterOf k score bit .score)) (sym (r .none e))
-        (from-none g to score bit (top-ends e refl t))
+        let e : mid ≡ from = omega (arith, lt-of-not-le n, r .seen) in
+        subst (λ (k : Best). Top g from to (greaterOf k score bit .bit) (greaterOf k score bit .score)) (sym (r .none e))
+        (from-none g from to score bit (top-ends e refl t))

@@ -17,7 +17,8 @@ pub record Top (g : ℕ → ℕ) (from to bit score : ℕ) : Type 0 where
 abbrev pub greaterOf : Best → ℕ → ℕ → Best
 greaterOf b score bit = if ltb (b .score) score then record { score = score; bit = bit } else b
 
--- The best of the numbers below n; while there are none, bit 0 with the score 0.
-pub record Running (g : ℕ → ℕ) (n : ℕ) (b : Best) : Type 0 where
-  pub none : n ≡ 0 → b ≡ record { score = 0; bit = 0 }
-  pub best : 0 < n → Top g 0 n (b .bit) (b .score)
+-- The best of the numbers from `from` to below `to`; while there are none, number `from` with the score 0.
+pub record Running (g : ℕ → ℕ) (from to : ℕ) (b : Best) : Type 0 where
+  pub seen : from ≤ to
+  pub none : to ≡ from → b ≡ record { score = 0; bit = from }
+  pub best : from < to → Top g from to (b .bit) (b .score)

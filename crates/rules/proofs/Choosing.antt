@@ -1,19 +1,20 @@
--- The way of the flipping run: which bit it chooses. For any code that has bits.
-use mathlib.Core.Path.{_≡_, refl, sym, ap, ap₂, _∙_, subst}
-use mathlib.Core.Bool.{Bool, true, false}
-use Prim.Native.Nat.{ℕ, _+_, _<_}
+-- The way of the flipping run: which bit it chooses. For any code that sends bits.
+use mathlib.Core.Path.{_≡_, refl, sym, ap, ap₂, _∙_, fun-ext, subst}
+use mathlib.Core.Bool.{Bool, true, false, not, _&&_}
+use Prim.Native.Nat.{ℕ, _+_, _-_, _≤_, _<_}
+use native.Mathlib.Nat.{le-of-eq, le-trans}
 use native.Mathlib.Omega.{arith}
 use lib.Dec.{eqb}
-use lib.IntN.{ℤ, pos}
+use lib.IntN.{ℤ, pos, subℕ}
 use lib.Signed.{ltZ}
-use borrow.Author.Tests.{eq-eqb, ne-eqb, eqb-true, ltb-true}
-use Rattle.bits.specs.Bits.{Word, if_then_else_}
-use Rattle.rules.specs.Codes.{Code, bits}
-use Rattle.rules.specs.Checks.{broken, excess, brokenOf, metOf}
-use Rattle.rules.specs.Flipping.{quiet, stuck, flip, greatest, flipAbove, byExcess}
-use Rattle.rules.proofs.Flips.{excess-is, sub-order}
+use borrow.Author.Tests.{eq-eqb, ne-eqb, eqb-true, ltb-true, le-ltb}
+use Rattle.bits.specs.Bits.{Word, count, flipped, if_then_else_}
+use Rattle.rules.specs.Codes.{Code, bits, checks}
+use Rattle.rules.specs.Checks.{covers, check, broken, excess, brokenOf, metOf}
+use Rattle.rules.specs.Flipping.{quiet, stuck, flip, greatest, greatestSent, flipAbove, byExcess}
+use Rattle.rules.proofs.Flips.{broken-met, excess-is, sub-order}
 use Rattle.rules.proofs.Greatest.{greatest-has, greatest-is}
-use Rattle.rules.proofs.Ways.{Chooses, TakesGreatest}
+use Rattle.rules.proofs.Ways.{Chooses, TakesGreatest, Girth, broken-shared, first-count}
 
 -- excess 0 is not flipped, so that a run ends
 pub zero-stuck : (n : ℕ) → flipAbove n (pos 0) ≡ stuck n (pos 0)
@@ -22,7 +23,7 @@ zero-stuck n = refl
 module _ (c : Code) (x : Word) where
   -- the choice
   abbrev pub chosen : ℕ
-  chosen = greatest (bits c) (excess c x)
+  chosen = greatestSent c x
 
   pub quiet-next : broken c x ≡ 0 → byExcess c x ≡ quiet
   unfolding byExcess
@@ -76,9 +77,15 @@ module _ (c : Code) (x : Word) where
           record { bit = is; value = val ∙ ap (excess c x) (sym is); above = subst (λ z. metOf c x z < brokenOf c x z) (sym is) (above-zero chosen f) }
       go false false e f = let w = next-by false false e f in let z : _≡_ {A = ℕ} 0 1 = cc in absurd (omega arith)
 
-module _ (c : Code) (some : 0 < bits c) where
+-- what is chosen is sent
+module _ (c : Code) (some : c .unsent < bits c) where
+  pub chosen-sent : (x : Word) → c .unsent ≤ chosen c x
+  unfolding greatestSent
+  chosen-sent x = greatest-has (c .unsent) (bits c - c .unsent) (excess c x) (omega arith) .from
+
   pub chosen-lt : (x : Word) → chosen c x < bits c
-  chosen-lt x = greatest-has (bits c) (excess c x) some .under
+  unfolding greatestSent
+  chosen-lt x = omega (arith, greatest-has (c .unsent) (bits c - c .unsent) (excess c x) (omega arith) .under)
 
   pub by-excess : Chooses c (byExcess c)
   by-excess = record {
@@ -86,10 +93,43 @@ module _ (c : Code) (some : 0 < bits c) where
     quiet-met = next-quiet c;
     flips = λ x n ex e.
         let f = next-flip c x n ex e in
-        record { under = subst (λ z. z < bits c) (sym (f .bit)) (chosen-lt x); value = f .value; above = f .above };
+        record { sent = omega (arith, f .bit, chosen-sent x); under = omega (arith, f .bit, chosen-lt x); value = f .value; above = f .above };
   }
 
 pub by-greatest : (c : Code) → TakesGreatest c (byExcess c)
+unfolding greatestSent
 by-greatest c x n₀ sent h₀ some above others =
-    let at : chosen c x ≡ n₀ = greatest-is (bits c) (excess c x) n₀ h₀ others in
+    let at : chosen c x ≡ n₀ = greatest-is (c .unsent) (bits c - c .unsent) (excess c x) n₀ sent (omega arith) (λ i a l d. others i (omega arith) d) in
     flip-next c x some (ap (λ z. ltZ (pos 0) (excess c x z)) at ∙ above) ∙ ap₂ flip at (ap (excess c x) at)
+
+-- ---- what comes next depends on the checks alone
+
+module _ (c : Code) (x y : Word) (e : check c x ≡ check c y) where
+  pub broken-same : broken c x ≡ broken c y
+  unfolding broken
+  broken-same = ap (count (checks c)) e
+
+  excess-same : excess c x ≡ excess c y
+  unfolding excess brokenOf metOf
+  excess-same = fun-ext (λ n. ap (λ s. subℕ (count (checks c) (λ k. covers c k n && s k)) (count (checks c) (λ k. covers c k n && not (s k)))) e)
+
+  pub next-same : byExcess c x ≡ byExcess c y
+  unfolding byExcess greatestSent
+  next-same =
+      ap₂ (λ b f. if eqb b 0 then quiet else flipAbove (greatest (c .unsent) (bits c - c .unsent) f) (f (greatest (c .unsent) (bits c - c .unsent) f))) broken-same excess-same
+
+-- ---- where the one wrong bit is not sent the run is stuck
+
+module _ (c : Code) (some : c .unsent < bits c) (girth : Girth c) (x : Word) (met : broken c x ≡ 0) (n₀ : ℕ) (h₀ : n₀ < c .unsent) where
+  abbrev wrong : Word
+  wrong = flipped x n₀
+
+  not-above : ltZ (pos 0) (excess c wrong (chosen c wrong)) ≡ false
+  not-above =
+      let n = chosen c wrong in
+      let few : brokenOf c wrong n ≤ 1 = le-trans (le-of-eq (broken-shared c girth x met n₀ (omega arith) n)) (girth .few n n₀ (chosen-lt c some wrong) (omega arith) (λ q. omega (arith, chosen-sent c some wrong))) in
+      ap (ltZ (pos 0)) (excess-is c wrong n) ∙ sub-order 0 0 (brokenOf c wrong n) (metOf c wrong n)
+      ∙ le-ltb (0 + metOf c wrong n) (brokenOf c wrong n + 0) (omega (arith, few, broken-met c wrong n, girth .many n (chosen-lt c some wrong)))
+
+  pub unsent-stuck : byExcess c wrong ≡ stuck (chosen c wrong) (excess c wrong (chosen c wrong))
+  unsent-stuck = stuck-next c wrong (λ e. omega (arith, sym (first-count c girth x met n₀ (omega arith)) ∙ e, girth .many n₀ (omega arith))) not-above

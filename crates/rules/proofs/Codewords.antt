@@ -124,16 +124,19 @@ module _ (c : Code) where
   pub sent-lifted : (y : Word) (n : ℕ) → n < bits c - c .unsent → sent c (lifted c y) n ≡ y n
   sent-lifted y n h = sent-bit (lifted c y) n h ∙ lifted-sent-bit y n
 
-  -- and lifting what is sent gives the word, where its unsent bits are 0
+  -- and lifting what is sent gives the bits that are sent
+  pub lifted-back : (x : Word) (n : ℕ) → c .unsent ≤ n → n < bits c → lifted c (sent c x) n ≡ x n
+  lifted-back x n l h =
+      let e : n - c .unsent + c .unsent ≡ n = omega arith in
+      ap (lifted c (sent c x)) (sym e) ∙ lifted-sent-bit (sent c x) (n - c .unsent) ∙ sent-bit x (n - c .unsent) (omega arith) ∙ ap x e
+
+  -- so it gives the word, where its unsent bits are 0
   pub lifted-sent : (x : Word) → ((n : ℕ) → n < c .unsent → x n ≡ false) → (n : ℕ) → n < bits c → lifted c (sent c x) n ≡ x n
   lifted-sent x none n h = go (decLt n (c .unsent))
     where
       go : Dec (n < c .unsent) → lifted c (sent c x) n ≡ x n
       go (yes l) = lifted-unsent (sent c x) n l ∙ sym (none n l)
-      go (no g) =
-          let e : n - c .unsent + c .unsent ≡ n = omega (arith, lt-of-not-le g) in
-          ap (lifted c (sent c x)) (sym e) ∙ lifted-sent-bit (sent c x) (n - c .unsent)
-          ∙ sent-bit x (n - c .unsent) (omega (arith, lt-of-not-le g)) ∙ ap x e
+      go (no g) = lifted-back x n (omega (arith, lt-of-not-le g)) h
 
 module _ (c : Code) (pb : Published c) where
   -- the octets that are written have the bits that are sent

@@ -1,8 +1,8 @@
 -- The bit where a signed number is greatest, and the lowest number of several: what `greatest` gives.
 use mathlib.Core.Path.{_≡_, refl, sym, subst}
 use mathlib.Core.Bool.{Bool, true, false, not}
-use Prim.Native.Nat.{ℕ, zero, suc, _≤_, _<_}
-use native.Mathlib.Nat.{lt-of-le-of-lt, lt-of-lt-of-le, lt-suc-self, zero-lt-suc}
+use Prim.Native.Nat.{ℕ, zero, suc, _+_, _≤_, _<_}
+use native.Mathlib.Nat.{lt-of-le-of-lt, lt-of-lt-of-le, zero-lt-suc}
 use native.Mathlib.Decide.{ℕ-discrete}
 use native.Mathlib.Omega.{arith}
 use lib.Dec.{T, ltb→lt, lt→ltb, leb→le, le→leb}
@@ -36,61 +36,67 @@ pub <ℤ-≤ℤ : {a b : ℤ} → a <ℤ b → a ≤ℤ b
 -- ---- `greatest`
 
 -- of two bits of equal excess, the lower number
-pub lowest-of-equals : greatest 2 (λ n. pos 1) ≡ 0
+pub lowest-of-equals : greatest 0 2 (λ n. pos 1) ≡ 0
 unfolding greatest
 lowest-of-equals = refl
 
--- Below n, f is greatest at `bit`, and less at every lower number.
-pub record Greatest (n : ℕ) (f : ℕ → ℤ) (bit : ℕ) : Type 0 where
-  pub under : bit < n
-  pub most : (i : ℕ) → i < n → f i ≤ℤ f bit
-  pub first : (i : ℕ) → i < bit → f i <ℤ f bit
+-- Of the n numbers from `first` on, f is greatest at `bit`, and less at every lower one.
+pub record Greatest (first n : ℕ) (f : ℕ → ℤ) (bit : ℕ) : Type 0 where
+  pub from : first ≤ bit
+  pub under : bit < first + n
+  pub most : (i : ℕ) → first ≤ i → i < first + n → f i ≤ℤ f bit
+  pub lowest : (i : ℕ) → first ≤ i → i < bit → f i <ℤ f bit
 
-pub greatest-has : (n : ℕ) (f : ℕ → ℤ) → 0 < n → Greatest n f (greatest n f)
+pub greatest-has : (first n : ℕ) (f : ℕ → ℤ) → 0 < n → Greatest first n f (greatest first n f)
 unfolding greatest
-greatest-has zero f h = absurd (omega arith)
-greatest-has (suc zero) f h = go (ltZ (f 0) (f 0))
+greatest-has first zero f h = absurd (omega arith)
+greatest-has first (suc zero) f h = go (ltZ (f first) (f (first + 0)))
   where
-    only : Greatest 1 f 0
-    only = record {
-      under = h;
-      most = λ i l. let e : i ≡ 0 = omega arith in subst (λ (k : ℕ). f k ≤ℤ f 0) (sym e) (≤ℤ-refl (f 0));
-      first = λ i l. absurd (omega arith);
+    only : (k : ℕ) → k ≡ first → Greatest first 1 f k
+    only k is = record {
+      from = omega arith;
+      under = omega arith;
+      most = λ i a l. let e : i ≡ k = omega arith in subst (λ (j : ℕ). f j ≤ℤ f k) (sym e) (≤ℤ-refl (f k));
+      lowest = λ i a l. absurd (omega arith);
     }
 
-    go : (t : Bool) → Greatest 1 f (if t then 0 else 0)
-    go true = only
-    go false = only
-greatest-has (suc (suc n)) f h = go (ltZ (f (greatest (suc n) f)) (f (suc n))) refl (greatest-has (suc n) f (zero-lt-suc n))
+    go : (t : Bool) → Greatest first 1 f (if t then first + 0 else first)
+    go true = only (first + 0) (omega arith)
+    go false = only first refl
+greatest-has first (suc (suc n)) f h =
+    go (ltZ (f (greatest first (suc n) f)) (f (first + suc n))) refl (greatest-has first (suc n) f (zero-lt-suc n))
   where
-    -- Of every number below n + 2: it is below n + 1, or that.
-    more : (P : ℕ → Type 0) → ((i : ℕ) → i < suc n → P i) → P (suc n) → (i : ℕ) → i < suc (suc n) → P i
-    more P below here i l = pick (ℕ-discrete i (suc n))
+    -- Of every number below first + n + 2: it is below first + n + 1, or that.
+    more : (P : ℕ → Type 0) → ((i : ℕ) → first ≤ i → i < first + suc n → P i) → P (first + suc n) → (i : ℕ) → first ≤ i → i < first + suc (suc n) → P i
+    more P below here i a l = pick (ℕ-discrete i (first + suc n))
       where
-        pick : Dec (i ≡ suc n) → P i
+        pick : Dec (i ≡ first + suc n) → P i
         pick (yes e) = subst P (sym e) here
-        pick (no d) = below i (omega arith)
+        pick (no d) = below i a (omega arith)
 
-    go : (t : Bool) → ltZ (f (greatest (suc n) f)) (f (suc n)) ≡ t → Greatest (suc n) f (greatest (suc n) f)
-        → Greatest (suc (suc n)) f (if t then suc n else greatest (suc n) f)
+    go : (t : Bool) → ltZ (f (greatest first (suc n) f)) (f (first + suc n)) ≡ t → Greatest first (suc n) f (greatest first (suc n) f)
+        → Greatest first (suc (suc n)) f (if t then first + suc n else greatest first (suc n) f)
     go true e b =
-        let l : f (greatest (suc n) f) <ℤ f (suc n) = ltZ-yes (subst T (sym e) tt) in
+        let l : f (greatest first (suc n) f) <ℤ f (first + suc n) = ltZ-yes (subst T (sym e) tt) in
         record {
-          under = lt-suc-self (suc n);
-          most = more (λ i. f i ≤ℤ f (suc n)) (λ i u. <ℤ-≤ℤ (≤ℤ-<ℤ-trans (b .most i u) l)) (≤ℤ-refl (f (suc n)));
-          first = λ i u. ≤ℤ-<ℤ-trans (b .most i u) l;
+          from = omega arith;
+          under = omega arith;
+          most = more (λ i. f i ≤ℤ f (first + suc n)) (λ i a u. <ℤ-≤ℤ (≤ℤ-<ℤ-trans (b .most i a u) l)) (≤ℤ-refl (f (first + suc n)));
+          lowest = λ i a u. ≤ℤ-<ℤ-trans (b .most i a u) l;
         }
     go false e b =
         record {
+          from = b .from;
           under = omega (arith, b .under);
-          most = more (λ i. f i ≤ℤ f (greatest (suc n) f)) (b .most) (ltZ-no (subst (λ (t : Bool). T (not t)) (sym e) tt));
-          first = b .first;
+          most = more (λ i. f i ≤ℤ f (greatest first (suc n) f)) (b .most) (ltZ-no (subst (λ (t : Bool). T (not t)) (sym e) tt));
+          lowest = b .lowest;
         }
 
 -- a bit that is above every other is the greatest
-pub greatest-is : (n : ℕ) (f : ℕ → ℤ) (k : ℕ) → k < n → ((i : ℕ) → i < n → (i ≡ k → ⊥) → ltZ (f i) (f k) ≡ true) → greatest n f ≡ k
-greatest-is n f k h up = go (ℕ-discrete (greatest n f) k) (greatest-has n f (omega arith))
+pub greatest-is : (first n : ℕ) (f : ℕ → ℤ) (k : ℕ) → first ≤ k → k < first + n
+    → ((i : ℕ) → first ≤ i → i < first + n → (i ≡ k → ⊥) → ltZ (f i) (f k) ≡ true) → greatest first n f ≡ k
+greatest-is first n f k a h up = go (ℕ-discrete (greatest first n f) k) (greatest-has first n f (omega arith))
   where
-    go : Dec (greatest n f ≡ k) → Greatest n f (greatest n f) → greatest n f ≡ k
+    go : Dec (greatest first n f ≡ k) → Greatest first n f (greatest first n f) → greatest first n f ≡ k
     go (yes e) g = e
-    go (no d) g = clashℤ (ltZ-yes (subst T (sym (up (greatest n f) (g .under) d)) tt)) (g .most k h)
+    go (no d) g = clashℤ (ltZ-yes (subst T (sym (up (greatest first n f) (g .from) (g .under) d)) tt)) (g .most k a h)

@@ -35,7 +35,8 @@ pub record Tests (wordOctets informationOctets unsent m : ℕ) (H : List (List (
 -- ---- what every theorem needs of a code
 
 pub record Published (c : Code) : Type 0 where
-  pub some : 0 < bits c
+  pub some : c .unsent < bits c
+  pub early : c .unsent < c .size
   pub after : information c ≤ bits c
   pub before : c .unsent ≤ information c
   pub fits : bits c - c .unsent ≤ 8 * c .wordOctets
@@ -90,6 +91,7 @@ pub published1 : Published code1
 unfolding code1 parity16 generator16
 published1 = record {
   some = lit< tt;
+  early = lit< tt;
   after = lit≤ tt;
   before = lit≤ tt;
   fits = lit≤ tt;
@@ -103,6 +105,7 @@ pub published2 : Published code2
 unfolding code2 parity32 generator32
 published2 = record {
   some = lit< tt;
+  early = lit< tt;
   after = lit≤ tt;
   before = lit≤ tt;
   fits = lit≤ tt;
@@ -116,6 +119,7 @@ pub published3 : Published code3
 unfolding code3 parity64 generator64
 published3 = record {
   some = lit< tt;
+  early = lit< tt;
   after = lit≤ tt;
   before = lit≤ tt;
   fits = lit≤ tt;
@@ -129,6 +133,7 @@ pub published4 : Published code4
 unfolding code4 parity511 generator511
 published4 = record {
   some = lit< tt;
+  early = lit< tt;
   after = lit≤ tt;
   before = lit≤ tt;
   fits = lit≤ tt;
@@ -142,6 +147,7 @@ pub published5 : Published code5
 unfolding code5 parity511 generator511
 published5 = record {
   some = lit< tt;
+  early = lit< tt;
   after = lit≤ tt;
   before = lit≤ tt;
   fits = lit≤ tt;

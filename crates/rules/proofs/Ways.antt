@@ -7,19 +7,21 @@ use native.Mathlib.Omega.{arith}
 use lib.IntN.{ℤ, pos, negsuc, subℕ}
 use lib.ListN.{length}
 use lib.Signed.{ltZ}
-use borrow.Author.Tests.{lt-ltb, le-ltb}
+use borrow.Author.Tests.{lt-ltb, le-ltb, ne-eqb}
 use Rattle.bits.specs.Bits.{Word, _⊕_, count, flipped}
 use Rattle.rules.specs.Codes.{Code, bits, checks}
 use Rattle.rules.specs.Checks.{covers, check, broken, excess, brokenOf, degreeOf, metOf}
 use Rattle.rules.specs.Flipping.{quiet, flip, Way, run, ended, after}
+use Rattle.bits.proofs.Sums.{⊕-false}
 use Rattle.bits.proofs.Counting.{count-same, none-counted}
 use Rattle.rules.proofs.Flips.{broken-met, excess-is, excess-order, check-flip, broken-flip, flip-back}
-use Rattle.rules.proofs.Runs.{run-quiet, run-flip, run-falls, run-enough, run-ends, End, ends-quiet, ends-stuck, ends-limit}
+use Rattle.rules.proofs.Runs.{every-run, run-quiet, run-flip, run-falls, run-enough, run-ends, End, ends-quiet, ends-stuck, ends-limit}
 
 -- ---- what is needed of a way
 
--- a bit that may be flipped: more of its checks are broken than met
+-- a bit that may be flipped: it is sent, and more of its checks are broken than met
 pub record Chosen (c : Code) (x : Word) (n : ℕ) (ex : ℤ) : Type 0 where
+  pub sent : c .unsent ≤ n
   pub under : n < bits c
   pub value : ex ≡ excess c x n
   pub above : metOf c x n < brokenOf c x n
@@ -62,6 +64,11 @@ module _ {c : Code} {way : Way} (ch : Chooses c way) where
       go (ends-stuck f k ex w) = let z : _≡_ {A = ℕ} 5 0 = sym f ∙ e in absurd (omega arith)
       go (ends-limit f l k ex w) = let z : _≡_ {A = ℕ} 6 0 = sym f ∙ e in absurd (omega arith)
 
+  -- no run changes a bit that is not sent
+  pub run-unsent : (limit : ℕ) (x : Word) (k : ℕ) → k < c .unsent → run way limit x .word k ≡ x k
+  run-unsent limit x k h = every-run way (λ limit x r. r .word k ≡ x k) (λ limit x e. refl) (λ limit x n ex e. refl) (λ x n ex e. refl)
+      (λ limit x n ex e r ih. ih ∙ ap (λ b. x k ⊕ b) (ne-eqb k n (λ q. omega (arith, ch .flips x n ex e .sent))) ∙ ⊕-false (x k)) limit x
+
   -- where every bit has an even number of checks a flip takes at least 2 from the broken checks
   module _ (even : (n : ℕ) → n < bits c → (h : ℕ) × (degreeOf c n ≡ 2 * h)) where
     pub falls-two : (x : Word) (n : ℕ) (ex : ℤ) → way x ≡ flip n ex → 2 + broken c (flipped x n) ≤ broken c x
@@ -97,7 +104,7 @@ module _ (c : Code) (girth : Girth c) (x : Word) (met : broken c x ≡ 0) (n₀ 
   unfolding broken
   broken-own k l = check-flip c x n₀ h₀ k ∙ ap (λ z. z ⊕ covers c k n₀) (none-counted (checks c) (check c x) met k l)
 
-  broken-shared : (n : ℕ) → brokenOf c (flipped x n₀) n ≡ shared c n n₀
+  pub broken-shared : (n : ℕ) → brokenOf c (flipped x n₀) n ≡ shared c n n₀
   unfolding brokenOf shared
   broken-shared n = count-same (checks c) _ _ (λ k l. ap (λ z. covers c k n && z) (broken-own k l))
 

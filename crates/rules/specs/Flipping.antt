@@ -1,6 +1,6 @@
 -- The flipping run.
 use mathlib.Core.List.{List, [], _∷_}
-use Prim.Native.Nat.{ℕ, zero, suc}
+use Prim.Native.Nat.{ℕ, zero, suc, _+_, _-_}
 use lib.Dec.{eqb}
 use lib.IntN.{ℤ, pos}
 use lib.Signed.{ltZ}
@@ -8,7 +8,7 @@ use Rattle.bits.specs.Bits.{Word, flipped, if_then_else_}
 use Rattle.rules.specs.Codes.{Code, bits}
 use Rattle.rules.specs.Checks.{broken, excess}
 
--- What comes next for a word: no check is broken; or no bit has an excess above 0, the greatest being this bit's; or this bit, of this excess,
+-- What comes next for a word: no check is broken; or no bit that is sent has an excess above 0, the greatest being this bit's; or this bit, of this excess,
 -- is to be flipped.
 pub data Next : Type 0 where
   quiet : Next
@@ -23,20 +23,24 @@ Way = Word → Next
 abbrev pub greater : (ℕ → ℤ) → ℕ → ℕ → ℕ
 greater f earlier later = if ltZ (f earlier) (f later) then later else earlier
 
--- The bit below n where f is greatest; of several, the lowest number.
-unfoldable pub greatest : ℕ → (ℕ → ℤ) → ℕ
-greatest zero f = 0
-greatest (suc n) f = greater f (greatest n f) n
+-- Of the n numbers from `first` on, the one where f is greatest; of several, the lowest.
+unfoldable pub greatest : ℕ → ℕ → (ℕ → ℤ) → ℕ
+greatest first zero f = first
+greatest first (suc n) f = greater f (greatest first n f) (first + n)
+
+-- The bit of greatest excess; of several, the lowest number. Bits that are not sent are never candidates.
+unfoldable pub greatestSent : Code → Word → ℕ
+greatestSent c x = greatest (c .unsent) (bits c - c .unsent) (excess c x)
 
 -- A flip, if the excess is above 0.
 abbrev pub flipAbove : ℕ → ℤ → Next
 flipAbove n e = if ltZ (pos 0) e then flip n e else stuck n e
 
--- The way of the flipping run: the one bit of greatest excess; of several, the lowest number.
+-- The way of the flipping run.
 unfoldable pub byExcess : Code → Way
 byExcess c x =
     if eqb (broken c x) 0 then quiet
-    else (flipAbove (greatest (bits c) (excess c x)) (excess c x (greatest (bits c) (excess c x))))
+    else (flipAbove (greatestSent c x) (excess c x (greatestSent c x)))
 
 pub record Flip : Type 0 where
   pub bit : ℕ

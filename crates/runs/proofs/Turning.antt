@@ -1,5 +1,5 @@
 -- What comes next by score; and a run that goes on flip by flip, under any way of choosing.
-use mathlib.Core.Path.{_≡_, sym, ap, _∙_, subst}
+use mathlib.Core.Path.{_≡_, refl, sym, ap, _∙_, subst}
 use mathlib.Core.Bool.{Bool, true, false, cond}
 use mathlib.Core.List.{List}
 use Prim.Native.Nat.{ℕ, suc, _+_, _-_, _*_, _≤_, _<_}
@@ -23,6 +23,7 @@ use Rattle.rules.proofs.Runs.{run-quiet, run-stuck, run-limit, run-flip}
 use Rattle.layout.specs.declared.Shape.{Shape}
 use Rattle.layout.specs.Lent.{Lent, laid, score}
 use Rattle.planes.specs.Ranges.{Top}
+use Rattle.planes.proofs.Ranges.{top-ends}
 use Rattle.choice.proofs.Excesses.{best-next, degree-le}
 use Rattle.runs.specs.Turns.{RunsTo, Going}
 
@@ -44,7 +45,7 @@ module _ (top : ℕ) (small : top ≤ 15) where
   pub excess-kept : toZ w8 (ofZ w8 (toZ w8 top -ℤ pos 8)) ≡ subℕ top 8
   excess-kept = toZ-ofZ w8 (toZ w8 top -ℤ pos 8) excess-fits ∙ less
 
-module _ {c : Code} {h : List ℕ} {sh : Shape} (lent : Lent c h sh) (x : Word) {bit top : ℕ} (t : Top (score c x) 0 (bits c) bit top) where
+module _ {c : Code} {h : List ℕ} {sh : Shape} (lent : Lent c h sh) (x : Word) {from bit top : ℕ} (t : Top (score c x) from (bits c) bit top) where
   pub top-lt : bit < sh .blocks * sh .size
   top-lt = subst (λ z. bit < z) (lent .bits-are) (t .under)
 
@@ -53,11 +54,11 @@ module _ {c : Code} {h : List ℕ} {sh : Shape} (lent : Lent c h sh) (x : Word) 
   unfolding score
   top-small = omega (arith, t .is, broken-met c x bit, degree-le lent x bit (t .under))
 
-  pub next-stuck : (broken c x ≡ 0 → ⊥) → top ≤ 8 → byExcess c x ≡ stuck bit (subℕ top 8)
-  next-stuck d l = best-next lent x t d ∙ ap (λ b. if b then flip bit (subℕ top 8) else stuck bit (subℕ top 8)) (le-ltb 8 top l)
+  pub next-stuck : c .unsent ≡ from → (broken c x ≡ 0 → ⊥) → top ≤ 8 → byExcess c x ≡ stuck bit (subℕ top 8)
+  next-stuck u d l = best-next lent x (top-ends (sym u) refl t) d ∙ ap (λ b. if b then flip bit (subℕ top 8) else stuck bit (subℕ top 8)) (le-ltb 8 top l)
 
-  pub next-flip : (broken c x ≡ 0 → ⊥) → 8 < top → byExcess c x ≡ flip bit (subℕ top 8)
-  next-flip d l = best-next lent x t d ∙ ap (λ b. if b then flip bit (subℕ top 8) else stuck bit (subℕ top 8)) (lt-ltb 8 top l)
+  pub next-flip : c .unsent ≡ from → (broken c x ≡ 0 → ⊥) → 8 < top → byExcess c x ≡ flip bit (subℕ top 8)
+  next-flip u d l = best-next lent x (top-ends (sym u) refl t) d ∙ ap (λ b. if b then flip bit (subℕ top 8) else stuck bit (subℕ top 8)) (lt-ltb 8 top l)
 
 -- ---- the run, flip by flip
 

@@ -22,15 +22,15 @@ pub struct Ran {
     pub flips: u32,
 }
 
-// What comes next for the word whose syndrome is s.
-pub fn comes_next(s: &[u64], h: &[u16], sh: Shape) -> Next
-    requires { ⌜ Fit (now h) sh × (length (now s) ≡ 16) × (1 ≤ sh .blocks) × Holding (now h) sh (wbit (now s)) ⌝ }
-    ensures { λ r. ⌜ Within (sh .blocks * sh .size) r × ((c : Code) → Lent c (now (h .entry)) sh → (x : Word) → wbit (now (s .entry)) ≡ laid c sh x → byExcess c x ≡ comesNext r) ⌝ }
+// What comes next for the word whose syndrome is s; bits before bit `from` are not sent.
+pub fn comes_next(s: &[u64], h: &[u16], sh: Shape, from: usize) -> Next
+    requires { ⌜ Fit (now h) sh × (length (now s) ≡ 16) × (1 ≤ sh .blocks) × (from < sh .size) × Holding (now h) sh (wbit (now s)) ⌝ }
+    ensures { λ r. ⌜ Within (sh .blocks * sh .size) r × ((c : Code) → Lent c (now (h .entry)) sh → c .unsent ≡ from → (x : Word) → wbit (now (s .entry)) ≡ laid c sh x → byExcess c x ≡ comesNext r) ⌝ }
 {
     if syndromes::is_quiet(s) {
         return Next::Quiet;
     }
-    let best = choice::choose(s, h, sh);
+    let best = choice::choose(s, h, sh, from);
     let excess = best.score as i8 - 8;
     if best.score <= 8 {
         return Next::Stuck(best.bit, excess);
@@ -39,14 +39,14 @@ pub fn comes_next(s: &[u64], h: &[u16], sh: Shape) -> Next
 }
 
 // The run from the word y with the syndrome s, under a limit: flips both until it ends.
-pub fn run(y: &mut [u64], s: &mut [u64], h: &[u16], sh: Shape, limit: u16) -> Ran
-    requires { ⌜ Fit (now h) sh × (length (now y) ≡ 130) × (length (now s) ≡ 16) × (1 ≤ sh .blocks) × Holding (now h) sh (wbit (now s)) ⌝ }
-    ensures { λ r. ⌜ ((c : Code) → Lent c (now (h .entry)) sh → wbit (now (s .entry)) ≡ laid c sh (wbit (now (y .entry))) → RunsTo (byExcess c) c sh limit (wbit (now (y .entry))) r (wbit (now (y .exit))) (wbit (now (s .exit)))) ⌝ }
+pub fn run(y: &mut [u64], s: &mut [u64], h: &[u16], sh: Shape, from: usize, limit: u16) -> Ran
+    requires { ⌜ Fit (now h) sh × (length (now y) ≡ 130) × (length (now s) ≡ 16) × (1 ≤ sh .blocks) × (from < sh .size) × Holding (now h) sh (wbit (now s)) ⌝ }
+    ensures { λ r. ⌜ ((c : Code) → Lent c (now (h .entry)) sh → c .unsent ≡ from → wbit (now (s .entry)) ≡ laid c sh (wbit (now (y .entry))) → RunsTo (byExcess c) c sh limit (wbit (now (y .entry))) r (wbit (now (y .exit))) (wbit (now (s .exit)))) ⌝ }
 {
     let most = limit as u32;
     let mut flips: u32 = 0;
     loop {
-        let next = comes_next(s, h, sh);
+        let next = comes_next(s, h, sh, from);
         match next {
             Next::Quiet => {
                 return Ran {

@@ -10,11 +10,11 @@ use Rattle.choice.proofs.best_block.Statement.{statement}
 use Rattle.choice.proofs.best_block.Tie as tie
 
 abbrev Inv-loop : tie.InvT-loop
-Inv-loop d starts n m first full b₀ at₀ b at =
-    (at ≤ m) × ((g : ℕ → ℕ) → Scored g first m (wbit d) starts n → Running g first b₀ → Running g (first + at) b)
+Inv-loop d starts n begin m first full b₀ at₀ b at =
+    (at ≤ m) × ((g : ℕ → ℕ) (from : ℕ) → Scored g first m (wbit d) starts n → Running g from (first + begin) b₀ → Running g from (first + at) b)
 
 abbrev μ-loop : tie.MeasureT-loop
-μ-loop d starts n m first full b₀ at₀ b at = m - at
+μ-loop d starts n begin m first full b₀ at₀ b at = m - at
 
 cast-full : tie.Need-cast-full Inv-loop μ-loop
 cast-full c = omega arith
@@ -23,13 +23,13 @@ add-full : tie.Need-add-full Inv-loop μ-loop
 add-full c = omega arith
 
 loop-holds : tie.Need-loop-holds Inv-loop μ-loop
-loop-holds c = (omega arith, λ g scored was. subst (λ k. Running g k (c .before .before .args .best)) (omega arith) was)
+loop-holds c = (omega arith, λ g from scored was. was)
 
 returns : tie.Need-returns Inv-loop μ-loop
-returns c g scored was =
+returns c g from scored was =
     let a = c .before .before .before .before .before .before .args in
     let l = c .before .before .before .loop in
-    full-best g (a .first) (l .at) (a .m) (wbit (a .d .now)) (a .starts .now) (a .n) scored (omega arith) (l .b) (omega arith) (l .inv .1 g scored was)
+    full-best g (a .first) (l .at) (a .m) (wbit (a .d .now)) (a .starts .now) (a .n) scored (omega arith) from (l .b) (omega arith) (l .inv .1 g from scored was)
 
 sub-next : tie.Need-sub-next Inv-loop μ-loop
 sub-next c = omega arith
@@ -41,7 +41,7 @@ best-part-requires : tie.Need-best-part-requires Inv-loop μ-loop
 best-part-requires c κs =
     let s = c .before .before .before .before .before .before .before in
     let n = c .next .ensures in
-    (n .2 (omega arith), n .0, s .pre .0, s .pre .1, s .pre .2, omega arith, omega arith, λ e h. omega (arith, s .pre .5 e h))
+    (n .2 (omega arith), n .0, s .pre .1, s .pre .2, s .pre .3, omega arith, omega arith, λ e h. omega (arith, s .pre .6 e h))
 
 add-at : tie.Need-add-at Inv-loop μ-loop
 add-at c = omega arith
@@ -53,16 +53,16 @@ loop-again : tie.Need-loop-again Inv-loop μ-loop
 loop-again c =
     let l = c .before .before .before .before .before .loop in (
       omega arith,
-      λ g scored was. subst (λ k. Running g k (c .best-part .result)) (omega arith)
-          (c .best-part .ensures g (record { few = scored .few; is = λ k h. scored .is k (omega arith) }) (l .inv .1 g scored was)),
+      λ g from scored was. subst (λ k. Running g from k (c .best-part .result)) (omega arith)
+          (c .best-part .ensures g from (record { few = scored .few; is = λ k h. scored .is k (omega arith) }) (l .inv .1 g from scored was)),
     )
 
 returns-2 : tie.Need-returns-2 Inv-loop μ-loop
-returns-2 c g scored was =
+returns-2 c g from scored was =
     let a = c .before .before .before .before .args in
     let l = c .before .loop in
     let all : l .at ≡ a .m = omega arith in
-    subst (λ k. Running g (a .first + k) (l .b)) all (l .inv .1 g scored was)
+    subst (λ k. Running g from (a .first + k) (l .b)) all (l .inv .1 g from scored was)
 
 pub best-block-spec : {M : Type 1} → statement M
 best-block-spec =

@@ -38,12 +38,12 @@ better-requires : tie.Need-better-requires
 better-requires c κs = search needs
 
 returns : tie.Need-returns
-returns c g scored was =
+returns c g from scored was =
     let a = c .before .before .before .before .before .before .before .args in
     let p = c .before .before .before .before .counted in
     let k = c .before .before .before .most in
-    subst (Running g (a .first + a .at + a .v)) (sym (c .better .ensures))
-    (part-best g (a .first) (a .at) (a .v) (wbit (a .d .now)) (a .starts .now) (a .n) scored (p .result) (k .result .at) (k .result .count) (a .best)
+    subst (Running g from (a .first + a .at + a .v)) (sym (c .better .ensures))
+    (part-best g (a .first) (a .at) (a .v) (wbit (a .d .now)) (a .starts .now) (a .n) scored (p .result) (k .result .at) (k .result .count) from (a .best)
     (λ i hi. p .ensures (scored .few) i (omega arith)) (k .ensures) was)
 
 pub best-part-spec : {M : Type 1} → statement M

@@ -1,9 +1,10 @@
 -- `choice::choose` meets its contract: the best of all blocks is the best of the word. Assumes nothing.
 use mathlib.Core.Path.{refl, sym, ap, _∙_}
 use Prim.Native.Nat.{_+_, _*_, _%_}
-use native.Mathlib.Nat.{mul-pos}
+use native.Mathlib.Omega.{arith}
 use borrow.Author.Needs.{needs}
 use Rattle.planes.proofs.Ranges.{top-ends}
+use Rattle.choice.proofs.Hits.{within}
 use Rattle.choice.proofs.choose.Statement.{statement}
 use Rattle.choice.proofs.choose.Tie as tie
 
@@ -30,7 +31,7 @@ returns c k lent x held =
     let s = c .before .before .before .before .before .before .before .before .before .before .before in
     let sh = s .args .sh in
     top-ends refl (sym (lent .bits-are))
-    (c .before .best-of .ensures k lent x (λ r n hr hn. c .before .before .before .before .before .before .double-rows .ensures r n hr hn ∙ ap (λ y. y (64 * (r * sh .words) + n % sh .size)) held) .best (mul-pos (s .pre .2) (s .pre .0 .some)))
+    (c .before .best-of .ensures k lent x (λ r n hr hn. c .before .before .before .before .before .before .double-rows .ensures r n hr hn ∙ ap (λ y. y (64 * (r * sh .words) + n % sh .size)) held) .best (omega (arith, s .pre .3, within 0 (sh .blocks) (sh .size) (s .pre .2))))
 
 pub choose-spec : {M : Type 1} → statement M
 choose-spec =

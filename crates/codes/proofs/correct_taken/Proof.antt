@@ -1,4 +1,5 @@
 -- `codes::correct_taken`: the run's numbers, its judgement and its word. Assumes nothing.
+use mathlib.Core.Path.{sym}
 use native.Mathlib.Omega.{arith}
 use Rattle.bits.specs.Bits.{bit}
 use Rattle.rules.specs.Codes.{code}
@@ -8,7 +9,7 @@ use Rattle.vectors.proofs.Filling.{zero-words}
 use Rattle.rules.proofs.Numbers.{published}
 use Rattle.offer.proofs.Offers.{small, is-offered}
 use Rattle.codes.proofs.Admitted.{word-long, unsent-is, bits-are}
-use Rattle.codes.proofs.Correcting.{holding, ran-number, ran-word, ran-met, corrected-is, wrote-word, wrote-none}
+use Rattle.codes.proofs.Correcting.{holding, ran-number, ran-word, ran-met, ran-unsent, corrected-is, wrote-word, wrote-none}
 use borrow.Author.Needs.{needs}
 use Rattle.codes.proofs.correct_taken.Statement.{statement}
 use Rattle.codes.proofs.correct_taken.Tie as tie
@@ -49,7 +50,7 @@ run-requires c κs =
     let a = m .before .before .before .before .before .before in
     let k = a .pre .0 in
     let e = m .measure .ensures (k .number) (k .offers) (k .is) in
-    (e .lends .fit, search needs, search needs, small k .blocks, holding (k .number) (a .args .word .now) _ _ _ _ e)
+    (e .lends .fit, search needs, search needs, small k .blocks, small k .within, holding (k .number) (a .args .word .now) _ _ _ _ e)
 
 slice-aggregate-broken-2 : tie.Need-slice-aggregate-broken-2
 slice-aggregate-broken-2 c = search needs
@@ -85,11 +86,12 @@ returns c =
     λ n off is.
     let word = a .args .word .now in
     let e = m .measure .ensures n off is in
-    let to = g .run .ensures (code n) (e .lends .lent) (e .held) in
+    let to = g .run .ensures (code n) (e .lends .lent) (sym (unsent-is n is off)) (e .held) in
     corrected-is n word _ _ _ _ e (a .args .limit) (g .run .result) _ _ to (b1 .broken .result) (b2 .broken2 .result) (j .judge .result)
     (b1 .broken .ensures) (b2 .broken2 .ensures)
     (j .judge .ensures n off is (run (byExcess (code n)) (a .args .limit) (lifted (code n) (bit word)))
-    (ran-number n word _ _ _ _ e (a .args .limit) (g .run .result) _ _ to) (ran-word n word _ _ _ _ e (a .args .limit) (g .run .result) _ _ to) (ran-met n word _ _ _ _ e (a .args .limit) (g .run .result) _ _ to (published n (is-offered n off) .some)))
+    (ran-number n word _ _ _ _ e (a .args .limit) (g .run .result) _ _ to) (ran-word n word _ _ _ _ e (a .args .limit) (g .run .result) _ _ to) (ran-met n word _ _ _ _ e (a .args .limit) (g .run .result) _ _ to (published n (is-offered n off) .some))
+    (ran-unsent n word _ _ _ _ e (a .args .limit) (g .run .result) _ _ to (published n (is-offered n off) .some)))
     (a .args .out .now) _ (wrote-word _ _ _ _ (c .before .before .before .before .before .before .if1 .taken)
     (c .before .before .before .write .ensures (code n) (unsent-is n is off) (bits-are n is off) (word-long n is off (a .pre .2))))
 
@@ -104,11 +106,12 @@ returns-2 c =
     λ n off is.
     let word = a .args .word .now in
     let e = m .measure .ensures n off is in
-    let to = g .run .ensures (code n) (e .lends .lent) (e .held) in
+    let to = g .run .ensures (code n) (e .lends .lent) (sym (unsent-is n is off)) (e .held) in
     corrected-is n word _ _ _ _ e (a .args .limit) (g .run .result) _ _ to (b1 .broken .result) (b2 .broken2 .result) (j .judge .result)
     (b1 .broken .ensures) (b2 .broken2 .ensures)
     (j .judge .ensures n off is (run (byExcess (code n)) (a .args .limit) (lifted (code n) (bit word)))
-    (ran-number n word _ _ _ _ e (a .args .limit) (g .run .result) _ _ to) (ran-word n word _ _ _ _ e (a .args .limit) (g .run .result) _ _ to) (ran-met n word _ _ _ _ e (a .args .limit) (g .run .result) _ _ to (published n (is-offered n off) .some)))
+    (ran-number n word _ _ _ _ e (a .args .limit) (g .run .result) _ _ to) (ran-word n word _ _ _ _ e (a .args .limit) (g .run .result) _ _ to) (ran-met n word _ _ _ _ e (a .args .limit) (g .run .result) _ _ to (published n (is-offered n off) .some))
+    (ran-unsent n word _ _ _ _ e (a .args .limit) (g .run .result) _ _ to (published n (is-offered n off) .some)))
     (a .args .out .now) _ (wrote-none _ _ _ (c .if1 .left))
 
 pub correct-taken-spec : {M : Type 1} → statement M

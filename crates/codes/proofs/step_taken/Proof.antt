@@ -1,5 +1,5 @@
 -- `codes::step_taken`: quiet, stuck, or one flip. Assumes nothing.
-use mathlib.Core.Path.{ap, ap₂, _∙_, subst}
+use mathlib.Core.Path.{sym, ap, ap₂, _∙_, subst}
 use mathlib.Core.Bool.{true, false}
 use Prim.Native.Nat.{_*_, _≤_, _<_}
 use native.Mathlib.Omega.{arith}
@@ -47,7 +47,7 @@ comes-next-requires c κs =
     let a = m .before .before .before .before .before .before in
     let k = a .pre .0 in
     let e = m .measure .ensures (k .number) (k .offers) (k .is) in
-    (e .lends .fit, search needs, small k .blocks, holding (k .number) (a .args .word .now) _ _ _ _ e)
+    (e .lends .fit, search needs, small k .blocks, small k .within, holding (k .number) (a .args .word .now) _ _ _ _ e)
 
 enum-told : tie.Need-enum-told
 enum-told c = search needs
@@ -108,7 +108,7 @@ returns c =
     let a = m .before .before .before .before .before .before in
     λ n off is.
     ap (λ z. record { number = 0; quiet = true; bit = 0; excess = pos 0; out = z }) (c .before .before .copy .ensures)
-    ∙ stepped-is n (a .args .word .now) _ _ _ _ (m .measure .ensures n off is) (a .args .out .now) (x .comes-next .result) _ (x .comes-next .ensures .1) (ap comesNext (told .enum-told .given .1))
+    ∙ stepped-is n (a .args .word .now) _ _ _ _ (m .measure .ensures n off is) (a .args .out .now) (x .comes-next .result) _ _ (sym (unsent-is n is off)) (x .comes-next .ensures .1) (ap comesNext (told .enum-told .given .1))
 
 returns-2 : tie.Need-returns-2
 unfolding nextStep
@@ -118,7 +118,7 @@ returns-2 c =
     let a = m .before .before .before .before .before .before in
     λ n off is.
     c .refused-step .ensures (a .args .out .now)
-    ∙ stepped-is n (a .args .word .now) _ _ _ _ (m .measure .ensures n off is) (a .args .out .now) (x .comes-next .result) _ (x .comes-next .ensures .1) (ap comesNext (c .before .enum-told2 .given .1))
+    ∙ stepped-is n (a .args .word .now) _ _ _ _ (m .measure .ensures n off is) (a .args .out .now) (x .comes-next .result) _ _ (sym (unsent-is n is off)) (x .comes-next .ensures .1) (ap comesNext (c .before .enum-told2 .given .1))
 
 same-length-2 : tie.Need-same-length-2
 same-length-2 c = search needs
@@ -139,7 +139,7 @@ returns-3 c =
     ap₂ (λ z o. record { number = 0; quiet = false; bit = b; excess = z; out = o }) (toZ-ofZ w8 ex fits)
     (c .before .before .before .write .ensures (code n) (unsent-is n is off) (bits-are n is off) (word-long n is off (a .pre .2))
     ∙ ap (written (code n)) (c .before .before .before .before .before .before .before .turn-over .ensures ∙ ap (λ z. flipped z b) (e .bits)))
-    ∙ stepped-is n (a .args .word .now) _ _ _ _ e (a .args .out .now) (x .comes-next .result) _ (x .comes-next .ensures .1) (ap comesNext (f .next .given .1))
+    ∙ stepped-is n (a .args .word .now) _ _ _ _ e (a .args .out .now) (x .comes-next .result) _ _ (sym (unsent-is n is off)) (x .comes-next .ensures .1) (ap comesNext (f .next .given .1))
 
 refused-step-requires : tie.Need-refused-step-requires
 refused-step-requires c κs = search needs

@@ -15,7 +15,7 @@ is-quiet-requires c κs = search needs
 returns : tie.Need-returns
 returns c =
     let a = c .before .before .before .before in
-    (tt, λ k l x e. quiet-next k x (eqb-true (broken k x) 0 (sym (c .before .is-quiet .ensures k _ _ x (a .pre .0) l e) ∙ c .if1 .taken)))
+    (tt, λ k l u x e. quiet-next k x (eqb-true (broken k x) 0 (sym (c .before .is-quiet .ensures k _ _ x (a .pre .0) l e) ∙ c .if1 .taken)))
 
 choose-requires : tie.Need-choose-requires
 choose-requires c κs = search needs
@@ -23,13 +23,13 @@ choose-requires c κs = search needs
 cast-excess : tie.Need-cast-excess
 cast-excess c =
     let b = c .before .before .before in
-    let w = b .before .before .before .pre .3 in
+    let w = b .before .before .before .pre .4 in
     score-fits _ (top-small (w .lent) (w .word) (c .before .choose .ensures (w .code) (w .lent) (w .word) (w .held)))
 
 sub-excess : tie.Need-sub-excess
 sub-excess c =
     let b = c .before .before .before in
-    let w = b .before .before .before .pre .3 in
+    let w = b .before .before .before .pre .4 in
     excess-fits _ (top-small (w .lent) (w .word) (c .before .choose .ensures (w .code) (w .lent) (w .word) (w .held)))
 
 returns-2 : tie.Need-returns-2
@@ -37,10 +37,10 @@ returns-2 c =
     let d = c .before .before .before in
     let b = d .before .before in
     let a = b .before .before .before in
-    let w = a .pre .3 in
+    let w = a .pre .4 in
     let t = d .choose .ensures (w .code) (w .lent) (w .word) (w .held) in (
       top-lt (w .lent) (w .word) t,
-      λ k l x e. next-stuck l x (d .choose .ensures k l x e) (eqb-false (broken k x) 0 (sym (b .is-quiet .ensures k _ _ x (a .pre .0) l e) ∙ d .before .if1 .left)) (c .if2 .taken)
+      λ k l u x e. next-stuck l x (d .choose .ensures k l x e) u (eqb-false (broken k x) 0 (sym (b .is-quiet .ensures k _ _ x (a .pre .0) l e) ∙ d .before .if1 .left)) (c .if2 .taken)
           ∙ ap (stuck (d .choose .result .bit)) (sym (excess-kept _ (top-small (w .lent) (w .word) t))),
     )
 
@@ -49,10 +49,10 @@ returns-3 c =
     let d = c .before .before .before in
     let b = d .before .before in
     let a = b .before .before .before in
-    let w = a .pre .3 in
+    let w = a .pre .4 in
     let t = d .choose .ensures (w .code) (w .lent) (w .word) (w .held) in (
       top-lt (w .lent) (w .word) t,
-      λ k l x e. next-flip l x (d .choose .ensures k l x e) (eqb-false (broken k x) 0 (sym (b .is-quiet .ensures k _ _ x (a .pre .0) l e) ∙ d .before .if1 .left)) (c .if2 .left)
+      λ k l u x e. next-flip l x (d .choose .ensures k l x e) u (eqb-false (broken k x) 0 (sym (b .is-quiet .ensures k _ _ x (a .pre .0) l e) ∙ d .before .if1 .left)) (c .if2 .left)
           ∙ ap (flip (d .choose .result .bit)) (sym (excess-kept _ (top-small (w .lent) (w .word) t))),
     )
 

@@ -14,26 +14,26 @@ use Rattle.runs.proofs.run.Statement.{statement}
 use Rattle.runs.proofs.run.Tie as tie
 
 abbrev Inv-loop : tie.InvT-loop
-Inv-loop y₀ s₀ h sh limit most flips₀ y s flips =
+Inv-loop y₀ s₀ h sh from limit most flips₀ y s flips =
     (length y ≡ 130)
     × (length s ≡ 16)
     × (flips ≤ limit)
     × Holding h sh (wbit s)
-    × ((c : Code) → Lent c h sh → wbit s₀ ≡ laid c sh (wbit y₀) → Going (byExcess c) c sh limit (wbit y₀) flips (wbit y) (wbit s))
+    × ((c : Code) → Lent c h sh → c .unsent ≡ from → wbit s₀ ≡ laid c sh (wbit y₀) → Going (byExcess c) c sh limit (wbit y₀) flips (wbit y) (wbit s))
 
 abbrev μ-loop : tie.MeasureT-loop
-μ-loop y₀ s₀ h sh limit most flips₀ y s flips = limit - flips
+μ-loop y₀ s₀ h sh from limit most flips₀ y s flips = limit - flips
 
 loop-holds : tie.Need-loop-holds Inv-loop μ-loop
 loop-holds c =
     let a = c .before .before .before in
-    (a .pre .1, a .pre .2, omega arith, a .pre .4, λ k l e. going-start (byExcess k) k (a .args .sh) (a .args .limit) _ _ e)
+    (a .pre .1, a .pre .2, omega arith, a .pre .5, λ k l u e. going-start (byExcess k) k (a .args .sh) (a .args .limit) _ _ e)
 
 comes-next-requires : tie.Need-comes-next-requires Inv-loop μ-loop
 comes-next-requires c κs =
     let i = c .before .loop .inv in
     let a = c .before .before .before .before .before in
-    (a .pre .0, i .1, a .pre .3, i .3)
+    (a .pre .0, i .1, a .pre .3, a .pre .4, i .3)
 
 enum-told : tie.Need-enum-told Inv-loop μ-loop
 enum-told c = search needs
@@ -48,7 +48,7 @@ returns : tie.Need-returns Inv-loop μ-loop
 returns c =
     let t = c .before .before .comes-next in
     let i = c .before .before .before .before .loop .inv in
-    λ k l e. ends-quiet (byExcess k) k _ _ _ _ _ _ (i .4 k l e) (t .ensures .1 k l _ (i .4 k l e .held) ∙ ap comesNext (c .enum-told .given .1))
+    λ k l u e. ends-quiet (byExcess k) k _ _ _ _ _ _ (i .4 k l u e) (t .ensures .1 k l u _ (i .4 k l u e .held) ∙ ap comesNext (c .enum-told .given .1))
 
 enum-told-2 : tie.Need-enum-told-2 Inv-loop μ-loop
 enum-told-2 c = search needs
@@ -63,7 +63,7 @@ returns-2 : tie.Need-returns-2 Inv-loop μ-loop
 returns-2 c =
     let t = c .before .before .comes-next in
     let i = c .before .before .before .before .loop .inv in
-    λ k l e. ends-stuck (byExcess k) k _ _ _ _ _ _ (i .4 k l e) _ _ (t .ensures .1 k l _ (i .4 k l e .held) ∙ ap comesNext (c .enum-told2 .given .1))
+    λ k l u e. ends-stuck (byExcess k) k _ _ _ _ _ _ (i .4 k l u e) _ _ (t .ensures .1 k l u _ (i .4 k l u e .held) ∙ ap comesNext (c .enum-told2 .given .1))
 
 enum-known-next : tie.Need-enum-known-next Inv-loop μ-loop
 enum-known-next c = search needs
@@ -79,7 +79,7 @@ returns-3 c =
     let m = c .before .before in
     let t = m .before .before .comes-next in
     let i = m .before .before .before .before .loop .inv in
-    λ k l e. ends-limit (byExcess k) k _ _ _ _ _ _ (i .4 k l e) _ _ (t .ensures .1 k l _ (i .4 k l e .held) ∙ ap comesNext (m .next .given .1)) (c .if1 .taken)
+    λ k l u e. ends-limit (byExcess k) k _ _ _ _ _ _ (i .4 k l u e) _ _ (t .ensures .1 k l u _ (i .4 k l u e .held) ∙ ap comesNext (m .next .given .1)) (c .if1 .taken)
 
 flip-requires : tie.Need-flip-requires Inv-loop μ-loop
 flip-requires c κs =
@@ -107,9 +107,9 @@ loop-again c =
       search needs,
       omega arith,
       record { code = w .code; word = _; lent = w .lent; held = f .flip .ensures .1 (w .code) (w .lent) (w .word) (w .held) },
-      λ k l e. goes-on (byExcess k) k _ _ _ _ _ _ (i .4 k l e) _ _
-          (t .ensures .1 k l _ (i .4 k l e .held) ∙ ap comesNext (m .next .given .1)) (d .if1 .left) _ _
-          (f .flip .ensures .0) (f .flip .ensures .1 k l _ (i .4 k l e .held)),
+      λ k l u e. goes-on (byExcess k) k _ _ _ _ _ _ (i .4 k l u e) _ _
+          (t .ensures .1 k l u _ (i .4 k l u e .held) ∙ ap comesNext (m .next .given .1)) (d .if1 .left) _ _
+          (f .flip .ensures .0) (f .flip .ensures .1 k l _ (i .4 k l u e .held)),
     )
 
 pub run-spec : {M : Type 1} → statement M
