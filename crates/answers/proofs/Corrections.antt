@@ -285,12 +285,13 @@ module _ (n : ℕ) (off : T (offered n)) (x : Word) (met : broken (code n) x ≡
   checks-are = fun-ext (check-same (code n) got (flipped x n₀) got-is)
 
   pub unsent-wrong : (limit : ℕ) (out : List ℕ) → length out ≡ code n .wordOctets → correctAnswer n (written (code n) x) limit out
-      ≡ record { number = 5; flips = 0; first = degreeOf (code n) n₀; last = degreeOf (code n) n₀; out = out }
+      ≡ record { number = 5; flips = 0; first = degreeOf (code n) n₀; last = degreeOf (code n) n₀; unlike = 0; out = out }
   unfolding ranCorrect
   unsent-wrong limit out lo =
       let pb : Published (code n) = published n off in
       correct-taken n (written (code n) x) limit out off (length-octets (code n .wordOctets) (sent (code n) x)) lo
       ∙ ap (λ r. ranCorrect (code n) got r out) (run-stuck (byExcess (code n)) limit got _ _
       (next-same (code n) got (flipped x n₀) checks-are ∙ unsent-stuck (code n) (pb .some) (pb .girth) x met n₀ h₀))
-      ∙ ap (λ z. record { number = 5; flips = 0; first = z; last = z; out = out })
+      ∙ ap₂ (λ z d. record { number = 5; flips = 0; first = z; last = z; unlike = d; out = out })
       (broken-same (code n) got (flipped x n₀) checks-are ∙ first-count (code n) (pb .girth) x met n₀ (omega (arith, pb .some)))
+      (differ-self (code n) got)
