@@ -13,7 +13,7 @@ use Rattle.rules.specs.Codes.{Code, bits, checks}
 use Rattle.rules.specs.Checks.{covers, check, broken, excess, brokenOf, metOf}
 use Rattle.rules.specs.Flipping.{quiet, stuck, flip, greatest, greatestSent, flipAbove, byExcess}
 use Rattle.rules.proofs.Flips.{broken-met, excess-is, sub-order}
-use Rattle.rules.proofs.Greatest.{greatest-has, greatest-is}
+use Rattle.rules.proofs.Greatest.{Greatest, greatest-has, greatest-is}
 use Rattle.rules.proofs.Ways.{Chooses, TakesGreatest, Girth, broken-shared, first-count}
 
 -- excess 0 is not flipped, so that a run ends
@@ -77,15 +77,11 @@ module _ (c : Code) (x : Word) where
           record { bit = is; value = val ∙ ap (excess c x) (sym is); above = subst (λ z. metOf c x z < brokenOf c x z) (sym is) (above-zero chosen f) }
       go false false e f = let w = next-by false false e f in let z : _≡_ {A = ℕ} 0 1 = cc in absurd (omega arith)
 
--- what is chosen is sent
+-- what is chosen is sent, and no bit that is sent is above it
 module _ (c : Code) (some : c .unsent < bits c) where
-  pub chosen-sent : (x : Word) → c .unsent ≤ chosen c x
+  pub chosen-greatest : (x : Word) → Greatest (c .unsent) (bits c - c .unsent) (excess c x) (chosen c x)
   unfolding greatestSent
-  chosen-sent x = greatest-has (c .unsent) (bits c - c .unsent) (excess c x) (omega arith) .from
-
-  pub chosen-lt : (x : Word) → chosen c x < bits c
-  unfolding greatestSent
-  chosen-lt x = omega (arith, greatest-has (c .unsent) (bits c - c .unsent) (excess c x) (omega arith) .under)
+  chosen-greatest x = greatest-has (c .unsent) (bits c - c .unsent) (excess c x) (omega arith)
 
   pub by-excess : Chooses c (byExcess c)
   by-excess = record {
@@ -93,7 +89,7 @@ module _ (c : Code) (some : c .unsent < bits c) where
     quiet-met = next-quiet c;
     flips = λ x n ex e.
         let f = next-flip c x n ex e in
-        record { sent = omega (arith, f .bit, chosen-sent x); under = omega (arith, f .bit, chosen-lt x); value = f .value; above = f .above };
+        record { sent = omega (arith, f .bit, chosen-greatest x .from); under = omega (arith, f .bit, chosen-greatest x .under); value = f .value; above = f .above };
   }
 
 pub by-greatest : (c : Code) → TakesGreatest c (byExcess c)
@@ -127,9 +123,10 @@ module _ (c : Code) (some : c .unsent < bits c) (girth : Girth c) (x : Word) (me
   not-above : ltZ (pos 0) (excess c wrong (chosen c wrong)) ≡ false
   not-above =
       let n = chosen c wrong in
-      let few : brokenOf c wrong n ≤ 1 = le-trans (le-of-eq (broken-shared c girth x met n₀ (omega arith) n)) (girth .few n n₀ (chosen-lt c some wrong) (omega arith) (λ q. omega (arith, chosen-sent c some wrong))) in
+      let under : n < bits c = omega (arith, chosen-greatest c some wrong .under) in
+      let few : brokenOf c wrong n ≤ 1 = le-trans (le-of-eq (broken-shared c girth x met n₀ (omega arith) n)) (girth .few n n₀ under (omega arith) (λ q. omega (arith, chosen-greatest c some wrong .from))) in
       ap (ltZ (pos 0)) (excess-is c wrong n) ∙ sub-order 0 0 (brokenOf c wrong n) (metOf c wrong n)
-      ∙ le-ltb (0 + metOf c wrong n) (brokenOf c wrong n + 0) (omega (arith, few, broken-met c wrong n, girth .many n (chosen-lt c some wrong)))
+      ∙ le-ltb (0 + metOf c wrong n) (brokenOf c wrong n + 0) (omega (arith, few, broken-met c wrong n, girth .many n under))
 
   pub unsent-stuck : byExcess c wrong ≡ stuck (chosen c wrong) (excess c wrong (chosen c wrong))
   unsent-stuck = stuck-next c wrong (λ e. omega (arith, sym (first-count c girth x met n₀ (omega arith)) ∙ e, girth .many n₀ (omega arith))) not-above
