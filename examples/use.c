@@ -54,7 +54,8 @@ int main(void)
 
     pandoricchia_corrected corrected = pandoricchia_correct(CODE, word, WORD, LIMIT, out, WORD);
     demand_done("correct", corrected.number);
-    printf("correct: %u flips, broken checks %u before and %u after\n", corrected.flips, corrected.first, corrected.last);
+    printf("correct: %u flips, broken checks %u before and %u after, %u bits unlike\n", corrected.flips, corrected.first,
+           corrected.last, corrected.unlike);
     print_octets("corrected", out, WORD);
 
     part = pandoricchia_open(CODE, out, WORD, &number);

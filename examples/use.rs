@@ -51,7 +51,8 @@ fn main() {
 
     let corrected = pandoricchia::correct(CODE, &word, LIMIT, &mut out);
     demand_done("correct", corrected.number);
-    println!("correct: {} flips, broken checks {} before and {} after", corrected.flips, corrected.first, corrected.last);
+    print!("correct: {} flips, broken checks {} before and {} after", corrected.flips, corrected.first, corrected.last);
+    println!(", {} bits unlike", corrected.unlike);
     print_octets("corrected", &out);
 
     match pandoricchia::open(CODE, &out) {

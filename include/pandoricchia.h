@@ -28,7 +28,7 @@
 extern "C" {
 #endif
 
-#define PANDORICCHIA_VERSION "0.2.0"
+#define PANDORICCHIA_VERSION "0.3.0"
 
 /* The table above; for a code number that is not known until the program runs there are two calls below. */
 #define PANDORICCHIA_WORD_OCTETS_1 16
@@ -115,16 +115,18 @@ pandoricchia_checked pandoricchia_check(uint8_t code, const uint8_t *word, size_
 size_t pandoricchia_open(uint8_t code, const uint8_t *word, size_t word_len, uint8_t *number);
 
 typedef struct pandoricchia_corrected {
-    uint8_t number;  /* 0 to 3 or 5 to 8 */
-    uint32_t flips;  /* how many flips the run made: never more than the limit, nor than first */
-    uint32_t first;  /* broken checks of the word as received */
-    uint32_t last;   /* broken checks at the end of the run */
+    uint8_t number;   /* 0 to 3 or 5 to 8 */
+    uint32_t flips;   /* how many flips the run made: never more than the limit, nor than first */
+    uint32_t first;   /* broken checks of the word as received */
+    uint32_t last;    /* broken checks at the end of the run */
+    uint32_t unlike;  /* in how many bits the word as received and the word at the end differ: never more than flips */
 } pandoricchia_corrected;
 
 /* Correct: flips the bit of greatest excess, which is the number of its broken checks less that of its met ones, and of
  * several the lowest bit; again and again, until no check is broken (quiet), or no bit has an excess above 0, or limit
- * flips are made. On 0 out is a codeword. Refusals 1 to 3 return all other values as 0, refusals 5 to 8 the flips made
- * and the true counts. */
+ * flips are made. On 0 out is a codeword. A run may flip a bit and later flip it back: unlike counts the bits that really
+ * differ at its end, of those that the checks are over; code 5's unsent bits are among them, its last two are not.
+ * Refusals 1 to 3 return all other values as 0, refusals 5 to 8 the flips made, the true counts, and unlike as it stands. */
 pandoricchia_corrected pandoricchia_correct(uint8_t code, const uint8_t *word, size_t word_len, uint16_t limit,
                                             uint8_t *out, size_t out_len);
 

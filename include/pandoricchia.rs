@@ -7,7 +7,7 @@
 //!
 //! and `rustc -L target/staticlib -l static=pandoricchia`.
 
-pub const VERSION: &str = "0.2.0";
+pub const VERSION: &str = "0.3.0";
 
 /// Octets of a word and of its information, by code number; there is no code 0.
 pub const WORD_OCTETS: [usize; 6] = [0, 16, 32, 64, 1022, 1020];
@@ -38,6 +38,7 @@ pub struct Corrected {
     pub flips: u32,
     pub first: u32,
     pub last: u32,
+    pub unlike: u32,
 }
 
 #[repr(C)]
@@ -112,6 +113,7 @@ pub fn open(code: u8, word: &[u8]) -> Result<&[u8], u8> {
 }
 
 /// Flips the bit of greatest excess until no check is broken, or no bit has an excess above 0, or the limit is reached.
+/// `unlike` counts the bits in which the word as received and the word at the end differ.
 #[must_use]
 pub fn correct(code: u8, word: &[u8], limit: u16, out: &mut [u8]) -> Corrected {
     unsafe { pandoricchia_correct(code, word.as_ptr(), word.len(), limit, out.as_mut_ptr(), out.len()) }

@@ -98,7 +98,8 @@ static void test_addresses(void)
             size_t part = pandoricchia_open(code, word + (15 - at), n, &number);
             expect(code == 4 ? number == 1 && part == 0 : number == 0 && part == info, "open", code);
             word[15 - at + 3] ^= 0x10;
-            expect(pandoricchia_correct(code, word + (15 - at), n, 1, out + at, n).flips == 1, "correct", code);
+            pandoricchia_corrected mended = pandoricchia_correct(code, word + (15 - at), n, 1, out + at, n);
+            expect(mended.flips == 1 && mended.unlike == 1, "correct", code);
             expect(memcmp(out + at, first, n) == 0, "correct's octets", code);
             memset(out, 0, sizeof out);
             expect(pandoricchia_step(code, word + (15 - at), n, out + at, n).number == (code == 5 ? 1 : 0), "step", code);

@@ -37,7 +37,7 @@ pandoricchia_corrected pandoricchia_correct(uint8_t code, const uint8_t *word, s
                                             uint8_t *out, size_t out_len)
 {
     struct judge_corrected a = judge_correct(code, word, len, limit, out, out_len);
-    return (pandoricchia_corrected){a.number, a.flips, a.first, a.last};
+    return (pandoricchia_corrected){a.number, a.flips, a.first, a.last, a.unlike};
 }
 
 pandoricchia_stepped pandoricchia_step(uint8_t code, const uint8_t *word, size_t len, uint8_t *out, size_t out_len)
@@ -51,12 +51,14 @@ enum call { ENCODE, CHECK, OPEN, CORRECT, STEP, CALLS };
 
 static const char *const call_names[CALLS] = {"encode", "check", "open", "correct", "step"};
 
+enum { VALUES = 4 };
+
 /* What an answer's values are, besides the number. */
-static const char *const value_names[CALLS][3] = {
-    {NULL, NULL, NULL},
-    {"broken", NULL, NULL},
-    {"part", NULL, NULL},
-    {"flips", "first", "last"},
+static const char *const value_names[CALLS][VALUES] = {
+    {NULL},
+    {"broken"},
+    {"part"},
+    {"flips", "first", "last", "unlike"},
     {"quiet", "bit", "excess"},
 };
 
@@ -84,7 +86,7 @@ struct question {
 
 struct answer {
     uint8_t number;
-    int64_t value[3];
+    int64_t value[VALUES];
 };
 
 static struct answer ask_judge(const struct question *q, const uint8_t *input, uint8_t *out)
@@ -96,7 +98,7 @@ static struct answer ask_judge(const struct question *q, const uint8_t *input, u
         break;
     case CHECK: {
         struct judge_checked r = judge_check(q->code, input, q->len);
-        a = (struct answer){r.number, {r.broken, 0, 0}};
+        a = (struct answer){r.number, {r.broken}};
         break;
     }
     case OPEN:
@@ -105,7 +107,7 @@ static struct answer ask_judge(const struct question *q, const uint8_t *input, u
         break;
     case CORRECT: {
         struct judge_corrected r = judge_correct(q->code, input, q->len, q->limit, out, q->out_len);
-        a = (struct answer){r.number, {r.flips, r.first, r.last}};
+        a = (struct answer){r.number, {r.flips, r.first, r.last, r.unlike}};
         break;
     }
     default: {
@@ -125,7 +127,7 @@ static struct answer ask_library(const struct question *q, const uint8_t *input,
         break;
     case CHECK: {
         pandoricchia_checked r = pandoricchia_check(q->code, input, q->len);
-        a = (struct answer){r.number, {r.broken, 0, 0}};
+        a = (struct answer){r.number, {r.broken}};
         break;
     }
     case OPEN:
@@ -134,7 +136,7 @@ static struct answer ask_library(const struct question *q, const uint8_t *input,
         break;
     case CORRECT: {
         pandoricchia_corrected r = pandoricchia_correct(q->code, input, q->len, q->limit, out, q->out_len);
-        a = (struct answer){r.number, {r.flips, r.first, r.last}};
+        a = (struct answer){r.number, {r.flips, r.first, r.last, r.unlike}};
         break;
     }
     default: {
@@ -178,7 +180,7 @@ static void flip(uint8_t *octets, unsigned bit)
 /* How often each number was answered, and the greatest values, for the summaries. */
 struct tally {
     unsigned long compared, numbers[256];
-    int64_t greatest[3];
+    int64_t greatest[VALUES];
 };
 
 static unsigned long compared_in_all;
@@ -194,7 +196,7 @@ static void print_octets(const char *name, const uint8_t *octets, size_t len)
 static void print_answer(const char *who, const struct question *q, const struct answer *a)
 {
     printf("  %s: number %u", who, a->number);
-    for (unsigned k = 0; k < 3 && value_names[q->call][k] != NULL; k++)
+    for (unsigned k = 0; k < VALUES && value_names[q->call][k] != NULL; k++)
         printf(", %s %" PRId64, value_names[q->call][k], a->value[k]);
     printf("\n");
 }
@@ -249,7 +251,7 @@ static void compare(const struct question *q, struct tally *tally)
         fail(what, q, &judge, &library, before + out_at, judge_room + out_at, library_room + out_at);
     tally->compared++;
     tally->numbers[judge.number]++;
-    for (unsigned k = 0; k < 3; k++)
+    for (unsigned k = 0; k < VALUES; k++)
         if (judge.value[k] > tally->greatest[k])
             tally->greatest[k] = judge.value[k];
     compared_in_all++;
@@ -553,7 +555,7 @@ static void print_tally(enum call call, const char *codes, const struct tally *t
     for (unsigned number = 0; number < 256; number++)
         if (tally->numbers[number] > 0)
             printf(" %u: %lu", number, tally->numbers[number]);
-    for (unsigned k = 0; k < 3 && value_names[call][k] != NULL; k++)
+    for (unsigned k = 0; k < VALUES && value_names[call][k] != NULL; k++)
         printf("%s %s %" PRId64, k == 0 ? "; greatest" : ",", value_names[call][k], tally->greatest[k]);
     printf("\n");
 }

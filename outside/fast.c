@@ -355,6 +355,23 @@ size_t fast_open(uint8_t code, const uint8_t *word, size_t len, uint8_t *number)
     return info_octets[code];
 }
 
+/* In how many bits y differs from the octets it was taken from. Code 5's last two are the same in both. */
+LEAF uint32_t unlike(uint8_t code, const uint8_t *octets, size_t len, const uint64_t *y)
+{
+    unsigned from = code == 5 ? 18 : 0;
+    uint32_t n = code == 5 ? ones(y[0] >> 46) : 0;
+    size_t k = 0;
+    for (; k < len / 8; k++) {
+        uint64_t v;
+        memcpy(&v, octets + 8 * k, 8);
+        n += ones(__builtin_bswap64(v) ^ funnel(y[k], y[k + 1], from));
+    }
+    uint64_t last = funnel(y[k], y[k + 1], from);
+    for (size_t i = 8 * k; i < len; i++)
+        last ^= (uint64_t)octets[i] << (56 - 8 * (i % 8));
+    return n + ones(last);
+}
+
 struct judge_corrected fast_correct(uint8_t code, const uint8_t *word, size_t len, uint16_t limit, uint8_t *out,
                                     size_t out_len)
 {
@@ -370,6 +387,8 @@ struct judge_corrected fast_correct(uint8_t code, const uint8_t *word, size_t le
     answer.number = run(y, s, h, sh, code == 5 ? 18 : 0, limit, &answer.flips); \
     answer.last = broken(s, sh)
     FOR_CODE(code, RUN)
+    if (answer.flips != 0)
+        answer.unlike = unlike(code, word, len, y);
     if (answer.number == 0 && code >= 4 && !own_parity(y))
         answer.number = 8;
     if (answer.number == 0)

@@ -400,6 +400,43 @@ static uint8_t refused(uint8_t code, size_t len, size_t out_len)
     return out_len != c->word_octets ? 3 : 0;
 }
 
+/* The run, from x to the word at its end: 0 where that is quiet, 5 or 6; the flips made, and the broken checks left. */
+static uint8_t run(const struct code *c, unsigned char *x, uint16_t limit, uint32_t *flips, uint32_t *last)
+{
+    unsigned char broken[MOST_CHECKS];
+    for (*flips = 0;; ++*flips) {
+        *last = check_all(c, x, broken);
+        if (*last == 0)
+            return 0;
+        int excess;
+        unsigned bit = choose(c, broken, &excess);
+        if (excess <= 0)
+            return 5;
+        if (*flips == limit)
+            return 6;
+        x[bit] ^= 1;
+    }
+}
+
+/* What is refused after a quiet end: an unsent bit that is 1, then parity that is not the encoder's. */
+static uint8_t refused_quiet(uint8_t code, const struct code *c, const unsigned char *x)
+{
+    for (unsigned n = 0; n < c->unsent; n++)
+        if (x[n])
+            return 7;
+    return (code == 4 || code == 5) && !parity_is_the_encoders(c, x) ? 8 : 0;
+}
+
+/* In how many of the bits that the checks are over two words differ. */
+static uint32_t count_unlike(const struct code *c, const unsigned char *x, const unsigned char *y)
+{
+    uint32_t count = 0;
+    for (unsigned n = 0; n < c->bits; n++)
+        if (x[n] != y[n])
+            count++;
+    return count;
+}
+
 struct judge_corrected judge_correct(uint8_t code, const uint8_t *word, size_t len, uint16_t limit, uint8_t *out,
                                      size_t out_len)
 {
@@ -408,37 +445,16 @@ struct judge_corrected judge_correct(uint8_t code, const uint8_t *word, size_t l
     if (answer.number != 0)
         return answer;
     const struct code *c = code_of(code);
-    unsigned char x[MOST_BITS], broken[MOST_CHECKS];
-    lift(c, word, c->bits, x);
-    answer.first = check_all(c, x, broken);
-    for (;;) {
-        answer.last = check_all(c, x, broken);
-        if (answer.last == 0)
-            break;
-        int excess;
-        unsigned bit = choose(c, broken, &excess);
-        if (excess <= 0) {
-            answer.number = 5;
-            return answer;
-        }
-        if (answer.flips == limit) {
-            answer.number = 6;
-            return answer;
-        }
-        x[bit] ^= 1;
-        answer.flips++;
-    }
-    for (unsigned n = 0; n < c->unsent; n++) {
-        if (x[n]) {
-            answer.number = 7;
-            return answer;
-        }
-    }
-    if ((code == 4 || code == 5) && !parity_is_the_encoders(c, x)) {
-        answer.number = 8;
-        return answer;
-    }
-    send_word(c, x, out);
+    unsigned char received[MOST_BITS], x[MOST_BITS], broken[MOST_CHECKS];
+    lift(c, word, c->bits, received);
+    answer.first = check_all(c, received, broken);
+    memcpy(x, received, c->bits);
+    answer.number = run(c, x, limit, &answer.flips, &answer.last);
+    answer.unlike = count_unlike(c, received, x);
+    if (answer.number == 0)
+        answer.number = refused_quiet(code, c, x);
+    if (answer.number == 0)
+        send_word(c, x, out);
     return answer;
 }
 

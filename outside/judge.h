@@ -15,7 +15,7 @@ struct judge_checked {
 
 struct judge_corrected {
     uint8_t number;
-    uint32_t flips, first, last;
+    uint32_t flips, first, last, unlike;
 };
 
 struct judge_stepped {

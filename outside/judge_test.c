@@ -106,9 +106,9 @@ static struct judge_corrected correct(uint8_t code, const uint8_t *word, uint16_
     return judge_correct(code, word, word_octets[code], limit, out, word_octets[code]);
 }
 
-static bool are(struct judge_corrected a, uint8_t number, uint32_t flips, uint32_t first, uint32_t last)
+static bool are(struct judge_corrected a, uint8_t number, uint32_t flips, uint32_t first, uint32_t last, uint32_t unlike)
 {
-    return a.number == number && a.flips == flips && a.first == first && a.last == last;
+    return a.number == number && a.flips == flips && a.first == first && a.last == last && a.unlike == unlike;
 }
 
 /* Exactly these checks are broken, and check counts them. */
@@ -144,9 +144,9 @@ static void starred_cases(void)
     EXPECT(s.number == 0 && !s.quiet && s.bit == 0 && s.excess == 5);
     EXPECT(all_are(out, 0, 16));
     memset(out, 0x5A, sizeof out);
-    EXPECT(are(correct(1, word, 0, out), 6, 0, 5, 5));
+    EXPECT(are(correct(1, word, 0, out), 6, 0, 5, 5, 0));
     EXPECT(all_are(out, 0x5A, 16));
-    EXPECT(are(correct(1, word, 1, out), 0, 1, 5, 0));
+    EXPECT(are(correct(1, word, 1, out), 0, 1, 5, 0, 1));
     EXPECT(all_are(out, 0, 16));
     end();
 
@@ -174,8 +174,8 @@ static void starred_cases(void)
         flip(word, bit);
     EXPECT(broken_are(4, word, NULL, 0));
     memset(out, 0x5A, sizeof out);
-    EXPECT(are(correct(4, word, 65535, out), 8, 0, 0, 0));
-    EXPECT(are(correct(4, word, 0, out), 8, 0, 0, 0));
+    EXPECT(are(correct(4, word, 65535, out), 8, 0, 0, 0, 0));
+    EXPECT(are(correct(4, word, 0, out), 8, 0, 0, 0, 0));
     EXPECT(all_are(out, 0x5A, sizeof out));
     end();
 
@@ -183,14 +183,14 @@ static void starred_cases(void)
     memset(word, 0, sizeof word);
     word[0] = 0x80;
     memset(out, 0x5A, sizeof out);
-    EXPECT(are(judge_correct(1, word, 15, 9, out, 16), 2, 0, 0, 0));
-    EXPECT(are(judge_correct(1, word, 16, 9, out, 17), 3, 0, 0, 0));
+    EXPECT(are(judge_correct(1, word, 15, 9, out, 16), 2, 0, 0, 0, 0));
+    EXPECT(are(judge_correct(1, word, 16, 9, out, 17), 3, 0, 0, 0, 0));
     for (uint8_t code = 0; code <= 6; code += 6) {
         EXPECT(judge_encode(code, info, 8, out, 16) == 1);
         struct judge_checked c = judge_check(code, word, 16);
         EXPECT(c.number == 1 && c.broken == 0);
         EXPECT(judge_open(code, word, 16, &number) == 0 && number == 1);
-        EXPECT(are(judge_correct(code, word, 16, 9, out, 16), 1, 0, 0, 0));
+        EXPECT(are(judge_correct(code, word, 16, 9, out, 16), 1, 0, 0, 0, 0));
         s = judge_step(code, word, 16, out, 16);
         EXPECT(s.number == 1 && !s.quiet && s.bit == 0 && s.excess == 0);
     }
@@ -272,7 +272,7 @@ static void other_cases(void)
         if (bit_of(word, bit))
             flip(sent, bit - 18);
     memset(out, 0x5A, sizeof out);
-    EXPECT(are(correct(5, sent, 1, out), 5, 0, 4, 4));
+    EXPECT(are(correct(5, sent, 1, out), 5, 0, 4, 4, 0));
     EXPECT(all_are(out, 0x5A, sizeof out));
     end();
 
@@ -287,7 +287,7 @@ static void other_cases(void)
                 word[i] ^= solution[check][i];
             EXPECT(broken_are(code, word, &check, 1));
             memset(out, 0x5A, sizeof out);
-            EXPECT(are(correct(code, word, (uint16_t)below(65536), out), 5, 0, 1, 1));
+            EXPECT(are(correct(code, word, (uint16_t)below(65536), out), 5, 0, 1, 1, 0));
             struct judge_stepped s = judge_step(code, word, word_octets[code], out, word_octets[code]);
             EXPECT(s.number == 5 && !s.quiet && s.bit == 0 && s.excess == 0);
             EXPECT(all_are(out, 0x5A, sizeof out));
@@ -300,9 +300,26 @@ static void other_cases(void)
     begin("the two lines of the bench program");
     memset(word, 0, sizeof word);
     word[0] = 0x80;
-    EXPECT(are(correct(1, word, 10, out), 0, 1, 5, 0));
+    EXPECT(are(correct(1, word, 10, out), 0, 1, 5, 0, 1));
     word[0] = 0;
-    EXPECT(are(correct(1, word, 10, out), 0, 0, 0, 0));
+    EXPECT(are(correct(1, word, 10, out), 0, 0, 0, 0, 0));
+    end();
+
+    /* The auditor's two words of code 1: zeros with these bits wrong. */
+    begin("fewer bits unlike than flips");
+    static const unsigned seven[] = {0, 20, 40, 60, 80, 100, 120}, nine[] = {1, 31, 34, 72, 90, 99, 105, 119, 124};
+    memset(word, 0, sizeof word);
+    for (unsigned k = 0; k < 7; k++)
+        flip(word, seven[k]);
+    EXPECT(are(correct(1, word, 65535, out), 0, 9, 23, 0, 7));
+    EXPECT(all_are(out, 0, 16));
+    EXPECT(are(correct(1, word, 6, out), 6, 6, 23, 7, 6));
+    EXPECT(are(correct(1, word, 7, out), 6, 7, 23, 6, 5));
+    memset(word, 0, sizeof word);
+    for (unsigned k = 0; k < 9; k++)
+        flip(word, nine[k]);
+    EXPECT(are(correct(1, word, 65535, out), 0, 9, 23, 0, 9));
+    EXPECT(!all_are(out, 0, 16));
     end();
 }
 
@@ -349,7 +366,7 @@ static void encoded_words(void)
                 EXPECT(memcmp(info, word, info_octets[code]) == 0);
             }
             memset(out, 0x5A, sizeof out);
-            EXPECT(are(correct(code, word, (uint16_t)below(3), out), 0, 0, 0, 0));
+            EXPECT(are(correct(code, word, (uint16_t)below(3), out), 0, 0, 0, 0, 0));
             EXPECT(memcmp(out, word, word_octets[code]) == 0);
             if (code != 5) {
                 memset(out, 0x5A, sizeof out);
@@ -376,9 +393,9 @@ static void one_wrong_bit(uint8_t code, unsigned bit)
     flip(wrong, bit);
     memset(out, 0x5A, sizeof out);
     uint16_t limit = below(2) ? 1 : (uint16_t)(1 + below(65535));
-    EXPECT(are(correct(code, wrong, limit, out), 0, 1, degree(code, bit), 0));
+    EXPECT(are(correct(code, wrong, limit, out), 0, 1, degree(code, bit), 0, 1));
     EXPECT(memcmp(out, word, word_octets[code]) == 0);
-    EXPECT(are(correct(code, wrong, 0, out), 6, 0, degree(code, bit), degree(code, bit)));
+    EXPECT(are(correct(code, wrong, 0, out), 6, 0, degree(code, bit), degree(code, bit), 0));
     if (code != 4)
         EXPECT(judge_open(code, wrong, word_octets[code], &number) == 0 && number == 9);
     if (code != 5) {
@@ -416,7 +433,7 @@ static void wrong_bits(void)
         wrong[1019] |= (uint8_t)(1 + turn % 3);
         EXPECT(judge_check(5, wrong, 1020).broken == 0);
         EXPECT(judge_open(5, wrong, 1020, &number) == 0 && number == 9);
-        EXPECT(are(correct(5, wrong, 0, out), 0, 0, 0, 0));
+        EXPECT(are(correct(5, wrong, 0, out), 0, 0, 0, 0, 0));
         EXPECT(memcmp(out, word, 1020) == 0);
     }
     end();
@@ -479,9 +496,9 @@ static void inverted_blocks(void)
                     flip(word, info_bits[code] + k);
             EXPECT(judge_check(code, word, word_octets[code]).broken == 0);
             memset(out, 0x5A, sizeof out);
-            EXPECT(are(correct(code, word, 65535, out), 8, 0, 0, 0));
+            EXPECT(are(correct(code, word, 65535, out), 8, 0, 0, 0, 0));
             flip(word, below(covered_bits[code]));
-            EXPECT(are(correct(code, word, 1, out), 8, 1, 4, 0));
+            EXPECT(are(correct(code, word, 1, out), 8, 1, 4, 0, 1));
             EXPECT(all_are(out, 0x5A, sizeof out));
             if (code == 5)
                 EXPECT(judge_open(5, word, 1020, &number) == 0 && number == 9);
@@ -490,8 +507,18 @@ static void inverted_blocks(void)
     end();
 }
 
+/* In how many of the bits that are sent and covered two words differ. */
+static uint32_t differing(uint8_t code, const uint8_t *a, const uint8_t *b)
+{
+    uint32_t count = 0;
+    for (unsigned bit = 0; bit < covered_bits[code]; bit++)
+        count += bit_of(a, bit) != bit_of(b, bit);
+    return count;
+}
+
 /* Whatever the word: flips within the limit and the first count, each flip mending at least one check more than it
- * breaks, two where every bit lies in an even number of checks; true counts; and the flips that step makes. */
+ * breaks, two where every bit lies in an even number of checks; true counts; the flips that step makes, and the bits in
+ * which they leave the word unlike. */
 static void bounds(uint8_t code, const uint8_t *word, uint16_t limit)
 {
     size_t len = word_octets[code];
@@ -502,12 +529,13 @@ static void bounds(uint8_t code, const uint8_t *word, uint16_t limit)
     EXPECT(a.flips <= limit);
     EXPECT(a.last + least * a.flips <= a.first);
     EXPECT(a.first == judge_check(code, word, len).broken);
+    EXPECT(a.unlike <= a.flips && a.unlike % 2 == a.flips % 2);
     EXPECT(a.number == 0 || a.number == 5 || a.number == 6 || a.number == 8);
     EXPECT((a.last == 0) == (a.number == 0 || a.number == 8));
     EXPECT(a.number != 6 || a.flips == limit);
     EXPECT(a.number != 8 || code >= 4);
     if (a.number == 0)
-        EXPECT(judge_check(code, out, len).broken == 0);
+        EXPECT(judge_check(code, out, len).broken == 0 && a.unlike == differing(code, word, out));
     else
         EXPECT(all_are(out, 0x5A, sizeof out));
     if (a.number == 0 && code != 4) {
@@ -526,6 +554,7 @@ static void bounds(uint8_t code, const uint8_t *word, uint16_t limit)
         left -= (uint32_t)s.excess;
     }
     EXPECT(left == a.last);
+    EXPECT(a.unlike == differing(code, word, now));
     EXPECT(a.number != 0 || memcmp(now, out, len) == 0);
     memset(next, 0x5A, sizeof next);
     struct judge_stepped s = judge_step(code, now, len, next, len);

@@ -24,7 +24,7 @@ def build(name, *words):
 
 
 class Corrected(ctypes.Structure):
-    _fields_ = [("number", ctypes.c_uint8), ("flips", ctypes.c_uint32), ("first", ctypes.c_uint32), ("last", ctypes.c_uint32)]
+    _fields_ = [("number", ctypes.c_uint8)] + [(name, ctypes.c_uint32) for name in ("flips", "first", "last", "unlike")]
 
 
 class Stepped(ctypes.Structure):

@@ -291,12 +291,12 @@ corrects9 out lo =
     (ap (λ r. r .number) e ∙ eight, ap (λ r. r .flips) e, ap (λ r. r .first) e ∙ block-met, ap (λ r. r .last) e ∙ block-met)
 
 -- code 1, only bit 0 set: its five checks are broken, and one flip mends it
-only-first : (out : List ℕ) → length out ≡ 16 → correctAnswer 1 (only 16 0) 1 out ≡ record { number = 0; flips = 1; first = 5; last = 0; out = replicate 16 0 }
+only-first : (out : List ℕ) → length out ≡ 16 → correctAnswer 1 (only 16 0) 1 out ≡ record { number = 0; flips = 1; first = 5; last = 0; unlike = 1; out = replicate 16 0 }
 unfolding code code1 parity16
 only-first out lo =
     ap (λ w. correctAnswer 1 w 1 out) (only-wrong 1 tt 0)
     ∙ one-back 1 tt (replicate 16 0) out refl lo (zeros-octets 1 tt) (zeros-codeword 1 tt) 0 0 (lit< tt)
-    ∙ ap (λ d. record { number = 0; flips = 1; first = d; last = 0; out = replicate 16 0 }) degree1
+    ∙ ap (λ d. record { number = 0; flips = 1; first = d; last = 0; unlike = 1; out = replicate 16 0 }) degree1
 
 corrects11 : Holds (corrects 1 (only 16 0) 1 0 1 5 0)
 unfolding code code1

@@ -5,8 +5,8 @@ use Prim.Native.Nat.{ℕ, _%_}
 use lib.Dec.{eqb, leb, ltb}
 use lib.ListN.{length, getD, take}
 use lib.IntN.{ℤ, pos}
-use Rattle.bits.specs.Bits.{Word, bit, count, flipped, if_then_else_}
-use Rattle.rules.specs.Codes.{Code, code, offered}
+use Rattle.bits.specs.Bits.{Word, bit, count, _⊕_, flipped, if_then_else_}
+use Rattle.rules.specs.Codes.{Code, bits, code, offered}
 use Rattle.rules.specs.Checks.{broken}
 use Rattle.rules.specs.Encoding.{lifted, sent, encoded, codeword, written}
 use Rattle.rules.specs.Flipping.{Next, quiet, stuck, flip, byExcess, Run, run}
@@ -83,12 +83,14 @@ unfoldable pub openAnswer : ℕ → List ℕ → Opened
 openAnswer n word =
     unless (refusal (offered n && not (eqb n 4)) (length word) (code n .wordOctets) 0 0) refusedOpen (openedFrom n word)
 
--- Correct: received word, limit, output word. Gives number, flips, broken checks at the start, broken checks at the end.
+-- Correct: received word, limit, output word. Gives number, flips, broken checks at the start, broken checks at the end,
+-- and in how many bits the received and the final word differ.
 pub record Corrected : Type 0 where
   pub number : ℕ
   pub flips : ℕ
   pub first : ℕ
   pub last : ℕ
+  pub unlike : ℕ
   pub out : List ℕ
 
 -- After a quiet end: an unsent bit that is 1 gives refusal 7; then parity unlike the encoder's gives refusal 8.
@@ -99,9 +101,13 @@ judged c r =
     else if not (codeword c (sent c (r .word))) then 8
     else 0
 
+-- How many of the bits that the checks are over differ: code 5's unsent bits are counted, its two last bits are not.
+abbrev pub differing : Code → Word → Word → ℕ
+differing c x y = count (bits c) (λ n. x n ⊕ y n)
+
 -- Refusals 1 to 4 return all other numbers as 0; refusals 5 to 8 return the flips made and the true counts. On 0 the output is written whole.
 abbrev pub refusedCorrect : List ℕ → ℕ → Corrected
-refusedCorrect out number = record { number = number; flips = 0; first = 0; last = 0; out = out }
+refusedCorrect out number = record { number = number; flips = 0; first = 0; last = 0; unlike = 0; out = out }
 
 unfoldable pub ranCorrect : Code → Word → Run → List ℕ → Corrected
 ranCorrect c x r out =
@@ -110,6 +116,7 @@ ranCorrect c x r out =
       flips = length (r .flips);
       first = broken c x;
       last = broken c (r .word);
+      unlike = differing c x (r .word);
       out = if eqb (judged c r) 0 then written c (r .word) else out;
     }
 

@@ -11,7 +11,8 @@ use Rattle.rules.specs.Codes.{Code, code, bits}
 use Rattle.rules.specs.Checks.{broken}
 use Rattle.rules.specs.Encoding.{lifted, written}
 use Rattle.rules.specs.Flipping.{Next as NextOf, byExcess, run}
-use Rattle.answers.specs.Calls.{judged, ranCorrect, nextStep, ranFrom, steppedFrom}
+use Rattle.answers.specs.Calls.{differing, judged, ranCorrect, nextStep, ranFrom, steppedFrom}
+use Rattle.rules.proofs.Runs.{no-flips}
 use Rattle.rules.proofs.Ways.{run-met}
 use Rattle.rules.proofs.Choosing.{by-excess}
 use Rattle.rules.proofs.Codewords.{lifted-unsent}
@@ -22,6 +23,7 @@ use Rattle.measured.specs.Measured.{Measured}
 use Rattle.runs.specs.declared.Ran.{Ran}
 use Rattle.runs.specs.declared.Next.{Next}
 use Rattle.runs.specs.Turns.{Holding, RunsTo, comesNext}
+use Rattle.codes.specs.Ends.{EndsAt}
 
 
 module _ (n : ℕ) (word t : List ℕ) (y s : Word) (sh : Shape) (m : Measured n word t y s sh) where
@@ -49,15 +51,31 @@ module _ (n : ℕ) (word t : List ℕ) (y s : Word) (sh : Shape) (m : Measured n
         ap (λ z. z k) (sym ran-word)
         ∙ unsent-stay (code n) (by-excess (code n) some) limit (lifted (code n) (bit word)) (lifted-unsent (code n) (bit word)) k h
 
-    module _ (first last number : ℕ)
+    -- where no flip was made it is the received word
+    pub ran-ends : code n .unsent < bits (code n) → EndsAt (code n) (bit word) y′ (ran .flips)
+    ran-ends some = record {
+      same = λ e. sym ran-word ∙ no-flips (byExcess (code n)) limit (lifted (code n) (bit word)) (sym (to .flips ∙ ap (λ r. length (r .flips)) same-run) ∙ e);
+      unsent = ran-unsent some;
+    }
+
+    module _ (first last number unlike : ℕ)
         (at-first : (c : Code) (h : List ℕ) (sh : Shape) (x : Word) → Fit h sh → Lent c h sh → s ≡ laid c sh x → first ≡ broken c x)
         (at-last : (c : Code) (h : List ℕ) (sh : Shape) (x : Word) → Fit h sh → Lent c h sh → s′ ≡ laid c sh x → last ≡ broken c x)
-        (judge : number ≡ judged (code n) (run (byExcess (code n)) limit (lifted (code n) (bit word)))) (out out′ : List ℕ)
+        (judge : number ≡ judged (code n) (run (byExcess (code n)) limit (lifted (code n) (bit word)))) (differs : unlike ≡ differing (code n) (lifted (code n) (bit word)) y′) (out out′ : List ℕ)
         (wrote : out′ ≡ (if eqb number 0 then written (code n) y′ else out)) where
-      pub corrected-is : record { number = number; flips = ran .flips; first = first; last = last; out = out′ } ≡ ranFrom n word limit out
+      pub corrected-is : record { number = number; flips = ran .flips; first = first; last = last; unlike = unlike; out = out′ } ≡ ranFrom n word limit out
       unfolding ranCorrect
       corrected-is =
-          ap₂ (λ a b. record { number = number; flips = ran .flips; first = a; last = b; out = out′ })
+          ap (λ d. record { number = number; flips = ran .flips; first = first; last = last; unlike = d; out = out′ })
+          (differs ∙ ap (differing (code n) (lifted (code n) (bit word))) (sym ran-word))
+          ∙ ap₂ (λ a b. record {
+            number = number;
+            flips = ran .flips;
+            first = a;
+            last = b;
+            unlike = differing (code n) (lifted (code n) (bit word)) (run (byExcess (code n)) limit (lifted (code n) (bit word)) .word);
+            out = out′;
+          })
           (at-first (code n) t sh y (m .lends .fit) (m .lends .lent) (m .held) ∙ ap (broken (code n)) (m .bits))
           (at-last (code n) t sh y′ (m .lends .fit) (m .lends .lent) (to .held) ∙ ap (broken (code n)) (sym ran-word))
           ∙ ap₂ (λ a b. record {
@@ -65,6 +83,7 @@ module _ (n : ℕ) (word t : List ℕ) (y s : Word) (sh : Shape) (m : Measured n
             flips = a;
             first = broken (code n) (lifted (code n) (bit word));
             last = broken (code n) (run (byExcess (code n)) limit (lifted (code n) (bit word)) .word);
+            unlike = differing (code n) (lifted (code n) (bit word)) (run (byExcess (code n)) limit (lifted (code n) (bit word)) .word);
             out = b;
           })
           (to .flips ∙ ap (λ r. length (r .flips)) same-run)
@@ -74,6 +93,7 @@ module _ (n : ℕ) (word t : List ℕ) (y s : Word) (sh : Shape) (m : Measured n
             flips = length (run (byExcess (code n)) limit (lifted (code n) (bit word)) .flips);
             first = broken (code n) (lifted (code n) (bit word));
             last = broken (code n) (run (byExcess (code n)) limit (lifted (code n) (bit word)) .word);
+            unlike = differing (code n) (lifted (code n) (bit word)) (run (byExcess (code n)) limit (lifted (code n) (bit word)) .word);
             out = if eqb a 0 then written (code n) (run (byExcess (code n)) limit (lifted (code n) (bit word)) .word) else out;
           })
           judge

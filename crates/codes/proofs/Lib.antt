@@ -1,4 +1,5 @@
 pub mod Admitted
 pub mod Encoding
+pub mod Counted
 pub mod Correcting
 pub mod Outcomes

@@ -17,7 +17,7 @@ asOpened number part = record { number = number; part = part }
 
 -- the output octets afterwards are part of the answer
 abbrev pub asCorrected : Corrected → List ℕ → CorrectedAnswer
-asCorrected r out = record { number = r .number; flips = r .flips; first = r .first; last = r .last; out = out }
+asCorrected r out = record { number = r .number; flips = r .flips; first = r .first; last = r .last; unlike = r .unlike; out = out }
 
 abbrev pub asStepped : Stepped → List ℕ → SteppedAnswer
 asStepped r out = record { number = r .number; quiet = r .quiet; bit = r .bit; excess = r .excess; out = out }

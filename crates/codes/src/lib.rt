@@ -7,8 +7,10 @@ ghost use lib.ListN.{length};
 ghost use Rattle.bits.specs.Bits.{bit};
 ghost use Rattle.rules.specs.Codes.{code as codeOf, offered};
 ghost use Rattle.rules.specs.Encoding.{lifted, encoded, written, codeword};
-ghost use Rattle.answers.specs.Calls.{sixSet, ranFrom, steppedFrom, refusedCheck, refusedCorrect, refusedStep, encodeAnswer, checkAnswer, openAnswer, correctAnswer, stepAnswer};
+ghost use Rattle.answers.specs.Calls.{differing, sixSet, ranFrom, steppedFrom, refusedCheck, refusedCorrect, refusedStep, encodeAnswer, checkAnswer, openAnswer, correctAnswer, stepAnswer};
 ghost use Rattle.offer.specs.Offers.{offerOf, Known};
+ghost use Rattle.vectors.specs.Vectors.{wbit};
+ghost use Rattle.codes.specs.Ends.{EndsAt};
 ghost use Rattle.codes.specs.Answers.{asEncoded, asChecked, asOpened, asCorrected, asStepped};
 use offer::Offer;
 use runs::Next;
@@ -25,6 +27,7 @@ pub struct Corrected {
     pub flips: u32,
     pub first: u32,
     pub last: u32,
+    pub unlike: u32,
 }
 
 #[repr(C)]
@@ -54,6 +57,7 @@ fn refused_correct(number: u8) -> Corrected
         flips: 0,
         first: 0,
         last: 0,
+        unlike: 0,
     }
 }
 
@@ -161,6 +165,17 @@ pub fn open<'a>(code: u8, word: &'a [u8], number: &mut u8) -> &'a [u8]
     &word[..end]
 }
 
+// In how many bits the word at the end of a run differs from the received one: in none, where no flip was made.
+fn unlike_after(o: Offer, word: &[u8], y: &[u64], flips: u32) -> u32
+    requires { ⌜ Known o × (length (now word) ≡ o .word) × (length (now y) ≡ 130) ⌝ }
+    ensures { λ r. ⌜ ((n : ℕ) → offered n ≡ true → o ≡ offerOf n → EndsAt (codeOf n) (bit (now (word .entry))) (wbit (now (y .entry))) flips → r ≡ differing (codeOf n) (lifted (codeOf n) (bit (now (word .entry)))) (wbit (now (y .entry)))) ⌝ }
+{
+    if flips == 0 {
+        return 0;
+    }
+    unlike::unlike(word, y, o.unsent, o.bits - o.unsent) as u32
+}
+
 // The flipping run on a word of the right length, into an output of the right length.
 fn correct_taken(o: Offer, word: &[u8], limit: u16, out: &mut [u8]) -> Corrected
     requires { ⌜ Known o × (length (now word) ≡ o .word) × (length (now out) ≡ o .word) ⌝ }
@@ -174,6 +189,7 @@ fn correct_taken(o: Offer, word: &[u8], limit: u16, out: &mut [u8]) -> Corrected
     let sh = o.shape;
     let ran = runs::run(&mut y, &mut s, &t, sh, o.unsent, limit);
     let last = syndromes::broken(&s);
+    let unlike = unlike_after(o, word, &y, ran.flips);
     let number = judging::judge(o, &y, ran.number);
     if number == 0 {
         received::write(&mut y, o.unsent, o.bits, out);
@@ -183,6 +199,7 @@ fn correct_taken(o: Offer, word: &[u8], limit: u16, out: &mut [u8]) -> Corrected
         flips: ran.flips,
         first: first,
         last: last,
+        unlike: unlike,
     }
 }
 

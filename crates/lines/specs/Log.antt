@@ -28,12 +28,12 @@ unfoldable pub fields : List ℕ → List ℕ
 fields [] = []
 fields (n ∷ ns) = 32 ∷ (decimal n ++ fields ns)
 
--- What a line gives behind the index: number, flips, checks broken at start, at end. The header has a name for each.
+-- What a line gives behind the index: number, flips, checks broken at start, at end, and in how many bits the words differ. The header has a name for each.
 abbrev pub numbers : Corrected → List ℕ
-numbers a = a .number ∷ a .flips ∷ a .first ∷ a .last ∷ []
+numbers a = a .number ∷ a .flips ∷ a .first ∷ a .last ∷ a .unlike ∷ []
 
 unfoldable pub header : List ℕ
-header = ascii "word answer flips first last\n"
+header = ascii "word answer flips first last unlike\n"
 
 -- A line: index, numbers, the end of the line.
 unfoldable pub line : ℕ → Corrected → List ℕ
@@ -66,7 +66,7 @@ limitIn recording = 256 * getD recording 1 0 + getD recording 2 0
 abbrev pub restIn : List ℕ → List ℕ
 restIn recording = drop 3 recording
 
--- Fewer than three octets, or a bad code: the line `0 1 0 0 0` only. Otherwise a line for each word.
+-- Fewer than three octets, or a bad code: the line `0 1 0 0 0 0` only. Otherwise a line for each word.
 abbrev pub bad : List ℕ → Bool
 bad recording = ltb (length recording) 3 || not (offered (codeIn recording))
 

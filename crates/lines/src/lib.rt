@@ -70,10 +70,10 @@ fn put_fields(numbers: &[u64], text: &mut [u8], at: usize) -> usize
 }
 
 // What a line gives of an answer. A further field of the answer is one entry here, one in the definition, and one in the proof.
-fn numbers(a: codes::Corrected) -> [u64; 4]
+fn numbers(a: codes::Corrected) -> [u64; 5]
     ensures { λ r. ⌜ r ≡ numbersOf (asCorrected a []) ⌝ }
 {
-    [octet(a.number), wide(a.flips), wide(a.first), wide(a.last)]
+    [octet(a.number), wide(a.flips), wide(a.first), wide(a.last), wide(a.unlike)]
 }
 
 // The line of an answer. 128 octets hold any.
@@ -109,7 +109,7 @@ fn put_header(text: &mut [u8]) -> usize
     requires { ⌜ 128 ≤ length (now text) ⌝ }
     ensures { λ r. ⌜ (r ≤ 128) × (take r (now (text .exit)) ≡ header) ⌝ }
 {
-    put_text(b"word answer flips first last\n", text, 0)
+    put_text(b"word answer flips first last unlike\n", text, 0)
 }
 
 // The lesser of two numbers.

@@ -2,7 +2,7 @@
 use mathlib.Core.Path.{_≡_, refl, sym, ap, ap₂, _∙_, subst}
 use mathlib.Core.Bool.{Bool, true, false, not, _&&_}
 use mathlib.Core.List.{List}
-use Prim.Native.Nat.{ℕ, zero, suc, _+_, _-_, _*_, _≤_, _<_}
+use Prim.Native.Nat.{ℕ, zero, suc, _+_, _-_, _*_, _/_, _≤_, _<_}
 use native.Mathlib.Omega.{arith}
 use lib.Dec.{T, eqb, leb, lit≤, lit<, leb→le}
 use borrow.Author.Tests.{eq-eqb, ne-eqb, lt-leb}
@@ -103,6 +103,10 @@ pub record Fixed (n : ℕ) : Type 0 where
   pub fill : bits (code n) + offerOf n .fill ≡ 8 * code n .wordOctets + code n .unsent
   pub filled : offerOf n .fill ≤ 2
   pub within : offerOf n .unsent < offerOf n .shape .size
+  pub sends : offerOf n .unsent < offerOf n .bits
+  -- the bits that are sent fill the word's octets but for less than the last eight
+  pub fits : offerOf n .bits - offerOf n .unsent ≤ 8 * offerOf n .word
+  pub full : offerOf n .word < 8 * ((offerOf n .bits - offerOf n .unsent) / 64) + 8
   pub blocks : 1 ≤ offerOf n .shape .blocks
   pub asked : offerOf n .asked ≡ not (telecommanded n)
 
@@ -110,11 +114,11 @@ fixed-five : (n : ℕ) → T (offered n) → Fixed n
 unfolding code code1 code2 code3 code4 code5 parity16 parity32 parity64 parity511
 fixed-five =
     five Fixed
-    (record { word = refl; few = lit≤ tt; information = refl; some = lit≤ tt; less = lit≤ tt; multiple = lit≤ tt; unsent = refl; low = lit≤ tt; bits-are = refl; most = lit≤ tt; fill = refl; filled = lit≤ tt; within = lit< tt; blocks = lit≤ tt; asked = refl })
-    (record { word = refl; few = lit≤ tt; information = refl; some = lit≤ tt; less = lit≤ tt; multiple = lit≤ tt; unsent = refl; low = lit≤ tt; bits-are = refl; most = lit≤ tt; fill = refl; filled = lit≤ tt; within = lit< tt; blocks = lit≤ tt; asked = refl })
-    (record { word = refl; few = lit≤ tt; information = refl; some = lit≤ tt; less = lit≤ tt; multiple = lit≤ tt; unsent = refl; low = lit≤ tt; bits-are = refl; most = lit≤ tt; fill = refl; filled = lit≤ tt; within = lit< tt; blocks = lit≤ tt; asked = refl })
-    (record { word = refl; few = lit≤ tt; information = refl; some = lit≤ tt; less = lit≤ tt; multiple = lit≤ tt; unsent = refl; low = lit≤ tt; bits-are = refl; most = lit≤ tt; fill = refl; filled = lit≤ tt; within = lit< tt; blocks = lit≤ tt; asked = refl })
-    (record { word = refl; few = lit≤ tt; information = refl; some = lit≤ tt; less = lit≤ tt; multiple = lit≤ tt; unsent = refl; low = lit≤ tt; bits-are = refl; most = lit≤ tt; fill = refl; filled = lit≤ tt; within = lit< tt; blocks = lit≤ tt; asked = refl })
+    (record { word = refl; few = lit≤ tt; information = refl; some = lit≤ tt; less = lit≤ tt; multiple = lit≤ tt; unsent = refl; low = lit≤ tt; bits-are = refl; most = lit≤ tt; fill = refl; filled = lit≤ tt; within = lit< tt; sends = lit< tt; fits = lit≤ tt; full = lit< tt; blocks = lit≤ tt; asked = refl })
+    (record { word = refl; few = lit≤ tt; information = refl; some = lit≤ tt; less = lit≤ tt; multiple = lit≤ tt; unsent = refl; low = lit≤ tt; bits-are = refl; most = lit≤ tt; fill = refl; filled = lit≤ tt; within = lit< tt; sends = lit< tt; fits = lit≤ tt; full = lit< tt; blocks = lit≤ tt; asked = refl })
+    (record { word = refl; few = lit≤ tt; information = refl; some = lit≤ tt; less = lit≤ tt; multiple = lit≤ tt; unsent = refl; low = lit≤ tt; bits-are = refl; most = lit≤ tt; fill = refl; filled = lit≤ tt; within = lit< tt; sends = lit< tt; fits = lit≤ tt; full = lit< tt; blocks = lit≤ tt; asked = refl })
+    (record { word = refl; few = lit≤ tt; information = refl; some = lit≤ tt; less = lit≤ tt; multiple = lit≤ tt; unsent = refl; low = lit≤ tt; bits-are = refl; most = lit≤ tt; fill = refl; filled = lit≤ tt; within = lit< tt; sends = lit< tt; fits = lit≤ tt; full = lit< tt; blocks = lit≤ tt; asked = refl })
+    (record { word = refl; few = lit≤ tt; information = refl; some = lit≤ tt; less = lit≤ tt; multiple = lit≤ tt; unsent = refl; low = lit≤ tt; bits-are = refl; most = lit≤ tt; fill = refl; filled = lit≤ tt; within = lit< tt; sends = lit< tt; fits = lit≤ tt; full = lit< tt; blocks = lit≤ tt; asked = refl })
 
 pub fixed : (n : ℕ) → offered n ≡ true → Fixed n
 fixed n o = fixed-five n (is-offered n o)
@@ -130,6 +134,9 @@ pub record Small (o : Offer) : Type 0 where
   pub bits : o .bits ≤ 8176
   pub fill : o .fill ≤ 2
   pub within : o .unsent < o .shape .size
+  pub sends : o .unsent < o .bits
+  pub fits : o .bits - o .unsent ≤ 8 * o .word
+  pub full : o .word < 8 * ((o .bits - o .unsent) / 64) + 8
   pub blocks : 1 ≤ o .shape .blocks
 
 pub small : {o : Offer} → Known o → Small o
@@ -145,6 +152,9 @@ small {o} k =
       bits = omega (arith, f .bits-are, f .most);
       fill = omega (arith, f .filled);
       within = f .within;
+      sends = f .sends;
+      fits = f .fits;
+      full = f .full;
       blocks = f .blocks;
     })
 

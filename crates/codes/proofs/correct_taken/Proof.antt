@@ -9,7 +9,7 @@ use Rattle.vectors.proofs.Filling.{zero-words}
 use Rattle.rules.proofs.Numbers.{published}
 use Rattle.offer.proofs.Offers.{small, is-offered}
 use Rattle.codes.proofs.Admitted.{word-long, unsent-is, bits-are}
-use Rattle.codes.proofs.Correcting.{holding, ran-number, ran-word, ran-met, ran-unsent, corrected-is, wrote-word, wrote-none}
+use Rattle.codes.proofs.Correcting.{holding, ran-number, ran-word, ran-met, ran-unsent, ran-ends, corrected-is, wrote-word, wrote-none}
 use borrow.Author.Needs.{needs}
 use Rattle.codes.proofs.correct_taken.Statement.{statement}
 use Rattle.codes.proofs.correct_taken.Tie as tie
@@ -58,6 +58,12 @@ slice-aggregate-broken-2 c = search needs
 broken-requires-2 : tie.Need-broken-requires-2
 broken-requires-2 c κs = search needs
 
+slice-aggregate-unlike-after : tie.Need-slice-aggregate-unlike-after
+slice-aggregate-unlike-after c = search needs
+
+unlike-after-requires : tie.Need-unlike-after-requires
+unlike-after-requires c κs = search needs
+
 slice-aggregate-judge : tie.Need-slice-aggregate-judge
 slice-aggregate-judge c = search needs
 
@@ -69,7 +75,7 @@ slice-aggregate-write c = search needs
 
 write-requires : tie.Need-write-requires
 write-requires c κs =
-    let a = c .before .before .before .before .before .before .before .before .before .before .before .before .before .before .before .before .before .before .before .before .before .before .before .before .before in
+    let a = c .before .before .before .before .before .before .before .before .before .before .before .before .before .before .before .before .before .before .before .before .before .before .before .before .before .before .before in
     (search needs, small (a .pre .0) .unsent, omega (arith, a .pre .2, small (a .pre .0) .word))
 
 same-length : tie.Need-same-length
@@ -78,7 +84,8 @@ same-length c = search needs
 returns : tie.Need-returns
 returns c =
     let j = c .before .before .before .before .before .before .before in
-    let b2 = j .before .before in
+    let u = j .before .before in
+    let b2 = u .before .before in
     let g = b2 .before .before .before .before in
     let b1 = g .before .before .before .before .before in
     let m = b1 .before .before .before .before .before in
@@ -87,18 +94,20 @@ returns c =
     let word = a .args .word .now in
     let e = m .measure .ensures n off is in
     let to = g .run .ensures (code n) (e .lends .lent) (sym (unsent-is n is off)) (e .held) in
-    corrected-is n word _ _ _ _ e (a .args .limit) (g .run .result) _ _ to (b1 .broken .result) (b2 .broken2 .result) (j .judge .result)
+    corrected-is n word _ _ _ _ e (a .args .limit) (g .run .result) _ _ to (b1 .broken .result) (b2 .broken2 .result) (j .judge .result) (u .unlike-after .result)
     (b1 .broken .ensures) (b2 .broken2 .ensures)
     (j .judge .ensures n off is (run (byExcess (code n)) (a .args .limit) (lifted (code n) (bit word)))
     (ran-number n word _ _ _ _ e (a .args .limit) (g .run .result) _ _ to) (ran-word n word _ _ _ _ e (a .args .limit) (g .run .result) _ _ to) (ran-met n word _ _ _ _ e (a .args .limit) (g .run .result) _ _ to (published n (is-offered n off) .some))
     (ran-unsent n word _ _ _ _ e (a .args .limit) (g .run .result) _ _ to (published n (is-offered n off) .some)))
+    (u .unlike-after .ensures n off is (ran-ends n word _ _ _ _ e (a .args .limit) (g .run .result) _ _ to (published n (is-offered n off) .some)))
     (a .args .out .now) _ (wrote-word _ _ _ _ (c .before .before .before .before .before .before .if1 .taken)
     (c .before .before .before .write .ensures (code n) (unsent-is n is off) (bits-are n is off) (word-long n is off (a .pre .2))))
 
 returns-2 : tie.Need-returns-2
 returns-2 c =
     let j = c .before in
-    let b2 = j .before .before in
+    let u = j .before .before in
+    let b2 = u .before .before in
     let g = b2 .before .before .before .before in
     let b1 = g .before .before .before .before .before in
     let m = b1 .before .before .before .before .before in
@@ -107,11 +116,12 @@ returns-2 c =
     let word = a .args .word .now in
     let e = m .measure .ensures n off is in
     let to = g .run .ensures (code n) (e .lends .lent) (sym (unsent-is n is off)) (e .held) in
-    corrected-is n word _ _ _ _ e (a .args .limit) (g .run .result) _ _ to (b1 .broken .result) (b2 .broken2 .result) (j .judge .result)
+    corrected-is n word _ _ _ _ e (a .args .limit) (g .run .result) _ _ to (b1 .broken .result) (b2 .broken2 .result) (j .judge .result) (u .unlike-after .result)
     (b1 .broken .ensures) (b2 .broken2 .ensures)
     (j .judge .ensures n off is (run (byExcess (code n)) (a .args .limit) (lifted (code n) (bit word)))
     (ran-number n word _ _ _ _ e (a .args .limit) (g .run .result) _ _ to) (ran-word n word _ _ _ _ e (a .args .limit) (g .run .result) _ _ to) (ran-met n word _ _ _ _ e (a .args .limit) (g .run .result) _ _ to (published n (is-offered n off) .some))
     (ran-unsent n word _ _ _ _ e (a .args .limit) (g .run .result) _ _ to (published n (is-offered n off) .some)))
+    (u .unlike-after .ensures n off is (ran-ends n word _ _ _ _ e (a .args .limit) (g .run .result) _ _ to (published n (is-offered n off) .some)))
     (a .args .out .now) _ (wrote-none _ _ _ (c .if1 .left))
 
 pub correct-taken-spec : {M : Type 1} → statement M
@@ -130,6 +140,8 @@ correct-taken-spec =
     run-requires
     slice-aggregate-broken-2
     broken-requires-2
+    slice-aggregate-unlike-after
+    unlike-after-requires
     slice-aggregate-judge
     judge-requires
     slice-aggregate-write

@@ -1,0 +1,39 @@
+-- In how many bits words differ, and what a flip does to it.
+use mathlib.Core.Path.{_≡_, refl, sym, ap, ap₂, _∙_}
+use mathlib.Core.Bool.{Bool, true, false, _&&_}
+use Prim.Native.Nat.{ℕ, _+_, _*_, _≤_, _<_}
+use native.Mathlib.Omega.{arith}
+use lib.Dec.{eqb}
+use Rattle.bits.specs.Bits.{Word, _⊕_, count, tally, flipped}
+use Rattle.rules.specs.Codes.{Code, bits}
+use Rattle.answers.specs.Calls.{differing}
+use Rattle.bits.proofs.Sums.{⊕-assoc, ⊕-self}
+use Rattle.bits.proofs.Counting.{count-none, count-same, count-xor, count-pick}
+
+-- one bit of many
+count-one : (m n : ℕ) → n < m → count m (λ i. eqb i n) ≡ 1
+count-one m n h = count-same m (λ i. eqb i n) (λ i. eqb i n && true) (λ i l. and-true (eqb i n)) ∙ count-pick m n (λ i. true) h
+  where
+    and-true : (b : Bool) → b ≡ (b && true)
+    and-true true = refl
+    and-true false = refl
+
+back : (p q : Bool) → ((p ⊕ q) ⊕ p) ≡ q
+back true true = refl
+back true false = refl
+back false true = refl
+back false false = refl
+
+module _ (c : Code) where
+  pub differ-self : (x : Word) → differing c x x ≡ 0
+  differ-self x = count-none (bits c) (λ i. x i ⊕ x i) (λ i l. ⊕-self (x i))
+
+  pub differ-one : (x : Word) (n : ℕ) → n < bits c → differing c (flipped x n) x ≡ 1
+  differ-one x n h = count-same (bits c) (λ i. flipped x n i ⊕ x i) (λ i. eqb i n) (λ i l. back (x i) (eqb i n)) ∙ count-one (bits c) n h
+
+  -- a flip adds one bit that differs, or takes one
+  pub differ-flip : (x y : Word) (n : ℕ) → n < bits c → differing c x (flipped y n) + 2 * tally (x n ⊕ y n) ≡ differing c x y + 1
+  differ-flip x y n h =
+      let a : differing c x (flipped y n) ≡ count (bits c) (λ i. (x i ⊕ y i) ⊕ eqb i n) =
+      count-same (bits c) (λ i. x i ⊕ flipped y n i) (λ i. (x i ⊕ y i) ⊕ eqb i n) (λ i l. sym (⊕-assoc (x i) (y i) (eqb i n))) in
+      omega (arith, a, count-xor (bits c) (λ i. x i ⊕ y i) (λ i. eqb i n), count-pick (bits c) n (λ i. x i ⊕ y i) h, count-one (bits c) n h)

@@ -1,0 +1,46 @@
+-- `codes::unlike_after`: none without flips, else those of the bits that are sent. Assumes nothing.
+use mathlib.Core.Path.{sym, ap, _∙_}
+use native.Mathlib.Omega.{arith}
+use Rattle.bits.specs.Bits.{bit}
+use Rattle.rules.specs.Codes.{code}
+use Rattle.rules.specs.Encoding.{lifted}
+use Rattle.answers.specs.Calls.{differing}
+use Rattle.rules.proofs.Numbers.{published}
+use Rattle.answers.proofs.Differing.{differ-self}
+use Rattle.vectors.specs.Vectors.{wbit}
+use Rattle.offer.proofs.Offers.{small, is-offered}
+use Rattle.codes.proofs.Admitted.{unsent-is, bits-are}
+use Rattle.codes.proofs.Counted.{sent-differ}
+use borrow.Author.Needs.{needs}
+use Rattle.codes.proofs.unlike_after.Statement.{statement}
+use Rattle.codes.proofs.unlike_after.Tie as tie
+
+returns : tie.Need-returns
+returns c =
+    let a = c .before .before .before in
+    λ n off is ends.
+    let x = lifted (code n) (bit (a .args .word .now)) in
+    sym (ap (differing (code n) x) (ends .same (c .if1 .taken)) ∙ differ-self (code n) x)
+
+sub-unlike : tie.Need-sub-unlike
+sub-unlike c = omega (arith, small (c .before .before .before .before .pre .0) .sends)
+
+unlike-requires : tie.Need-unlike-requires
+unlike-requires c κs =
+    let a = c .before .before .before .before in
+    let f = small (a .pre .0) in
+    (omega (arith, f .fits, a .pre .1), omega (arith, f .full, a .pre .1), omega (arith, f .word, a .pre .1), omega (arith, f .bits, a .pre .2), omega (arith, f .unsent))
+
+cast-result : tie.Need-cast-result
+cast-result c = search needs
+
+returns-2 : tie.Need-returns-2
+returns-2 c =
+    let a = c .before .before .before .before .before in
+    λ n off is ends.
+    c .unlike .ensures .0
+    ∙ sent-differ (code n) (a .args .o .unsent) (a .args .o .bits) (unsent-is n is off) (bits-are n is off) (published n (is-offered n off) .some)
+    (bit (a .args .word .now)) (wbit (a .args .y .now)) (ends .unsent)
+
+pub unlike-after-spec : {M : Type 1} → statement M
+unlike-after-spec = tie.close (tie.spec returns sub-unlike unlike-requires cast-result returns-2)
