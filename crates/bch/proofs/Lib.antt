@@ -1,0 +1,6 @@
+pub mod Division
+pub mod Columns
+pub mod Codewords
+pub mod Words
+pub mod Judging
+pub mod Promises
