@@ -4,3 +4,4 @@ pub mod Codewords
 pub mod Words
 pub mod Judging
 pub mod Promises
+pub mod Outcomes

@@ -1,6 +1,6 @@
 -- What the answers promise of every word: the sentences of Req 05. Assumes nothing.
 use mathlib.Core.Path.{_≡_, refl, sym, ap, ap₂, _∙_, subst, fun-ext}
-use mathlib.Core.Bool.{Bool, true, false, not, _&&_, true≢false}
+use mathlib.Core.Bool.{Bool, true, false, not, _&&_, and-true, true≢false}
 use mathlib.Core.Logic.{_⊎_, inl, inr, ⊎-elim}
 use mathlib.Core.List.{List}
 use Prim.Native.Nat.{ℕ, zero, suc, _+_, _-_, _≤_, _<_}
@@ -11,7 +11,7 @@ use lib.ListN.{length, take}
 use borrow.Author.Tests.{lt-ltb, le-ltb, eq-eqb, ne-eqb}
 use Rattle.bits.specs.Bits.{Word, digit, bit, octets, tally, _⊕_, count, agree, flipped, if_then_else_}
 use Rattle.bits.proofs.Orders.{le-or-lt, eq-or-not}
-use Rattle.bits.proofs.Sums.{⊕-false, ⊕-self, ⊕-assoc}
+use Rattle.bits.proofs.Sums.{⊕-false, ⊕-self, ⊕-assoc, ⊕-eq}
 use Rattle.bits.proofs.Counting.{none-counted, count-none, count-same, count-pick}
 use Rattle.bits.proofs.Octets.{Octets, length-octets, bit-octets, octets-lt, octets-same, octets-bit}
 use Rattle.rules.proofs.Codewords.{agree-all, all-agree}
@@ -193,3 +193,148 @@ module _ (information out : List ℕ) (seven : length information ≡ 7) (eight 
 pub distinct-words : (i₁ i₂ out : List ℕ) → Octets i₁ → Octets i₂ → length i₁ ≡ 7 → length i₂ ≡ 7 → length out ≡ 8
     → bchEncodeAnswer i₁ out .out ≡ bchEncodeAnswer i₂ out .out → i₁ ≡ i₂
 distinct-words i₁ i₂ out o₁ o₂ h₁ h₂ room e = sym (information-first i₁ out h₁ room o₁) ∙ ap (take 7) e ∙ information-first i₂ out h₂ room o₂
+
+-- ---- what is taken, and what is refused
+
+-- What comes out when a word is taken: a codeword with the fill bit 0, unlike the word received in as many of the 63 bits as were mended.
+pub record Taken (word : List ℕ) (a : Mended) : Type 0 where
+  pub sound : codeword (bit (a .out)) ≡ true
+  pub fill : bit (a .out) 63 ≡ false
+  pub mended : a .mended ≡ count 63 (λ k. bit word k ⊕ bit (a .out) k)
+
+-- At most one place of n: none, or one alone.
+at-most-one : (n : ℕ) (f : ℕ → Bool) → count n f ≤ 1 → ((k : ℕ) → k < n → f k ≡ false) ⊎ ((i : ℕ) × (i < n) × ((k : ℕ) → k < n → f k ≡ eqb k i))
+unfolding count
+at-most-one zero f l = inl (λ k h. absurd (omega arith))
+at-most-one (suc n) f l = go (f n) refl (at-most-one n f)
+  where
+    go : (b : Bool) → f n ≡ b → (count n f ≤ 1 → ((k : ℕ) → k < n → f k ≡ false) ⊎ ((i : ℕ) × (i < n) × ((k : ℕ) → k < n → f k ≡ eqb k i)))
+        → ((k : ℕ) → k < suc n → f k ≡ false) ⊎ ((i : ℕ) × (i < suc n) × ((k : ℕ) → k < suc n → f k ≡ eqb k i))
+    go true e ih =
+        let none : count n f ≡ 0 = omega (arith, l, ap tally e) in
+        inr (n, lt-suc-self n, λ k h.
+        ⊎-elim
+        (λ (q : k ≡ n). ap f q ∙ e ∙ sym (eq-eqb k n q))
+        (λ (d : k ≡ n → ⊥). none-counted n f none k (omega arith) ∙ sym (ne-eqb k n d))
+        (eq-or-not k n))
+    go false e ih =
+        ⊎-elim
+        (λ all. inl (λ k h. ⊎-elim (λ (q : k ≡ n). ap f q ∙ e) (λ (d : k ≡ n → ⊥). all k (omega arith)) (eq-or-not k n)))
+        (λ one. inr (one .0, le-step (one .1), λ k h.
+        ⊎-elim
+        (λ (q : k ≡ n). ap f q ∙ e ∙ sym (ne-eqb k (one .0) (λ p. omega (arith, one .1))))
+        (λ (d : k ≡ n → ⊥). one .2 k (omega arith))
+        (eq-or-not k n)))
+        (ih (omega (arith, l)))
+
+module _ (word out : List ℕ) (eight : length word ≡ 8) (room : length out ≡ 8) where
+  abbrev x : Word
+  x = bit word
+
+  abbrev answer : Bool → Mended
+  answer d = bchCheckAnswer d word out
+
+  as-judged : (d : Bool) → answer d ≡ judged d x out
+  as-judged d = check-taken d word out eight room
+
+  -- a word that is written out
+  out-taken : (y : Word) (a : Mended) → codeword y ≡ true → a .out ≡ written y → a .mended ≡ count 63 (λ k. x k ⊕ y k) → Taken word a
+  out-taken y a is e m = record {
+    sound = codeword-same (bit (a .out)) y bits ∙ is;
+    fill = ap (λ o. bit o 63) e ∙ eight-bit (λ k. ltb k 63 && y k) 63 (lit< tt);
+    mended = m ∙ count-same 63 (λ k. x k ⊕ y k) (λ k. x k ⊕ bit (a .out) k) (λ k l. ap (λ b. x k ⊕ b) (sym (bits k l)));
+  }
+    where
+      bits : (k : ℕ) → k < 63 → bit (a .out) k ≡ y k
+      bits k l = ap (λ o. bit o k) e ∙ eight-bit (λ k. ltb k 63 && y k) k (omega arith) ∙ ap (λ p. p && y k) (lt-ltb k 63 l)
+
+  -- what each mode does with a word, by whether it is a codeword and whether one is near
+  whole-taken : (d : Bool) → codeword x ≡ true → (answer d .number ≡ 0) × Taken word (answer d)
+  whole-taken d is =
+      let e = as-judged d ∙ judged-codeword x out d is in
+      (ap (λ a. a .number) e, out-taken x (answer d) is (ap (λ a. a .out) e) (ap (λ a. a .mended) e ∙ sym (count-none 63 (λ k. x k ⊕ x k) (λ k l. ⊕-self (x k)))))
+
+  near-mended : codeword x ≡ false → wrongBit x < 63 → (answer false .number ≡ 0) × Taken word (answer false)
+  near-mended n l =
+      let e = as-judged false ∙ judged-mended x out false refl n l in
+      (ap (λ a. a .number) e, out-taken (flipped x (wrongBit x)) (answer false) (wrong-mends x l) (ap (λ a. a .out) e) (ap (λ a. a .mended) e ∙ sym one))
+    where
+      one : count 63 (λ k. x k ⊕ flipped x (wrongBit x) k) ≡ 1
+      one =
+          count-same 63 (λ k. x k ⊕ flipped x (wrongBit x) k) (λ k. eqb k (wrongBit x) && true) (λ k h.
+          sym (⊕-assoc (x k) (x k) (eqb k (wrongBit x))) ∙ ap (λ b. b ⊕ eqb k (wrongBit x)) (⊕-self (x k)) ∙ sym (and-true (eqb k (wrongBit x))))
+          ∙ count-pick 63 (wrongBit x) (λ k. true) l
+
+  -- Detect-only takes exactly the codewords: what the encoder can give, to the 63rd bit.
+  pub detect-codeword : codeword x ≡ true → answer true .number ≡ 0
+  detect-codeword is = whole-taken true is .0
+
+  pub detect-other : codeword x ≡ false → answer true .number ≡ 13
+  detect-other n = ap (λ a. a .number) (as-judged true ∙ judged-detected x out true refl n)
+
+  pub detect-encoded : (information : List ℕ) → length information ≡ 7 → ((k : ℕ) → k < 63 → x k ≡ bit (bchEncodeAnswer information out .out) k) → answer true .number ≡ 0
+  detect-encoded information seven same =
+      detect-codeword (codeword-same x (bit (bchEncodeAnswer information out .out)) same ∙ word-codeword information out seven room)
+
+  pub detect-takes : answer true .number ≡ 0
+      → (information : List ℕ) × (length information ≡ 7) × Octets information × ((k : ℕ) → k < 63 → x k ≡ bit (bchEncodeAnswer information out .out) k)
+  unfolding codeword
+  detect-takes z = go (codeword x) refl
+    where
+      info : List ℕ
+      info = octets 7 x
+
+      own : codeword x ≡ true → (k : ℕ) → k < 63 → x k ≡ bit (bchEncodeAnswer info out .out) k
+      own is k l =
+          all-agree 63 x (encoded x) is k l
+          ∙ encoded-same x (bit info) (λ i h. sym (bit-octets 7 x i ∙ ap (λ p. p && x i) (lt-ltb i 56 h))) k
+          ∙ sym (word-bit info out (length-octets 7 x) room k l)
+
+      go : (b : Bool) → codeword x ≡ b → (information : List ℕ) × (length information ≡ 7) × Octets information × ((k : ℕ) → k < 63 → x k ≡ bit (bchEncodeAnswer information out .out) k)
+      go true is = (info, length-octets 7 x, octets-lt 7 x, own is)
+      go false is = absurd (omega (arith, z, detect-other is))
+
+  -- In the correcting mode a word is taken just if a codeword differs in at most one bit of the 63: if one is near it is taken,
+  pub near-taken : (y : Word) → codeword y ≡ true → count 63 (λ k. x k ⊕ y k) ≤ 1 → (answer false .number ≡ 0) × Taken word (answer false)
+  near-taken y is few = go (codeword x) refl
+    where
+      back : (a b : Bool) → a ⊕ (a ⊕ b) ≡ b
+      back a b = sym (⊕-assoc a a b) ∙ ap (λ c. c ⊕ b) (⊕-self a)
+
+      near : (at : ((k : ℕ) → k < 63 → x k ⊕ y k ≡ false) ⊎ ((i : ℕ) × (i < 63) × ((k : ℕ) → k < 63 → x k ⊕ y k ≡ eqb k i))) → codeword x ≡ false → wrongBit x < 63
+      near (inl all) n =
+          absurd (true≢false (sym is ∙ sym (codeword-same x y (λ k l. ⊕-eq (x k) (y k) (all k l))) ∙ n))
+      near (inr (i, hi, one)) n =
+          subst (λ w. w < 63)
+          (sym (wrong-is x i hi (codeword-same (flipped x i) y (λ k l. ap (λ b. x k ⊕ b) (sym (one k l)) ∙ back (x k) (y k)) ∙ is)))
+          hi
+
+      go : (b : Bool) → codeword x ≡ b → (answer false .number ≡ 0) × Taken word (answer false)
+      go true e = whole-taken false e
+      go false e = near-mended e (near (at-most-one 63 (λ k. x k ⊕ y k) few) e)
+
+  -- and what is taken, in either mode, is near, since Taken says how many bits were mended.
+  pub taken-near : (d : Bool) → answer d .number ≡ 0 → (answer d .mended ≤ 1) × Taken word (answer d)
+  taken-near d z = go (codeword x) refl d refl
+    where
+      go : (b : Bool) → codeword x ≡ b → (c : Bool) → d ≡ c → (answer d .mended ≤ 1) × Taken word (answer d)
+      go true e c t = (omega (arith, ap (λ a. a .mended) (as-judged d ∙ judged-codeword x out d e)), whole-taken d e .1)
+      go false e true t = absurd (omega (arith, z, ap (λ a. a .number) (as-judged d ∙ judged-detected x out d t e)))
+      go false e false t = subst (λ m. (answer m .mended ≤ 1) × Taken word (answer m)) (sym t) (mend (le-or-lt 63 (wrongBit x)))
+        where
+          mend : (63 ≤ wrongBit x) ⊎ (wrongBit x < 63) → (answer false .mended ≤ 1) × Taken word (answer false)
+          mend (inl l) = absurd (omega (arith, z, ap (λ a. a .number) (as-judged d ∙ judged-far x out d e l)))
+          mend (inr l) = (omega (arith, ap (λ a. a .mended) (as-judged false ∙ judged-mended x out false refl e l)), near-mended e l .1)
+
+  -- What is not taken is 13, and nothing is written.
+  pub thirteen : (d : Bool) → (answer d .number ≡ 0 → ⊥) → answer d ≡ refused 13 out
+  thirteen d n = go (codeword x) refl d refl
+    where
+      go : (b : Bool) → codeword x ≡ b → (c : Bool) → d ≡ c → answer d ≡ refused 13 out
+      go true e c t = absurd (n (whole-taken d e .0))
+      go false e true t = as-judged d ∙ judged-detected x out d t e
+      go false e false t =
+          ⊎-elim
+          (λ (l : 63 ≤ wrongBit x). as-judged d ∙ judged-far x out d e l)
+          (λ (l : wrongBit x < 63). absurd (n (subst (λ m. answer m .number ≡ 0) (sym t) (near-mended e l .0))))
+          (le-or-lt 63 (wrongBit x))
