@@ -3,9 +3,9 @@
  *     cc -std=c11 -O2 -Iinclude -o target/bch_compare outside/bch_compare.c outside/bch_judge.c LIBRARY.a
  *     target/bch_compare WORDS RANDOM SEED
  *
- * WORDS is the number of codewords of which all single and all double errors are tried in both modes, the fill bit as it
- * is and changed; RANDOM the number of random words and of random information; all lengths from 0 to 20 of both buffers
- * come on top. What must come of a spoilt codeword is also said outright, beside the judge's answer.
+ * WORDS is the number of codewords of which all single and all double errors are tried in both modes, the fill bit being
+ * changed now and then; RANDOM the number of random words and of random information; all lengths from 0 to 20 of both
+ * buffers come on top. What must come of a spoilt codeword is also said outright, beside the judge's answer.
  */
 #include "bch_judge.h"
 #include "pandoricchia.h"
@@ -84,10 +84,11 @@ static struct judge_mended compare(enum call call, const uint8_t *input, size_t 
     return library;
 }
 
-/* What must come of a codeword with some wrong bits of the 63, in both modes. */
-static void demand(const uint8_t *codeword, const uint8_t *received, unsigned wrong)
+/* What must come of a codeword with some wrong bits of the 63, in both modes, whatever the fill bit is. */
+static void demand(const uint8_t *codeword, uint8_t *received, unsigned wrong)
 {
     uint8_t out[WORD];
+    received[WORD - 1] ^= (uint8_t)(draw() % 2);
     struct judge_mended a = compare(CORRECT, received, WORD, out, WORD);
     if (wrong <= 1 ? a.number != 0 || a.mended != wrong || memcmp(out, codeword, WORD) != 0 : a.number != 13)
         fail("correcting mode, not as it must be", received, WORD, WORD);
@@ -102,20 +103,19 @@ static void compare_errors(void)
     draw_octets(information, INFORMATION);
     if (compare(ENCODE, information, INFORMATION, codeword, WORD).number != 0 || memcmp(information, codeword, INFORMATION) != 0)
         fail("encode, not as it must be", information, INFORMATION, WORD);
-    for (unsigned fill = 0; fill < 2; fill++) {
-        memcpy(received, codeword, WORD);
-        received[WORD - 1] ^= (uint8_t)fill;
-        demand(codeword, received, 0);
-        for (unsigned i = 0; i < SENT; i++) {
-            flip(received, i);
-            demand(codeword, received, 1);
-            for (unsigned k = 0; k < i; k++) {
-                flip(received, k);
-                demand(codeword, received, 2);
-                flip(received, k);
-            }
-            flip(received, i);
+    memcpy(received, codeword, WORD);
+    demand(codeword, received, 0);
+    flip(received, SENT);
+    demand(codeword, received, 0);
+    for (unsigned i = 0; i < SENT; i++) {
+        flip(received, i);
+        demand(codeword, received, 1);
+        for (unsigned k = 0; k < i; k++) {
+            flip(received, k);
+            demand(codeword, received, 2);
+            flip(received, k);
         }
+        flip(received, i);
     }
 }
 
