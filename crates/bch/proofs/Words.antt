@@ -1,5 +1,5 @@
 -- Words of 64 bits as the functions hold them. Assumes nothing.
-use mathlib.Core.Path.{_≡_, refl, sym, ap, ap₂, _∙_, fun-ext}
+use mathlib.Core.Path.{_≡_, refl, sym, ap, ap₂, _∙_, fun-ext, subst}
 use mathlib.Core.Bool.{Bool, true, false, not, _&&_, and-comm, and-false, true≢false}
 use mathlib.Core.Logic.{⊎-elim}
 use mathlib.Core.List.{List}
@@ -10,7 +10,7 @@ use lib.Bits.{bitXor, bitAnd}
 use lib.Dec.{T, eqb, leb, ltb, lit<}
 use lib.ListN.{getD, length}
 use borrow.Author.Tests.{lt-ltb, le-ltb, le-leb, lt-leb, eq-eqb, ne-eqb, eqb-true}
-use Rattle.bits.specs.Bits.{Word, digit, bit, octets, _⊕_, sum, below, agree, flipped}
+use Rattle.bits.specs.Bits.{Word, digit, bit, octets, tally, _⊕_, sum, below, agree, flipped}
 use Rattle.bits.proofs.Orders.{le-or-lt, eq-or-not}
 use Rattle.bits.proofs.Sums.{⊕-false, ⊕-eq, sum-same, below-at, not-true}
 use Rattle.bits.proofs.Octets.{octets-same, bit-past}
@@ -23,6 +23,10 @@ use Rattle.bch.specs.Answers.{upright, alone}
 use Rattle.bch.proofs.Division.{remainder-same, remainder-sum, remainder-lt}
 use Rattle.bch.proofs.Columns.{rows, row-alone, row-fill}
 use Rattle.bch.proofs.Codewords.{left, encoded-front, encoded-parity, encoded-fill, codeword-flipped, wrong-once}
+
+turned : (b : Bool) → b ⊕ true ≡ not b
+turned true = refl
+turned false = refl
 
 -- ---- constants, bit by bit
 
@@ -40,7 +44,7 @@ parity-bits = same-test 64 (digit 64 0xFE) (λ i. leb 56 i && ltb i 63) tt
 
 -- ---- a row's sum is a coefficient
 
-pub row-sum : (j v : ℕ) → j < 7 → sum 64 (digit 64 (bitAnd (getD rows j 0) v)) ≡ digit 7 (remainder 63 (digit 64 v)) j
+row-sum : (j v : ℕ) → j < 7 → sum 64 (digit 64 (bitAnd (getD rows j 0) v)) ≡ digit 7 (remainder 63 (digit 64 v)) j
 unfolding sum
 row-sum j v h =
     ap (sum 64) (fun-ext (λ i. digit-and 64 (getD rows j 0) v i))
@@ -49,6 +53,9 @@ row-sum j v h =
     ∙ sum-same 63 _ (λ i. digit 64 v i && digit 7 (alone i) j) (λ i l.
     and-comm (digit 64 (getD rows j 0) i) (digit 64 v i) ∙ ap (λ p. digit 64 v i && p) (sym (row-alone i j l h)))
     ∙ sym (remainder-sum 63 (7 - suc j) (digit 64 v))
+
+pub row-odd : (j v r : ℕ) → r ≡ tally (sum 64 (digit 64 (bitAnd (getD rows j 0) v))) → j < 7 → r ≡ tally (digit 7 (remainder 63 (digit 64 v)) j)
+row-odd j v r e h = e ∙ ap tally (row-sum j v h)
 
 -- ---- the bits that alone leave r
 
@@ -82,25 +89,24 @@ module _ (r j m w : ℕ) (k : Like r j m) (row : (i : ℕ) → i < 63 → digit 
           ap₂ (λ p q. (p && so-far) && q) (lt-ltb i 63 l) (row i l)
           ∙ sym (ap (λ p. p && agree (suc j) (digit 7 r) (digit 7 (alone i))) (lt-ltb i 63 l))
 
-pub like-set : (r j m : ℕ) → j < 7 → digit 7 r j ≡ true → Like r j m → Like r (j + 1) (bitAnd m (getD rows j 0))
-like-set r j m h e k =
-    like-more r j m (getD rows j 0) k (λ i l. sym (row-alone i j l h) ∙ sym (twice (digit 7 (alone i) j)) ∙ ap (λ p. not (p ⊕ digit 7 (alone i) j)) (sym e))
+pub like-set : (r j m n : ℕ) → n ≡ bitAnd m (getD rows j 0) → j < 7 → digit 7 r j ≡ true → Like r j m → Like r (j + 1) n
+like-set r j m n q h e k =
+    subst (Like r (j + 1)) (sym q)
+    (like-more r j m (getD rows j 0) k (λ i l. sym (row-alone i j l h) ∙ sym (twice (digit 7 (alone i) j)) ∙ ap (λ p. not (p ⊕ digit 7 (alone i) j)) (sym e)))
   where
     twice : (b : Bool) → not (not b) ≡ b
     twice true = refl
     twice false = refl
 
-pub like-clear : (r j m : ℕ) → j < 7 → digit 7 r j ≡ false → Like r j m → Like r (j + 1) (bitAnd m (bitXor (getD rows j 0) 0xFFFFFFFFFFFFFFFF))
-like-clear r j m h e k =
-    like-more r j m (bitXor (getD rows j 0) 0xFFFFFFFFFFFFFFFF) k (λ i l.
+-- the row with every bit turned over
+pub like-clear : (r j m n : ℕ) → n ≡ bitAnd m (bitXor (getD rows j 0) 0xFFFFFFFFFFFFFFFF) → j < 7 → digit 7 r j ≡ false → Like r j m → Like r (j + 1) n
+like-clear r j m n q h e k =
+    subst (Like r (j + 1)) (sym q)
+    (like-more r j m (bitXor (getD rows j 0) 0xFFFFFFFFFFFFFFFF) k (λ i l.
     digit-xor 64 (getD rows j 0) 0xFFFFFFFFFFFFFFFF i
     ∙ ap₂ (λ p q. p ⊕ q) (sym (row-alone i j l h)) (all-bits i (omega arith))
     ∙ turned (digit 7 (alone i) j)
-    ∙ ap (λ p. not (p ⊕ digit 7 (alone i) j)) (sym e))
-  where
-    turned : (b : Bool) → b ⊕ true ≡ not b
-    turned true = refl
-    turned false = refl
+    ∙ ap (λ p. not (p ⊕ digit 7 (alone i) j)) (sym e)))
 
 -- all seven
 pub like-all : (r j m : ℕ) → r < 2 ^ 7 → j ≡ 7 → Like r j m → Holds m (λ i. ltb i 63 && eqb r (alone i))
@@ -172,10 +178,6 @@ module _ (o : List ℕ) (v r : ℕ) (seven : length o ≡ 7) (h : Holds v (bit o
           ∙ ap not (ap (place (r * 2)) d ∙ place-up r 1 (7 - suc j) ∙ ap (λ z. digit 7 z j) own)
           ∙ sym (encoded-parity x j (omega arith))
           ∙ ap (encoded x) n
-        where
-          turned : (b : Bool) → b ⊕ true ≡ not b
-          turned true = refl
-          turned false = refl
 
       fill : 56 ≤ i → 63 ≤ i → x i ⊕ digit 64 (r * 2) i ⊕ (leb 56 i && ltb i 63) ≡ encoded x i
       fill g k =

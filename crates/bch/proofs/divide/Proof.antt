@@ -2,13 +2,13 @@
 use mathlib.Core.Path.{_≡_, sym, ap, _∙_, subst}
 use Prim.Native.Nat.{ℕ, _+_, _-_, _*_, _^_, _≤_, _<_}
 use native.Mathlib.Omega.{arith}
-use Rattle.bits.specs.Bits.{digit, number, tally}
+use Rattle.bits.specs.Bits.{digit, number}
 use Rattle.bits.proofs.Octets.{number-lt, number-digit}
 use Rattle.vectors.proofs.Octets.{fits}
 use Rattle.ownparity.proofs.Words.{number-start, number-more}
 use Rattle.bch.specs.Bch.{remainder}
 use Rattle.bch.proofs.Division.{remainder-same, remainder-lt}
-use Rattle.bch.proofs.Words.{row-sum}
+use Rattle.bch.proofs.Words.{row-odd}
 use Rattle.bch.proofs.divide.Statement.{statement}
 use Rattle.bch.proofs.divide.Tie as tie
 
@@ -50,7 +50,7 @@ loop-again c =
     let r = 2 * l .r + c .odd .result in
     let h : l .j < 7 = omega arith in
     let e : r ≡ number (l .j + 1) x =
-    ap (λ (n : ℕ). 2 * l .r + n) (c .odd .ensures .1 ∙ ap tally (row-sum (l .j) u h)) ∙ number-more (l .j) (l .r) x (l .inv .2) in
+    ap (λ (n : ℕ). 2 * l .r + n) (row-odd (l .j) u (c .odd .result) (c .odd .ensures .1) h) ∙ number-more (l .j) (l .r) x (l .inv .2) in
     (omega arith, fits (l .j + 1) 7 r (subst (λ (n : ℕ). n < 2 ^ (l .j + 1)) (sym e) (number-lt (l .j + 1) x)) (omega arith), e)
 
 returns : tie.Need-returns Inv-loop μ-loop

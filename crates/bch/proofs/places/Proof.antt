@@ -1,5 +1,5 @@
 -- `bch::places` meets its contract: after j turns the bits are left whose first j coefficients are r's. Assumes nothing.
-use mathlib.Core.Path.{_≡_, sym, ap, _∙_, subst}
+use mathlib.Core.Path.{_≡_, sym, ap, _∙_}
 use mathlib.Core.Logic.{⊎-elim}
 use Prim.Native.Nat.{ℕ, suc, _+_, _-_, _/_, _%_, _^_, _≤_, _<_}
 use borrow.Author.Tests.{eq-eqb, ne-eqb}
@@ -50,9 +50,9 @@ loop-again c =
     let at = ap (λ (n : ℕ). r / 2 ^ n % 2) e in (
       omega arith,
       ⊎-elim
-          (λ w. subst (Like r (l .j + 1)) (sym (w .1)) (like-set r (l .j) (l .m) h (eq-eqb (r / 2 ^ (7 - suc (l .j)) % 2) 1 (at ∙ w .0 .taken)) (l .inv .1)))
-          (λ w. subst (Like r (l .j + 1)) (sym (w .1)) (like-clear r (l .j) (l .m) h (ne-eqb (r / 2 ^ (7 - suc (l .j)) % 2) 1 (λ q. w .0 .left (sym at ∙ q))) (l .inv .1)))
-          (c .if1 .came),
+          (λ w. like-set r (l .j) (l .m) (c .if1 .m) (w .1) h (eq-eqb (r / 2 ^ (7 - suc (l .j)) % 2) 1 (at ∙ w .0 .taken)) (l .inv .1))
+      (λ w. like-clear r (l .j) (l .m) (c .if1 .m) (w .1) h (ne-eqb (r / 2 ^ (7 - suc (l .j)) % 2) 1 (λ q. w .0 .left (sym at ∙ q))) (l .inv .1))
+      (c .if1 .came),
     )
 
 returns : tie.Need-returns Inv-loop μ-loop
