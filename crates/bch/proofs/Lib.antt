@@ -1,3 +1,4 @@
+pub mod Cases
 pub mod Division
 pub mod Columns
 pub mod Codewords

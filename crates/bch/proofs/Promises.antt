@@ -212,19 +212,27 @@ at-most-one (suc n) f l = go (f n) refl (at-most-one n f)
         → ((k : ℕ) → k < suc n → f k ≡ false) ⊎ ((i : ℕ) × (i < suc n) × ((k : ℕ) → k < suc n → f k ≡ eqb k i))
     go true e ih =
         let none : count n f ≡ 0 = omega (arith, l, ap tally e) in
-        inr (n, lt-suc-self n, λ k h.
-        ⊎-elim
-        (λ (q : k ≡ n). ap f q ∙ e ∙ sym (eq-eqb k n q))
-        (λ (d : k ≡ n → ⊥). none-counted n f none k (omega arith) ∙ sym (ne-eqb k n d))
-        (eq-or-not k n))
+        inr (
+          n,
+          lt-suc-self n,
+          λ k h.
+              ⊎-elim
+              (λ (q : k ≡ n). ap f q ∙ e ∙ sym (eq-eqb k n q))
+              (λ (d : k ≡ n → ⊥). none-counted n f none k (omega arith) ∙ sym (ne-eqb k n d))
+              (eq-or-not k n),
+        )
     go false e ih =
         ⊎-elim
         (λ all. inl (λ k h. ⊎-elim (λ (q : k ≡ n). ap f q ∙ e) (λ (d : k ≡ n → ⊥). all k (omega arith)) (eq-or-not k n)))
-        (λ one. inr (one .0, le-step (one .1), λ k h.
-        ⊎-elim
-        (λ (q : k ≡ n). ap f q ∙ e ∙ sym (ne-eqb k (one .0) (λ p. omega (arith, one .1))))
-        (λ (d : k ≡ n → ⊥). one .2 k (omega arith))
-        (eq-or-not k n)))
+        (λ one. inr (
+          one .0,
+          le-step (one .1),
+          λ k h.
+              ⊎-elim
+              (λ (q : k ≡ n). ap f q ∙ e ∙ sym (ne-eqb k (one .0) (λ p. omega (arith, one .1))))
+              (λ (d : k ≡ n → ⊥). one .2 k (omega arith))
+              (eq-or-not k n),
+        ))
         (ih (omega (arith, l)))
 
 module _ (word out : List ℕ) (eight : length word ≡ 8) (room : length out ≡ 8) where
