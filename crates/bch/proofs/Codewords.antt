@@ -5,10 +5,10 @@ use mathlib.Core.Logic.{⊎-elim}
 use Prim.Native.Nat.{ℕ, suc, _+_, _-_, _^_, _≤_, _<_}
 use native.Mathlib.Omega.{arith}
 use lib.Dec.{eqb, leb, ltb, lit<}
-use borrow.Author.Tests.{lt-ltb, le-ltb, le-leb, lt-leb, eq-eqb, ne-eqb, eqb-true, not-false}
-use Rattle.bits.specs.Bits.{Word, digit, _⊕_, sum, agree, flipped, if_then_else_}
-use Rattle.bits.proofs.Orders.{le-or-lt, eq-or-not}
-use Rattle.bits.proofs.Sums.{⊕-false, ⊕-self, ⊕-eq, ⊕-mid, ⊕-assoc, ⊕-comm, sum-same, sum-linear, pick}
+use borrow.Author.Tests.{lt-ltb, le-ltb, le-leb, lt-leb, eq-eqb, ne-eqb, eqb-true}
+use Rattle.bits.specs.Bits.{Word, digit, _⊕_, sum, flipped, if_then_else_}
+use Rattle.bits.proofs.Orders.{le-or-lt}
+use Rattle.bits.proofs.Sums.{⊕-self, ⊕-eq, ⊕-assoc, ⊕-comm, sum-same, sum-linear, pick}
 use Rattle.bits.proofs.Octets.{digit-zero}
 use Rattle.rules.proofs.Codewords.{agree-all, all-agree}
 use Rattle.vectors.proofs.Places.{same-digits}
@@ -21,6 +21,11 @@ use Rattle.bch.proofs.Columns.{alone-some, alone-apart, alone-odd, alon
 abbrev pub left : Word → ℕ
 left x = remainder 63 (upright x)
 
+-- a bit inverted
+pub inverted : (b : Bool) → b ⊕ true ≡ not b
+inverted true = refl
+inverted false = refl
+
 -- ---- the information's part and the parity bits' own
 
 abbrev last : Word → Word
@@ -29,10 +34,6 @@ last x k = leb 56 k && not (x k)
 two-parts : (x : Word) (k : ℕ) → k < 63 → upright x k ≡ raised x k ⊕ last x k
 two-parts x k h = ⊎-elim behind front (le-or-lt 56 k)
   where
-    inverted : (b : Bool) → b ⊕ true ≡ not b
-    inverted true = refl
-    inverted false = refl
-
     behind : 56 ≤ k → upright x k ≡ raised x k ⊕ last x k
     behind l =
         ap₂ (λ p q. x k ⊕ (p && q)) (le-leb 56 k l) (lt-ltb k 63 h) ∙ inverted (x k)
@@ -115,7 +116,7 @@ none-codeword x e = agree-all 63 x (encoded x) (λ k l. ⊎-elim (behind k l) (�
         subst (λ n. x n ≡ encoded x n) d (own (k - 56) (omega arith))
 
 -- a test that holds just where two numbers are equal
-pub decided : (b : Bool) (m n : ℕ) → (b ≡ true → m ≡ n) → (m ≡ n → b ≡ true) → b ≡ eqb m n
+decided : (b : Bool) (m n : ℕ) → (b ≡ true → m ≡ n) → (m ≡ n → b ≡ true) → b ≡ eqb m n
 decided true m n f g = sym (eq-eqb m n (f refl))
 decided false m n f g = sym (ne-eqb m n (λ e. true≢false (sym (g e))))
 

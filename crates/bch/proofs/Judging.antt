@@ -1,9 +1,9 @@
 -- The answers, case by case, and the bit that was wrong. Assumes nothing.
-use mathlib.Core.Path.{_≡_, refl, sym, ap, ap₂, _∙_, subst, fun-ext}
+use mathlib.Core.Path.{_≡_, refl, sym, ap, ap₂, _∙_}
 use mathlib.Core.Bool.{Bool, true, false, not, _&&_, true≢false}
 use mathlib.Core.Logic.{⊎-elim}
 use mathlib.Core.List.{List}
-use Prim.Native.Nat.{ℕ, zero, suc, _+_, _*_, _^_, _≤_, _<_}
+use Prim.Native.Nat.{ℕ, zero, suc, _^_, _≤_, _<_}
 use native.Mathlib.Omega.{arith}
 use lib.Bits.{bitXor}
 use lib.Dec.{eqb, ltb, lit<}
@@ -14,7 +14,7 @@ use Rattle.bits.proofs.Orders.{le-or-lt, eq-or-not}
 use Rattle.bits.proofs.Octets.{octets-same, digit-zero}
 use Rattle.vectors.specs.Vectors.{Holds}
 use Rattle.vectors.proofs.Places.{digit-xor, same-digits}
-use Rattle.bch.specs.Bch.{encoded, codeword, lowest, wrongBit, written, Encoded, bchEncodeAnswer, Mended, refused, judged, bchCheckAnswer}
+use Rattle.bch.specs.Bch.{encoded, codeword, lowest, wrongBit, written, bchEncodeAnswer, Mended, refused, judged, bchCheckAnswer}
 use Rattle.bch.specs.Answers.{alone}
 use Rattle.bch.proofs.Codewords.{left, encoded-fill, codeword-flipped, wrong-once}
 

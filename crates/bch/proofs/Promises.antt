@@ -3,21 +3,21 @@ use mathlib.Core.Path.{_≡_, refl, sym, ap, ap₂, _∙_, subst, fun-ext}
 use mathlib.Core.Bool.{Bool, true, false, not, _&&_, and-true, true≢false}
 use mathlib.Core.Logic.{_⊎_, inl, inr, ⊎-elim}
 use mathlib.Core.List.{List}
-use Prim.Native.Nat.{ℕ, zero, suc, _+_, _-_, _≤_, _<_}
+use Prim.Native.Nat.{ℕ, zero, suc, _-_, _≤_, _<_}
 use native.Mathlib.Nat.{le-step, lt-suc-self}
 use native.Mathlib.Omega.{arith}
 use lib.Dec.{eqb, leb, ltb, lit<}
 use lib.ListN.{length, take}
 use borrow.Author.Tests.{lt-ltb, le-ltb, eq-eqb, ne-eqb}
-use Rattle.bits.specs.Bits.{Word, digit, bit, octets, tally, _⊕_, count, agree, flipped, if_then_else_}
+use Rattle.bits.specs.Bits.{Word, digit, bit, octets, tally, _⊕_, count, flipped, if_then_else_}
 use Rattle.bits.proofs.Orders.{le-or-lt, eq-or-not}
 use Rattle.bits.proofs.Sums.{⊕-false, ⊕-self, ⊕-assoc, ⊕-eq}
 use Rattle.bits.proofs.Counting.{none-counted, count-none, count-same, count-pick}
 use Rattle.bits.proofs.Octets.{Octets, length-octets, bit-octets, octets-lt, octets-same, octets-bit}
 use Rattle.rules.proofs.Codewords.{agree-all, all-agree}
-use Rattle.bch.specs.Bch.{remainder, raised, parityBit, encoded, codeword, lowest, wrongBit, written, bchEncodeAnswer, Mended, refused, judged, bchCheckAnswer}
+use Rattle.bch.specs.Bch.{raised, parityBit, encoded, codeword, lowest, wrongBit, written, bchEncodeAnswer, Mended, refused, judged, bchCheckAnswer}
 use Rattle.bch.proofs.Division.{remainder-same}
-use Rattle.bch.proofs.Codewords.{left, encoded-front, encoded-fill, codeword-left, codeword-alone, twice-none, twice-near}
+use Rattle.bch.proofs.Codewords.{encoded-front, codeword-left, codeword-alone, twice-none, twice-near}
 use Rattle.bch.proofs.Judging.{encode-done, written-encoded, check-three, check-taken, judged-codeword, judged-detected, judged-mended, judged-far, wrong-is, wrong-mends}
 
 -- ---- only the 63 bits count

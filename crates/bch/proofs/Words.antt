@@ -1,6 +1,6 @@
 -- Words of 64 bits as the functions hold them. Assumes nothing.
 use mathlib.Core.Path.{_≡_, refl, sym, ap, ap₂, _∙_, fun-ext, subst}
-use mathlib.Core.Bool.{Bool, true, false, not, _&&_, and-comm, and-false, true≢false}
+use mathlib.Core.Bool.{Bool, true, false, not, _&&_, and-comm, and-false, and-true, true≢false}
 use mathlib.Core.Logic.{⊎-elim}
 use mathlib.Core.List.{List}
 use Prim.Native.Nat.{ℕ, suc, _+_, _-_, _*_, _^_, _≤_, _<_}
@@ -9,24 +9,20 @@ use native.Mathlib.Omega.{arith}
 use lib.Bits.{bitXor, bitAnd}
 use lib.Dec.{T, eqb, leb, ltb, lit<}
 use lib.ListN.{getD, length}
-use borrow.Author.Tests.{lt-ltb, le-ltb, le-leb, lt-leb, eq-eqb, ne-eqb, eqb-true}
-use Rattle.bits.specs.Bits.{Word, digit, bit, octets, tally, _⊕_, sum, below, agree, flipped}
-use Rattle.bits.proofs.Orders.{le-or-lt, eq-or-not}
+use borrow.Author.Tests.{lt-ltb, le-ltb, le-leb, lt-leb, eq-eqb, ne-eqb}
+use Rattle.bits.specs.Bits.{Word, digit, bit, octets, tally, _⊕_, sum, below, agree}
+use Rattle.bits.proofs.Orders.{le-or-lt}
 use Rattle.bits.proofs.Sums.{⊕-false, ⊕-eq, sum-same, below-at, not-true}
 use Rattle.bits.proofs.Octets.{octets-same, bit-past}
 use Rattle.rules.proofs.Codewords.{agree-all, all-agree}
 use Rattle.vectors.specs.Vectors.{wbit, Holds, from}
 use Rattle.vectors.proofs.Places.{place, place-up, place-below, place-above, digit-xor, digit-and, same-digits}
 use Rattle.vectors.proofs.Filling.{word-at}
-use Rattle.bch.specs.Bch.{remainder, raised, parityBit, encoded, codeword, lowest, wrongBit, written}
+use Rattle.bch.specs.Bch.{remainder, raised, encoded, written}
 use Rattle.bch.specs.Answers.{upright, alone}
 use Rattle.bch.proofs.Division.{remainder-same, remainder-sum, remainder-lt}
 use Rattle.bch.proofs.Columns.{rows, row-alone, row-fill}
-use Rattle.bch.proofs.Codewords.{left, encoded-front, encoded-parity, encoded-fill, codeword-flipped, wrong-once}
-
-turned : (b : Bool) → b ⊕ true ≡ not b
-turned true = refl
-turned false = refl
+use Rattle.bch.proofs.Codewords.{inverted, encoded-front, encoded-parity, encoded-fill}
 
 -- ---- constants, bit by bit
 
@@ -65,11 +61,7 @@ Like r j m = Holds m (λ i. ltb i 63 && agree j (digit 7 r) (digit 7 (alone i)))
 
 pub like-start : (r : ℕ) → Like r 0 0xFFFFFFFFFFFFFFFE
 unfolding agree
-like-start r i h = sent-bits i h ∙ sym (and-true′ (ltb i 63))
-  where
-    and-true′ : (b : Bool) → (b && true) ≡ b
-    and-true′ true = refl
-    and-true′ false = refl
+like-start r i h = sent-bits i h ∙ sym (and-true (ltb i 63))
 
 module _ (r j m w : ℕ) (k : Like r j m) (row : (i : ℕ) → i < 63 → digit 64 w i ≡ not (digit 7 r j ⊕ digit 7 (alone i) j)) where
   pub like-more : Like r (j + 1) (bitAnd m w)
@@ -105,7 +97,7 @@ like-clear r j m n q h e k =
     (like-more r j m (bitXor (getD rows j 0) 0xFFFFFFFFFFFFFFFF) k (λ i l.
     digit-xor 64 (getD rows j 0) 0xFFFFFFFFFFFFFFFF i
     ∙ ap₂ (λ p q. p ⊕ q) (sym (row-alone i j l h)) (all-bits i (omega arith))
-    ∙ turned (digit 7 (alone i) j)
+    ∙ inverted (digit 7 (alone i) j)
     ∙ ap (λ p. not (p ⊕ digit 7 (alone i) j)) (sym e)))
 
 -- all seven
@@ -174,7 +166,7 @@ module _ (o : List ℕ) (v r : ℕ) (seven : length o ≡ 7) (h : Holds v (bit o
           let d : 64 - suc i ≡ 1 + (7 - suc j) = omega arith in
           let n : 56 + j ≡ i = omega arith in
           ap₂ (λ p q. p ⊕ digit 64 (r * 2) i ⊕ q) (past g) (ap₂ (λ p q. p && q) (le-leb 56 i g) (lt-ltb i 63 k))
-          ∙ turned (digit 64 (r * 2) i)
+          ∙ inverted (digit 64 (r * 2) i)
           ∙ ap not (ap (place (r * 2)) d ∙ place-up r 1 (7 - suc j) ∙ ap (λ z. digit 7 z j) own)
           ∙ sym (encoded-parity x j (omega arith))
           ∙ ap (encoded x) n

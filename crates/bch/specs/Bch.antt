@@ -1,5 +1,5 @@
 -- The older BCH words, BCH (63,56), by CCSDS 231.0-B: the division, the codewords, and the answers of the two calls.
-use mathlib.Core.Bool.{Bool, true, false, not, _&&_}
+use mathlib.Core.Bool.{Bool, false, not, _&&_}
 use mathlib.Core.List.{List}
 use Prim.Native.Nat.{ℕ, zero, suc, _+_, _-_, _*_, _^_}
 use lib.Bits.{bitXor}
