@@ -89,6 +89,8 @@ static inline const char *pandoricchia_text(uint8_t number)
         return "quiet, parity not the encoder's";
     case PANDORICCHIA_NO_CODEWORD:
         return "not a codeword";
+    case PANDORICCHIA_NO_BCH_WORD:
+        return "no codeword differs in at most one bit; detect-only: the word is none";
     default:
         return "no such number";
     }

@@ -87,6 +87,7 @@ pub fn text(number: u8) -> &'static str {
         UNSENT => "an unsent bit became 1",
         PARITY => "quiet, parity not the encoder's",
         NO_CODEWORD => "not a codeword",
+        NO_BCH_WORD => "no codeword differs in at most one bit; detect-only: the word is none",
         _ => "no such number",
     }
 }
