@@ -61,7 +61,8 @@ enum pandoricchia_number {
     PANDORICCHIA_LIMIT = 6,          /* correct: the limit is reached */
     PANDORICCHIA_UNSENT = 7,         /* never given: no run sets a bit that is not sent */
     PANDORICCHIA_PARITY = 8,         /* correct, codes 4 and 5: quiet, but the parity is not the encoder's */
-    PANDORICCHIA_NO_CODEWORD = 9     /* open: the word is not a codeword */
+    PANDORICCHIA_NO_CODEWORD = 9,    /* open: the word is not a codeword */
+    PANDORICCHIA_NO_BCH_WORD = 13    /* bch_check: no codeword differs in at most one bit; detect-only: the word is none */
 };
 
 /* What a number means, in a few words. */
@@ -88,6 +89,8 @@ static inline const char *pandoricchia_text(uint8_t number)
         return "quiet, parity not the encoder's";
     case PANDORICCHIA_NO_CODEWORD:
         return "not a codeword";
+    case PANDORICCHIA_NO_BCH_WORD:
+        return "no codeword differs in at most one bit; detect-only: the word is none";
     default:
         return "no such number";
     }
@@ -140,6 +143,22 @@ typedef struct pandoricchia_stepped {
 /* Step, codes 1 to 4: one flip of correct's run. */
 pandoricchia_stepped pandoricchia_step(uint8_t code, const uint8_t *word, size_t word_len, uint8_t *out,
                                           size_t out_len);
+
+/* The older BCH words, BCH (63,56) by CCSDS 231.0-B: 7 octets of information, then seven inverted parity bits and one
+ * zero fill bit, 8 octets in all. These calls take no code number. */
+
+/* BCH encode: information in, word out. Returns 0, 2 or 3. */
+uint8_t pandoricchia_bch_encode(const uint8_t *information, size_t information_len, uint8_t *word, size_t word_len);
+
+typedef struct pandoricchia_mended {
+    uint8_t number;  /* 0, 2, 3 or 13 */
+    uint8_t mended;  /* how many of the 63 bits were mended, 0 or 1; 0 where the call is refused */
+} pandoricchia_mended;
+
+/* BCH check: the word out, its fill bit 0 whatever it was. With detect_only a word is taken that is a codeword, without it
+ * also one that differs from a codeword in a single bit of the 63, which is mended. */
+pandoricchia_mended pandoricchia_bch_check(bool detect_only, const uint8_t *word, size_t word_len, uint8_t *out,
+                                           size_t out_len);
 
 #ifdef __cplusplus
 }

@@ -23,6 +23,7 @@ pub const LIMIT: u8 = 6;
 pub const UNSENT: u8 = 7;
 pub const PARITY: u8 = 8;
 pub const NO_CODEWORD: u8 = 9;
+pub const NO_BCH_WORD: u8 = 13;
 
 #[repr(C)]
 #[derive(Clone, Copy, Debug, PartialEq, Eq)]
@@ -50,6 +51,13 @@ pub struct Stepped {
     pub excess: i8,
 }
 
+#[repr(C)]
+#[derive(Clone, Copy, Debug, PartialEq, Eq)]
+pub struct Mended {
+    pub number: u8,
+    pub mended: u8,
+}
+
 extern "C" {
     fn pandoricchia_word_octets(code: u8) -> usize;
     fn pandoricchia_information_octets(code: u8) -> usize;
@@ -58,6 +66,8 @@ extern "C" {
     fn pandoricchia_open(code: u8, word: *const u8, word_len: usize, number: *mut u8) -> usize;
     fn pandoricchia_correct(code: u8, word: *const u8, word_len: usize, limit: u16, out: *mut u8, out_len: usize) -> Corrected;
     fn pandoricchia_step(code: u8, word: *const u8, word_len: usize, out: *mut u8, out_len: usize) -> Stepped;
+    fn pandoricchia_bch_encode(information: *const u8, information_len: usize, word: *mut u8, word_len: usize) -> u8;
+    fn pandoricchia_bch_check(detect_only: bool, word: *const u8, word_len: usize, out: *mut u8, out_len: usize) -> Mended;
 }
 
 // Why each call is safe: a slice's pointer and length name octets that are the caller's for as long as the call lasts, and
@@ -77,6 +87,7 @@ pub fn text(number: u8) -> &'static str {
         UNSENT => "an unsent bit became 1",
         PARITY => "quiet, parity not the encoder's",
         NO_CODEWORD => "not a codeword",
+        NO_BCH_WORD => "no codeword differs in at most one bit; detect-only: the word is none",
         _ => "no such number",
     }
 }
@@ -123,4 +134,16 @@ pub fn correct(code: u8, word: &[u8], limit: u16, out: &mut [u8]) -> Corrected {
 #[must_use]
 pub fn step(code: u8, word: &[u8], out: &mut [u8]) -> Stepped {
     unsafe { pandoricchia_step(code, word.as_ptr(), word.len(), out.as_mut_ptr(), out.len()) }
+}
+
+/// BCH (63,56): information in, word out. Gives the number, 0, 2 or 3.
+#[must_use]
+pub fn bch_encode(information: &[u8], word: &mut [u8]) -> u8 {
+    unsafe { pandoricchia_bch_encode(information.as_ptr(), information.len(), word.as_mut_ptr(), word.len()) }
+}
+
+/// BCH (63,56): the word out, with a single wrong bit mended unless errors are to be detected only.
+#[must_use]
+pub fn bch_check(detect_only: bool, word: &[u8], out: &mut [u8]) -> Mended {
+    unsafe { pandoricchia_bch_check(detect_only, word.as_ptr(), word.len(), out.as_mut_ptr(), out.len()) }
 }

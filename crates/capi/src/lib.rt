@@ -3,6 +3,9 @@ ghost use mathlib.Core.Path.{_≡_};
 ghost use lib.ListN.{length};
 ghost use Rattle.answers.specs.Calls.{wordOctetsAnswer, informationOctetsAnswer, encodeAnswer, checkAnswer, openAnswer, correctAnswer, stepAnswer};
 ghost use Rattle.codes.specs.Answers.{asEncoded, asChecked, asCorrected, asStepped};
+ghost use Rattle.bch.specs.Bch.{bchEncodeAnswer, bchCheckAnswer};
+ghost use Rattle.bch.specs.Answers.{asEncoded as asBchEncoded, asMended};
+use bch::Mended;
 use codes::Checked;
 use codes::Corrected;
 use codes::Stepped;
@@ -69,4 +72,18 @@ pub extern "C" fn pandoricchia_step(code: u8, word: &[u8], out: &mut [u8]) -> St
     ensures { λ r. ⌜ asStepped r (now (out .exit)) ≡ stepAnswer code (now (word .entry)) (now (out .entry)) ⌝ }
 {
     codes::step(code, word, out)
+}
+
+#[no_mangle]
+pub extern "C" fn pandoricchia_bch_encode(information: &[u8], word: &mut [u8]) -> u8
+    ensures { λ r. ⌜ asBchEncoded r (now (word .exit)) ≡ bchEncodeAnswer (now (information .entry)) (now (word .entry)) ⌝ }
+{
+    bch::bch_encode(information, word)
+}
+
+#[no_mangle]
+pub extern "C" fn pandoricchia_bch_check(detect_only: bool, word: &[u8], out: &mut [u8]) -> Mended
+    ensures { λ r. ⌜ asMended r (now (out .exit)) ≡ bchCheckAnswer «detect_only» (now (word .entry)) (now (out .entry)) ⌝ }
+{
+    bch::bch_check(detect_only, word, out)
 }

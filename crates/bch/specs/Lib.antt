@@ -1,0 +1,2 @@
+pub mod Bch
+pub mod Answers
