@@ -1,0 +1,5 @@
+pub mod Polynomials
+pub mod Division
+pub mod Places
+pub mod Rule
+pub mod Registers
