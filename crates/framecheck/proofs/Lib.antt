@@ -3,3 +3,5 @@ pub mod Division
 pub mod Places
 pub mod Rule
 pub mod Registers
+pub mod Powers
+pub mod Noticed

@@ -46,19 +46,27 @@ digit-high r k h =
     ap (λ (n : ℕ). eqb (n % 2) 1)
     (shr-shr r 8 (8 - suc k) ∙ ap (λ z. r / 2 ^ z) (omega arith))
 
--- the last eight, moved to the front
-pub digit-low : (r k : ℕ) → k < 8 → digit 16 ((r % 256) * 256) k ≡ digit 16 r (8 + k)
-digit-low r k h =
+-- the last eight are those of what is left
+pub digit-low-of : (r k : ℕ) → k < 8 → digit 8 (r % 256) k ≡ digit 16 r (8 + k)
+digit-low-of r k h =
     let m = 7 - k in
-    let e : 16 - suc k ≡ 8 + m = omega arith in
+    let e : 8 - suc k ≡ m = omega arith in
     let f : 8 ≡ k + 1 + m = omega arith in
     let g : m ≡ 16 - suc (8 + k) = omega arith in
-    ap (λ (z : ℕ). eqb ((r % 256) * 256 / 2 ^ z % 2) 1) e
-    ∙ ap (λ (n : ℕ). eqb (n % 2) 1) (sym (shr-shr ((r % 256) * 256) 8 m) ∙ ap (λ (n : ℕ). n / 2 ^ m) (shl-shr (r % 256) 8))
+    ap (λ (z : ℕ). eqb (r % 256 / 2 ^ z % 2) 1) e
     ∙ ap (λ (z : ℕ). eqb (r % 2 ^ z / 2 ^ m % 2) 1) f
     ∙ ap (λ (n : ℕ). eqb (n % 2) 1) (field r (k + 1) m)
     ∙ ap (λ (n : ℕ). eqb n 1) (mod-mod-pow (r / 2 ^ m) k 1)
     ∙ ap (λ (z : ℕ). eqb (r / 2 ^ z % 2) 1) g
+
+-- and stand in front where they are moved there
+pub digit-low : (r k : ℕ) → k < 8 → digit 16 ((r % 256) * 256) k ≡ digit 16 r (8 + k)
+digit-low r k h =
+    let e : 16 - suc k ≡ 8 + (8 - suc k) = omega arith in
+    ap (λ (z : ℕ). eqb ((r % 256) * 256 / 2 ^ z % 2) 1) e
+    ∙ ap (λ (n : ℕ). eqb (n % 2) 1)
+    (sym (shr-shr ((r % 256) * 256) 8 (8 - suc k)) ∙ ap (λ (n : ℕ). n / 2 ^ (8 - suc k)) (shl-shr (r % 256) 8))
+    ∙ digit-low-of r k h
 
 -- and zeros behind them
 pub digit-none : (r k : ℕ) → k < 8 → digit 16 ((r % 256) * 256) (8 + k) ≡ false
