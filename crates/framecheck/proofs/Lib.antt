@@ -5,3 +5,4 @@ pub mod Rule
 pub mod Registers
 pub mod Powers
 pub mod Noticed
+pub mod Frames
