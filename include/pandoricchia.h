@@ -36,7 +36,11 @@ enum pandoricchia_number {
     PANDORICCHIA_LIMIT = 6,          /* correct: the limit is reached */
     PANDORICCHIA_UNSENT = 7,         /* correct, code 5: an unsent bit became 1 */
     PANDORICCHIA_PARITY = 8,         /* correct, codes 4 and 5: quiet, but the parity is not the encoder's */
-    PANDORICCHIA_NO_CODEWORD = 9     /* open: the word is not a codeword */
+    PANDORICCHIA_NO_CODEWORD = 9,    /* open: the word is not a codeword */
+    PANDORICCHIA_TOO_LONG = 20,      /* import_blocks: not whole blocks or more than 128; export_blocks: more than 64,512 octets */
+    PANDORICCHIA_BLOCK_CHECK = 21,   /* import_blocks: a block's frame check */
+    PANDORICCHIA_BLOCK_NUMBER = 22,  /* import_blocks: a block's number */
+    PANDORICCHIA_BLOCK_COUNT = 23    /* import_blocks: a block's count or filling */
 };
 
 /* Encode: information in, word out. Returns 0 to 4. */
@@ -80,6 +84,23 @@ typedef struct pandoricchia_stepped {
 /* Step, codes 1 to 4: one flip of correct's run. */
 pandoricchia_stepped pandoricchia_step(uint8_t code, const uint8_t *word, size_t word_len, uint8_t *out,
                                           size_t out_len);
+
+typedef struct pandoricchia_imported {
+    uint8_t number;  /* 0, 3 or 20 to 23 */
+    uint32_t block;  /* the lowest block at fault for 21 to 23, counted from 0; else 0 */
+} pandoricchia_imported;
+
+/* Import: the octets of a recording from blocks of 512 octets. 20 comes first, then block by block 21, 22 and 23, then 3. */
+pandoricchia_imported pandoricchia_import_blocks(const uint8_t *blocks, size_t blocks_len, uint8_t *out, size_t out_len);
+
+/* The room that import needs; 0 where the blocks are refused. */
+size_t pandoricchia_imported_octets(const uint8_t *blocks, size_t blocks_len);
+
+/* Export: the blocks of a recording of up to 64,512 octets; no blocks for no octets. Returns 0, 3 or 20. */
+uint8_t pandoricchia_export_blocks(const uint8_t *octets, size_t octets_len, uint8_t *out, size_t out_len);
+
+/* The room that export needs for so many octets; 0 where they are refused. */
+size_t pandoricchia_exported_octets(size_t octets_len);
 
 #ifdef __cplusplus
 }

@@ -17,6 +17,10 @@ pub const LIMIT: u8 = 6;
 pub const UNSENT: u8 = 7;
 pub const PARITY: u8 = 8;
 pub const NO_CODEWORD: u8 = 9;
+pub const TOO_LONG: u8 = 20;
+pub const BLOCK_CHECK: u8 = 21;
+pub const BLOCK_NUMBER: u8 = 22;
+pub const BLOCK_COUNT: u8 = 23;
 
 #[repr(C)]
 #[derive(Clone, Copy, Debug, PartialEq, Eq)]
@@ -43,12 +47,23 @@ pub struct Stepped {
     pub excess: i8,
 }
 
+#[repr(C)]
+#[derive(Clone, Copy, Debug, PartialEq, Eq)]
+pub struct Imported {
+    pub number: u8,
+    pub block: u32,
+}
+
 extern "C" {
     fn pandoricchia_encode(code: u8, information: *const u8, information_len: usize, word: *mut u8, word_len: usize) -> u8;
     fn pandoricchia_check(code: u8, word: *const u8, word_len: usize) -> Checked;
     fn pandoricchia_open(code: u8, word: *const u8, word_len: usize, number: *mut u8) -> usize;
     fn pandoricchia_correct(code: u8, word: *const u8, word_len: usize, limit: u16, out: *mut u8, out_len: usize) -> Corrected;
     fn pandoricchia_step(code: u8, word: *const u8, word_len: usize, out: *mut u8, out_len: usize) -> Stepped;
+    fn pandoricchia_import_blocks(blocks: *const u8, blocks_len: usize, out: *mut u8, out_len: usize) -> Imported;
+    fn pandoricchia_imported_octets(blocks: *const u8, blocks_len: usize) -> usize;
+    fn pandoricchia_export_blocks(octets: *const u8, octets_len: usize, out: *mut u8, out_len: usize) -> u8;
+    fn pandoricchia_exported_octets(octets_len: usize) -> usize;
 }
 
 // Why each call is safe: a slice's pointer and length name octets that are the caller's for as long as the call lasts, and
@@ -83,4 +98,28 @@ pub fn correct(code: u8, word: &[u8], limit: u16, out: &mut [u8]) -> Corrected {
 #[must_use]
 pub fn step(code: u8, word: &[u8], out: &mut [u8]) -> Stepped {
     unsafe { pandoricchia_step(code, word.as_ptr(), word.len(), out.as_mut_ptr(), out.len()) }
+}
+
+/// The octets of a recording from blocks of the lab's disk.
+#[must_use]
+pub fn import_blocks(blocks: &[u8], out: &mut [u8]) -> Imported {
+    unsafe { pandoricchia_import_blocks(blocks.as_ptr(), blocks.len(), out.as_mut_ptr(), out.len()) }
+}
+
+/// The room that import needs; 0 where the blocks are refused.
+#[must_use]
+pub fn imported_octets(blocks: &[u8]) -> usize {
+    unsafe { pandoricchia_imported_octets(blocks.as_ptr(), blocks.len()) }
+}
+
+/// The blocks of a recording. Gives the number, 0, 3 or 20.
+#[must_use]
+pub fn export_blocks(octets: &[u8], out: &mut [u8]) -> u8 {
+    unsafe { pandoricchia_export_blocks(octets.as_ptr(), octets.len(), out.as_mut_ptr(), out.len()) }
+}
+
+/// The room that export needs for so many octets; 0 where they are refused.
+#[must_use]
+pub fn exported_octets(octets_len: usize) -> usize {
+    unsafe { pandoricchia_exported_octets(octets_len) }
 }

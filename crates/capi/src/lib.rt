@@ -3,6 +3,9 @@ ghost use mathlib.Core.Path.{_≡_};
 ghost use lib.ListN.{length};
 ghost use Rattle.answers.specs.Calls.{encodeAnswer, checkAnswer, openAnswer, correctAnswer, stepAnswer};
 ghost use Rattle.codes.specs.Answers.{asEncoded, asChecked, asCorrected, asStepped};
+ghost use Rattle.blocks.specs.Blocks.{exportAnswer, exportRoom, importAnswer, importRoom};
+ghost use Rattle.blocks.specs.Answers.{asExported, asImported};
+use blocks::Imported;
 use codes::Checked;
 use codes::Corrected;
 use codes::Stepped;
@@ -47,4 +50,32 @@ pub extern "C" fn pandoricchia_step(code: u8, word: &[u8], out: &mut [u8]) -> St
     ensures { λ r. ⌜ asStepped r (now (out .exit)) ≡ stepAnswer code (now (word .entry)) (now (out .entry)) ⌝ }
 {
     codes::step(code, word, out)
+}
+
+#[no_mangle]
+pub extern "C" fn pandoricchia_import_blocks(blocks: &[u8], out: &mut [u8]) -> Imported
+    ensures { λ r. ⌜ asImported r (now (out .exit)) ≡ importAnswer (now (blocks .entry)) (now (out .entry)) ⌝ }
+{
+    blocks::import_blocks(blocks, out)
+}
+
+#[no_mangle]
+pub extern "C" fn pandoricchia_imported_octets(blocks: &[u8]) -> usize
+    ensures { λ r. ⌜ r ≡ importRoom (now (blocks .entry)) ⌝ }
+{
+    blocks::imported_octets(blocks)
+}
+
+#[no_mangle]
+pub extern "C" fn pandoricchia_export_blocks(octets: &[u8], out: &mut [u8]) -> u8
+    ensures { λ r. ⌜ asExported r (now (out .exit)) ≡ exportAnswer (now (octets .entry)) (now (out .entry)) ⌝ }
+{
+    blocks::export_blocks(octets, out)
+}
+
+#[no_mangle]
+pub extern "C" fn pandoricchia_exported_octets(octets_len: usize) -> usize
+    ensures { λ r. ⌜ r ≡ exportRoom «octets_len» ⌝ }
+{
+    blocks::exported_octets(octets_len)
 }
