@@ -1,14 +1,13 @@
 -- The answers, one case after another.
-use mathlib.Core.Path.{_≡_, refl, sym, ap, _∙_, subst}
-use mathlib.Core.Bool.{Bool, true, false}
+use mathlib.Core.Path.{_≡_, sym, subst}
+use mathlib.Core.Bool.{true, false}
 use mathlib.Core.List.{List}
-use Prim.Native.Nat.{ℕ, _+_, _*_, _/_, _%_, _≤_, _<_}
+use Prim.Native.Nat.{ℕ, _*_, _/_, _%_, _≤_}
 use native.Mathlib.Omega.{arith}
 use lib.Dec.{T, eqb, leb, ltb, eqb→eq, leb→le}
 use lib.ListN.{length}
-use Rattle.bits.specs.Bits.{if_then_else_}
 use Rattle.bits.proofs.Sums.{and-l, and-r}
-use Rattle.blocks.specs.Blocks.{Exported, Imported, Fault, blocksFor, exported, exportAnswer, firstFault, imported, wholeBlocks, importAnswer, importRoom}
+use Rattle.blocks.specs.Blocks.{blocksFor, exported, exportAnswer, firstFault, imported, wholeBlocks, importAnswer, importRoom}
 
 module _ (octets out : List ℕ) where
   pub export-many : ltb 64512 (length octets) ≡ true → exportAnswer octets out ≡ record { number = 20; out = out }

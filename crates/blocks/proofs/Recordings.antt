@@ -1,17 +1,17 @@
 -- Import after export, export after import, and what the frame check of a block notices.
 use mathlib.Core.Path.{_≡_, refl, sym, ap, ap₂, _∙_, subst}
-use mathlib.Core.Bool.{Bool, true, false, _&&_, not}
+use mathlib.Core.Bool.{Bool, true, false, _&&_}
 use mathlib.Core.List.{List, [], _∷_, _++_, append-nil, append-assoc}
 use mathlib.Core.Logic.{⊎-elim}
-use Prim.Native.Nat.{ℕ, zero, suc, min, _+_, _-_, _*_, _/_, _%_, _≤_, _<_, zero-le}
-use native.Mathlib.Nat.{not-suc-le-zero, mod-eq-of-lt, suc-add, add-suc, add-zero, zero-add}
+use Prim.Native.Nat.{ℕ, zero, suc, _+_, _-_, _*_, _/_, _%_, _≤_, _<_, zero-le}
+use native.Mathlib.Nat.{not-suc-le-zero, suc-add, add-suc, add-zero, zero-add}
 use native.Mathlib.Omega.{arith}
 use native.Mathlib.Decide.{ℕ-discrete}
-use lib.Dec.{T, eqb, leb, ltb, eqb→eq, lit<}
+use lib.Dec.{T, eqb, eqb→eq, lit<}
 use lib.ListN.{length, getD, take, drop, replicate, length-append, length-replicate, length-take, length-drop, take-append-drop, drop-of-length-le, List·getD-eq-default}
-use lib.Seq.{take-at, drop-at, take-all, take-length, drop-drop, drop-append-le, length-take-le, take-add, getD-take, getD-drop}
-use borrow.Author.Tests.{eq-eqb, ne-eqb, le-leb, le-ltb, lt-ltb}
-use Rattle.bits.specs.Bits.{bit, flipped, if_then_else_}
+use lib.Seq.{take-at, drop-at, take-all, drop-drop, length-take-le, take-add, getD-take, getD-drop}
+use borrow.Author.Tests.{eq-eqb, ne-eqb, le-leb, le-ltb}
+use Rattle.bits.specs.Bits.{bit, flipped}
 use Rattle.bits.proofs.Orders.{le-or-lt}
 use Rattle.bits.proofs.Octets.{Octets}
 use Rattle.bits.proofs.Sums.{and-l, and-r}
@@ -19,8 +19,8 @@ use Rattle.framecheck.specs.FrameCheck.{frameCheck, framed, sound}
 use Rattle.framecheck.proofs.Frames.{sound-framed, framed-sound}
 use Rattle.framecheck.proofs.Noticed.{burst-noticed, one-noticed, two-noticed}
 use Rattle.blocks.specs.Blocks.{two, four, front, block, exported, blocksFor, Exported, exportAnswer, numberIn, usedIn, dataIn, countRight, clear, fillingIn, fault, Fault, firstFault, imported, wholeBlocks, Imported, importAnswer}
-use Rattle.blocks.proofs.Writing.{block-long, pieceAt, exported-long}
-use Rattle.blocks.proofs.Reading.{Sound, sound-block, fault-none, fault-check, count-le, count-full, count-some, blockAt, block-sound, used-le, all-sound, data-long, used-full, so-many, room-is}
+use Rattle.blocks.proofs.Writing.{block-long, exported-long}
+use Rattle.blocks.proofs.Reading.{Sound, sound-block, fault-none, fault-check, count-le, count-full, count-some, blockAt, block-sound, room-is}
 use Rattle.blocks.proofs.Answering.{export-done, whole-is, import-whole, import-fault, import-room, import-done}
 
 -- ---- a block that is written is read back

@@ -1,15 +1,13 @@
 -- Long division: linear, place by place, and by octets.
-use mathlib.Core.Path.{_≡_, refl, sym, ap, ap₂, _∙_, subst}
+use mathlib.Core.Path.{_≡_, refl, sym, ap, _∙_}
 use mathlib.Core.Bool.{Bool, true, false}
-use mathlib.Core.List.{List, [], _∷_, _++_, append-nil, append-assoc}
-use Prim.Native.Nat.{ℕ, zero, suc, _+_, _*_, _≤_, _<_}
-use native.Mathlib.Nat.{le-of-suc-le-suc, not-suc-le-zero, suc-add, zero-add}
+use mathlib.Core.List.{List, [], _∷_, _++_}
+use Prim.Native.Nat.{ℕ, zero, suc, _+_, _≤_}
+use native.Mathlib.Nat.{suc-add, zero-add}
 use native.Mathlib.Omega.{arith}
-use lib.Dec.{lit<}
-use lib.ListN.{length, replicate, length-replicate}
-use Rattle.bits.specs.Bits.{Word, _⊕_}
-use Rattle.framecheck.specs.FrameCheck.{coefficients, plus, generator, remainder}
-use Rattle.framecheck.proofs.Polynomials.{zeros, plus-nil, plus-comm, plus-assoc, plus-mid, plus-self, plus-zeros, plus-longer, plus-le, plus-front}
+use lib.ListN.{length}
+use Rattle.framecheck.specs.FrameCheck.{plus, generator, remainder}
+use Rattle.framecheck.proofs.Polynomials.{zeros, plus-comm, plus-assoc, plus-mid, plus-self, plus-zeros, plus-longer, plus-le, plus-front}
 
 pub remainder-none : (n : ℕ) → remainder n [] ≡ []
 unfolding remainder

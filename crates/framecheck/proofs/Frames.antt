@@ -1,17 +1,16 @@
 -- Frames: a check put behind octets is sound, and a sound frame is its front with the check put behind.
-use mathlib.Core.Path.{_≡_, refl, sym, ap, ap₂, _∙_, subst}
-use mathlib.Core.Bool.{Bool, true, false}
+use mathlib.Core.Path.{_≡_, sym, ap, ap₂, _∙_, subst}
+use mathlib.Core.Bool.{true}
 use mathlib.Core.List.{List, [], _∷_, _++_}
-use Prim.Native.Nat.{ℕ, zero, suc, _+_, _*_, _/_, _%_, _≤_, _<_}
+use Prim.Native.Nat.{ℕ, suc, _+_, _*_, _/_, _%_, _<_}
 use native.Mathlib.Omega.{arith}
 use native.Mathlib.Numerals.{add-one}
-use lib.Dec.{T, eqb, eqb→eq}
+use lib.Dec.{T, eqb→eq}
 use lib.ListN.{length, getD, take, drop, take-append-drop, drop-of-length-le}
 use lib.Seq.{take-at, drop-cons, getD-at, getD-append-add}
 use borrow.Author.Tests.{eq-eqb}
-use Rattle.bits.specs.Bits.{number}
 use Rattle.bits.proofs.Octets.{Octets, number-lt}
-use Rattle.framecheck.specs.FrameCheck.{frameCheck, framed, sound, remainder, plus, coefficients}
+use Rattle.framecheck.specs.FrameCheck.{frameCheck, framed, sound}
 
 pub check-lt : (octets : List ℕ) → frameCheck octets < 65536
 unfolding frameCheck

@@ -1,25 +1,22 @@
 -- What the frame check notices: a frame is n octets and the two of their check.
 use mathlib.Core.Path.{_≡_, refl, sym, ap, ap₂, _∙_, subst, fun-ext}
-use mathlib.Core.Bool.{Bool, true, false, not}
+use mathlib.Core.Bool.{Bool, true, false}
 use mathlib.Core.List.{List, [], _∷_, _++_}
-use mathlib.Core.Logic.{⊎-elim}
-use Prim.Native.Nat.{ℕ, zero, suc, _+_, _-_, _*_, _/_, _%_, _≤_, _<_}
-use native.Mathlib.Nat.{zero-lt-suc, mod-lt}
+use Prim.Native.Nat.{ℕ, zero, suc, _+_, _*_, _/_, _%_, _≤_, _<_}
 use native.Mathlib.Numerals.{add-one}
 use native.Mathlib.Omega.{arith}
 use lib.Dec.{T, eqb, eqb→eq}
-use lib.ListN.{length, getD, take, drop, replicate, length-append, length-replicate, length-take, length-drop, drop-of-length-le}
+use lib.ListN.{length, getD, take, drop, replicate, length-append, length-replicate, drop-of-length-le}
 use lib.Seq.{drop-cons, getD-take, getD-drop, length-take-le}
 use borrow.Author.Tests.{eq-eqb, ne-eqb}
 use Rattle.bits.specs.Bits.{Word, digit, bit, number, flipped, _⊕_}
-use Rattle.bits.proofs.Orders.{le-or-lt}
 use Rattle.bits.proofs.Octets.{Octets, bit-past}
 use Rattle.bits.proofs.Sums.{⊕-eq, ⊕-self, ⊕-false, ⊕-assoc}
-use Rattle.framecheck.specs.FrameCheck.{coefficients, plus, generator, remainder, value, frameCheck, sound}
+use Rattle.framecheck.specs.FrameCheck.{coefficients, plus, remainder, value, frameCheck, sound}
 use Rattle.framecheck.proofs.Polynomials.{zeros, plus-comm, plus-assoc, plus-mid, plus-self, plus-longer, plus-le, plus-zeros, plus-append, length-coefficients, coefficients-plus, coefficients-append, coefficients-same, coefficients-zeros}
 use Rattle.framecheck.proofs.Division.{remainder-zeros, remainder-plus, length-remainder}
 use Rattle.framecheck.proofs.Places.{digit-high, digit-low-of, this-octet, next-octet}
-use Rattle.framecheck.proofs.Registers.{register, register-value, octet-bits}
+use Rattle.framecheck.proofs.Registers.{register, register-value}
 use Rattle.framecheck.proofs.Powers.{burst, two}
 
 abbrev ones : List Bool

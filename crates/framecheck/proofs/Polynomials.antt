@@ -1,13 +1,13 @@
 -- Polynomials modulo 2: sums, and the coefficients that are a word's bits.
 use mathlib.Core.Path.{_≡_, refl, sym, ap, ap₂, _∙_, fun-ext}
-use mathlib.Core.Bool.{Bool, true, false}
-use mathlib.Core.List.{List, [], _∷_, _++_, append-nil}
+use mathlib.Core.Bool.{Bool, false}
+use mathlib.Core.List.{List, [], _∷_, _++_}
 use Prim.Native.Nat.{ℕ, zero, suc, _+_, _≤_, _<_, zero-le, suc-le-suc}
 use native.Mathlib.Nat.{le-of-suc-le-suc, not-suc-le-zero, suc-add, zero-lt-suc, zero-add, le-refl}
 use native.Mathlib.Omega.{arith}
-use lib.ListN.{length, getD, replicate, length-replicate}
+use lib.ListN.{length, getD, replicate}
 use Rattle.bits.specs.Bits.{Word, _⊕_}
-use Rattle.bits.proofs.Sums.{⊕-assoc, ⊕-comm, ⊕-false, ⊕-self, ⊕-eq}
+use Rattle.bits.proofs.Sums.{⊕-assoc, ⊕-comm, ⊕-self, ⊕-eq}
 use Rattle.framecheck.specs.FrameCheck.{coefficients, plus}
 
 abbrev pub zeros : ℕ → List Bool

@@ -3,18 +3,18 @@ use mathlib.Core.Path.{_≡_, refl, sym, ap, ap₂, _∙_, subst}
 use mathlib.Core.Bool.{Bool, true, false, not, _&&_}
 use mathlib.Core.List.{List, [], _∷_, _++_, append-nil, append-assoc}
 use mathlib.Core.Logic.{⊎-elim}
-use Prim.Native.Nat.{ℕ, zero, suc, _+_, _-_, _*_, _≤_, _<_}
-use native.Mathlib.Nat.{not-suc-le-zero, add-suc, suc-add, add-zero, zero-add}
+use Prim.Native.Nat.{ℕ, zero, suc, _+_, _-_, _≤_, _<_}
+use native.Mathlib.Nat.{not-suc-le-zero, suc-add, zero-add}
 use native.Mathlib.Omega.{arith}
 use lib.Dec.{T, eqb, lit<}
 use lib.Seq.{take-at, getD-at}
 use borrow.Author.Tests.{ne-eqb}
 use Rattle.bits.proofs.Orders.{le-or-lt}
-use lib.ListN.{length, getD, take, replicate, getD-replicate, length-append, length-replicate}
-use Rattle.bits.specs.Bits.{Word, _⊕_, below}
+use lib.ListN.{length, getD, take, getD-replicate, length-append}
+use Rattle.bits.specs.Bits.{Word, _⊕_}
 use Rattle.bits.proofs.Sums.{⊕-eq, below-at, and-l, and-r, not-true, eqb-iff}
 use Rattle.framecheck.specs.FrameCheck.{coefficients, plus, generator, remainder}
-use Rattle.framecheck.proofs.Polynomials.{zeros, plus-longer, plus-front, plus-equal, plus-append, plus-self, length-coefficients, coefficients-plus, coefficients-append, coefficients-same, coefficients-zeros, coefficient}
+use Rattle.framecheck.proofs.Polynomials.{zeros, plus-longer, plus-front, plus-equal, plus-append, length-coefficients, coefficients-plus, coefficients-append, coefficients-same, coefficients-zeros, coefficient}
 use Rattle.framecheck.proofs.Division.{remainder-plus, length-remainder}
 
 -- A remainder times x, divided again.

@@ -1,23 +1,22 @@
 -- The division by octets: a register of 16 coefficients takes one octet after another, by the table.
-use mathlib.Core.Path.{_≡_, refl, sym, ap, ap₂, _∙_, fun-ext}
+use mathlib.Core.Path.{_≡_, refl, sym, ap, ap₂, _∙_}
 use mathlib.Core.Bool.{Bool, true, false}
-use mathlib.Core.List.{List, [], _∷_, _++_, append-nil, append-assoc}
-use Prim.Native.Nat.{ℕ, zero, suc, _+_, _*_, _/_, _%_, _^_, _≤_, _<_, zero-le}
-use native.Mathlib.Nat.{mod-lt, zero-lt-suc}
+use mathlib.Core.List.{List, [], _∷_, _++_, append-assoc}
+use Prim.Native.Nat.{ℕ, zero, suc, _+_, _*_, _/_, _%_, _≤_, _<_, zero-le}
 use native.Mathlib.Omega.{arith}
 use lib.Bits.{bitXor, xor-lt}
 use lib.Seq.{drop-cons}
 use native.Mathlib.Numerals.{add-one}
 use lib.Dec.{eqb, eqb→eq, lit<}
-use lib.ListN.{length, getD, drop, drop-of-length-le, replicate, length-replicate, length-append, replicate-append-replicate}
-use Rattle.bits.specs.Bits.{Word, digit, bit, number, _⊕_}
+use lib.ListN.{length, getD, drop, drop-of-length-le, replicate, length-append}
+use Rattle.bits.specs.Bits.{digit, bit, number, _⊕_}
 use Rattle.bits.proofs.Octets.{digit-number, number-digit, bit-past}
-use Rattle.framecheck.specs.FrameCheck.{coefficients, plus, generator, remainder, value, frameCheck}
+use Rattle.framecheck.specs.FrameCheck.{coefficients, plus, remainder, value, frameCheck}
 use Rattle.framecheck.specs.Table.{entry, table}
 use Rattle.framecheck.proofs.Polynomials.{zeros, plus-comm, plus-longer, plus-append, plus-front, plus-zeros, plus-assoc, length-coefficients, coefficients-plus, coefficients-append, coefficients-same, coefficients-zeros, coefficients-of, coefficient}
 use Rattle.framecheck.proofs.Division.{remainder-zeros, remainder-add, remainder-plus, length-remainder}
 use Rattle.framecheck.proofs.Places.{digit-xor, digit-high, digit-low, digit-none, number-same, this-octet, next-octet}
-use Rattle.framecheck.proofs.Rule.{at, every}
+use Rattle.framecheck.proofs.Rule.{at}
 
 -- The 16 coefficients that a number stands for.
 abbrev pub register : ℕ → List Bool

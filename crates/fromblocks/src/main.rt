@@ -1,6 +1,6 @@
 // Reads blocks of the lab's disk from standard input and writes the octets of the recording.
 ghost use mathlib.Core.Path.{_≡_};
-ghost use Prim.Native.Nat.{_≤_, _-_};
+ghost use Prim.Native.Nat.{_-_};
 ghost use lib.ListN.{length};
 use libc::STDERR_FILENO;
 use libc::STDIN_FILENO;
@@ -45,16 +45,21 @@ fn least(a: usize, b: usize) -> usize
     if a < b { a } else { b }
 }
 
+// The octets of the blocks into an output of the right length, and out.
 fn convert(blocks: &[u8], out: &mut [u8]) {
-    let n = least(blocks::imported_octets(blocks), out.len());
-    let answer = blocks::import_blocks(blocks, &mut out[..n]);
+    let answer = blocks::import_blocks(blocks, out);
     if answer.number != 0 {
         refuse(answer.number, answer.block);
         return;
     }
-    if !io::write_all(STDOUT_FILENO, &out[..n]) {
+    if !io::write_all(STDOUT_FILENO, out) {
         os::fail(b"standard output");
     }
+}
+
+fn all(blocks: &[u8], out: &mut [u8]) {
+    let n = least(blocks::imported_octets(blocks), out.len());
+    convert(blocks, &mut out[..n]);
 }
 
 fn main() {
@@ -64,5 +69,5 @@ fn main() {
     if n < 65537 && !is_ended() {
         return;
     }
-    convert(&blocks[..n], &mut out);
+    all(&blocks[..n], &mut out);
 }

@@ -1,6 +1,6 @@
 // Reads the octets of a recording from standard input and writes them in blocks of the lab's disk.
 ghost use mathlib.Core.Path.{_≡_};
-ghost use Prim.Native.Nat.{_≤_, _-_};
+ghost use Prim.Native.Nat.{_-_};
 ghost use lib.ListN.{length};
 use libc::STDERR_FILENO;
 use libc::STDIN_FILENO;
@@ -43,16 +43,21 @@ fn least(a: usize, b: usize) -> usize
     if a < b { a } else { b }
 }
 
+// The blocks of the octets into an output of the right length, and out.
 fn convert(octets: &[u8], out: &mut [u8]) {
-    let n = least(blocks::exported_octets(octets.len()), out.len());
-    let number = blocks::export_blocks(octets, &mut out[..n]);
+    let number = blocks::export_blocks(octets, out);
     if number != 0 {
         refuse(number);
         return;
     }
-    if !io::write_all(STDOUT_FILENO, &out[..n]) {
+    if !io::write_all(STDOUT_FILENO, out) {
         os::fail(b"standard output");
     }
+}
+
+fn all(octets: &[u8], out: &mut [u8]) {
+    let n = least(blocks::exported_octets(octets.len()), out.len());
+    convert(octets, &mut out[..n]);
 }
 
 fn main() {
@@ -62,5 +67,5 @@ fn main() {
     if n < 65537 && !is_ended() {
         return;
     }
-    convert(&octets[..n], &mut out);
+    all(&octets[..n], &mut out);
 }

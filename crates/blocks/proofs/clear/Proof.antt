@@ -1,6 +1,6 @@
 -- `blocks::clear`: the octets that are left are clear just if all are. Assumes nothing.
-use mathlib.Core.Path.{_≡_, refl, sym, ap, _∙_}
-use Prim.Native.Nat.{ℕ, _≤_, _<_, _-_, zero-le}
+use mathlib.Core.Path.{_≡_, refl, sym, _∙_}
+use Prim.Native.Nat.{_≤_, _-_, zero-le}
 use native.Mathlib.Omega.{arith}
 use lib.ListN.{length, drop}
 use Rattle.blocks.specs.Blocks.{clear}

@@ -1,7 +1,5 @@
 -- `blocks::export_blocks`: the answer, case by case. Assumes nothing.
-use mathlib.Core.Path.{_≡_, sym, ap, _∙_}
-use native.Mathlib.Omega.{arith}
-use lib.ListN.{length}
+use mathlib.Core.Path.{sym, ap, _∙_}
 use borrow.Author.Tests.{eq-eqb, ne-eqb, lt-ltb, le-ltb}
 use Rattle.blocks.specs.Answers.{asExported}
 use Rattle.blocks.proofs.Answering.{export-many, export-room, export-done}

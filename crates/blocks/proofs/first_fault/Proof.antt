@@ -1,8 +1,8 @@
 -- `blocks::first_fault`: the blocks that are left have the first fault of all. Assumes nothing.
 use mathlib.Core.Path.{_≡_, sym, ap, _∙_}
-use Prim.Native.Nat.{ℕ, _≤_, _<_, _-_, _*_, zero-le}
+use Prim.Native.Nat.{_≤_, _-_, _*_, zero-le}
 use native.Mathlib.Omega.{arith}
-use lib.ListN.{length, drop}
+use lib.ListN.{drop}
 use borrow.Author.Needs.{needs}
 use Rattle.blocks.specs.Blocks.{firstFault}
 use Rattle.blocks.proofs.Reading.{fault-here, fault-on, fault-end, range-long}

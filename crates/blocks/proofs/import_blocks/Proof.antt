@@ -1,12 +1,11 @@
 -- `blocks::import_blocks`: the answer, case by case. Assumes nothing.
 use mathlib.Core.Path.{_≡_, sym, ap, _∙_}
 use Prim.Native.Nat.{ℕ}
-use native.Mathlib.Omega.{arith}
 use mathlib.Core.List.{List}
 use lib.Dec.{eqb}
 use lib.ListN.{length}
 use borrow.Author.Tests.{eq-eqb, ne-eqb, not-true, not-false}
-use Rattle.blocks.specs.Blocks.{Fault, Imported}
+use Rattle.blocks.specs.Blocks.{Fault}
 use Rattle.blocks.proofs.Answering.{whole-is, import-whole, import-fault, import-room, import-done}
 use borrow.Author.Needs.{needs}
 use Rattle.blocks.proofs.import_blocks.Statement.{statement}

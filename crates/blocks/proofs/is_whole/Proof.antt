@@ -1,5 +1,5 @@
 -- `blocks::is_whole`: the tests are the definition's. Assumes nothing.
-use borrow.Author.Tests.{le-leb, lt-leb, eq-eqb, ne-eqb}
+use borrow.Author.Tests.{eq-eqb, ne-eqb}
 use Rattle.blocks.proofs.is_whole.Statement.{statement}
 use Rattle.blocks.proofs.is_whole.Tie as tie
 

@@ -1,8 +1,8 @@
 -- `blocks::put_blocks`: the blocks so far are the first ones. Assumes nothing.
 use mathlib.Core.Path.{_≡_, refl, sym, ap, _∙_, subst}
-use Prim.Native.Nat.{ℕ, _≤_, _<_, _-_, _*_, zero-le}
+use Prim.Native.Nat.{_≤_, _-_, _*_, zero-le}
 use native.Mathlib.Omega.{arith}
-use lib.ListN.{length, take, drop}
+use lib.ListN.{length, take}
 use borrow.Author.Needs.{needs}
 use Rattle.blocks.specs.Blocks.{block, exported}
 use Rattle.blocks.proofs.Lists.{filled}

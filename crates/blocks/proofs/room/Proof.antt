@@ -1,5 +1,5 @@
 -- `blocks::room`: 504 octets for each block before the last. Assumes nothing.
-use Prim.Native.Nat.{ℕ, suc, _+_, _-_, _*_}
+use Prim.Native.Nat.{suc, _+_, _-_, _*_}
 use Rattle.blocks.proofs.Reading.{last-range, room-is}
 use mathlib.Core.Path.{_≡_, sym, ap, _∙_}
 use native.Mathlib.Omega.{arith}

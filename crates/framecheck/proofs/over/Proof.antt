@@ -1,6 +1,6 @@
 -- `framecheck::over`: what is taken so far, and the octets that are left, give the frame check. Assumes nothing.
-use mathlib.Core.Path.{_≡_, sym, ap, _∙_}
-use Prim.Native.Nat.{ℕ, _<_, _≤_, _-_, _*_, _%_, zero-le}
+use mathlib.Core.Path.{_≡_, sym, _∙_}
+use Prim.Native.Nat.{_<_, _≤_, _-_, _*_, _%_, zero-le}
 use lib.Bits.{xor-lt}
 use lib.Dec.{lit<}
 use native.Mathlib.Omega.{arith}
