@@ -14,7 +14,8 @@ module _ (octets out : List ℕ) where
   unfolding exportAnswer
   export-many m = simp m
 
-  pub export-room : ltb 64512 (length octets) ≡ false → eqb (length out) (512 * blocksFor (length octets)) ≡ false → exportAnswer octets out ≡ record { number = 3; out = out }
+  pub export-room : ltb 64512 (length octets) ≡ false → eqb (length out) (512 * blocksFor (length octets)) ≡ false
+      → exportAnswer octets out ≡ record { number = 3; out = out }
   unfolding exportAnswer
   export-room m r = simp (m, r)
 
@@ -42,12 +43,14 @@ module _ (octets out : List ℕ) where
   unfolding importAnswer
   import-fault w f = simp (w, f)
 
-  pub import-room : wholeBlocks (length octets) ≡ true → eqb (firstFault n 0 octets .number) 0 ≡ true → eqb (length out) (length (imported n octets)) ≡ false
+  pub import-room : wholeBlocks (length octets) ≡ true → eqb (firstFault n 0 octets .number) 0 ≡ true
+      → eqb (length out) (length (imported n octets)) ≡ false
       → importAnswer octets out ≡ record { number = 3; block = 0; out = out }
   unfolding importAnswer
   import-room w f r = simp (w, f, r)
 
-  pub import-done : wholeBlocks (length octets) ≡ true → eqb (firstFault n 0 octets .number) 0 ≡ true → eqb (length out) (length (imported n octets)) ≡ true
+  pub import-done : wholeBlocks (length octets) ≡ true → eqb (firstFault n 0 octets .number) 0 ≡ true
+      → eqb (length out) (length (imported n octets)) ≡ true
       → importAnswer octets out ≡ record { number = 0; block = 0; out = imported n octets }
   unfolding importAnswer
   import-done w f r = simp (w, f, r)
@@ -57,7 +60,8 @@ module _ (octets : List ℕ) where
   unfolding importRoom
   room-whole w = simp w
 
-  pub room-fault : wholeBlocks (length octets) ≡ true → eqb (firstFault (length octets / 512) 0 octets .number) 0 ≡ false → importRoom octets ≡ 0
+  pub room-fault : wholeBlocks (length octets) ≡ true → eqb (firstFault (length octets / 512) 0 octets .number) 0 ≡ false
+      → importRoom octets ≡ 0
   unfolding importRoom
   room-fault w f = simp (w, f)
 

@@ -64,7 +64,8 @@ put-length xs ys a k e h =
     length-append (take a xs) (ys ++ drop k (drop a xs))
     ∙ omega (arith, length-take-le a xs (omega arith), length-append ys (drop k (drop a xs)), length-drop k (drop a xs), length-drop a xs)
 
-pub last-part : (xs ys done : List ℕ) (a : ℕ) → length done ≡ a → take a xs ≡ done → a + length ys ≡ length xs → put a (length xs - a) xs ys ≡ done ++ ys
+pub last-part : (xs ys done : List ℕ) (a : ℕ) → length done ≡ a → take a xs ≡ done → a + length ys ≡ length xs
+    → put a (length xs - a) xs ys ≡ done ++ ys
 last-part xs ys done a e f g =
     ap (λ k. put a k xs ys) same
     ∙ filled (put a (length ys) xs ys) (done ++ ys) (a + length ys) (put-length xs ys a (length ys) refl (omega arith) ∙ sym g)
@@ -109,9 +110,11 @@ high v = ap (λ z. z % 256 ∷ v / 65536 % 256 ∷ []) (shr-shr v 16 8)
 -- octets in front and zeros behind them
 pub data-put : (o used D Z : List ℕ) → length used ≤ length o → D ≡ used
     → Z ≡ replicate (length (take (length (D ++ drop (length used) o) - length used) (drop (length used) (D ++ drop (length used) o)))) 0
-    → put (length used) (length (D ++ drop (length used) o) - length used) (D ++ drop (length used) o) Z ≡ used ++ replicate (length o - length used) 0
+    → put (length used) (length (D ++ drop (length used) o) - length used) (D ++ drop (length used) o) Z ≡ used ++ replicate
+    (length o - length used) 0
 data-put o used D Z h e z =
-    last-part (D ++ drop n o) Z D n d (first-part o D n d) (omega (arith, whole, zeros)) ∙ ap₂ (λ x y. x ++ y) e (z ∙ ap (λ k. replicate k 0) room)
+    last-part (D ++ drop n o) Z D n d (first-part o D n d) (omega (arith, whole, zeros))
+    ∙ ap₂ (λ x y. x ++ y) e (z ∙ ap (λ k. replicate k 0) room)
   where
     n : ℕ
     n = length used

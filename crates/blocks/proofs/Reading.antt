@@ -50,11 +50,13 @@ module _ (place : ℕ) (last : Bool) (b : List ℕ) where
   unfolding fault
   fault-count s n u = simp (s, n, u)
 
-  pub fault-filling : sound 510 b ≡ true → eqb (numberIn b) place ≡ true → countRight last (usedIn b) ≡ true → clear (fillingIn b) ≡ false → fault place last b ≡ 23
+  pub fault-filling : sound 510 b ≡ true → eqb (numberIn b) place ≡ true → countRight last (usedIn b) ≡ true → clear (fillingIn b) ≡ false
+      → fault place last b ≡ 23
   unfolding fault
   fault-filling s n u f = simp (s, n, u, f)
 
-  pub fault-none : sound 510 b ≡ true → eqb (numberIn b) place ≡ true → countRight last (usedIn b) ≡ true → clear (fillingIn b) ≡ true → fault place last b ≡ 0
+  pub fault-none : sound 510 b ≡ true → eqb (numberIn b) place ≡ true → countRight last (usedIn b) ≡ true → clear (fillingIn b) ≡ true
+      → fault place last b ≡ 0
   unfolding fault
   fault-none s n u f = simp (s, n, u, f)
 
@@ -66,9 +68,11 @@ pub record Sound (place : ℕ) (last : Bool) (b : List ℕ) : Type 0 where
   pub filling : clear (fillingIn b) ≡ true
 
 pub sound-block : (place : ℕ) (last : Bool) (b : List ℕ) → fault place last b ≡ 0 → Sound place last b
-sound-block place last b e = go (sound 510 b) (eqb (numberIn b) place) (countRight last (usedIn b)) (clear (fillingIn b)) refl refl refl refl
+sound-block place last b e = go (sound 510 b) (eqb (numberIn b) place) (countRight last (usedIn b))
+    (clear (fillingIn b)) refl refl refl refl
   where
-    go : (s n u f : Bool) → sound 510 b ≡ s → eqb (numberIn b) place ≡ n → countRight last (usedIn b) ≡ u → clear (fillingIn b) ≡ f → Sound place last b
+    go : (s n u f : Bool) → sound 510 b ≡ s → eqb (numberIn b) place ≡ n → countRight last (usedIn b) ≡ u → clear (fillingIn b) ≡ f
+        → Sound place last b
     go true true true true s n u f = record { check = s; number = n; count = u; filling = f }
     go false n u f s _ _ _ = absurd (omega (arith, e, fault-check place last b s))
     go true false u f s n _ _ = absurd (omega (arith, e, fault-number place last b s n))
@@ -101,7 +105,8 @@ block-range k blocks = ap₂ (λ a b. take a (drop b blocks)) long at
     at : k * 512 ≡ 512 * k
     at = omega arith
 
-module _ (blocks : List ℕ) (n k f : ℕ) (h : k < n) (is : f ≡ fault k (eqb (k + 1) n) (take (k * 512 + 512 - k * 512) (drop (k * 512) blocks))) where
+module _ (blocks : List ℕ) (n k f : ℕ) (h : k < n) (is : f ≡ fault k (eqb (k + 1) n)
+    (take (k * 512 + 512 - k * 512) (drop (k * 512) blocks))) where
   m : ℕ
   m = n - suc k
 
@@ -143,7 +148,8 @@ moved : {a a′ : ℕ} {x x′ : Bool} {b b′ : List ℕ} → a ≡ a′ → x 
 moved {a} {a′} {x} {x′} {b} {b′} p q r s = subst (λ z. Sound a′ x′ z) r (subst (λ z. Sound a′ z b) q (subst (λ z. Sound z x b) p s))
 
 -- no fault at all: every block is sound
-pub all-sound : (n place : ℕ) (l : List ℕ) → firstFault n place l .number ≡ 0 → (k : ℕ) → k < n → Sound (place + k) (eqb (n - suc k) 0) (blockAt k l)
+pub all-sound : (n place : ℕ) (l : List ℕ) → firstFault n place l .number ≡ 0 → (k : ℕ) → k < n
+    → Sound (place + k) (eqb (n - suc k) 0) (blockAt k l)
 unfolding firstFault
 all-sound zero place l e k h = absurd (not-suc-le-zero h)
 all-sound (suc n) place l e k h =
@@ -156,14 +162,16 @@ all-sound (suc n) place l e k h =
     only = omega arith
 
     go : Dec (f ≡ 0)
-        → (firstFault n (suc place) (drop 512 l) .number ≡ 0 → (i : ℕ) → i < n → Sound (suc place + i) (eqb (n - suc i) 0) (blockAt i (drop 512 l)))
+        → (firstFault n (suc place) (drop 512 l) .number ≡ 0 → (i : ℕ) → i < n
+        → Sound (suc place + i) (eqb (n - suc i) 0) (blockAt i (drop 512 l)))
         → (i : ℕ) → i < suc n → Sound (place + i) (eqb (suc n - suc i) 0) (blockAt i l)
     go (no d) ih i l′ =
         let q : firstFault (suc n) place l ≡ record { number = f; block = place } = simp (ne-eqb f 0 d) in
         absurd (d (ap (λ (r : Fault). r .number) (sym q) ∙ e))
     go (yes z) ih zero l′ = moved (sym (add-zero place)) (ap (λ z. eqb z 0) only) refl (sound-block place (eqb n 0) (take 512 l) z)
     go (yes z) ih (suc i) l′ =
-        moved (suc-add place i ∙ sym (add-suc place i)) (ap (λ z. eqb z 0) less) (ap (take 512) (drop-drop (512 * i) 512 l ∙ ap (λ w. drop w l) more)) (ih (onward z) i (omega arith))
+        moved (suc-add place i ∙ sym (add-suc place i)) (ap (λ z. eqb z 0) less)
+        (ap (take 512) (drop-drop (512 * i) 512 l ∙ ap (λ w. drop w l) more)) (ih (onward z) i (omega arith))
       where
         more : 512 + 512 * i ≡ 512 * suc i
         more = omega arith
@@ -188,7 +196,8 @@ unfolding imported
 imported-snoc zero l = append-nil (dataIn (take 512 l))
 imported-snoc (suc k) l =
     ap (λ x. dataIn (take 512 l) ++ x)
-    (imported-snoc k (drop 512 l) ∙ ap (λ z. imported k (drop 512 l) ++ dataIn (take 512 z)) (drop-drop (512 * k) 512 l ∙ ap (λ z. drop z l) more))
+    (imported-snoc k (drop 512 l) ∙ ap (λ z. imported k (drop 512 l) ++ dataIn (take 512 z))
+    (drop-drop (512 * k) 512 l ∙ ap (λ z. drop z l) more))
     ∙ sym (append-assoc (dataIn (take 512 l)) (imported k (drop 512 l)) (dataIn (blockAt (suc k) l)))
   where
     more : 512 + 512 * k ≡ 512 * suc k
@@ -210,7 +219,8 @@ module _ (n : ℕ) (l : List ℕ) (long : length l ≡ 512 * n) (e : firstFault 
 
   pub used-full : (k : ℕ) → suc k < n → usedIn (blockAt k l) ≡ 504
   used-full k h =
-      count-full (usedIn (blockAt k l)) (subst (λ z. countRight z (usedIn (blockAt k l)) ≡ true) (ne-eqb (n - suc k) 0 (λ q. omega arith)) (block-sound k (omega arith) .count))
+      count-full (usedIn (blockAt k l)) (subst (λ z. countRight z (usedIn (blockAt k l)) ≡ true) (ne-eqb (n - suc k) 0 (λ q. omega arith))
+      (block-sound k (omega arith) .count))
 
   -- the octets so far: 504 for each block before the last
   pub so-many : (k : ℕ) → suc k ≤ n → length (imported k l) ≡ 504 * k
@@ -222,18 +232,21 @@ module _ (n : ℕ) (l : List ℕ) (long : length l ≡ 512 * n) (e : firstFault 
 
   pub more-long : (k : ℕ) → k < n → length (imported (suc k) l) ≡ length (imported k l) + usedIn (blockAt k l)
   more-long k h =
-      ap length (imported-snoc k l) ∙ length-append (imported k l) (dataIn (blockAt k l)) ∙ ap (λ z. length (imported k l) + z) (data-long k h)
+      ap length (imported-snoc k l) ∙ length-append (imported k l) (dataIn (blockAt k l))
+      ∙ ap (λ z. length (imported k l) + z) (data-long k h)
 
   -- the room that is needed
   pub room-is : (m : ℕ) → n ≡ suc m → 504 * m + usedIn (blockAt m l) ≡ length (imported n l)
-  room-is m q = sym (ap (λ z. length (imported z l)) q ∙ more-long m (omega arith) ∙ ap (λ z. z + usedIn (blockAt m l)) (so-many m (omega arith)))
+  room-is m q = sym (ap (λ z. length (imported z l)) q ∙ more-long m (omega arith)
+      ∙ ap (λ z. z + usedIn (blockAt m l)) (so-many m (omega arith)))
 
   pub fits : (k j : ℕ) → k + j ≡ n → length (imported k l) ≤ length (imported n l)
   fits k zero q = omega (arith, ap (λ z. length (imported z l)) (sym (add-zero k) ∙ q))
   fits k (suc j) q = omega (arith, fits (suc k) j (omega arith), more-long k (omega arith))
 
 -- the used octets as a range lends them
-pub data-range : (k u : ℕ) (l : List ℕ) → u ≤ 504 → u ≡ usedIn (blockAt k l) → take (k * 512 + 6 + u - (k * 512 + 6)) (drop (k * 512 + 6) l) ≡ dataIn (blockAt k l)
+pub data-range : (k u : ℕ) (l : List ℕ) → u ≤ 504 → u ≡ usedIn (blockAt k l)
+    → take (k * 512 + 6 + u - (k * 512 + 6)) (drop (k * 512 + 6) l) ≡ dataIn (blockAt k l)
 data-range k u l h e =
     ap₂ (λ a b. take a (drop b l)) long at
     ∙ ap (take u) (sym (drop-drop 6 (512 * k) l))
@@ -278,13 +291,15 @@ module _ (n : ℕ) (l : List ℕ) (long : length l ≡ 512 * n) (e : firstFault 
 
   -- where the octets so far end, and that the next ones fit
   pub next-end : length (imported k l) + u ≡ length (imported (k + 1) l)
-  next-end = ap (λ z. length (imported k l) + z) used-is ∙ sym (more-long n l long e k h) ∙ ap (λ z. length (imported z l)) (sym (add-one k))
+  next-end = ap (λ z. length (imported k l) + z) used-is ∙ sym (more-long n l long e k h)
+      ∙ ap (λ z. length (imported z l)) (sym (add-one k))
 
   pub next-fits : length (imported k l) + u ≤ length (imported n l)
   next-fits = omega (arith, next-end, fits n l long e (k + 1) (n - (k + 1)) (omega arith))
 
   pub data-more : (out part : List ℕ) (at : ℕ) → at ≡ length (imported k l) → take at out ≡ imported k l
-      → part ≡ take (k * 512 + 6 + u - (k * 512 + 6)) (drop (k * 512 + 6) l) → take (at + u) (put at (at + u - at) out part) ≡ imported (k + 1) l
+      → part ≡ take (k * 512 + 6 + u - (k * 512 + 6)) (drop (k * 512 + 6) l)
+      → take (at + u) (put at (at + u - at) out part) ≡ imported (k + 1) l
   data-more out part at a so-far p =
       ap (λ z. take (at + u) (put at z out part)) wide
       ∙ placed out part (imported k l) at u (sym a) (ap length p ∙ source-long) so-far

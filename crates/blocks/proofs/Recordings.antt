@@ -26,7 +26,12 @@ use Rattle.blocks.proofs.Answering.{export-done, whole-is, import-whole
 -- ---- a block that is written is read back
 
 front-long : (place : ℕ) (used : List ℕ) → length used ≤ 504 → length (front place used) ≡ 510
-front-long place used h = omega (arith, length-append used (replicate (504 - length used) 0), length-replicate {A = ℕ} (504 - length used) 0)
+front-long place used h = omega (
+  arith,
+  length-append used (replicate (504 - length used) 0),
+  length-replicate {A = ℕ}
+      (504 - length used) 0,
+)
 
 clear-zeros : (n : ℕ) → clear (replicate n 0) ≡ true
 unfolding clear
@@ -66,7 +71,8 @@ module _ (place : ℕ) (used : List ℕ) (small : place < 128) (few : length use
   read-filling : fillingIn (block place used) ≡ zs
   read-filling =
       ap (λ u. take (504 - u) (drop (6 + u) (block place used))) read-used
-      ∙ ap (take (504 - length used)) (sym (drop-drop (length used) 6 (block place used)) ∙ ap (drop (length used)) after-head ∙ drop-at used (zs ++ behind) (length used) refl)
+      ∙ ap (take (504 - length used)) (sym (drop-drop (length used) 6 (block place used)) ∙ ap (drop (length used)) after-head
+      ∙ drop-at used (zs ++ behind) (length used) refl)
       ∙ take-at zs behind (504 - length used) (length-replicate (504 - length used) 0)
 
   pub written-sound : (last : Bool) → countRight last (length used) ≡ true → fault place last (block place used) ≡ 0
@@ -84,17 +90,20 @@ module _ (place : ℕ) (used : List ℕ) (small : place < 128) (few : length use
 abbrev none : Fault
 none = record { number = 0; block = 0 }
 
-on-sound : (n place : ℕ) (b rest : List ℕ) → length b ≡ 512 → fault place (eqb n 0) b ≡ 0 → firstFault (suc n) place (b ++ rest) ≡ firstFault n (suc place) rest
+on-sound : (n place : ℕ) (b rest : List ℕ) → length b ≡ 512 → fault place (eqb n 0) b ≡ 0
+    → firstFault (suc n) place (b ++ rest) ≡ firstFault n (suc place) rest
 unfolding firstFault
 on-sound n place b rest e f =
-    let h : eqb (fault place (eqb n 0) (take 512 (b ++ rest))) 0 ≡ true = ap (λ z. eqb (fault place (eqb n 0) z) 0) (take-at b rest 512 e) ∙ eq-eqb _ 0 f in
+    let h : eqb (fault place (eqb n 0) (take 512 (b ++ rest))) 0 ≡ true = ap (λ z. eqb (fault place (eqb n 0) z) 0) (take-at b rest 512 e)
+    ∙ eq-eqb _ 0 f in
     (simp h) ∙ ap (firstFault n (suc place)) (drop-at b rest 512 e)
 
 on-data : (n : ℕ) (b rest : List ℕ) → length b ≡ 512 → imported (suc n) (b ++ rest) ≡ dataIn b ++ imported n rest
 unfolding imported
 on-data n b rest e = ap₂ (λ x y. dataIn x ++ imported n y) (take-at b rest 512 e) (drop-at b rest 512 e)
 
-count-written : (n : ℕ) (octets : List ℕ) → length octets ≤ 504 * suc n → 504 * suc n < length octets + 504 → countRight (eqb n 0) (length (take 504 octets)) ≡ true
+count-written : (n : ℕ) (octets : List ℕ) → length octets ≤ 504 * suc n → 504 * suc n < length octets + 504
+    → countRight (eqb n 0) (length (take 504 octets)) ≡ true
 count-written zero octets h g =
     ap₂ _&&_ (le-leb 1 (length (take 504 octets)) (omega (arith, long))) (le-leb (length (take 504 octets)) 504 (omega (arith, long)))
   where
@@ -109,7 +118,8 @@ pub read-back : (n place : ℕ) (octets : List ℕ) → place + n ≤ 128 → le
 unfolding exported firstFault imported
 read-back zero place [] p h g = (refl, refl)
 read-back zero place (o ∷ octets) p h g = absurd (omega arith)
-read-back (suc n) place octets p h g = go (read-back n (suc place) (drop 504 octets) (omega arith) (omega (arith, length-drop 504 octets)) more)
+read-back (suc n) place octets p h g = go (read-back n (suc place) (drop 504 octets) (omega arith)
+    (omega (arith, length-drop 504 octets)) more)
   where
     more : 504 * n < length (drop 504 octets) + 504
     more = omega (arith, length-drop 504 octets)
@@ -129,14 +139,17 @@ read-back (suc n) place octets p h g = go (read-back n (suc place) (drop 504 oct
     rest : List ℕ
     rest = exported n (suc place) (drop 504 octets)
 
-    go : (firstFault n (suc place) rest ≡ none) × (imported n rest ≡ drop 504 octets) → (firstFault (suc n) place (B ++ rest) ≡ none) × (imported (suc n) (B ++ rest) ≡ octets)
+    go : (firstFault n (suc place) rest ≡ none) × (imported n rest ≡ drop 504 octets)
+        → (firstFault (suc n) place (B ++ rest) ≡ none) × (imported (suc n) (B ++ rest) ≡ octets)
     go ih = (
       on-sound n place B rest long sound-here ∙ ih .0,
-      on-data n B rest long ∙ ap₂ (λ x y. x ++ y) (read-data place (take 504 octets) (omega arith) few) (ih .1) ∙ take-append-drop 504 octets,
+      on-data n B rest long ∙ ap₂ (λ x y. x ++ y) (read-data place (take 504 octets) (omega arith) few) (ih .1)
+          ∙ take-append-drop 504 octets,
     )
 
 -- import after export gives the octets back
-pub import-after-export : (octets out room : List ℕ) → length octets ≤ 64512 → length out ≡ 512 * blocksFor (length octets) → length room ≡ length octets
+pub import-after-export : (octets out room : List ℕ) → length octets ≤ 64512 → length out ≡ 512 * blocksFor (length octets)
+    → length room ≡ length octets
     → importAnswer (exportAnswer octets out .out) room ≡ record { number = 0; block = 0; out = octets }
 import-after-export octets out room few long fits =
     ap (λ (x : Exported). importAnswer (x .out) room) (export-done octets out (le-ltb 64512 (length octets) few) (eq-eqb _ _ long))
@@ -171,7 +184,8 @@ clear-is : (l : List ℕ) → clear l ≡ true → l ≡ replicate (length l) 0
 unfolding clear
 clear-is [] e = refl
 clear-is (o ∷ l) e =
-    ap₂ (λ x y. x ∷ y) (eqb→eq o 0 (and-l (eqb o 0) (clear l) (subst T (sym e) tt))) (clear-is l (true-of (clear l) (and-r (eqb o 0) (clear l) (subst T (sym e) tt))))
+    ap₂ (λ x y. x ∷ y) (eqb→eq o 0 (and-l (eqb o 0) (clear l) (subst T (sym e) tt)))
+    (clear-is l (true-of (clear l) (and-r (eqb o 0) (clear l) (subst T (sym e) tt))))
   where
     true-of : (b : Bool) → T b → b ≡ true
     true-of true t = refl
@@ -187,7 +201,8 @@ six (a ∷ b ∷ c ∷ d ∷ e ∷ []) h = absurd (omega arith)
 six (a ∷ b ∷ c ∷ d ∷ e ∷ f ∷ l) h = refl
 
 four-is : (a b c d v : ℕ) → a < 256 → b < 256 → c < 256 → d < 256 → 16777216 * a + 65536 * b + 256 * c + d ≡ v → four v ≡ a ∷ b ∷ c ∷ d ∷ []
-four-is a b c d v ha hb hc hd e = ap (λ x. x ∷ rest) first ∙ ap (λ x. a ∷ x ∷ v / 256 % 256 ∷ v % 256 ∷ []) second ∙ ap₂ (λ x y. a ∷ b ∷ x ∷ y ∷ []) third fourth
+four-is a b c d v ha hb hc hd e = ap (λ x. x ∷ rest) first ∙ ap (λ x. a ∷ x ∷ v / 256 % 256 ∷ v % 256 ∷ []) second
+    ∙ ap₂ (λ x y. a ∷ b ∷ x ∷ y ∷ []) third fourth
   where
     rest : List ℕ
     rest = v / 65536 % 256 ∷ v / 256 % 256 ∷ v % 256 ∷ []
@@ -228,7 +243,8 @@ written-again place last b all long s = ap framed fronts ∙ framed-sound 510 b 
     held = length-take-le (usedIn b) (drop 6 b) (omega (arith, length-drop 6 b, few))
 
     filling : fillingIn b ≡ replicate (504 - u) 0
-    filling = clear-is (fillingIn b) (s .filling) ∙ ap (λ n. replicate n 0) (length-take-le (504 - usedIn b) (drop (6 + usedIn b) b) (omega (arith, length-drop (6 + usedIn b) b, few)))
+    filling = clear-is (fillingIn b) (s .filling) ∙ ap (λ n. replicate n 0)
+        (length-take-le (504 - usedIn b) (drop (6 + usedIn b) b) (omega (arith, length-drop (6 + usedIn b) b, few)))
 
     whole : u + (504 - u) ≡ 504
     whole = omega (arith, few)
@@ -242,7 +258,8 @@ written-again place last b all long s = ap framed fronts ∙ framed-sound 510 b 
     fronts : front place (dataIn b) ≡ take 510 b
     fronts =
         ap₂ (λ x y. x ++ (two (length (dataIn b)) ++ (dataIn b ++ replicate (504 - y) 0)))
-        (four-is (getD b 0 0) (getD b 1 0) (getD b 2 0) (getD b 3 0) place (all 0) (all 1) (all 2) (all 3) (eqb→eq (numberIn b) place (subst T (sym (s .number)) tt)))
+        (four-is (getD b 0 0) (getD b 1 0) (getD b 2 0) (getD b 3 0) place (all 0) (all 1) (all 2) (all 3)
+        (eqb→eq (numberIn b) place (subst T (sym (s .number)) tt)))
         held
         ∙ ap₂ (λ x y. getD b 0 0 ∷ getD b 1 0 ∷ getD b 2 0 ∷ getD b 3 0 ∷ (x ++ y))
         (two-is (getD b 4 0) (getD b 5 0) (length (dataIn b)) (all 4) (all 5) held) (sym behind)
@@ -266,7 +283,8 @@ none-of n place l e = go (ℕ-discrete (fault place (eqb n 0) (take 512 l)) 0)
         absurd (d (ap (λ (r : Fault). r .number) (sym q) ∙ e))
 
 -- the octets of the first block, and those of the others
-parted : (n : ℕ) (d rest : List ℕ) → length d ≤ 504 → (eqb n 0 ≡ false → length d ≡ 504) → (n ≡ 0 → rest ≡ []) → (take 504 (d ++ rest) ≡ d) × (drop 504 (d ++ rest) ≡ rest)
+parted : (n : ℕ) (d rest : List ℕ) → length d ≤ 504 → (eqb n 0 ≡ false → length d ≡ 504) → (n ≡ 0 → rest ≡ [])
+    → (take 504 (d ++ rest) ≡ d) × (drop 504 (d ++ rest) ≡ rest)
 parted zero d rest few full end =
     let e : d ++ rest ≡ d = ap (λ l. d ++ l) (end refl) ∙ append-nil d in
     (ap (take 504) e ∙ take-all 504 d few, ap (drop 504) e ∙ drop-of-length-le d few ∙ sym (end refl))
@@ -275,7 +293,8 @@ parted (suc n) d rest few full end =
     (take-at d rest 504 e, drop-at d rest 504 e)
 
 Octets-take : (n : ℕ) (l : List ℕ) → Octets l → Octets (take n l)
-Octets-take n l all i = ⊎-elim (λ (h : n ≤ i). small h) (λ (h : i < n). subst (λ z. z < 256) (sym (getD-take n l i 0 h)) (all i)) (le-or-lt n i)
+Octets-take n l all i = ⊎-elim (λ (h : n ≤ i). small h) (λ (h : i < n). subst (λ z. z < 256) (sym (getD-take n l i 0 h)) (all i))
+    (le-or-lt n i)
   where
     small : n ≤ i → getD (take n l) i 0 < 256
     small h = subst (λ z. z < 256) (sym (List·getD-eq-default (take n l) 0 {n = i} (omega (arith, length-take n l)))) (lit< tt)
@@ -283,7 +302,8 @@ Octets-take n l all i = ⊎-elim (λ (h : n ≤ i). small h) (λ (h : i < n). su
 Octets-drop : (n : ℕ) (l : List ℕ) → Octets l → Octets (drop n l)
 Octets-drop n l all i = subst (λ z. z < 256) (sym (getD-drop n l i 0)) (all (n + i))
 
-pub export-back : (n place : ℕ) (l : List ℕ) → Octets l → length l ≡ 512 * n → firstFault n place l .number ≡ 0 → exported n place (imported n l) ≡ l
+pub export-back : (n place : ℕ) (l : List ℕ) → Octets l → length l ≡ 512 * n → firstFault n place l .number ≡ 0
+    → exported n place (imported n l) ≡ l
 unfolding exported imported
 export-back zero place [] all long e = refl
 export-back zero place (o ∷ l) all long e = absurd (omega arith)
@@ -319,11 +339,13 @@ export-back (suc n) place l all long e =
         end : n ≡ 0 → imported n (drop 512 l) ≡ []
         end q = ap (λ z. imported z (drop 512 l)) q
 
-        cut : (take 504 (dataIn b ++ imported n (drop 512 l)) ≡ dataIn b) × (drop 504 (dataIn b ++ imported n (drop 512 l)) ≡ imported n (drop 512 l))
+        cut : (take 504 (dataIn b ++ imported n (drop 512 l)) ≡ dataIn b)
+            × (drop 504 (dataIn b ++ imported n (drop 512 l)) ≡ imported n (drop 512 l))
         cut = parted n (dataIn b) (imported n (drop 512 l)) (omega (arith, held, few)) full end
 
 -- as many blocks as there were
-blocks-back : (n : ℕ) (l : List ℕ) → length l ≡ 512 * n → firstFault n 0 l .number ≡ 0 → (blocksFor (length (imported n l)) ≡ n) × (length (imported n l) ≤ 504 * n)
+blocks-back : (n : ℕ) (l : List ℕ) → length l ≡ 512 * n → firstFault n 0 l .number ≡ 0
+    → (blocksFor (length (imported n l)) ≡ n) × (length (imported n l) ≤ 504 * n)
 unfolding imported
 blocks-back zero l long e = (refl, zero-le)
 blocks-back (suc m) l long e = (omega (arith, room, few, some), omega (arith, room, few))
@@ -342,8 +364,10 @@ blocks-back (suc m) l long e = (omega (arith, room, few, some), omega (arith, ro
 
 -- what an import that was taken has found
 taken-import : (l out : List ℕ) → importAnswer l out .number ≡ 0
-    → (wholeBlocks (length l) ≡ true) × (firstFault (length l / 512) 0 l .number ≡ 0) × (importAnswer l out .out ≡ imported (length l / 512) l)
-taken-import l out e = go (wholeBlocks (length l)) (ℕ-discrete (firstFault n 0 l .number) 0) (ℕ-discrete (length out) (length (imported n l))) refl
+    → (wholeBlocks (length l) ≡ true) × (firstFault (length l / 512) 0 l .number ≡ 0)
+    × (importAnswer l out .out ≡ imported (length l / 512) l)
+taken-import l out e = go (wholeBlocks (length l)) (ℕ-discrete (firstFault n 0 l .number) 0)
+    (ℕ-discrete (length out) (length (imported n l))) refl
   where
     n : ℕ
     n = length l / 512
@@ -352,7 +376,12 @@ taken-import l out e = go (wholeBlocks (length l)) (ℕ-discrete (firstFault n 0
         → (wholeBlocks (length l) ≡ true) × (firstFault n 0 l .number ≡ 0) × (importAnswer l out .out ≡ imported n l)
     go false f r w = absurd (omega (arith, e, ap (λ (x : Imported). x .number) (import-whole l out w)))
     go true (no f) r w = absurd (f (sym (ap (λ (x : Imported). x .number) (import-fault l out w (ne-eqb _ 0 f))) ∙ e))
-    go true (yes f) (no r) w = absurd (omega (arith, e, ap (λ (x : Imported). x .number) (import-room l out w (eq-eqb _ 0 f) (ne-eqb _ _ r))))
+    go true (yes f) (no r) w = absurd (omega (
+      arith,
+      e,
+      ap (λ (x : Imported). x .number)
+          (import-room l out w (eq-eqb _ 0 f) (ne-eqb _ _ r)),
+    ))
     go true (yes f) (yes r) w = (w, f, ap (λ (x : Imported). x .out) (import-done l out w (eq-eqb _ 0 f) (eq-eqb _ _ r)))
 
 -- export after an import that was taken gives the blocks back
@@ -383,14 +412,16 @@ first-at : (n place k f : ℕ) (l : List ℕ) → k < n → ((j : ℕ) → j < k
 unfolding firstFault
 first-at zero place k f l h before here = absurd (not-suc-le-zero h)
 first-at (suc n) place zero f l h before here =
-    let g : fault place (eqb n 0) (take 512 l) ≡ suc f = ap₂ (λ a x. fault a x (take 512 l)) (sym (add-zero place)) (ap (λ z. eqb z 0) only) ∙ here in
+    let g : fault place (eqb n 0) (take 512 l) ≡ suc f = ap₂ (λ a x. fault a x (take 512 l)) (sym (add-zero place))
+    (ap (λ z. eqb z 0) only) ∙ here in
     let d : eqb (suc f) 0 ≡ false = ne-eqb (suc f) 0 (λ e. omega arith) in
     (simp (g, d)) ∙ ap (λ z. record { number = suc f; block = z }) (sym (add-zero place))
   where
     only : n ≡ suc n - suc 0
     only = omega arith
 first-at (suc n) place (suc k) f l h before here =
-    let g : fault place (eqb n 0) (take 512 l) ≡ 0 = ap₂ (λ a x. fault a x (take 512 l)) (sym (add-zero place)) (ap (λ z. eqb z 0) only) ∙ before 0 (omega arith) in
+    let g : fault place (eqb n 0) (take 512 l) ≡ 0 = ap₂ (λ a x. fault a x (take 512 l)) (sym (add-zero place)) (ap (λ z. eqb z 0) only)
+    ∙ before 0 (omega arith) in
     (simp g)
     ∙ first-at n (suc place) k f (drop 512 l) (omega arith) (λ j q. later j ∙ before (suc j) (omega arith)) (later k ∙ here)
     ∙ ap (λ z. record { number = suc f; block = z }) (suc-add place k ∙ sym (add-suc place k))
@@ -398,7 +429,8 @@ first-at (suc n) place (suc k) f l h before here =
     only : n ≡ suc n - suc 0
     only = omega arith
 
-    later : (j : ℕ) → fault (suc place + j) (eqb (n - suc j) 0) (blockAt j (drop 512 l)) ≡ fault (place + suc j) (eqb (suc n - suc (suc j)) 0) (blockAt (suc j) l)
+    later : (j : ℕ) → fault (suc place + j) (eqb (n - suc j) 0) (blockAt j (drop 512 l)) ≡ fault (place + suc j)
+        (eqb (suc n - suc (suc j)) 0) (blockAt (suc j) l)
     later j =
         ap₂ (λ a x. fault a x (blockAt j (drop 512 l))) (suc-add place j ∙ sym (add-suc place j)) (ap (λ z. eqb z 0) less)
         ∙ ap (λ z. fault (place + suc j) (eqb (suc n - suc (suc j)) 0) (take 512 z)) (drop-drop (512 * j) 512 l ∙ ap (λ z. drop z l) more)
@@ -434,14 +466,17 @@ module _ (l out b : List ℕ) (k : ℕ) (all : Octets l) (whole : wholeBlocks (l
           ∙ ap (λ z. record { number = 21; block = z }) (zero-add k)
 
   -- one wrong bit
-  pub one-refused : (i : ℕ) → i < 4096 → bit (blockAt k l) ≡ flipped (bit b) i → importAnswer l out ≡ record { number = 21; block = k; out = out }
+  pub one-refused : (i : ℕ) → i < 4096 → bit (blockAt k l) ≡ flipped (bit b) i
+      → importAnswer l out ≡ record { number = 21; block = k; out = out }
   one-refused i q e = refused (one-noticed 510 b (blockAt k l) octets spoiled-octets long spoiled-long check i q e)
 
   -- any two wrong bits
-  pub two-refused : (i j : ℕ) → i < j → j < 4096 → bit (blockAt k l) ≡ flipped (flipped (bit b) i) j → importAnswer l out ≡ record { number = 21; block = k; out = out }
+  pub two-refused : (i j : ℕ) → i < j → j < 4096 → bit (blockAt k l) ≡ flipped (flipped (bit b) i) j
+      → importAnswer l out ≡ record { number = 21; block = k; out = out }
   two-refused i j q r e = refused (two-noticed 510 b (blockAt k l) octets spoiled-octets long spoiled-long check (omega arith) i j q r e)
 
   -- a burst: nothing differs before place a nor from place a + 16 on, and the bit at i does
   pub burst-refused : (a i : ℕ) → ((j : ℕ) → j < a → bit (blockAt k l) j ≡ bit b j) → ((j : ℕ) → a + 16 ≤ j → bit (blockAt k l) j ≡ bit b j)
       → i < 4096 → (bit (blockAt k l) i ≡ bit b i → ⊥) → importAnswer l out ≡ record { number = 21; block = k; out = out }
-  burst-refused a i near far q differs = refused (burst-noticed 510 b (blockAt k l) octets spoiled-octets long spoiled-long check a i near far q differs)
+  burst-refused a i near far q differs = refused (burst-noticed 510 b
+      (blockAt k l) octets spoiled-octets long spoiled-long check a i near far q differs)

@@ -26,7 +26,8 @@ module _ (o used H D : List ℕ) (place : ℕ) (long : length o ≡ 512) (few : 
   laid = d ∙ ap (λ n. used ++ replicate (n - length used) 0) (room-behind o H 6 504 head-long (omega arith))
 
   used-long : length D ≡ 504
-  used-long = ap length laid ∙ length-append used (replicate (504 - length used) 0) ∙ omega (arith, length-replicate {A = ℕ} (504 - length used) 0)
+  used-long = ap length laid ∙ length-append used (replicate (504 - length used) 0)
+      ∙ omega (arith, length-replicate {A = ℕ} (504 - length used) 0)
 
   -- the first 510 octets are what is checked
   pub checked-long : 510 ≡ length (take 510 so-far)
@@ -35,7 +36,8 @@ module _ (o used H D : List ℕ) (place : ℕ) (long : length o ≡ 512) (few : 
   checked : take 510 so-far ≡ front place used
   checked = two-front o H D (two 0) 6 504 2 head-long used-long refl long ∙ ap₂ (λ x y. x ++ y) h laid
 
-  pub block-put : (check : ℕ) (C : List ℕ) → check ≡ frameCheck (take 510 so-far) → C ≡ two check → put 510 (length so-far - 510) so-far C ≡ block place used
+  pub block-put : (check : ℕ) (C : List ℕ) → check ≡ frameCheck (take 510 so-far) → C ≡ two check
+      → put 510 (length so-far - 510) so-far C ≡ block place used
   unfolding block
   block-put check C c e =
       three-put o H D C 6 504 2 head-long used-long (ap length e) long
@@ -64,14 +66,17 @@ pieceAt k octets = take 504 (drop (504 * k) octets)
 pub piece-few : (k : ℕ) (octets : List ℕ) → length (pieceAt k octets) ≤ 504
 piece-few k octets = omega (arith, length-take 504 (drop (504 * k) octets))
 
-pub exported-snoc : (k place : ℕ) (octets : List ℕ) → exported (suc k) place octets ≡ exported k place octets ++ block (place + k) (pieceAt k octets)
+pub exported-snoc : (k place : ℕ) (octets : List ℕ) → exported (suc k) place octets ≡ exported k place octets ++ block (place + k)
+    (pieceAt k octets)
 unfolding exported
 exported-snoc zero place octets = append-nil (block place (take 504 octets)) ∙ ap (λ z. block z (take 504 octets)) (sym (add-zero place))
 exported-snoc (suc k) place octets =
     ap (λ x. block place (take 504 octets) ++ x)
     (exported-snoc k (suc place) (drop 504 octets)
-    ∙ ap₂ (λ a l. exported k (suc place) (drop 504 octets) ++ block a (take 504 l)) (suc-add place k ∙ sym (add-suc place k)) (drop-drop (504 * k) 504 octets ∙ ap (λ z. drop z octets) more))
-    ∙ sym (append-assoc (block place (take 504 octets)) (exported k (suc place) (drop 504 octets)) (block (place + suc k) (pieceAt (suc k) octets)))
+    ∙ ap₂ (λ a l. exported k (suc place) (drop 504 octets) ++ block a (take 504 l)) (suc-add place k ∙ sym (add-suc place k))
+    (drop-drop (504 * k) 504 octets ∙ ap (λ z. drop z octets) more))
+    ∙ sym (append-assoc (block place (take 504 octets)) (exported k (suc place) (drop 504 octets))
+    (block (place + suc k) (pieceAt (suc k) octets)))
   where
     more : 504 + 504 * k ≡ 504 * suc k
     more = omega arith
@@ -81,7 +86,12 @@ unfolding exported
 exported-long zero place octets = refl
 exported-long (suc k) place octets =
     length-append (block place (take 504 octets)) (exported k (suc place) (drop 504 octets))
-    ∙ omega (arith, block-long place (take 504 octets) (omega (arith, length-take 504 octets)), exported-long k (suc place) (drop 504 octets))
+    ∙ omega (
+      arith,
+      block-long place (take 504 octets) (omega (arith, length-take 504 octets)),
+      exported-long k (suc place)
+          (drop 504 octets),
+    )
 
 -- the octets of a block as a range lends them
 pub piece-range : (k e : ℕ) (octets : List ℕ) → k * 504 ≤ length octets → e ≡ k * 504 + 504 - (k * 504 + 504 - length octets)
@@ -104,12 +114,14 @@ piece-range k e octets h is = ap₂ (λ a b. take a (drop b octets)) long at ∙
     least z = omega arith
 
     shorter : (l : List ℕ) → length l ≡ n → take (min 504 n) l ≡ take 504 l
-    shorter l q = ⊎-elim (λ (z : 504 ≤ n). ap (λ w. take w l) (least z)) (λ (z : n < 504). take-all (min 504 n) l (omega arith) ∙ sym (take-all 504 l (omega arith))) (le-or-lt 504 n)
+    shorter l q = ⊎-elim (λ (z : 504 ≤ n). ap (λ w. take w l) (least z))
+        (λ (z : n < 504). take-all (min 504 n) l (omega arith) ∙ sym (take-all 504 l (omega arith))) (le-or-lt 504 n)
 
 -- one block more
 module _ (octets out : List ℕ) (n k : ℕ) (h : k < n) (long : length out ≡ 512 * n) where
   pub block-room : length (take (k * 512 + 512 - k * 512) (drop (k * 512) out)) ≡ 512
-  block-room = ap (λ z. length (take z (drop (k * 512) out))) wide ∙ length-take-le 512 (drop (k * 512) out) (omega (arith, length-drop (k * 512) out))
+  block-room = ap (λ z. length (take z (drop (k * 512) out))) wide
+      ∙ length-take-le 512 (drop (k * 512) out) (omega (arith, length-drop (k * 512) out))
     where
       wide : k * 512 + 512 - k * 512 ≡ 512
       wide = omega arith

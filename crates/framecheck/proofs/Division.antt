@@ -35,7 +35,8 @@ length-remainder (suc n) m (false ∷ p) l e = length-remainder n m p l (omega a
 length-remainder (suc n) m (true ∷ p) l e = length-remainder n m (plus generator p) l (omega (arith, plus-longer generator p (omega arith)))
 
 -- the division is linear
-pub remainder-plus : (n : ℕ) (p q : List Bool) → n + 16 ≤ length p → n + 16 ≤ length q → remainder n (plus p q) ≡ plus (remainder n p) (remainder n q)
+pub remainder-plus : (n : ℕ) (p q : List Bool) → n + 16 ≤ length p → n + 16 ≤ length q
+    → remainder n (plus p q) ≡ plus (remainder n p) (remainder n q)
 unfolding remainder plus
 remainder-plus zero p q h k = refl
 remainder-plus (suc n) [] q h k = absurd (omega arith)

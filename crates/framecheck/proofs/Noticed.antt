@@ -67,7 +67,8 @@ module _ (n : ℕ) (frame : List ℕ) (all : Octets frame) (long : length frame 
       coefficients-same 16 (λ k. bit frame (8 * n + k)) (bit (high ∷ low ∷ [])) (λ k l. bit-behind k)
       ∙ coefficients-append 8 8 (bit (high ∷ low ∷ []))
       ∙ ap₂ (λ a b. a ++ b)
-      (coefficients-same 8 (bit (high ∷ low ∷ [])) (digit 16 last) (λ k l. this-octet (low ∷ []) high k l ∙ ap (λ v. digit 8 v k) by256 ∙ digit-high last k l))
+      (coefficients-same 8 (bit (high ∷ low ∷ [])) (digit 16 last)
+      (λ k l. this-octet (low ∷ []) high k l ∙ ap (λ v. digit 8 v k) by256 ∙ digit-high last k l))
       (coefficients-same 8 (λ k. bit (high ∷ low ∷ []) (8 + k)) (λ k. digit 16 last (8 + k))
       (λ k l. next-octet (low ∷ []) high k ∙ this-octet [] low k l ∙ ap (λ v. digit 8 v k) left256 ∙ digit-low-of last k l))
       ∙ sym (coefficients-append 8 8 (digit 16 last))
@@ -106,7 +107,8 @@ module _ (n : ℕ) (frame : List ℕ) (all : Octets frame) (long : length frame 
       ∙ ap (λ p. value (remainder m (plus ones p)))
       (coefficients-append m 16 (bit front)
       ∙ ap (λ l. A ++ l)
-      (coefficients-same 16 (λ k. bit front (m + k)) (λ k. false) (λ k l. bit-past front (m + k) (omega (arith, front-long))) ∙ coefficients-zeros 16))
+      (coefficients-same 16 (λ k. bit front (m + k)) (λ k. false) (λ k l. bit-past front (m + k) (omega (arith, front-long)))
+      ∙ coefficients-zeros 16))
 
   abbrev syndrome : List Bool
   syndrome = remainder m (plus ones (coefficients (m + 16) (bit frame)))
@@ -129,7 +131,8 @@ module _ (n : ℕ) (frame : List ℕ) (all : Octets frame) (long : length frame 
   unfolding sound
   sound-zero s =
       syndrome-sum
-      ∙ ap (plus divided) (ap register (sym (eqb→eq (frameCheck front) last (subst T (sym s) tt)) ∙ checked) ∙ register-value divided divided-long)
+      ∙ ap (plus divided) (ap register (sym (eqb→eq (frameCheck front) last (subst T (sym s) tt)) ∙ checked)
+      ∙ register-value divided divided-long)
       ∙ plus-self divided ∙ ap zeros divided-long
     where
       divided-long : length divided ≡ 16
@@ -137,7 +140,8 @@ module _ (n : ℕ) (frame : List ℕ) (all : Octets frame) (long : length frame 
 
 -- ---- two sound frames
 
-module _ (n : ℕ) (frame other : List ℕ) (all : Octets frame) (all′ : Octets other) (long : length frame ≡ n + 2) (long′ : length other ≡ n + 2)
+module _ (n : ℕ) (frame other : List ℕ) (all : Octets frame) (all′ : Octets other) (long : length frame ≡ n + 2)
+    (long′ : length other ≡ n + 2)
     (s : sound n frame ≡ true) where
   abbrev wrong : Word
   wrong k = bit frame k ⊕ bit other k
@@ -178,14 +182,16 @@ module _ (n : ℕ) (frame other : List ℕ) (all : Octets frame) (all′ : Octet
   burst-noticed a k before behind h differs =
       refuted
       (λ t. differs
-      (sym (⊕-eq (bit frame k) (bit other k) (burst (8 * n) wrong a (λ i l. equal i (before i l)) (λ i l. equal i (behind i l)) (difference t) k (omega arith)))))
+      (sym (⊕-eq (bit frame k) (bit other k) (burst (8 * n) wrong a (λ i l. equal i (before i l)) (λ i l. equal i (behind i l))
+      (difference t) k (omega arith)))))
     where
       equal : (i : ℕ) → bit other i ≡ bit frame i → wrong i ≡ false
       equal i e = ap (λ b. bit frame i ⊕ b) e ∙ ⊕-self (bit frame i)
 
   -- one wrong bit
   pub one-noticed : (k : ℕ) → k < 8 * (n + 2) → bit other ≡ flipped (bit frame) k → sound n other ≡ false
-  one-noticed k h e = burst-noticed k k (λ i l. same i (λ q. omega arith)) (λ i l. same i (λ q. omega arith)) h (λ q. unlike (sym q ∙ ap (λ w. w k) e))
+  one-noticed k h e = burst-noticed k k (λ i l. same i (λ q. omega arith)) (λ i l. same i (λ q. omega arith)) h
+      (λ q. unlike (sym q ∙ ap (λ w. w k) e))
     where
       same : (i : ℕ) → (i ≡ k → ⊥) → bit other i ≡ bit frame i
       same i d = ap (λ w. w i) e ∙ ap (λ b. bit frame i ⊕ b) (ne-eqb i k d) ∙ ⊕-false (bit frame i)
@@ -198,10 +204,12 @@ module _ (n : ℕ) (frame other : List ℕ) (all : Octets frame) (all′ : Octet
           turn-over false q = absurd (subst T (sym q) tt)
 
   -- two wrong bits, in frames of up to 512 octets
-  pub two-noticed : n + 2 ≤ 512 → (i j : ℕ) → i < j → j < 8 * (n + 2) → bit other ≡ flipped (flipped (bit frame) i) j → sound n other ≡ false
+  pub two-noticed : n + 2 ≤ 512 → (i j : ℕ) → i < j → j < 8 * (n + 2) → bit other ≡ flipped (flipped (bit frame) i) j
+      → sound n other ≡ false
   two-noticed small i j h l e =
       refuted
-      (λ t. two (8 * n) i j (omega arith) h (omega arith) (ap (λ w. remainder (8 * n) (coefficients (8 * n + 16) w)) (fun-ext (λ k. sym (places k))) ∙ difference t))
+      (λ t. two (8 * n) i j (omega arith) h (omega arith) (ap (λ w. remainder (8 * n) (coefficients (8 * n + 16) w))
+      (fun-ext (λ k. sym (places k))) ∙ difference t))
     where
       places : (k : ℕ) → wrong k ≡ eqb k i ⊕ eqb k j
       places k =

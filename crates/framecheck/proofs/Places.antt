@@ -32,7 +32,8 @@ odd-xor a b =
     let e = xor-step a b in
     let odd : bitXor a b % 2 ≡ differ (a % 2) (b % 2) % 2 = omega arith in
     let known : differ (a % 2) (b % 2) ≡ tally (eqb (a % 2) 1 ⊕ eqb (b % 2) 1) =
-    ap₂ differ (tally-of (a % 2) (mod-lt a (zero-lt-suc 1))) (tally-of (b % 2) (mod-lt b (zero-lt-suc 1))) ∙ four (eqb (a % 2) 1) (eqb (b % 2) 1) in
+    ap₂ differ (tally-of (a % 2) (mod-lt a (zero-lt-suc 1))) (tally-of (b % 2) (mod-lt b (zero-lt-suc 1)))
+    ∙ four (eqb (a % 2) 1) (eqb (b % 2) 1) in
     ap (λ (n : ℕ). eqb n 1) (odd ∙ ap (λ (n : ℕ). n % 2) known) ∙ tally-odd (eqb (a % 2) 1 ⊕ eqb (b % 2) 1)
 
 pub digit-xor : (w a b k : ℕ) → digit w (bitXor a b) k ≡ digit w a k ⊕ digit w b k

@@ -109,7 +109,8 @@ coefficients-append zero n x = ap (λ z. coefficients z x) (zero-add n) ∙ ap (
 coefficients-append (suc m) n x =
     ap (λ z. coefficients z x) (suc-add m n)
     ∙ ap (λ l. x 0 ∷ l)
-    (coefficients-append m n (λ k. x (suc k)) ∙ ap (λ y. coefficients m (λ k. x (suc k)) ++ coefficients n y) (fun-ext (λ k. ap x (omega arith))))
+    (coefficients-append m n (λ k. x (suc k)) ∙ ap (λ y. coefficients m (λ k. x (suc k)) ++ coefficients n y)
+    (fun-ext (λ k. ap x (omega arith))))
 
 pub coefficients-same : (n : ℕ) (x y : Word) → ((k : ℕ) → k < n → x k ≡ y k) → coefficients n x ≡ coefficients n y
 unfolding coefficients

@@ -39,10 +39,12 @@ unfolding remainder turns
 turns-divide zero r e = append-nil r
 turns-divide (suc n) [] e = absurd (omega arith)
 turns-divide (suc n) (false ∷ r) e =
-    ap (remainder n) (sym (append-assoc r (false ∷ []) (zeros n))) ∙ turns-divide n (r ++ (false ∷ [])) (length-append r (false ∷ []) ∙ omega arith)
+    ap (remainder n) (sym (append-assoc r (false ∷ []) (zeros n)))
+    ∙ turns-divide n (r ++ (false ∷ [])) (length-append r (false ∷ []) ∙ omega arith)
 turns-divide (suc n) (true ∷ r) e =
     ap (remainder n)
-    (ap (plus generator) (sym (append-assoc r (false ∷ []) (zeros n))) ∙ plus-front generator (r ++ (false ∷ [])) (zeros n) (omega (arith, long)))
+    (ap (plus generator) (sym (append-assoc r (false ∷ []) (zeros n)))
+    ∙ plus-front generator (r ++ (false ∷ [])) (zeros n) (omega (arith, long)))
     ∙ turns-divide n (plus generator (r ++ (false ∷ []))) (plus-longer generator (r ++ (false ∷ [])) (omega (arith, long)) ∙ long)
   where
     long : length (r ++ (false ∷ [])) ≡ 16
@@ -52,7 +54,8 @@ turned-plus : (r s : List Bool) → length r ≡ 16 → length s ≡ 16 → turn
 unfolding plus
 turned-plus r s e f =
     ap (remainder 1) (sym (plus-append r (false ∷ []) s (false ∷ []) (e ∙ sym f)))
-    ∙ remainder-plus 1 (r ++ (false ∷ [])) (s ++ (false ∷ [])) (omega (arith, length-append r (false ∷ []))) (omega (arith, length-append s (false ∷ [])))
+    ∙ remainder-plus 1 (r ++ (false ∷ [])) (s ++ (false ∷ [])) (omega (arith, length-append r (false ∷ [])))
+    (omega (arith, length-append s (false ∷ [])))
 
 pub turns-plus : (n : ℕ) (r s : List Bool) → length r ≡ 16 → length s ≡ 16 → turns n (plus r s) ≡ plus (turns n r) (turns n s)
 unfolding turns
@@ -137,7 +140,8 @@ single (suc n) zero h =
     ∙ ap (remainder (suc n))
     (coefficients-append 16 (suc n) (λ k. eqb k 0)
     ∙ ap (λ l. (true ∷ zeros 15) ++ l)
-    (coefficients-same (suc n) (λ k. eqb (16 + k) 0) (λ k. false) (λ k l. ne-eqb (16 + k) 0 (λ e. omega arith)) ∙ coefficients-zeros (suc n)))
+    (coefficients-same (suc n) (λ k. eqb (16 + k) 0) (λ k. false) (λ k l. ne-eqb (16 + k) 0 (λ e. omega arith))
+    ∙ coefficients-zeros (suc n)))
     ∙ turns-divide (suc n) (true ∷ zeros 15) refl
     ∙ sym (turns-add 15 (suc n) one)
     ∙ ap power places
@@ -151,7 +155,8 @@ single (suc n) (suc i) h =
     ap (λ z. remainder (suc n) (coefficients z (λ k. eqb k (suc i)))) (suc-add n 16)
     ∙ ap (remainder (suc n))
     (ap₂ (λ a l. a ∷ l) (ne-eqb 0 (suc i) (λ e. omega arith))
-    (coefficients-same (n + 16) (λ k. eqb (suc k) (suc i)) (λ k. eqb k i) (λ k l. eqb-iff (suc k) (suc i) k i (λ e. omega arith) (λ e. omega arith))))
+    (coefficients-same (n + 16) (λ k. eqb (suc k) (suc i)) (λ k. eqb k i)
+    (λ k l. eqb-iff (suc k) (suc i) k i (λ e. omega arith) (λ e. omega arith))))
     ∙ single n i (omega arith)
     ∙ ap power places
   where
@@ -176,7 +181,8 @@ burst (suc n) e zero before behind z k h = ⊎-elim past within (le-or-lt 16 k)
     split : coefficients (suc n + 16) e ≡ coefficients 16 e ++ zeros (suc n)
     split =
         ap (λ m. coefficients m e) more ∙ coefficients-append 16 (suc n) e
-        ∙ ap (λ l. coefficients 16 e ++ l) (coefficients-same (suc n) (λ i. e (16 + i)) (λ i. false) (λ i l. behind (16 + i) (omega arith)) ∙ coefficients-zeros (suc n))
+        ∙ ap (λ l. coefficients 16 e ++ l) (coefficients-same (suc n) (λ i. e (16 + i)) (λ i. false)
+        (λ i l. behind (16 + i) (omega arith)) ∙ coefficients-zeros (suc n))
 
     none : coefficients 16 e ≡ zeros 16
     none =
@@ -186,7 +192,8 @@ burst (suc n) e zero before behind z k h = ⊎-elim past within (le-or-lt 16 k)
     within : k < 16 → e k ≡ false
     within l = sym (coefficient 16 e k l) ∙ ap (λ p. getD p k false) none ∙ getD-replicate 16 k false false l
 burst (suc n) e (suc a) before behind z k h =
-    at (burst n (λ i. e (suc i)) a (λ i l. before (suc i) (omega arith)) (λ i l. behind (suc i) (omega arith)) (ap (remainder (suc n)) (sym split) ∙ z)) k h
+    at (burst n (λ i. e (suc i)) a (λ i l. before (suc i) (omega arith)) (λ i l. behind (suc i) (omega arith))
+    (ap (remainder (suc n)) (sym split) ∙ z)) k h
   where
     head : e 0 ≡ false
     head = before 0 (omega arith)
@@ -201,7 +208,8 @@ burst (suc n) e (suc a) before behind z k h =
 -- two places of 4,096 or fewer are never divided to zero
 pub two : (n i j : ℕ) → n + 16 ≤ 4096 → i < j → j < n + 16 → remainder n (coefficients (n + 16) (λ k. eqb k i ⊕ eqb k j)) ≡ zeros 16 → ⊥
 unfolding power one turns
-two n i j small h l z = absurd (subst T (apart-at 4095 (turned one) order (d - 1) (omega arith)) (subst (λ r. T (same r one)) (sym back ∙ ap power first) (same-self one)))
+two n i j small h l z = absurd (subst T (apart-at 4095 (turned one) order (d - 1) (omega arith))
+    (subst (λ r. T (same r one)) (sym back ∙ ap power first) (same-self one)))
   where
     d : ℕ
     d = j - i

@@ -42,7 +42,8 @@ taken r o = remainder 8 (plus r (octet-bits o ++ zeros 8) ++ zeros 8)
 
 pub length-taken : (r : List Bool) (o : ℕ) → length r ≡ 16 → length (taken r o) ≡ 16
 length-taken r o e =
-    let l : length (octet-bits o ++ zeros 8) ≡ 16 = length-append (octet-bits o) (zeros 8) ∙ ap (λ n. n + 8) (length-coefficients 8 (digit 8 o)) in
+    let l : length (octet-bits o ++ zeros 8) ≡ 16 = length-append (octet-bits o) (zeros 8)
+    ∙ ap (λ n. n + 8) (length-coefficients 8 (digit 8 o)) in
     length-remainder 8 16 (plus r (octet-bits o ++ zeros 8) ++ zeros 8) (lit< tt)
     (length-append (plus r (octet-bits o ++ zeros 8)) (zeros 8)
     ∙ omega (arith, plus-longer r (octet-bits o ++ zeros 8) (omega arith)))
@@ -64,7 +65,8 @@ next r o = bitXor ((r % 256) * 256) (getD table (bitXor (r / 256) o) 0)
 
 pub next-taken : (r o : ℕ) → bitXor (r / 256) o < 256 → register (next r o) ≡ taken (register r) o
 next-taken r o h =
-    coefficients-same 16 (digit 16 (next r o)) (λ k. digit 16 ((r % 256) * 256) k ⊕ digit 16 e k) (λ k l. digit-xor 16 ((r % 256) * 256) e k)
+    coefficients-same 16 (digit 16 (next r o)) (λ k. digit 16 ((r % 256) * 256) k ⊕ digit 16 e k)
+    (λ k l. digit-xor 16 ((r % 256) * 256) e k)
     ∙ coefficients-plus 16 (digit 16 ((r % 256) * 256)) (digit 16 e)
     ∙ ap₂ plus moved (table-entry i h)
     ∙ plus-comm (low ++ zeros 8) (remainder 8 (octet-bits i ++ zeros 16))
@@ -99,13 +101,15 @@ next-taken r o h =
     added =
         ap (λ x. plus x (octet-bits o ++ zeros 8)) (coefficients-append 8 8 (digit 16 r))
         ∙ plus-append high low (octet-bits o) (zeros 8) (length-coefficients 8 (digit 16 r) ∙ sym (length-coefficients 8 (digit 8 o)))
-        ∙ ap₂ (λ a b. a ++ b) top (plus-comm low (zeros 8) ∙ plus-zeros 8 low (omega (arith, length-coefficients 8 (λ k. digit 16 r (8 + k)))))
+        ∙ ap₂ (λ a b. a ++ b) top (plus-comm low (zeros 8) ∙ plus-zeros 8 low
+        (omega (arith, length-coefficients 8 (λ k. digit 16 r (8 + k)))))
 
     parts : (octet-bits i ++ low) ++ zeros 8 ≡ plus (octet-bits i ++ zeros 16) (zeros 8 ++ (low ++ zeros 8))
     parts =
         append-assoc (octet-bits i) low (zeros 8)
         ∙ sym (plus-append (octet-bits i) (zeros 16) (zeros 8) (low ++ zeros 8) (length-coefficients 8 (digit 8 i))
-        ∙ ap₂ (λ a b. a ++ b) (plus-comm (octet-bits i) (zeros 8) ∙ plus-zeros 8 (octet-bits i) (omega (arith, length-coefficients 8 (digit 8 i))))
+        ∙ ap₂ (λ a b. a ++ b) (plus-comm (octet-bits i) (zeros 8)
+        ∙ plus-zeros 8 (octet-bits i) (omega (arith, length-coefficients 8 (digit 8 i))))
         (plus-zeros 16 (low ++ zeros 8) (omega (arith, long))))
       where
         long : length (low ++ zeros 8) ≡ 16

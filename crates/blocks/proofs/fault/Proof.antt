@@ -97,12 +97,20 @@ add-from c = search needs
 sub-clear : tie.Need-sub-clear
 sub-clear c =
     let a = c .before .before .before .before .before .before .before .before .before .before .before .before .before .before .before .before .before in
-    omega (arith, count-le (a .args .last) (c .before .before .used .result) (sym (c .before .count-right .ensures) ∙ not-false _ (c .if3 .left)))
+    omega (
+      arith,
+      count-le (a .args .last) (c .before .before .used .result)
+          (sym (c .before .count-right .ensures) ∙ not-false _ (c .if3 .left)),
+    )
 
 part-clear-start : tie.Need-part-clear-start
 part-clear-start c =
     let a = c .before .before .before .before .before .before .before .before .before .before .before .before .before .before .before .before .before in
-    omega (arith, count-le (a .args .last) (c .before .before .used .result) (sym (c .before .count-right .ensures) ∙ not-false _ (c .if3 .left)))
+    omega (
+      arith,
+      count-le (a .args .last) (c .before .before .used .result)
+          (sym (c .before .count-right .ensures) ∙ not-false _ (c .if3 .left)),
+    )
 
 part-clear-end : tie.Need-part-clear-end
 part-clear-end c = search needs

@@ -40,7 +40,8 @@ returns-2 c =
     let whole = sym (w .ensures) ∙ not-false (w .result) (e1 .if1 .left) in
     let a = c .before .before .before .before .before .before .before .before .before .args in
     ap (λ (r : Fault). record { number = r .number; block = r .block; out = a .out .now }) (f .ensures)
-    ∙ sym (import-fault (a .blocks .now) (a .out .now) whole (ap (λ (r : Fault). eqb (r .number) 0) (sym (f .ensures)) ∙ ne-eqb (f .result .number) 0 (c .if2 .taken)))
+    ∙ sym (import-fault (a .blocks .now) (a .out .now) whole
+    (ap (λ (r : Fault). eqb (r .number) 0) (sym (f .ensures)) ∙ ne-eqb (f .result .number) 0 (c .if2 .taken)))
 
 room-requires : tie.Need-room-requires
 room-requires c κs =

@@ -37,7 +37,8 @@ returns-2 c =
     let w = e1 .before .is-whole in
     let whole = sym (w .ensures) ∙ not-false (w .result) (e1 .if1 .left) in
     let a = c .before .before .before .before .before .before .before .before .args in
-    sym (room-fault (a .blocks .now) whole (ap (λ (r : Fault). eqb (r .number) 0) (sym (f .ensures)) ∙ ne-eqb (f .result .number) 0 (c .if2 .taken)))
+    sym (room-fault (a .blocks .now) whole (ap (λ (r : Fault). eqb (r .number) 0) (sym (f .ensures))
+    ∙ ne-eqb (f .result .number) 0 (c .if2 .taken)))
 
 room-requires : tie.Need-room-requires
 room-requires c κs =

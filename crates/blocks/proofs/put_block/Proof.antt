@@ -35,7 +35,8 @@ slice-aggregate-over c =
     let d = c .before .before .before .put-data in
     let h = c .before .before .before .before .before .before .before .put-head in
     let a = c .before .before .before .before .before .before .before .before .before .before .before in
-    checked-long (a .args .out .now) (a .args .used .now) (h .last .1 .1 .0) (d .last .1 .0) (a .args .place) (a .pre .1) (a .pre .0) (h .ensures) (d .ensures)
+    checked-long (a .args .out .now) (a .args .used .now) (h .last .1 .1 .0) (d .last .1 .0) (a .args .place) (a .pre .1) (a .pre .0)
+    (h .ensures) (d .ensures)
 
 over-requires : tie.Need-over-requires
 over-requires c κs = search needs
@@ -62,7 +63,8 @@ returns c =
     let d = c .before .before .before .before .before .before .before .before .put-data in
     let h = c .before .before .before .before .before .before .before .before .before .before .before .before .put-head in
     let a = c .before .before .before .before .before .before .before .before .before .before .before .before .before .before .before .before in
-    block-put (a .args .out .now) (a .args .used .now) (h .last .1 .1 .0) (d .last .1 .0) (a .args .place) (a .pre .1) (a .pre .0) (h .ensures) (d .ensures)
+    block-put (a .args .out .now) (a .args .used .now) (h .last .1 .1 .0) (d .last .1 .0) (a .args .place) (a .pre .1) (a .pre .0)
+    (h .ensures) (d .ensures)
     (f .result) (k .last .1 .0) (f .ensures) (k .ensures)
 
 pub put-block-spec : {M : Type 1} → statement M

@@ -57,7 +57,8 @@ put-block-requires : tie.Need-put-block-requires Inv-loop μ-loop
 put-block-requires c κs =
     let h = c .before .before .before .before .loop in
     let a = c .before .before .before .before .before .before .before in (
-      subst (λ l. length l ≤ 504) (sym (piece-range (h .k) (c .before .before .least .result) (a .args .octets .now) (omega arith) (c .before .before .least .ensures)))
+      subst (λ l. length l ≤ 504) (sym (piece-range (h .k) (c .before .before .least .result) (a .args .octets .now) (omega arith)
+          (c .before .before .least .ensures)))
           (piece-few (h .k) (a .args .octets .now)),
       block-room (a .args .octets .now) (h .out) (a .args .n) (h .k) (omega arith) (h .inv .1),
       a .pre .3,

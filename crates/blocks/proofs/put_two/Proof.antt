@@ -24,7 +24,8 @@ same-length c = search needs
 returns : tie.Need-returns
 returns c =
     let a = c .before .before .before in
-    two-set (a .args .out .now) (c .before .low .result) (c .low2 .result) (a .pre) ∙ ap₂ (λ x y. x ∷ y ∷ []) (c .before .low .ensures) (c .low2 .ensures)
+    two-set (a .args .out .now) (c .before .low .result) (c .low2 .result) (a .pre)
+    ∙ ap₂ (λ x y. x ∷ y ∷ []) (c .before .low .ensures) (c .low2 .ensures)
 
 pub put-two-spec : {M : Type 1} → statement M
 put-two-spec =

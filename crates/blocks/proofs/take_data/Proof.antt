@@ -12,7 +12,8 @@ use Rattle.blocks.proofs.take_data.Statement.{statement}
 use Rattle.blocks.proofs.take_data.Tie as tie
 
 abbrev Inv-loop : tie.InvT-loop
-Inv-loop blocks n out₀ end₀ k₀ out end k = (k ≤ n) × (length out ≡ length (imported n blocks)) × (end ≡ length (imported k blocks)) × (take end out ≡ imported k blocks)
+Inv-loop blocks n out₀ end₀ k₀ out end k = (k ≤ n) × (length out ≡ length (imported n blocks)) × (end ≡ length (imported k blocks))
+    × (take end out ≡ imported k blocks)
 
 abbrev μ-loop : tie.MeasureT-loop
 μ-loop blocks n out₀ end₀ k₀ out end k = n - k
@@ -92,7 +93,8 @@ copy-requires c κs =
     let fit = next-fits (a .args .n) o (a .pre .0) (a .pre .2) (h .k) (u .result) (omega arith) (u .ensures .0) in
     let z : h .end + u .result - h .end ≡ u .result = omega arith in
     source-long (a .args .n) o (a .pre .0) (a .pre .2) (h .k) (u .result) (omega arith) (u .ensures .0)
-    ∙ sym (ap (λ w. length (take w (drop (h .end) (h .out)))) z ∙ length-take-le (u .result) (drop (h .end) (h .out)) (omega (arith, length-drop (h .end) (h .out))))
+    ∙ sym (ap (λ w. length (take w (drop (h .end) (h .out)))) z
+    ∙ length-take-le (u .result) (drop (h .end) (h .out)) (omega (arith, length-drop (h .end) (h .out))))
 
 add-k : tie.Need-add-k Inv-loop μ-loop
 add-k c = omega arith
@@ -111,9 +113,13 @@ loop-again c =
     let z : h .end + u .result - h .end ≡ u .result = omega arith in (
       omega arith,
       ap (λ v. length (put (h .end) v (h .out) (w .last .1 .0))) z
-          ∙ put-length (h .out) (w .last .1 .0) (h .end) (u .result) (ap length (w .ensures) ∙ source-long (a .args .n) o (a .pre .0) (a .pre .2) (h .k) (u .result) (omega arith) (u .ensures .0)) (omega arith) ∙ h .inv .1,
-      ap (λ v. v + u .result) (h .inv .2) ∙ next-end (a .args .n) o (a .pre .0) (a .pre .2) (h .k) (u .result) (omega arith) (u .ensures .0),
-      data-more (a .args .n) o (a .pre .0) (a .pre .2) (h .k) (u .result) (omega arith) (u .ensures .0) (h .out) (w .last .1 .0) (h .end) (h .inv .2) (h .inv .3) (w .ensures),
+          ∙ put-length (h .out) (w .last .1 .0) (h .end) (u .result)
+          (ap length (w .ensures) ∙ source-long (a .args .n) o (a .pre .0) (a .pre .2) (h .k) (u .result) (omega arith) (u .ensures .0))
+          (omega arith) ∙ h .inv .1,
+      ap (λ v. v + u .result) (h .inv .2) ∙ next-end (a .args .n) o (a .pre .0) (a .pre .2) (h .k) (u .result) (omega arith)
+          (u .ensures .0),
+      data-more (a .args .n) o (a .pre .0) (a .pre .2) (h .k) (u .result) (omega arith) (u .ensures .0) (h .out) (w .last .1 .0) (h .end)
+          (h .inv .2) (h .inv .3) (w .ensures),
     )
 
 same-length : tie.Need-same-length Inv-loop μ-loop

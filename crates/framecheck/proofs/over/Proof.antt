@@ -57,7 +57,8 @@ loop-again c =
     let a = k .before .before .before in (
       omega arith,
       xor-lt 16 ((h .r % 256) * 256) (w .result) (omega arith) (w .ensures .1),
-      check-step (a .args .octets .now) (a .args .t .now) (h .r) (h .i) (o .result) (w .result) (a .pre) (k .loop-test .taken) (h .inv .1) (o .ensures .1)
+      check-step (a .args .octets .now) (a .args .t .now) (h .r) (h .i) (o .result) (w .result) (a .pre) (k .loop-test .taken) (h .inv .1)
+          (o .ensures .1)
           (o .ensures .0) (w .ensures .0) ∙ h .inv .2,
     )
 
