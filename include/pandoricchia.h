@@ -62,7 +62,11 @@ enum pandoricchia_number {
     PANDORICCHIA_UNSENT = 7,         /* never given: no run sets a bit that is not sent */
     PANDORICCHIA_PARITY = 8,         /* correct, codes 4 and 5: quiet, but the parity is not the encoder's */
     PANDORICCHIA_NO_CODEWORD = 9,    /* open: the word is not a codeword */
-    PANDORICCHIA_NO_BCH_WORD = 13    /* bch_check: no codeword differs in at most one bit; detect-only: the word is none */
+    PANDORICCHIA_NO_BCH_WORD = 13,   /* bch_check: no codeword differs in at most one bit; detect-only: the word is none */
+    PANDORICCHIA_TOO_LONG = 20,      /* import_blocks: not whole blocks or more than 128; export_blocks: more than 64,512 octets */
+    PANDORICCHIA_BLOCK_CHECK = 21,   /* import_blocks: a block's frame check */
+    PANDORICCHIA_BLOCK_NUMBER = 22,  /* import_blocks: a block's number */
+    PANDORICCHIA_BLOCK_COUNT = 23    /* import_blocks: a block's count or filling */
 };
 
 /* What a number means, in a few words. */
@@ -91,6 +95,14 @@ static inline const char *pandoricchia_text(uint8_t number)
         return "not a codeword";
     case PANDORICCHIA_NO_BCH_WORD:
         return "no codeword differs in at most one bit; detect-only: the word is none";
+    case PANDORICCHIA_TOO_LONG:
+        return "not whole blocks or more than 128; more than 64,512 octets";
+    case PANDORICCHIA_BLOCK_CHECK:
+        return "a block's frame check";
+    case PANDORICCHIA_BLOCK_NUMBER:
+        return "a block's number";
+    case PANDORICCHIA_BLOCK_COUNT:
+        return "a block's count or filling";
     default:
         return "no such number";
     }
@@ -159,6 +171,23 @@ typedef struct pandoricchia_mended {
  * also one that differs from a codeword in a single bit of the 63, which is mended. */
 pandoricchia_mended pandoricchia_bch_check(bool detect_only, const uint8_t *word, size_t word_len, uint8_t *out,
                                            size_t out_len);
+
+typedef struct pandoricchia_imported {
+    uint8_t number;  /* 0, 3 or 20 to 23 */
+    uint32_t block;  /* the lowest block at fault for 21 to 23, counted from 0; else 0 */
+} pandoricchia_imported;
+
+/* Import: the octets of a recording from blocks of 512 octets. 20 comes first, then block by block 21, 22 and 23, then 3. */
+pandoricchia_imported pandoricchia_import_blocks(const uint8_t *blocks, size_t blocks_len, uint8_t *out, size_t out_len);
+
+/* The room that import needs; 0 where the blocks are refused. */
+size_t pandoricchia_imported_octets(const uint8_t *blocks, size_t blocks_len);
+
+/* Export: the blocks of a recording of up to 64,512 octets; no blocks for no octets. Returns 0, 3 or 20. */
+uint8_t pandoricchia_export_blocks(const uint8_t *octets, size_t octets_len, uint8_t *out, size_t out_len);
+
+/* The room that export needs for so many octets; 0 where they are refused. */
+size_t pandoricchia_exported_octets(size_t octets_len);
 
 #ifdef __cplusplus
 }

@@ -24,6 +24,10 @@ pub const UNSENT: u8 = 7;
 pub const PARITY: u8 = 8;
 pub const NO_CODEWORD: u8 = 9;
 pub const NO_BCH_WORD: u8 = 13;
+pub const TOO_LONG: u8 = 20;
+pub const BLOCK_CHECK: u8 = 21;
+pub const BLOCK_NUMBER: u8 = 22;
+pub const BLOCK_COUNT: u8 = 23;
 
 #[repr(C)]
 #[derive(Clone, Copy, Debug, PartialEq, Eq)]
@@ -58,6 +62,13 @@ pub struct Mended {
     pub mended: u8,
 }
 
+#[repr(C)]
+#[derive(Clone, Copy, Debug, PartialEq, Eq)]
+pub struct Imported {
+    pub number: u8,
+    pub block: u32,
+}
+
 extern "C" {
     fn pandoricchia_word_octets(code: u8) -> usize;
     fn pandoricchia_information_octets(code: u8) -> usize;
@@ -68,6 +79,10 @@ extern "C" {
     fn pandoricchia_step(code: u8, word: *const u8, word_len: usize, out: *mut u8, out_len: usize) -> Stepped;
     fn pandoricchia_bch_encode(information: *const u8, information_len: usize, word: *mut u8, word_len: usize) -> u8;
     fn pandoricchia_bch_check(detect_only: bool, word: *const u8, word_len: usize, out: *mut u8, out_len: usize) -> Mended;
+    fn pandoricchia_import_blocks(blocks: *const u8, blocks_len: usize, out: *mut u8, out_len: usize) -> Imported;
+    fn pandoricchia_imported_octets(blocks: *const u8, blocks_len: usize) -> usize;
+    fn pandoricchia_export_blocks(octets: *const u8, octets_len: usize, out: *mut u8, out_len: usize) -> u8;
+    fn pandoricchia_exported_octets(octets_len: usize) -> usize;
 }
 
 // Why each call is safe: a slice's pointer and length name octets that are the caller's for as long as the call lasts, and
@@ -88,6 +103,10 @@ pub fn text(number: u8) -> &'static str {
         PARITY => "quiet, parity not the encoder's",
         NO_CODEWORD => "not a codeword",
         NO_BCH_WORD => "no codeword differs in at most one bit; detect-only: the word is none",
+        TOO_LONG => "not whole blocks or more than 128; more than 64,512 octets",
+        BLOCK_CHECK => "a block's frame check",
+        BLOCK_NUMBER => "a block's number",
+        BLOCK_COUNT => "a block's count or filling",
         _ => "no such number",
     }
 }
@@ -146,4 +165,28 @@ pub fn bch_encode(information: &[u8], word: &mut [u8]) -> u8 {
 #[must_use]
 pub fn bch_check(detect_only: bool, word: &[u8], out: &mut [u8]) -> Mended {
     unsafe { pandoricchia_bch_check(detect_only, word.as_ptr(), word.len(), out.as_mut_ptr(), out.len()) }
+}
+
+/// The octets of a recording from blocks of the lab's disk.
+#[must_use]
+pub fn import_blocks(blocks: &[u8], out: &mut [u8]) -> Imported {
+    unsafe { pandoricchia_import_blocks(blocks.as_ptr(), blocks.len(), out.as_mut_ptr(), out.len()) }
+}
+
+/// The room that import needs; 0 where the blocks are refused.
+#[must_use]
+pub fn imported_octets(blocks: &[u8]) -> usize {
+    unsafe { pandoricchia_imported_octets(blocks.as_ptr(), blocks.len()) }
+}
+
+/// The blocks of a recording. Gives the number, 0, 3 or 20.
+#[must_use]
+pub fn export_blocks(octets: &[u8], out: &mut [u8]) -> u8 {
+    unsafe { pandoricchia_export_blocks(octets.as_ptr(), octets.len(), out.as_mut_ptr(), out.len()) }
+}
+
+/// The room that export needs for so many octets; 0 where they are refused.
+#[must_use]
+pub fn exported_octets(octets_len: usize) -> usize {
+    unsafe { pandoricchia_exported_octets(octets_len) }
 }

@@ -6,6 +6,9 @@ ghost use Rattle.codes.specs.Answers.{asEncoded, asChecked, asCorrected, asStep
 ghost use Rattle.bch.specs.Bch.{bchEncodeAnswer, bchCheckAnswer};
 ghost use Rattle.bch.specs.Answers.{asEncoded as asBchEncoded, asMended};
 use bch::Mended;
+ghost use Rattle.blocks.specs.Blocks.{exportAnswer, exportRoom, importAnswer, importRoom};
+ghost use Rattle.blocks.specs.Answers.{asExported, asImported};
+use blocks::Imported;
 use codes::Checked;
 use codes::Corrected;
 use codes::Stepped;
@@ -86,4 +89,32 @@ pub extern "C" fn pandoricchia_bch_check(detect_only: bool, word: &[u8], out: &m
     ensures { λ r. ⌜ asMended r (now (out .exit)) ≡ bchCheckAnswer «detect_only» (now (word .entry)) (now (out .entry)) ⌝ }
 {
     bch::bch_check(detect_only, word, out)
+}
+
+#[no_mangle]
+pub extern "C" fn pandoricchia_import_blocks(blocks: &[u8], out: &mut [u8]) -> Imported
+    ensures { λ r. ⌜ asImported r (now (out .exit)) ≡ importAnswer (now (blocks .entry)) (now (out .entry)) ⌝ }
+{
+    blocks::import_blocks(blocks, out)
+}
+
+#[no_mangle]
+pub extern "C" fn pandoricchia_imported_octets(blocks: &[u8]) -> usize
+    ensures { λ r. ⌜ r ≡ importRoom (now (blocks .entry)) ⌝ }
+{
+    blocks::imported_octets(blocks)
+}
+
+#[no_mangle]
+pub extern "C" fn pandoricchia_export_blocks(octets: &[u8], out: &mut [u8]) -> u8
+    ensures { λ r. ⌜ asExported r (now (out .exit)) ≡ exportAnswer (now (octets .entry)) (now (out .entry)) ⌝ }
+{
+    blocks::export_blocks(octets, out)
+}
+
+#[no_mangle]
+pub extern "C" fn pandoricchia_exported_octets(octets_len: usize) -> usize
+    ensures { λ r. ⌜ r ≡ exportRoom «octets_len» ⌝ }
+{
+    blocks::exported_octets(octets_len)
 }

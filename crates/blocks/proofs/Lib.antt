@@ -1,0 +1,6 @@
+pub mod Lists
+pub mod Writing
+pub mod Reading
+pub mod Answering
+pub mod Outcomes
+pub mod Recordings

@@ -1,0 +1,2 @@
+pub mod FrameCheck
+pub mod Table
