@@ -136,7 +136,6 @@ module _ (n : ℕ) (word : List ℕ) (limit : ℕ) (out : List ℕ) where
       all : ℕ → ℕ → Corrected
       all k l = unless k (refusedCorrect out) (ranFrom n word l out)
 
-
 -- ---- the near-Earth codes: never more than half
 
 abbrev pub nearEarthed : ℕ → Bool

@@ -25,7 +25,6 @@ use Rattle.runs.specs.declared.Next.{Next}
 use Rattle.runs.specs.Turns.{Holding, RunsTo, comesNext}
 use Rattle.codes.specs.Ends.{EndsAt}
 
-
 module _ (n : ℕ) (word t : List ℕ) (y s : Word) (sh : Shape) (m : Measured n word t y s sh) where
   pub holding : Holding t sh s
   holding = record { code = code n; word = y; lent = m .lends .lent; held = m .held }

@@ -73,7 +73,13 @@ fn put_fields(numbers: &[u64], text: &mut [u8], at: usize) -> usize
 fn numbers(a: codes::Corrected) -> [u64; 5]
     ensures { λ r. ⌜ r ≡ numbersOf (asCorrected a []) ⌝ }
 {
-    [octet(a.number), wide(a.flips), wide(a.first), wide(a.last), wide(a.unlike)]
+    [
+        octet(a.number),
+        wide(a.flips),
+        wide(a.first),
+        wide(a.last),
+        wide(a.unlike),
+    ]
 }
 
 // The line of an answer. 128 octets hold any.

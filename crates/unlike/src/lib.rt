@@ -20,7 +20,10 @@ fn apart_whole(octets: &[u8], y: &[u64], u: usize, k: usize) -> usize
     let mut sum: usize = 0;
     let mut j = 0;
     while j < k {
-        sum += apart(vectors::eight(octets, 8 * j), vectors::window(y, u + 64 * j));
+        sum += apart(
+            vectors::eight(octets, 8 * j),
+            vectors::window(y, u + 64 * j),
+        );
         j += 1;
     }
     sum
