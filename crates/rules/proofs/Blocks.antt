@@ -137,7 +137,7 @@ module _ (m : ℕ) where
       ∙ count-pick (suc m) ((k + (suc m - s)) % suc m) g (mod-lt (k + (suc m - s)) (zero-lt-suc m)))
       (one-count S k g h (rest s S t))
 
-sum-add : (a b : ℕ) (f : ℕ → Bool) → sum (a + b) f ≡ sum a f ⊕ sum b (λ i. f (a + i))
+pub sum-add : (a b : ℕ) (f : ℕ → Bool) → sum (a + b) f ≡ sum a f ⊕ sum b (λ i. f (a + i))
 unfolding sum
 sum-add a zero f = ap (λ z. sum z f) (add-zero a) ∙ sym (⊕-false (sum a f))
 sum-add a (suc b) f = ap (λ z. sum z f) (add-suc a b) ∙ ap (λ z. z ⊕ f (a + b)) (sum-add a b f) ∙ ⊕-assoc (sum a f) (sum b (λ i. f (a + i))) (f (a + b))

@@ -66,15 +66,15 @@ module _ (wordOctets informationOctets unsent m : ℕ) (H : List (List (List ℕ
 
 -- ---- computed, once for each table
 
-tests1 : Tests 16 8 0 15 parity16 generator16 16 8 4
+pub tests1 : Tests 16 8 0 15 parity16 generator16 16 8 4
 unfolding parity16 generator16
 tests1 = record { shape = tt; wide = refl; room = refl; tables = tt; size = tt; many = tt; apart = tt }
 
-tests2 : Tests 32 16 0 31 parity32 generator32 32 8 4
+pub tests2 : Tests 32 16 0 31 parity32 generator32 32 8 4
 unfolding parity32 generator32
 tests2 = record { shape = tt; wide = refl; room = refl; tables = tt; size = tt; many = tt; apart = tt }
 
-tests3 : Tests 64 32 0 63 parity64 generator64 64 8 4
+pub tests3 : Tests 64 32 0 63 parity64 generator64 64 8 4
 unfolding parity64 generator64
 tests3 = record { shape = tt; wide = refl; room = refl; tables = tt; size = tt; many = tt; apart = tt }
 
@@ -82,7 +82,7 @@ rows511 : T (rowsTied 511 512 parity511 generator511)
 unfolding parity511 generator511
 rows511 = tt
 
-nearTests : (wordOctets informationOctets unsent : ℕ) → Tests wordOctets informationOctets unsent 510 parity511 generator511 512 16 2
+pub nearTests : (wordOctets informationOctets unsent : ℕ) → Tests wordOctets informationOctets unsent 510 parity511 generator511 512 16 2
 unfolding parity511 generator511
 nearTests wordOctets informationOctets unsent = record { shape = tt; wide = refl; room = refl; tables = rows511; size = tt; many = tt; apart = tt }
 
