@@ -19,8 +19,8 @@ use Rattle.bits.proofs.Counting.{count-none}
 use Rattle.rules.proofs.Blocks.{blk, checkIn, distinct, shaped, Row, shaped-at, withTables, check-in, sum-add}
 use Rattle.rules.proofs.Unique.{even, even-none}
 use Rattle.rules.proofs.Codewords.{parity-same}
-use Rattle.steps.specs.Steps.{walked, checkRows}
-use Rattle.steps.proofs.Walk.{weighted, weightedRows, rowsIn, chosen, ⊕-and, and-right, walk-weighs, walk-even}
+use Rattle.steps.specs.Steps.{rowsIn, walked, checkRows}
+use Rattle.steps.proofs.Walk.{weighted, weightedRows, chosen, ⊕-and, and-right, walk-weighs, walk-even}
 use Rattle.steps.proofs.Facts.{checked, alone, Solves, itself, others}
 
 -- the ones of a block, and what they weigh

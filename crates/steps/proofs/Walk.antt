@@ -14,7 +14,7 @@ use Rattle.bits.specs.Bits.{Word, digit, number, _⊕_, sum, below, over}
 use Rattle.bits.proofs.Sums.{⊕-false, and-⊕, into, swap, sum-linear, over-linear, sum-same, sum-none, pick, turn, and-l, and-r, below-at}
 use Rattle.bits.proofs.Cyclic.{undo}
 use Rattle.bits.proofs.Octets.{digit-number}
-use Rattle.steps.specs.Steps.{target, source, shifts, stepped, walked}
+use Rattle.steps.specs.Steps.{target, source, rowsIn, shifts, stepped, walked}
 
 and-left : (a b c : Bool) → (a && (b && c)) ≡ (b && (a && c))
 and-left true true c = refl
@@ -47,10 +47,6 @@ back m step w r k = w r k ⊕ (eqb r (source step) && over (shifts (suc m) step)
 unfoldable pub backs : ℕ → List (List ℕ) → ℕ → (ℕ → Word) → ℕ → Word
 backs m steps zero w = w
 backs m steps (suc n) w = backs m steps n (back m (getD steps n []) w)
-
--- target and source of a step are rows
-abbrev pub rowsIn : ℕ → List ℕ → Bool
-rowsIn R step = ltb (target step) R && ltb (source step) R
 
 module _ (m : ℕ) where
   -- turned copies of a row, weighted: the row, by turned weights

@@ -24,6 +24,10 @@ target step = getD step 0 0
 abbrev pub source : List ℕ → ℕ
 source step = getD step 1 0
 
+-- Both are rows of the R there are.
+abbrev pub rowsIn : ℕ → List ℕ → Bool
+rowsIn R step = ltb (target step) R && ltb (source step) R
+
 abbrev pub ended : ℕ → List ℕ → List ℕ
 ended M [] = []
 ended M (s ∷ places) = if ltb s M then s ∷ ended M places else []

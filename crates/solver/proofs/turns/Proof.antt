@@ -1,0 +1,97 @@
+-- `solver::turns` meets its contract: the sum so far, and what the shifts from place k on add, are the whole. Assumes nothing.
+use mathlib.Core.Path.{_≡_, refl, sym, ap, ap₂, _∙_, subst, fun-ext}
+use mathlib.Core.Bool.{Bool, true, false, _&&_}
+use mathlib.Core.List.{List, [], _∷_}
+use Prim.Native.Nat.{ℕ, zero, suc, _+_, _-_, _*_, _/_, _%_, _^_, _≤_, _<_}
+use native.Mathlib.Nat.{mod-lt}
+use native.Mathlib.Omega.{arith}
+use lib.Bits.{bitXor}
+use lib.Dec.{T, ltb, eqb, lit≤, lit<}
+use lib.ListN.{length, getD, take, drop}
+use borrow.Author.Needs.{needs}
+use borrow.Author.Tests.{ltb-true, ltb-false, eqb-true}
+use Rattle.bits.specs.Bits.{Word, digit, _⊕_, over, tally}
+use Rattle.bits.proofs.Octets.{digit-zero}
+use Rattle.vectors.specs.Vectors.{wbit, both, Holds, upTo, from, added, twice}
+use Rattle.vectors.proofs.Filling.{word-holds}
+use Rattle.bits.proofs.Orders.{ltb-iff}
+use Rattle.vectors.proofs.Spans.{upTo-below, upTo-above, upTo-again}
+use Rattle.syndromes.specs.Rows.{wide, rowed, within}
+use Rattle.steps.specs.Steps.{target, source, rowsIn, shifts, stepped, walked, steps16, steps32, steps64, steps511}
+use Rattle.solver.specs.Rows.{held, Kept, twoRows, Fits, copies, stepsOf, Within, informed, completed, behind}
+use Rattle.solver.proofs.Laws.{Summed, summed-more, summed-all, Added, added-more, added-all, rest, rest-none, rest-past, copies-are, to-row, from-row, row-room, block-room, wide-some, step-held, step-cut, held-at, held-kept, row-slice, added-start, added-append, added-size, added-same, put-added, between, between-before, between-here, between-after, rows-start, rows-more, if-one, if-none, two-inverted, rows-few, blocks-few, slice-long, steps-last}
+use Rattle.solver.proofs.turns.Statement.{statement}
+use Rattle.solver.proofs.turns.Tie as tie
+
+abbrev Inv-loop : tie.InvT-loop
+Inv-loop d step size sum₀ k₀ sum k = (2 ≤ k) × (k ≤ 10) × Summed size step (both d) sum k
+
+abbrev μ-loop : tie.MeasureT-loop
+μ-loop d step size sum₀ k₀ sum k = 10 - k
+
+loop-holds : tie.Need-loop-holds Inv-loop μ-loop
+loop-holds c = (omega arith, omega arith, λ i hi. ap (λ z. z ⊕ copies (c .before .args .size) (c .before .args .step .now) (both (c .before .args .d)) i) (digit-zero 64 i))
+
+mul-if1 : tie.Need-mul-if1 Inv-loop μ-loop
+mul-if1 c = search needs
+
+shared-slice-read-if1 : tie.Need-shared-slice-read-if1 Inv-loop μ-loop
+shared-slice-read-if1 c = search needs
+
+cast-if1 : tie.Need-cast-if1 Inv-loop μ-loop
+cast-if1 c = omega (arith, c .shared-slice-known2 .given (c .before .before .loop .k))
+
+mul-funnel : tie.Need-mul-funnel Inv-loop μ-loop
+mul-funnel c = search needs
+
+shared-slice-read-funnel : tie.Need-shared-slice-read-funnel Inv-loop μ-loop
+shared-slice-read-funnel c = search needs
+
+cast-funnel : tie.Need-cast-funnel Inv-loop μ-loop
+cast-funnel c = omega (arith, c .shared-slice-known3 .given (c .before .before .before .before .loop .k))
+
+funnel-requires : tie.Need-funnel-requires Inv-loop μ-loop
+funnel-requires c κs = omega (arith, ltb-true (getD (c .before .before .before .before .before .before .args .step .now) (c .before .before .before .before .loop .k) 0) (c .before .before .before .before .before .before .args .size) (c .before .if1 .taken))
+
+add-k : tie.Need-add-k Inv-loop μ-loop
+add-k c = search needs
+
+loop-less : tie.Need-loop-less Inv-loop μ-loop
+loop-less c = search needs
+
+loop-again : tie.Need-loop-again Inv-loop μ-loop
+loop-again c = let a = c .before .before .before .before .before .before .before .args in
+    let l = c .before .before .before .before .before .loop in
+    let low : getD (a .step .now) (l .k) 0 < a .size = ltb-true (getD (a .step .now) (l .k) 0) (a .size) (c .before .before .if1 .taken) in
+    (omega arith, omega arith, summed-more (a .size) (a .step .now) (both (a .d)) (l .sum) (l .k) (l .inv .2) (c .funnel .result) (omega arith) low (c .funnel .ensures))
+
+returns : tie.Need-returns Inv-loop μ-loop
+returns c = let a = c .before .before .before .before .before .args in
+    let l = c .before .before .before .loop in
+    summed-all (a .size) (a .step .now) (both (a .d)) (l .sum) (l .k) (l .inv .2)
+    (rest-none (a .size) (a .step .now) (both (a .d)) (l .k) (omega arith) (ltb-false (getD (a .step .now) (l .k) 0) (a .size) (c .if1 .left)))
+
+returns-2 : tie.Need-returns-2 Inv-loop μ-loop
+returns-2 c = let a = c .before .before .before .args in
+    let l = c .before .loop in
+    summed-all (a .size) (a .step .now) (both (a .d)) (l .sum) (l .k) (l .inv .2) (rest-past (a .size) (a .step .now) (both (a .d)) (l .k) (omega arith))
+
+pub turns-spec : {M : Type 1} → statement M
+turns-spec =
+    tie.close
+    (tie.spec
+    Inv-loop
+    μ-loop
+    loop-holds
+    mul-if1
+    shared-slice-read-if1
+    cast-if1
+    mul-funnel
+    shared-slice-read-funnel
+    cast-funnel
+    funnel-requires
+    add-k
+    loop-less
+    loop-again
+    returns
+    returns-2)
