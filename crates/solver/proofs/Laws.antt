@@ -26,7 +26,7 @@ use Rattle.syndromes.specs.Rows.{rowed, within, wide}
 use Rattle.syndromes.proofs.Rowwise.{rowed-inside, rowed-past, rowed-same}
 use Rattle.syndromes.proofs.Trimming.{within-rowed}
 use Rattle.layout.specs.declared.Shape.{Shape}
-use Rattle.steps.specs.Steps.{ended, shifts, target, source, rowsIn, stepped, steps16, steps32, steps64, steps511}
+use Rattle.steps.specs.Steps.{ended, shifts, target, source, rowsIn, stepped, walked, steps16, steps32, steps64, steps511}
 use Rattle.solver.specs.Rows.{held, Kept, twoRows, Fits, copies, stepsOf, behind, informed, completed}
 
 -- ---- the shifts of a step, one after the other
@@ -463,3 +463,11 @@ steps-last M a b c =
     ap (λ z. if z then steps16 else if eqb M 32 then steps32 else if eqb M 64 then steps64 else steps511) (ne-eqb M 16 a)
     ∙ ap (λ z. if z then steps32 else if eqb M 64 then steps64 else steps511) (ne-eqb M 32 b)
     ∙ ap (λ z. if z then steps64 else steps511) (ne-eqb M 64 c)
+
+pub walked-none : (M : ℕ) (steps : List (List ℕ)) (f : ℕ → Word) → f ≡ walked M steps 0 f
+unfolding walked
+walked-none M steps f = refl
+
+pub walked-more : (M : ℕ) (steps : List (List ℕ)) (k : ℕ) (f : ℕ → Word) → stepped M (getD steps k []) (walked M steps k f) ≡ walked M steps (k + 1) f
+unfolding walked
+walked-more M steps k f = ap (λ n. walked M steps n f) (sym (add-one k))

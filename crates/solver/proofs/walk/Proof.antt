@@ -1,54 +1,84 @@
+-- `solver::walk` meets its contract: after k turns the first k steps are taken. Assumes nothing.
+use mathlib.Core.Path.{_≡_, refl, sym, ap, ap₂, _∙_, subst, fun-ext}
+use mathlib.Core.Bool.{Bool, true, false, _&&_}
+use mathlib.Core.List.{List, [], _∷_}
+use Prim.Native.Nat.{ℕ, zero, suc, _+_, _-_, _*_, _/_, _%_, _^_, _≤_, _<_}
+use native.Mathlib.Nat.{mod-lt}
+use native.Mathlib.Omega.{arith}
+use lib.Bits.{bitXor}
+use lib.Dec.{T, ltb, eqb, lit≤, lit<}
+use lib.ListN.{length, getD, take, drop}
+use borrow.Author.Needs.{needs}
+use borrow.Author.Tests.{ltb-true, ltb-false, eqb-true}
+use Rattle.bits.specs.Bits.{Word, digit, _⊕_, over, tally}
+use Rattle.bits.proofs.Octets.{digit-zero}
+use Rattle.vectors.specs.Vectors.{wbit, both, Holds, upTo, from, added, twice}
+use Rattle.vectors.proofs.Filling.{word-holds}
+use Rattle.bits.proofs.Orders.{ltb-iff}
+use Rattle.vectors.proofs.Spans.{upTo-below, upTo-above, upTo-again}
+use Rattle.syndromes.specs.Rows.{wide, rowed, within}
+use Rattle.steps.specs.Steps.{target, source, rowsIn, shifts, stepped, walked, steps16, steps32, steps64, steps511}
+use Rattle.ownparity.specs.Odd.{oddTogether}
+use Rattle.solver.specs.Rows.{held, Kept, twoRows, Fits, copies, stepsOf, Within, informed, completed, behind}
+use Rattle.solver.proofs.Laws.{Summed, summed-more, summed-all, Added, added-more, added-all, rest, rest-none, rest-past, copies-are, to-row, from-row, row-room, block-room, wide-some, step-held, step-cut, held-at, held-kept, row-slice, added-start, added-append, added-size, added-same, put-added, between, between-before, between-here, between-after, rows-start, rows-more, if-one, if-none, two-inverted, rows-few, blocks-few, slice-long, steps-last, walked-none, walked-more}
 use Rattle.solver.proofs.walk.Statement.{statement}
 use Rattle.solver.proofs.walk.Tie as tie
-use Rattle.solver.proofs.walk.Reads as reads
-use Rattle.solver.proofs.walk.Lts as lts
-use Rattle.solver.proofs.take_step.Reads as take-step-reads
 
 abbrev Inv-loop : tie.InvT-loop
-Inv-loop steps sh s₀ d₀ k₀ s d k = ?
+Inv-loop steps sh s₀ d₀ k₀ s d k = (k ≤ 15) × (length s ≡ 16) × (length d ≡ 16) × Kept sh (wbit s) × ((f : ℕ → Word) → wbit s₀ ≡ held sh f → wbit s ≡ held sh (walked (sh .size) steps k f))
 
 abbrev μ-loop : tie.MeasureT-loop
-μ-loop steps sh s₀ d₀ k₀ s d k = ?
+μ-loop steps sh s₀ d₀ k₀ s d k = 15 - k
 
--- src/lib.rt:169:5
 loop-holds : tie.Need-loop-holds Inv-loop μ-loop
-loop-holds c = ?
+loop-holds c = let s = c .before in
+    (omega arith, s .pre .2, refl, s .pre .3, λ f e. e ∙ ap (held (s .args .sh)) (walked-none (s .args .sh .size) (s .args .steps .now) f))
 
--- src/lib.rt:170:19
 mul-take-step : tie.Need-mul-take-step Inv-loop μ-loop
-mul-take-step c = ?
+mul-take-step c = omega arith
 
--- src/lib.rt:170:19
 index-1-take-step : tie.Need-index-1-take-step Inv-loop μ-loop
-index-1-take-step c = ?
+index-1-take-step c = omega arith
 
--- src/lib.rt:170:34
 slice-aggregate-take-step : tie.Need-slice-aggregate-take-step Inv-loop μ-loop
-slice-aggregate-take-step c = ?
+slice-aggregate-take-step c = sym (c .before .before .before .before .loop .inv .2)
 
--- src/lib.rt:170:9
 take-step-requires : tie.Need-take-step-requires Inv-loop μ-loop
-take-step-requires c κs = ?
+take-step-requires c κs = let s = c .before .before .before .before .before .before .before in
+    let l = c .before .before .before .before .before .loop in
+    let h : l .k < 15 = omega arith in
+    (s .pre .0, l .inv .2, search needs, s .pre .1 (l .k) h, l .inv .1, l .inv .3)
 
--- src/lib.rt:171:9
 add-k : tie.Need-add-k Inv-loop μ-loop
-add-k c = ?
+add-k c = omega arith
 
--- src/lib.rt:169:5
 loop-less : tie.Need-loop-less Inv-loop μ-loop
-loop-less c = ?
+loop-less c = omega arith
 
--- src/lib.rt:169:5
 loop-again : tie.Need-loop-again Inv-loop μ-loop
-loop-again c = ?
+loop-again c = let s = c .before .before .before .before .before .before .before .before .before .before .before in
+    let a = s .args in
+    let sh = a .sh in
+    let l = c .before .before .before .before .before .before .before .before .before .loop in
+    let step = c .before .before .before .take-step in
+    let row = getD (a .steps .now) (l .k) [] in
+    let own : ℕ → Word = λ r i. wbit (l .s) (wide sh * r + i) in (
+      omega arith,
+      step .kept .1 .1 .1 .0 ∙ l .inv .1,
+      step .kept .1 .1 .0 ∙ l .inv .2,
+      held-kept sh (wide-some sh (s .pre .0)) (stepped (sh .size) row own) (wbit (step .last .1 .1 .1 .0)) (step .ensures own (l .inv .3)),
+      λ f e. step .ensures (walked (sh .size) (a .steps .now) (l .k) f) (l .inv .4 f e) ∙ ap (held sh) (walked-more (sh .size) (a .steps .now) (l .k) f),
+    )
 
--- src/lib.rt:163:1
 same-length : tie.Need-same-length Inv-loop μ-loop
-same-length c = ?
+same-length c = c .before .loop .inv .1 ∙ sym (c .before .before .before .pre .2)
 
--- src/lib.rt:163:1
 returns : tie.Need-returns Inv-loop μ-loop
-returns c = ?
+returns c = λ f e.
+    let s = c .before .before .before in
+    let l = c .before .loop in
+    let all : l .k ≡ 15 = omega arith in
+    l .inv .4 f e ∙ ap (λ (n : ℕ). held (s .args .sh) (walked (s .args .sh .size) (s .args .steps .now) n f)) all
 
 pub walk-spec : {M : Type 1} → statement M
 walk-spec =
