@@ -12,7 +12,7 @@ use borrow.Author.Tests.{lt-ltb, le-ltb}
 use Rattle.bits.specs.Bits.{Word, _⊕_, sum, below, over, blocks}
 use Rattle.rules.specs.Codes.{Code, bits, checks, information}
 use Rattle.rules.specs.Checks.{oneAt, covers, check, broken}
-use Rattle.rules.specs.Encoding.{parityBit}
+use Rattle.rules.specs.Encoding.{parityBit, OwnParity}
 use Rattle.bits.proofs.Sums.{⊕-false, ⊕-self, and-⊕, into, swap, sum-linear, blocks-linear, blocks′, sum-same, sum-none, turn, blocks-sum, and-l, and-r, below-at}
 use Rattle.bits.proofs.Cyclic.{undo}
 use Rattle.bits.proofs.Counting.{count-none}
@@ -166,6 +166,10 @@ module _ (wordOctets informationOctets unsent m : ℕ) (H : List (List (List ℕ
     pub ending-parity : (f : Word) (p : ℕ) → finished (information c + p) ≡ parityBit c finished p ⊕ f (p / suc m)
         → ending ((p / suc m + first) % suc q) (p % suc m) ≡ parityBit c y p ⊕ f (p / suc m)
     ending-parity f p own = sym (finished-behind p) ∙ own ∙ ap (λ z. z ⊕ f (p / suc m)) (parity-same c finished y finished-front p)
+
+    -- where every such word has the encoder's parity, the rows are that
+    pub ending-own : ((x : Word) → broken c x ≡ 0 → OwnParity c x) → (p : ℕ) → p < bits c - information c → ending ((p / suc m + first) % suc q) (p % suc m) ≡ parityBit c y p
+    ending-own own p l = ending-parity (λ b. false) p (own finished finished-met p l ∙ sym (⊕-false (parityBit c finished p))) ∙ ⊕-false (parityBit c y p)
 
     -- where the rows are even, a block of that word has as many ones as before, modulo 2
     pub finished-odd : ((r : ℕ) → r < suc q → sum (suc m) (checkRows c y r) ≡ false) → (j : ℕ) → sum (suc m) (blk (suc m) finished j) ≡ sum (suc m) (blk (suc m) y j)
