@@ -21,12 +21,16 @@ use Rattle.vectors.specs.Vectors.{upTo}
 use Rattle.vectors.proofs.Cells.{joined-below, joined-above}
 use Rattle.vectors.proofs.Spans.{upTo-below, upTo-above}
 use Rattle.layout.specs.declared.Shape.{Shape}
+use Rattle.layout.specs.Lent.{laid}
+use Rattle.syndromes.specs.Rows.{rowed, wide}
+use Rattle.syndromes.proofs.Laid.{laid-rows}
+use Rattle.rules.specs.Checks.{check}
 use Rattle.tables.specs.Flat.{shapeOfCode}
 use Rattle.ownparity.specs.Odd.{oddTogether}
 use Rattle.steps.specs.Steps.{rowsIn, walked, checkRows}
 use Rattle.steps.proofs.Telecommand.{walk1, walk2, walk3}
 use Rattle.steps.proofs.NearEarth.{walk-near}
-use Rattle.solver.specs.Rows.{Fits, stepsOf, Within, behind, informed, completed}
+use Rattle.solver.specs.Rows.{held, Fits, stepsOf, Within, behind, informed, completed}
 
 -- the rows at the end, of a word whose parity is 0
 abbrev pub endRows : ℕ → ℕ → Word → ℕ → Word
@@ -160,3 +164,12 @@ all-encoded n sh r first f x parity = ap (λ z. upTo z (completed sh first f x))
         upTo-below (bits c) i (completed sh first f x) l
         ∙ ⊎-elim (rear i l) (front i) (le-or-lt (information c) i)
         ∙ sym (upTo-below (bits c) i (encoded c x) l)
+
+-- the syndrome as it is held
+pub start-held : (n : ℕ) (sh : Shape) → Ready n sh → (x : Word) → laid (code n) sh x ≡ held sh (checkRows (code n) x)
+start-held n sh r x =
+    laid-rows (code n) sh x ∙ ap (λ M. rowed (wide sh) (sh .rows) (λ j. upTo (sh .size) (λ i. check (code n) x (j * M + i)))) (sym (r .size-is))
+
+-- a word that has zeros behind its information
+pub short-of : (m : ℕ) (x : Word) → x ≡ upTo m x → (i : ℕ) → m ≤ i → x i ≡ false
+short-of m x e i h = ap (λ z. z i) e ∙ upTo-above m i x h

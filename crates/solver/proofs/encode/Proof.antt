@@ -1,81 +1,126 @@
+-- `solver::encode` meets its contract: the checks of the information, the walk, the inversions, and the rows put behind. Assumes nothing.
+use mathlib.Core.Path.{_≡_, refl, sym, ap, ap₂, _∙_, subst, fun-ext}
+use mathlib.Core.Bool.{Bool, true, false, _&&_}
+use mathlib.Core.List.{List, [], _∷_}
+use Prim.Native.Nat.{ℕ, zero, suc, _+_, _-_, _*_, _/_, _%_, _^_, _≤_, _<_}
+use native.Mathlib.Nat.{mod-lt}
+use native.Mathlib.Omega.{arith}
+use lib.Bits.{bitXor}
+use lib.Dec.{T, ltb, eqb, lit≤, lit<}
+use lib.ListN.{length, getD, take, drop}
 use borrow.Author.Needs.{needs}
+use borrow.Author.Tests.{ltb-true, ltb-false, eqb-true}
+use Rattle.bits.specs.Bits.{Word, digit, _⊕_, over, tally}
+use Rattle.bits.proofs.Octets.{digit-zero}
+use Rattle.vectors.specs.Vectors.{wbit, both, Holds, upTo, from, added, twice}
+use Rattle.vectors.proofs.Filling.{word-holds}
+use Rattle.bits.proofs.Orders.{ltb-iff}
+use Rattle.vectors.proofs.Spans.{upTo-below, upTo-above, upTo-again}
+use Rattle.syndromes.specs.Rows.{wide, rowed, within}
+use Rattle.steps.specs.Steps.{target, source, rowsIn, shifts, stepped, walked, steps16, steps32, steps64, steps511}
+use Rattle.ownparity.specs.Odd.{oddTogether}
+use Rattle.rules.specs.Codes.{code, information}
+use Rattle.steps.specs.Steps.{checkRows}
+use Rattle.vectors.proofs.Filling.{zero-words}
+use Rattle.solver.proofs.Ready.{Ready, ready, endRows, offered-low, all-encoded, start-held, short-of}
+use Rattle.layout.specs.declared.Shape.{Shape}
+use Rattle.solver.specs.Rows.{held, Kept, twoRows, Fits, copies, stepsOf, Within, informed, completed, behind}
+use Rattle.solver.proofs.Laws.{Summed, summed-more, summed-all, Added, added-more, added-all, rest, rest-none, rest-past, copies-are, to-row, from-row, row-room, block-room, wide-some, step-held, step-cut, held-at, held-kept, row-slice, added-start, added-append, added-size, added-same, put-added, between, between-before, between-here, between-after, rows-start, rows-more, if-one, if-none, two-inverted, rows-few, blocks-few, slice-long, steps-last, walked-none, walked-more}
 use Rattle.solver.proofs.encode.Statement.{statement}
 use Rattle.solver.proofs.encode.Tie as tie
-use Rattle.solver.proofs.encode.Reads as reads
-use Rattle.solver.proofs.encode.Lts as lts
-use Rattle.solver.proofs.invert.Reads as invert-reads
-use Rattle.solver.proofs.put_rows.Reads as put-rows-reads
-use Rattle.solver.proofs.solve.Reads as solve-reads
-use Rattle.syndromes.proofs.syndrome.Reads as syndrome-reads
-use Rattle.tables.proofs.lend.Reads as lend-reads
 
--- src/lib.rt:270:33
 slice-aggregate-lend : tie.Need-slice-aggregate-lend
 slice-aggregate-lend c = search needs
 
--- src/lib.rt:270:9
 lend-requires : tie.Need-lend-requires
-lend-requires c κs = ?
+lend-requires c κs = (offered-low (c .before .before .args .code) (c .before .before .pre .0) .0, offered-low (c .before .before .args .code) (c .before .before .pre .0) .1, refl)
 
--- src/lib.rt:271:28
 slice-aggregate-syndrome : tie.Need-slice-aggregate-syndrome
 slice-aggregate-syndrome c = search needs
 
--- src/lib.rt:271:36
 slice-aggregate-syndrome-2 : tie.Need-slice-aggregate-syndrome-2
 slice-aggregate-syndrome-2 c = search needs
 
--- src/lib.rt:271:5
 syndrome-requires : tie.Need-syndrome-requires
-syndrome-requires c κs = ?
+syndrome-requires c κs = (c .before .before .before .before .lend .ensures .fit, c .before .before .before .before .before .before .before .pre .1, refl, zero-words 16)
 
--- src/lib.rt:272:15
 slice-aggregate-solve : tie.Need-slice-aggregate-solve
 slice-aggregate-solve c = search needs
 
--- src/lib.rt:272:5
 solve-requires : tie.Need-solve-requires
-solve-requires c κs = ?
+solve-requires c κs = let s = c .before .before .before .before .before .before .before .before .before .before in
+    let n = s .args .code in
+    let lent = c .before .before .before .before .before .before .before .lend in
+    let sh = lent .result in
+    let ok = ready n (s .pre .0) sh (lent .ensures .shape) in
+    let x = wbit (s .args .y .now) in
+    let made = c .before .before .syndrome in
+    (ok .fits, ok .inside, made .kept .1 .1 .1 .0, held-kept sh (wide-some sh (ok .fits)) (checkRows (code n) x) (wbit (made .last .1 .1 .1 .0)) (made .ensures (code n) (lent .ensures .lent) ∙ start-held n sh ok x))
 
--- src/lib.rt:274:19
 slice-aggregate-invert : tie.Need-slice-aggregate-invert
 slice-aggregate-invert c = search needs
 
--- src/lib.rt:274:9
 invert-requires : tie.Need-invert-requires
 invert-requires c κs = search needs
 
--- src/lib.rt:275:18
 slice-aggregate-put-rows : tie.Need-slice-aggregate-put-rows
 slice-aggregate-put-rows c = search needs
 
--- src/lib.rt:275:9
 put-rows-requires : tie.Need-put-rows-requires
-put-rows-requires c κs = ?
+put-rows-requires c κs = let s = c .before .before .before .before .before .before .before .before .before .before .before .before .before .before .before .before .before .before .before .before in
+    let n = s .args .code in
+    let lent = c .before .before .before .before .before .before .before .before .before .before .before .before .before .before .before .before .before .lend in
+    let sh = lent .result in
+    let ok = ready n (s .pre .0) sh (lent .ensures .shape) in
+    let x = wbit (s .args .y .now) in
+    (ok .fits, lit≤ tt, c .before .before .before .invert .kept .1 .0 ∙ c .before .before .before .before .before .before .before .before .before .solve .kept .1 .0 ∙ c .before .before .before .before .before .before .before .before .before .before .before .before .syndrome .kept .1 .1 .1 .0, s .pre .1)
 
--- src/lib.rt:277:18
 slice-aggregate-put-rows-2 : tie.Need-slice-aggregate-put-rows-2
 slice-aggregate-put-rows-2 c = search needs
 
--- src/lib.rt:277:9
 put-rows-requires-2 : tie.Need-put-rows-requires-2
-put-rows-requires-2 c κs = ?
+put-rows-requires-2 c κs = let s = c .before .before .before .before .before .before .before .before .before .before .before .before .before .before .before .before in
+    let n = s .args .code in
+    let lent = c .before .before .before .before .before .before .before .before .before .before .before .before .before .lend in
+    let sh = lent .result in
+    let ok = ready n (s .pre .0) sh (lent .ensures .shape) in
+    let x = wbit (s .args .y .now) in
+    (ok .fits, lit≤ tt, c .before .before .before .before .before .solve .kept .1 .0 ∙ c .before .before .before .before .before .before .before .before .syndrome .kept .1 .1 .1 .0, s .pre .1)
 
--- src/lib.rt:264:1
 same-length : tie.Need-same-length
 same-length c = search needs
 
--- src/lib.rt:264:1
 returns : tie.Need-returns
-returns c = ?
+returns c = let s = c .before .before .before .before .before .before .before .before .before .before .before .before .before .before .before .before .before .before .before .before .before .before .before in
+    let n = s .args .code in
+    let lent = c .before .before .before .before .before .before .before .before .before .before .before .before .before .before .before .before .before .before .before .before .lend in
+    let sh = lent .result in
+    let ok = ready n (s .pre .0) sh (lent .ensures .shape) in
+    let x = wbit (s .args .y .now) in
+    let near = ok .near (c .before .before .before .before .before .before .before .before .before .if1 .taken) in
+    let f : ℕ → Word = endRows n (sh .size) x in
+    let g : ℕ → Word = λ r i. f r i ⊕ oddTogether x r in
+    let start = c .before .before .before .before .before .before .before .before .before .before .before .before .before .before .before .syndrome .ensures (code n) (lent .ensures .lent) ∙ start-held n sh ok x in
+    let ended = c .before .before .before .before .before .before .before .before .before .before .before .before .solve .ensures (checkRows (code n) x) start in
+    let turned = c .before .before .before .before .before .before .invert .ensures f (ended ∙ ap (λ (z : Shape). held z f) near) ∙ sym (ap (λ (z : Shape). held z g) near) in
+    c .before .before .put-rows .ensures g x turned (s .pre .2 ∙ ap (λ (m : ℕ). upTo m x) (ok .informs))
+    ∙ all-encoded n sh ok 0 g x (ok .near-rows (c .before .before .before .before .before .before .before .before .before .if1 .taken) x (short-of (information (code n)) x (s .pre .2)))
 
--- src/lib.rt:264:1
 same-length-2 : tie.Need-same-length-2
 same-length-2 c = search needs
 
--- src/lib.rt:264:1
 returns-2 : tie.Need-returns-2
-returns-2 c = ?
+returns-2 c = let s = c .before .before .before .before .before .before .before .before .before .before .before .before .before .before .before .before .before .before .before in
+    let n = s .args .code in
+    let lent = c .before .before .before .before .before .before .before .before .before .before .before .before .before .before .before .before .lend in
+    let sh = lent .result in
+    let ok = ready n (s .pre .0) sh (lent .ensures .shape) in
+    let x = wbit (s .args .y .now) in
+    let f : ℕ → Word = endRows n (sh .size) x in
+    let start = c .before .before .before .before .before .before .before .before .before .before .before .syndrome .ensures (code n) (lent .ensures .lent) ∙ start-held n sh ok x in
+    let ended = c .before .before .before .before .before .before .before .before .solve .ensures (checkRows (code n) x) start in
+    c .before .before .put-rows2 .ensures f x ended (s .pre .2 ∙ ap (λ (m : ℕ). upTo m x) (ok .informs))
+    ∙ all-encoded n sh ok 1 f x (ok .other-rows (c .before .before .before .before .before .if1 .left) x (short-of (information (code n)) x (s .pre .2)))
 
 pub encode-spec : {M : Type 1} → statement M
 encode-spec =
