@@ -111,7 +111,7 @@ fn encode_taken(code: u8, information: &[u8], word: &mut [u8])
 {
     let mut y = [0u64; 130];
     received::take(code, information, &mut y);
-    generators::encode(code, &mut y);
+    solver::encode(code, &mut y);
     received::write(code, &mut y, word);
 }
 

@@ -4,7 +4,7 @@ use mathlib.Core.List.{List, []}
 use Prim.Native.Nat.{ℕ, _+_, _-_, _*_, _/_, _%_, _≤_, _<_}
 use lib.Dec.{T, eqb}
 use lib.ListN.{getD}
-use Rattle.bits.specs.Bits.{Word, below, over, if_then_else_}
+use Rattle.bits.specs.Bits.{Word, over, if_then_else_}
 use Rattle.vectors.specs.Vectors.{upTo, from, joined}
 use Rattle.layout.specs.declared.Shape.{Shape}
 use Rattle.syndromes.specs.Rows.{rowed, wide}

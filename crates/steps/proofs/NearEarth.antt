@@ -2,7 +2,7 @@
 use mathlib.Core.Path.{_≡_, refl, sym, ap, ap₂, _∙_, fun-ext}
 use mathlib.Core.Bool.{Bool, false, _&&_}
 use mathlib.Core.List.{[]}
-use Prim.Native.Nat.{ℕ, zero, suc, _+_, _-_, _/_, _%_, _≤_, _<_}
+use Prim.Native.Nat.{ℕ, zero, suc, _+_, _/_, _%_, _≤_, _<_}
 use native.Mathlib.Nat.{zero-lt-suc, add-zero, mod-eq-of-lt, div-lt-iff-lt-mul}
 use native.Mathlib.Omega.{arith}
 use lib.Dec.{T}
@@ -10,7 +10,7 @@ use lib.ListN.{getD}
 use Rattle.bits.specs.Bits.{Word, digit, _⊕_, sum}
 use Rattle.bits.proofs.Sums.{⊕-false, ⊕-self, ⊕-assoc}
 use Rattle.rules.specs.Tables.{parity511, generator511}
-use Rattle.rules.specs.Codes.{Code, bits, information, nearEarth}
+use Rattle.rules.specs.Codes.{Code, nearEarth}
 use Rattle.rules.specs.Encoding.{parityBit}
 use Rattle.rules.proofs.Unique.{even}
 use Rattle.rules.proofs.Published.{nearTests, nearInverted, near-inverted}

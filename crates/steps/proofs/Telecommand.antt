@@ -4,7 +4,7 @@ use mathlib.Core.Bool.{false}
 use Prim.Native.Nat.{ℕ, _+_, _-_, _/_, _%_, _≤_, _<_}
 use Rattle.bits.specs.Bits.{Word}
 use Rattle.rules.specs.Tables.{parity16, parity32, parity64, generator16, generator32, generator64}
-use Rattle.rules.specs.Codes.{Code, bits, information, code1, code2, code3}
+use Rattle.rules.specs.Codes.{bits, information, code1, code2, code3}
 use Rattle.rules.specs.Encoding.{parityBit}
 use Rattle.rules.proofs.Published.{tests1, tests2, tests3, met-own1, met-own2, met-own3}
 use Rattle.steps.specs.Steps.{walked, checkRows, steps16, steps32, steps64}

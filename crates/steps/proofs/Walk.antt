@@ -1,9 +1,9 @@
 -- A walk read backwards: what a weighted sum of the rows after it is, of the rows before it. Said once over M.
 use mathlib.Core.Path.{_≡_, refl, sym, ap, ap₂, _∙_, fun-ext, subst}
-use mathlib.Core.Bool.{Bool, true, false, not, _&&_, and-false, and-comm}
+use mathlib.Core.Bool.{Bool, true, false, _&&_, and-false, and-comm}
 use mathlib.Core.List.{List, [], _∷_}
-use Prim.Native.Nat.{ℕ, zero, suc, _+_, _-_, _*_, _%_, _<_}
-use native.Mathlib.Nat.{not-suc-le-zero, le-of-suc-le-suc, zero-lt-suc, mod-lt, mod-eq-of-lt, mod-add-mod, add-comm, add-assoc, lt-suc-self, le-step}
+use Prim.Native.Nat.{ℕ, zero, suc, _+_, _*_, _%_, _<_}
+use native.Mathlib.Nat.{not-suc-le-zero, le-of-suc-le-suc, zero-lt-suc, mod-lt, mod-eq-of-lt, mod-add-mod, add-comm, lt-suc-self, le-step}
 use native.Mathlib.Decide.{ℕ-discrete}
 use native.Mathlib.Omega.{arith}
 use lib.Dec.{T, eqb, ltb, ltb→lt}
@@ -11,7 +11,7 @@ use lib.ListN.{getD, length, set, length-set}
 use lib.Seq.{getD-set-same, getD-set-other}
 use borrow.Author.Tests.{eq-eqb, ne-eqb}
 use Rattle.bits.specs.Bits.{Word, digit, number, _⊕_, sum, below, over}
-use Rattle.bits.proofs.Sums.{⊕-false, and-⊕, into, swap, sum-linear, over-linear, sum-same, sum-none, pick, turn, and-l, and-r, below-at}
+use Rattle.bits.proofs.Sums.{⊕-false, and-⊕, into, swap, sum-linear, over-linear, sum-same, pick, turn, and-l, and-r, below-at}
 use Rattle.bits.proofs.Cyclic.{undo}
 use Rattle.bits.proofs.Octets.{digit-number}
 use Rattle.steps.specs.Steps.{target, source, rowsIn, shifts, stepped, walked}

@@ -2,7 +2,7 @@
 -- These numbers are derived from the parity tables, not published; that they solve is computed in proofs/Facts.
 use mathlib.Core.Bool.{Bool, _&&_}
 use mathlib.Core.List.{List, [], _∷_}
-use Prim.Native.Nat.{ℕ, zero, suc, _+_, _*_, _/_, _%_}
+use Prim.Native.Nat.{ℕ, zero, suc, _+_, _*_, _%_}
 use lib.Dec.{eqb, ltb}
 use lib.ListN.{getD, drop}
 use Rattle.bits.specs.Bits.{Word, _⊕_, over, if_then_else_}
