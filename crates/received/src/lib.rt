@@ -7,6 +7,8 @@ ghost use Rattle.bits.specs.Bits.{bit};
 ghost use Rattle.rules.specs.Codes.{code as codeOf, offered};
 ghost use Rattle.rules.specs.Encoding.{lifted, written};
 ghost use Rattle.vectors.specs.Vectors.{wbit};
+ghost use Rattle.layout.specs.Lent.{laid};
+ghost use Rattle.tables.specs.Flat.{Lends};
 ghost use Rattle.received.specs.Measured.{Measured};
 use layout::Shape;
 
@@ -69,13 +71,21 @@ pub fn write(code: u8, y: &mut [u64], out: &mut [u8])
     }
 }
 
+// The parity table of a code, and the syndrome of the bits that y holds; s is handed over as zeros.
+pub fn checks(code: u8, y: &[u64], t: &mut [u16], s: &mut [u64]) -> Shape
+    requires { ⌜ (offered code ≡ true) × (length (now y) ≡ 130) × (length (now t) ≡ 64) × (length (now s) ≡ 16) × (wbit (now s) ≡ (λ n. false)) ⌝ }
+    ensures { λ r. ⌜ Lends code (now (t .exit)) r × (wbit (now (s .exit)) ≡ laid (codeOf code) r (wbit (now (y .entry)))) ⌝ }
+{
+    let sh = tables::lend(code, t);
+    syndromes::syndrome(y, t, sh, s);
+    sh
+}
+
 // The word, its parity table and its syndrome; y and s are handed over as zeros.
 pub fn measure(code: u8, word: &[u8], t: &mut [u16], y: &mut [u64], s: &mut [u64]) -> Shape
     requires { ⌜ (offered code ≡ true) × (length (now word) ≡ codeOf code .wordOctets) × (length (now t) ≡ 64) × (length (now y) ≡ 130) × (length (now s) ≡ 16) × (wbit (now y) ≡ (λ n. false)) × (wbit (now s) ≡ (λ n. false)) ⌝ }
     ensures { λ r. ⌜ Measured code (now (word .entry)) (now (t .exit)) (wbit (now (y .exit))) (wbit (now (s .exit))) r ⌝ }
 {
-    let sh = tables::lend(code, t);
     take(code, word, y);
-    syndromes::syndrome(y, t, sh, s);
-    sh
+    checks(code, y, t, s)
 }

@@ -7,11 +7,11 @@ use Prim.Native.Nat.{ℕ, _+_, _-_, _*_, _/_, _%_, _≤_, _<_}
 use native.Mathlib.Nat.{mod-lt, add-mul, div-add-mod'}
 use native.Mathlib.Omega.{arith}
 use lib.Arith.{digits-div, digits-mod}
-use lib.Dec.{T, leb, leb→le, lit<, lit≤}
+use lib.Dec.{T, lit<, lit≤}
 use lib.ListN.{getD}
 use Rattle.bits.specs.Bits.{Word, _⊕_, below}
 use Rattle.bits.proofs.Orders.{le-or-lt}
-use Rattle.bits.proofs.Sums.{and-l, and-r, below-at}
+use Rattle.bits.proofs.Sums.{below-at}
 use Rattle.rules.specs.Tables.{parity16, parity32, parity64, parity511, generator16, generator32, generator64, generator511}
 use Rattle.rules.specs.Codes.{Code, bits, information, code, code1, code2, code3, code4, code5, offered}
 use Rattle.rules.specs.Encoding.{parityBit, encoded}
@@ -121,9 +121,6 @@ offered-test n o = subst T (sym o) tt
 
 pub ready : (n : ℕ) → offered n ≡ true → (sh : Shape) → sh ≡ shapeOfCode n → Ready n sh
 ready n o sh e = subst (Ready n) (sym e) (five (λ n. Ready n (shapeOfCode n)) ready1 ready2 ready3 ready4 ready5 n (offered-test n o))
-
-pub offered-low : (n : ℕ) → offered n ≡ true → (1 ≤ n) × (n ≤ 5)
-offered-low n o = (leb→le 1 n (and-l (leb 1 n) (leb n 5) (offered-test n o)), leb→le n 5 (and-r (leb 1 n) (leb n 5) (offered-test n o)))
 
 -- information, and rows that are the parity behind it: the encoded word
 pub all-encoded : (n : ℕ) (sh : Shape) → Ready n sh → (first : ℕ) (f : ℕ → Word) (x : Word)

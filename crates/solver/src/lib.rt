@@ -267,8 +267,7 @@ pub fn encode(code: u8, y: &mut [u64])
 {
     let mut t = [0u16; 64];
     let mut s = [0u64; 16];
-    let sh = tables::lend(code, &mut t);
-    syndromes::syndrome(y, &t, sh, &mut s);
+    let sh = received::checks(code, y, &mut t, &mut s);
     solve(sh, &mut s);
     if sh.size == 511 {
         invert(y, &mut s);
