@@ -7,9 +7,10 @@ use Prim.Native.Nat.{ℕ, _+_, _-_, _*_, _/_, _%_, _≤_, _<_}
 use native.Mathlib.Nat.{mod-lt, add-mul, div-add-mod'}
 use native.Mathlib.Omega.{arith}
 use lib.Arith.{digits-div, digits-mod}
-use lib.Dec.{T, lit<, lit≤}
+use lib.Dec.{eqb, T, lit<, lit≤}
 use lib.ListN.{getD}
-use Rattle.bits.specs.Bits.{Word, _⊕_, below}
+use borrow.Author.Tests.{ne-eqb}
+use Rattle.bits.specs.Bits.{if_then_else_, Word, _⊕_, below}
 use Rattle.bits.proofs.Orders.{le-or-lt}
 use Rattle.bits.proofs.Sums.{below-at}
 use Rattle.rules.specs.Tables.{parity16, parity32, parity64, parity511, generator16, generator32, generator64, generator511}
@@ -170,3 +171,10 @@ start-held n sh r x =
 -- a word that has zeros behind its information
 pub short-of : (m : ℕ) (x : Word) → x ≡ upTo m x → (i : ℕ) → m ≤ i → x i ≡ false
 short-of m x e i h = ap (λ z. z i) e ∙ upTo-above m i x h
+
+-- the shape of the codes after the third
+pub shape-last : (n : ℕ) → (n ≡ 1 → ⊥) → (n ≡ 2 → ⊥) → (n ≡ 3 → ⊥) → shapeOfCode n ≡ record { size = 511; words = 8; blocks = 16; rows = 2 }
+shape-last n a b c =
+    ap (λ z. if z then shapeOfCode 1 else if eqb n 2 then shapeOfCode 2 else if eqb n 3 then shapeOfCode 3 else shapeOfCode 4) (ne-eqb n 1 a)
+    ∙ ap (λ z. if z then shapeOfCode 2 else if eqb n 3 then shapeOfCode 3 else shapeOfCode 4) (ne-eqb n 2 b)
+    ∙ ap (λ z. if z then shapeOfCode 3 else shapeOfCode 4) (ne-eqb n 3 c)

@@ -13,6 +13,7 @@ ghost use Rattle.rules.specs.Encoding.{encoded};
 ghost use Rattle.vectors.specs.Vectors.{wbit, both, Holds, upTo, from, added};
 ghost use Rattle.syndromes.specs.Rows.{wide};
 ghost use Rattle.ownparity.specs.Odd.{oddTogether};
+ghost use Rattle.tables.specs.Flat.{shapeOfCode};
 ghost use Rattle.steps.specs.Steps.{target, source, rowsIn, stepped, walked};
 ghost use Rattle.solver.specs.Rows.{held, Kept, twoRows, Fits, copies, stepsOf, Within, informed, completed};
 
@@ -260,6 +261,42 @@ fn put_rows(s: &[u64], sh: Shape, first: usize, y: &mut [u64])
     }
 }
 
+// The shape of a code, in numbers that the compiler sees.
+fn shape_of(code: u8) -> Shape
+    ensures { λ r. ⌜ r ≡ shapeOfCode code ⌝ }
+{
+    if code == 1 {
+        return Shape {
+            size: 16,
+            words: 1,
+            blocks: 8,
+            rows: 4,
+        };
+    }
+    if code == 2 {
+        return Shape {
+            size: 32,
+            words: 1,
+            blocks: 8,
+            rows: 4,
+        };
+    }
+    if code == 3 {
+        return Shape {
+            size: 64,
+            words: 1,
+            blocks: 8,
+            rows: 4,
+        };
+    }
+    Shape {
+        size: 511,
+        words: 8,
+        blocks: 16,
+        rows: 2,
+    }
+}
+
 // Puts the parity after the information bits that y holds.
 pub fn encode(code: u8, y: &mut [u64])
     requires { ⌜ (offered code ≡ true) × (length (now y) ≡ 130) × (wbit (now y) ≡ upTo (information (codeOf code)) (wbit (now y))) ⌝ }
@@ -267,7 +304,8 @@ pub fn encode(code: u8, y: &mut [u64])
 {
     let mut t = [0u16; 64];
     let mut s = [0u64; 16];
-    let sh = received::checks(code, y, &mut t, &mut s);
+    received::checks(code, y, &mut t, &mut s);
+    let sh = shape_of(code);
     solve(sh, &mut s);
     if sh.size == 511 {
         invert(y, &mut s);

@@ -8,6 +8,7 @@ use Rattle.vectors.specs.Vectors.{wbit, upTo}
 use Rattle.ownparity.specs.Odd.{oddTogether}
 use Rattle.rules.specs.Codes.{code, information}
 use Rattle.layout.specs.declared.Shape.{Shape}
+use Rattle.layout.specs.Lent.{laid}
 use Rattle.steps.specs.Steps.{checkRows}
 use Rattle.vectors.proofs.Filling.{zero-words}
 use Rattle.solver.proofs.Ready.{ready, endRows, all-encoded, start-held, short-of}
@@ -25,17 +26,22 @@ slice-aggregate-checks-2 c = search needs
 checks-requires : tie.Need-checks-requires
 checks-requires c κs = (c .before .before .before .before .pre .0, c .before .before .before .before .pre .1, refl, refl, zero-words 16)
 
+shape-of-requires : tie.Need-shape-of-requires
+shape-of-requires c κs = search needs
+
 slice-aggregate-solve : tie.Need-slice-aggregate-solve
 slice-aggregate-solve c = search needs
 
 solve-requires : tie.Need-solve-requires
-solve-requires c κs = let s = c .before .before .before .before .before .before .before .before in
+solve-requires c κs = let s = c .before .before .before .before .before .before .before .before .before in
     let n = s .args .code in
-    let made = c .before .before .before .checks in
-    let sh = made .result in
-    let ok = ready n (s .pre .0) sh (made .ensures .0 .shape) in
+    let made = c .before .before .before .before .checks in
+    let sh = c .before .shape-of .result in
+    let ok = ready n (s .pre .0) sh (c .before .shape-of .ensures) in
     let x = wbit (s .args .y .now) in
-    (ok .fits, ok .inside, made .kept .1 .1 .1 .0, held-kept sh (wide-some sh (ok .fits)) (checkRows (code n) x) (wbit (made .last .1 .1 .1 .0)) (made .ensures .1 ∙ start-held n sh ok x))
+    let start =
+    made .ensures .1 ∙ ap (λ (z : Shape). laid (code n) z x) (made .ensures .0 .shape ∙ sym (c .before .shape-of .ensures)) ∙ start-held n sh ok x in
+    (ok .fits, ok .inside, made .kept .1 .1 .1 .0, held-kept sh (wide-some sh (ok .fits)) (checkRows (code n) x) (wbit (made .last .1 .1 .1 .0)) start)
 
 slice-aggregate-invert : tie.Need-slice-aggregate-invert
 slice-aggregate-invert c = search needs
@@ -47,11 +53,11 @@ slice-aggregate-put-rows : tie.Need-slice-aggregate-put-rows
 slice-aggregate-put-rows c = search needs
 
 put-rows-requires : tie.Need-put-rows-requires
-put-rows-requires c κs = let s = c .before .before .before .before .before .before .before .before .before .before .before .before .before .before .before .before .before .before in
+put-rows-requires c κs = let s = c .before .before .before .before .before .before .before .before .before .before .before .before .before .before .before .before .before .before .before in
     let n = s .args .code in
-    let made = c .before .before .before .before .before .before .before .before .before .before .before .before .before .checks in
-    let sh = made .result in
-    let ok = ready n (s .pre .0) sh (made .ensures .0 .shape) in
+    let made = c .before .before .before .before .before .before .before .before .before .before .before .before .before .before .checks in
+    let sh = c .before .before .before .before .before .before .before .before .before .before .before .shape-of .result in
+    let ok = ready n (s .pre .0) sh (c .before .before .before .before .before .before .before .before .before .before .before .shape-of .ensures) in
     let x = wbit (s .args .y .now) in
     (ok .fits, lit≤ tt, c .before .before .before .invert .kept .1 .0 ∙ c .before .before .before .before .before .before .before .before .before .solve .kept .1 .0 ∙ made .kept .1 .1 .1 .0, s .pre .1)
 
@@ -59,11 +65,11 @@ slice-aggregate-put-rows-2 : tie.Need-slice-aggregate-put-rows-2
 slice-aggregate-put-rows-2 c = search needs
 
 put-rows-requires-2 : tie.Need-put-rows-requires-2
-put-rows-requires-2 c κs = let s = c .before .before .before .before .before .before .before .before .before .before .before .before .before .before in
+put-rows-requires-2 c κs = let s = c .before .before .before .before .before .before .before .before .before .before .before .before .before .before .before in
     let n = s .args .code in
-    let made = c .before .before .before .before .before .before .before .before .before .checks in
-    let sh = made .result in
-    let ok = ready n (s .pre .0) sh (made .ensures .0 .shape) in
+    let made = c .before .before .before .before .before .before .before .before .before .before .checks in
+    let sh = c .before .before .before .before .before .before .before .shape-of .result in
+    let ok = ready n (s .pre .0) sh (c .before .before .before .before .before .before .before .shape-of .ensures) in
     let x = wbit (s .args .y .now) in
     (ok .fits, lit≤ tt, c .before .before .before .before .before .solve .kept .1 .0 ∙ made .kept .1 .1 .1 .0, s .pre .1)
 
@@ -71,16 +77,18 @@ same-length : tie.Need-same-length
 same-length c = search needs
 
 returns : tie.Need-returns
-returns c = let s = c .before .before .before .before .before .before .before .before .before .before .before .before .before .before .before .before .before .before .before .before .before in
+returns c = let s = c .before .before .before .before .before .before .before .before .before .before .before .before .before .before .before .before .before .before .before .before .before .before in
     let n = s .args .code in
-    let made = c .before .before .before .before .before .before .before .before .before .before .before .before .before .before .before .before .checks in
-    let sh = made .result in
-    let ok = ready n (s .pre .0) sh (made .ensures .0 .shape) in
+    let made = c .before .before .before .before .before .before .before .before .before .before .before .before .before .before .before .before .before .checks in
+    let sh = c .before .before .before .before .before .before .before .before .before .before .before .before .before .before .shape-of .result in
+    let ok = ready n (s .pre .0) sh (c .before .before .before .before .before .before .before .before .before .before .before .before .before .before .shape-of .ensures) in
     let x = wbit (s .args .y .now) in
+    let start =
+    made .ensures .1 ∙ ap (λ (z : Shape). laid (code n) z x) (made .ensures .0 .shape ∙ sym (c .before .before .before .before .before .before .before .before .before .before .before .before .before .before .shape-of .ensures)) ∙ start-held n sh ok x in
     let near = ok .near (c .before .before .before .before .before .before .before .before .before .if1 .taken) in
     let f : ℕ → Word = endRows n (sh .size) x in
     let g : ℕ → Word = λ r i. f r i ⊕ oddTogether x r in
-    let ended = c .before .before .before .before .before .before .before .before .before .before .before .before .solve .ensures (checkRows (code n) x) (made .ensures .1 ∙ start-held n sh ok x) in
+    let ended = c .before .before .before .before .before .before .before .before .before .before .before .before .solve .ensures (checkRows (code n) x) start in
     let turned = c .before .before .before .before .before .before .invert .ensures f (ended ∙ ap (λ (z : Shape). held z f) near) ∙ sym (ap (λ (z : Shape). held z g) near) in
     c .before .before .put-rows .ensures g x turned (s .pre .2 ∙ ap (λ (m : ℕ). upTo m x) (ok .informs))
     ∙ all-encoded n sh ok 0 g x (ok .near-rows (c .before .before .before .before .before .before .before .before .before .if1 .taken) x (short-of (information (code n)) x (s .pre .2)))
@@ -89,14 +97,16 @@ same-length-2 : tie.Need-same-length-2
 same-length-2 c = search needs
 
 returns-2 : tie.Need-returns-2
-returns-2 c = let s = c .before .before .before .before .before .before .before .before .before .before .before .before .before .before .before .before .before in
+returns-2 c = let s = c .before .before .before .before .before .before .before .before .before .before .before .before .before .before .before .before .before .before in
     let n = s .args .code in
-    let made = c .before .before .before .before .before .before .before .before .before .before .before .before .checks in
-    let sh = made .result in
-    let ok = ready n (s .pre .0) sh (made .ensures .0 .shape) in
+    let made = c .before .before .before .before .before .before .before .before .before .before .before .before .before .checks in
+    let sh = c .before .before .before .before .before .before .before .before .before .before .shape-of .result in
+    let ok = ready n (s .pre .0) sh (c .before .before .before .before .before .before .before .before .before .before .shape-of .ensures) in
     let x = wbit (s .args .y .now) in
+    let start =
+    made .ensures .1 ∙ ap (λ (z : Shape). laid (code n) z x) (made .ensures .0 .shape ∙ sym (c .before .before .before .before .before .before .before .before .before .before .shape-of .ensures)) ∙ start-held n sh ok x in
     let f : ℕ → Word = endRows n (sh .size) x in
-    let ended = c .before .before .before .before .before .before .before .before .solve .ensures (checkRows (code n) x) (made .ensures .1 ∙ start-held n sh ok x) in
+    let ended = c .before .before .before .before .before .before .before .before .solve .ensures (checkRows (code n) x) start in
     c .before .before .put-rows2 .ensures f x ended (s .pre .2 ∙ ap (λ (m : ℕ). upTo m x) (ok .informs))
     ∙ all-encoded n sh ok 1 f x (ok .other-rows (c .before .before .before .before .before .if1 .left) x (short-of (information (code n)) x (s .pre .2)))
 
@@ -107,6 +117,7 @@ encode-spec =
     slice-aggregate-checks
     slice-aggregate-checks-2
     checks-requires
+    shape-of-requires
     slice-aggregate-solve
     solve-requires
     slice-aggregate-invert
