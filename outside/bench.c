@@ -2,8 +2,9 @@
  *
  *     bench WHO CALL CODE WRONG TURNS    WHO is library, judge or fast; WRONG a number of wrong bits, or random
  *     bench time CALL CODE WRONG         nanoseconds a call of each, turn and turn about
+ *     bench stack CALL CODE WRONG        the most octets of stack that a call of each takes
  *
- * A turn is one call for each of a few words, which are the same at every run. Prints flips a word, or the times.
+ * A turn is one call for each of a few words, which are the same at every run. Prints flips a word, the times, or the octets.
  */
 #include "fast.h"
 #include "judge.h"
@@ -13,6 +14,7 @@
 #include <stdlib.h>
 #include <string.h>
 #include <time.h>
+#include <ucontext.h>
 
 enum { WORDS = 4, LONGEST = 1022 };
 
@@ -128,6 +130,52 @@ static void print_times(char call, uint8_t code)
     printf("%.1f %.1f %.1f\n", least[0], least[1], least[2]);
 }
 
+/* A stack of its own for a call, painted before it: what the call writes shows how deep it went. */
+enum { PAINT = 0xA5, NOBODY = 3 };
+
+static unsigned char stack[1 << 16];
+static ucontext_t here, there;
+static struct {
+    unsigned who;
+    char call;
+    uint8_t code;
+    unsigned w;
+} asked;
+
+static void answer(void)
+{
+    if (asked.who != NOBODY)
+        flips += ask(asked.who, asked.call, asked.code, asked.w);
+}
+
+static size_t painted_over(void)
+{
+    memset(stack, PAINT, sizeof stack);
+    getcontext(&there);
+    there.uc_stack.ss_sp = stack;
+    there.uc_stack.ss_size = sizeof stack;
+    there.uc_link = &here;
+    makecontext(&there, answer, 0);
+    swapcontext(&here, &there);
+    size_t low = 0;
+    while (low < sizeof stack && stack[low] == PAINT)
+        low++;
+    return sizeof stack - low;
+}
+
+/* The most octets of each, without those that are taken where nobody is asked. */
+static void print_stack(char call, uint8_t code)
+{
+    size_t most[4] = {0};
+    for (unsigned who = 0; who <= NOBODY; who++)
+        for (unsigned w = 0; w < WORDS; w++) {
+            asked.who = who, asked.call = call, asked.code = code, asked.w = w;
+            size_t n = painted_over();
+            most[who] = n > most[who] ? n : most[who];
+        }
+    printf("%zu %zu %zu\n", most[0] - most[NOBODY], most[1] - most[NOBODY], most[2] - most[NOBODY]);
+}
+
 int main(int argc, char **argv)
 {
     if (argc < 5)
@@ -137,6 +185,10 @@ int main(int argc, char **argv)
     prepare(code, argv[4]);
     if (strcmp(argv[1], "time") == 0) {
         print_times(call, code);
+        return flips == 0xFFFFFFFF;
+    }
+    if (strcmp(argv[1], "stack") == 0) {
+        print_stack(call, code);
         return flips == 0xFFFFFFFF;
     }
     unsigned who = 0;

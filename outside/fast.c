@@ -237,8 +237,8 @@ static uint8_t run(uint64_t *y, uint64_t *s, const uint16_t *h, struct shape sh,
     }
 }
 
-/* Whether the parity of a quiet near-Earth word is the encoder's: see the crate ownparity. */
-static bool own_parity(const uint64_t *y)
+/* For each parity block of a near-Earth word, whether the ones of the blocks that it is counted with are odd in number: see the crate ownparity. */
+LEAF unsigned odd_together(const uint64_t *y)
 {
     unsigned odd = 0;
     for (unsigned b = 0; b < 16; b++) {
@@ -248,33 +248,43 @@ static bool own_parity(const uint64_t *y)
             fold ^= v[k];
         odd = 2 * odd + (ones(fold) & 1);
     }
-    return ((ones(odd & 0x06E6) | ones(odd & 0x0D7D)) & 1) == 0;
+    return (ones(odd & 0x06E6) & 1) | (ones(odd & 0x0D7D) & 1) << 1;
 }
 
-/* Adds the printed rows for the information bits, and puts each part of the parity after them. */
-static void put_parity(uint64_t *y, const uint64_t *g, struct shape sh, unsigned inform, unsigned parts)
+static bool own_parity(const uint64_t *y)
 {
-    for (unsigned p = 0; p < parts; p++) {
-        uint64_t u[12] = {0};
-        for (unsigned j = 0; j < inform; j++) {
-            uint64_t row[9], d[17];
-            const uint64_t *printed = g + (j * parts + p) * sh.words;
-            for (unsigned k = 0; k < sh.words; k++)
-                row[k] = printed[k];
-            row[sh.words] = 0;
-            cut(row, 64 * sh.words - sh.size, sh, row);
-            twice(row, sh, d);
-            for (unsigned t = 0; t < sh.size; t += 64) {
-                uint64_t v = window(y, j * sh.size + t);
-                if (sh.size - t < 64)
-                    v = front(v, sh.size);
-                for (; v != 0; v &= ~(UINT64_C(1) << 63 >> __builtin_clzll(v)))
-                    add_turned(d, sh.size - t - (unsigned)__builtin_clzll(v), u + 1, sh.words);
-            }
-        }
-        u[sh.words] = front(u[sh.words], sh.size);
-        unsigned at = (inform + p) * sh.size;
-        add_turned(u, 64 - at % 64, y + at / 64, sh.words + 1);
+    return odd_together(y) == 0;
+}
+
+/* Adds the copies of one row, turned by each shift of a step, to another row. */
+LEAF void step(uint64_t *s, const uint16_t *step, struct shape sh)
+{
+    uint64_t d[17], *row = s + step[0] * sh.words;
+    twice(s + step[1] * sh.words, sh, d);
+    for (unsigned k = 2; k < 10 && step[k] < sh.size; k++)
+        add_turned(d, step[k], row, sh.words);
+    row[sh.words - 1] = front(row[sh.words - 1], sh.size);
+}
+
+/* Adds a word to the 64 bits of y from bit p on. */
+LEAF void put(uint64_t v, uint64_t *y, unsigned p)
+{
+    y[p / 64] ^= v >> p % 64;
+    y[p / 64 + 1] ^= v << 1 << (63 - p % 64);
+}
+
+/* Solves the checks of the information by steps, and puts the rows after it, parity block a from row (a + first) mod R. */
+LEAF void put_parity(uint64_t *y, const uint16_t *h, const uint16_t (*steps)[10], struct shape sh, unsigned first)
+{
+    uint64_t s[SYNDROME];
+    syndrome(y, h, sh, s);
+    for (unsigned k = 0; k < 15; k++)
+        step(s, steps[k], sh);
+    unsigned inverted = sh.size == 511 ? odd_together(y) : 0;
+    for (unsigned a = 0; a < sh.rows; a++) {
+        uint64_t ones = -(uint64_t)(inverted >> a & 1), *row = s + (a + first) % sh.rows * sh.words;
+        for (unsigned j = 0; j < sh.words; j++)
+            put(j + 1 < sh.words ? row[j] ^ ones : front(row[j] ^ ones, sh.size), y, (sh.blocks - sh.rows + a) * sh.size + 64 * j);
     }
 }
 
@@ -286,20 +296,20 @@ static bool offered(uint8_t code)
     return code >= 1 && code <= 5;
 }
 
-/* DO(table, generator, shape, information blocks, parity parts) for the code. */
-#define FOR_CODE(code, DO)                                                             \
-    switch (code) {                                                                    \
-    case 1:                                                                            \
-        DO(PARITY16[0][0], GENERATOR16[0], ((struct shape){16, 1, 8, 4}), 4, 4);       \
-        break;                                                                         \
-    case 2:                                                                            \
-        DO(PARITY32[0][0], GENERATOR32[0], ((struct shape){32, 1, 8, 4}), 4, 4);       \
-        break;                                                                         \
-    case 3:                                                                            \
-        DO(PARITY64[0][0], GENERATOR64[0], ((struct shape){64, 1, 8, 4}), 4, 4);       \
-        break;                                                                         \
-    default:                                                                           \
-        DO(PARITY511[0][0], GENERATOR511[0][0], ((struct shape){511, 8, 16, 2}), 14, 2); \
+/* DO(table, steps, shape, the row of parity block 0) for the code. */
+#define FOR_CODE(code, DO)                                               \
+    switch (code) {                                                      \
+    case 1:                                                              \
+        DO(PARITY16[0][0], STEPS16, ((struct shape){16, 1, 8, 4}), 1);   \
+        break;                                                           \
+    case 2:                                                              \
+        DO(PARITY32[0][0], STEPS32, ((struct shape){32, 1, 8, 4}), 1);   \
+        break;                                                           \
+    case 3:                                                              \
+        DO(PARITY64[0][0], STEPS64, ((struct shape){64, 1, 8, 4}), 1);   \
+        break;                                                           \
+    default:                                                             \
+        DO(PARITY511[0][0], STEPS511, ((struct shape){511, 8, 16, 2}), 0); \
     }
 
 uint8_t fast_encode(uint8_t code, const uint8_t *information, size_t information_len, uint8_t *word, size_t word_len)
@@ -316,13 +326,13 @@ uint8_t fast_encode(uint8_t code, const uint8_t *information, size_t information
     take(code, information, information_len, y);
     for (size_t k = information_len / 8 + 2; k < word_len / 8 + 3; k++)
         y[k] = 0;
-#define PUT(h, g, sh, inform, parts) put_parity(y, g, sh, inform, parts)
+#define PUT(h, steps, sh, lead) put_parity(y, h, steps, sh, lead)
     FOR_CODE(code, PUT)
     give(code, y, word, word_len);
     return 0;
 }
 
-#define MEASURE(h, g, sh, inform, parts) \
+#define MEASURE(h, steps, sh, lead) \
     syndrome(y, h, sh, s);               \
     wrong = broken(s, sh)
 
@@ -381,7 +391,7 @@ struct judge_corrected fast_correct(uint8_t code, const uint8_t *word, size_t le
         return answer;
     uint64_t y[HELD], s[SYNDROME];
     take(code, word, len, y);
-#define RUN(h, g, sh, inform, parts) \
+#define RUN(h, steps, sh, lead) \
     syndrome(y, h, sh, s);           \
     answer.first = broken(s, sh);    \
     answer.number = run(y, s, h, sh, code == 5 ? 18 : 0, limit, &answer.flips); \
@@ -405,7 +415,7 @@ struct judge_stepped fast_step(uint8_t code, const uint8_t *word, size_t len, ui
     uint64_t y[HELD], s[SYNDROME];
     struct best best = {0, 0};
     take(code, word, len, y);
-#define STEP(h, g, sh, inform, parts) \
+#define STEP(h, steps, sh, lead) \
     syndrome(y, h, sh, s);            \
     answer.quiet = quiet(s, sh);      \
     if (!answer.quiet)                \

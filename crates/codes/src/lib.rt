@@ -89,7 +89,7 @@ fn encode_taken(code: u8, o: Offer, information: &[u8], word: &mut [u8])
 {
     let mut y = [0u64; 130];
     received::take(information, o.unsent, &mut y);
-    generators::encode(code, &mut y);
+    solver::encode(code, &mut y);
     received::write(&mut y, o.unsent, o.bits, word);
 }
 

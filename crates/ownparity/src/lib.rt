@@ -8,7 +8,7 @@ ghost use Rattle.rules.specs.Codes.{nearEarth};
 ghost use Rattle.rules.specs.Checks.{broken};
 ghost use Rattle.rules.specs.Encoding.{OwnParity};
 ghost use Rattle.vectors.specs.Vectors.{wbit, from};
-ghost use Rattle.ownparity.specs.Odd.{oddBlock};
+ghost use Rattle.ownparity.specs.Odd.{oddBlock, oddTogether};
 
 // For each parity block, the blocks that it is counted with: the information blocks whose printed row has an odd number of ones, and itself.
 const FIRST: u64 = 0x06E6;
@@ -59,6 +59,23 @@ fn odd_blocks(y: &[u64]) -> u64
     v
 }
 
+// For each parity block, 1 if an odd number of bits are set of the blocks that it is counted with.
+pub struct Together {
+    pub first: u64,
+    pub second: u64,
+}
+
+pub fn odd_together(y: &[u64]) -> Together
+    requires { ⌜ length (now y) ≡ 130 ⌝ }
+    ensures { λ r. ⌜ (r .first ≡ tally (oddTogether (wbit (now (y .entry))) 0)) × (r .second ≡ tally (oddTogether (wbit (now (y .entry))) 1)) ⌝ }
+{
+    let v = odd_blocks(y);
+    Together {
+        first: odd_word(FIRST & v),
+        second: odd_word(SECOND & v),
+    }
+}
+
 // Whether the parity of a word that meets every check is the encoder's.
 pub fn own_parity(y: &[u64]) -> bool
     requires { ⌜ length (now y) ≡ 130 ⌝ }
@@ -66,6 +83,6 @@ pub fn own_parity(y: &[u64]) -> bool
         → (r ≡ true → OwnParity (nearEarth wordOctets informationOctets unsent) (wbit (now (y .entry))))
         × (OwnParity (nearEarth wordOctets informationOctets unsent) (wbit (now (y .entry))) → r ≡ true)) ⌝ }
 {
-    let v = odd_blocks(y);
-    odd_word(FIRST & v) + odd_word(SECOND & v) == 0
+    let odd = odd_together(y);
+    odd.first + odd.second == 0
 }

@@ -153,7 +153,7 @@ module _ (m : ℕ) where
       ∙ ap₂ (λ a b. a + b) (count-pick (suc m) ((i + s) % suc m) (λ k. true) (mod-lt (i + s) (zero-lt-suc m))) (one-wide S i (rest s S t))
       ∙ one-add (length S)
 
-sum-add : (a b : ℕ) (f : ℕ → Bool) → sum (a + b) f ≡ sum a f ⊕ sum b (λ i. f (a + i))
+pub sum-add : (a b : ℕ) (f : ℕ → Bool) → sum (a + b) f ≡ sum a f ⊕ sum b (λ i. f (a + i))
 unfolding sum
 sum-add a zero f = ap (λ z. sum z f) (add-zero a) ∙ sym (⊕-false (sum a f))
 sum-add a (suc b) f = ap (λ z. sum z f) (add-suc a b) ∙ ap (λ z. z ⊕ f (a + b)) (sum-add a b f) ∙ ⊕-assoc (sum a f) (sum b (λ i. f (a + i))) (f (a + b))

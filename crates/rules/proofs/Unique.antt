@@ -190,7 +190,7 @@ module _ (m printed : ℕ) where
       ∙ left C (λ d. not (eqb d 0)) H gs R code w met c k hc))
 
   -- and each such word meets every check, where each parity block of a row has an even number of shifts
-  even-none : (P : List (List ℕ)) (b : ℕ) (f : ℕ → Bool) → T (even P) → blocks P b (λ c s. f c) ≡ false
+  pub even-none : (P : List (List ℕ)) (b : ℕ) (f : ℕ → Bool) → T (even P) → blocks P b (λ c s. f c) ≡ false
   even-none [] b f t = refl
   even-none (S ∷ P) b f t =
       ap₂ (λ x y. x ⊕ y)

@@ -151,7 +151,7 @@ fn trim_row(s: &mut [u64], sh: Shape, r: usize)
 }
 
 // Clears what is past bit M of every row.
-fn trim_rows(s: &mut [u64], sh: Shape)
+pub fn trim_rows(s: &mut [u64], sh: Shape)
     requires { ⌜ (1 ≤ sh .size) × (sh .size ≤ wide sh) × (wide sh < sh .size + 64) × (sh .rows * sh .words ≤ length (now s)) ⌝ }
     ensures { λ q. ⌜ wbit (now (s .exit)) ≡ within (wide sh) (sh .size) (sh .rows) (wbit (now (s .entry))) ⌝ }
 {

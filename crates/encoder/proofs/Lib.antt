@@ -1,4 +1,0 @@
-pub mod Adding
-pub mod Nexts
-pub mod Bounds
-pub mod Parity

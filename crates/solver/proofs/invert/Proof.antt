@@ -1,0 +1,50 @@
+-- `solver::invert` meets its contract: each row by the ones of the blocks that are counted with it. Assumes nothing.
+use mathlib.Core.Path.{ap, _∙_}
+use Prim.Native.Nat.{_+_, _*_}
+use borrow.Author.Needs.{needs}
+use Rattle.bits.specs.Bits.{Word}
+use Rattle.vectors.specs.Vectors.{wbit, upTo, added}
+use Rattle.ownparity.specs.Odd.{oddTogether}
+use Rattle.solver.proofs.Laws.{two-inverted}
+use Rattle.solver.proofs.invert.Statement.{statement}
+use Rattle.solver.proofs.invert.Tie as tie
+
+odd-together-requires : tie.Need-odd-together-requires
+odd-together-requires c κs = search needs
+
+ones-if-requires : tie.Need-ones-if-requires
+ones-if-requires c κs = search needs
+
+invert-row-requires : tie.Need-invert-row-requires
+invert-row-requires c κs = search needs
+
+ones-if-requires-2 : tie.Need-ones-if-requires-2
+ones-if-requires-2 c κs = search needs
+
+invert-row-requires-2 : tie.Need-invert-row-requires-2
+invert-row-requires-2 c κs = search needs
+
+same-length : tie.Need-same-length
+same-length c = search needs
+
+returns : tie.Need-returns
+returns c = λ f e.
+    let s = c .before .before .before .before .before .before .before .before .before .before .before .before .before in
+    let q = oddTogether (wbit (s .args .y .now)) in
+    let odd = c .before .before .before .before .before .before .before .before .before .before .odd-together .ensures in
+    c .before .before .invert-row2 .ensures (q 1) (c .before .before .before .ones-if2 .ensures (q 1) (odd .1))
+    ∙ ap (λ (z : Word). added z (512 * 1) (512 * (1 + 1)) (upTo 511 (λ i. q 1)))
+    (c .before .before .before .before .before .before .before .invert-row .ensures (q 0) (c .before .before .before .before .before .before .before .before .ones-if .ensures (q 0) (odd .0)) ∙ ap (λ (z : Word). added z (512 * 0) (512 * (0 + 1)) (upTo 511 (λ i. q 0))) e)
+    ∙ two-inverted f q
+
+pub invert-spec : {M : Type 1} → statement M
+invert-spec =
+    tie.close
+    (tie.spec
+    odd-together-requires
+    ones-if-requires
+    invert-row-requires
+    ones-if-requires-2
+    invert-row-requires-2
+    same-length
+    returns)

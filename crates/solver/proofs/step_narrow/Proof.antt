@@ -1,0 +1,92 @@
+-- `solver::step_narrow` meets its contract: the sum of the turned copies is added to the row of the step. Assumes nothing.
+use mathlib.Core.Path.{_≡_, ap, ap₂, _∙_, subst}
+use mathlib.Core.Bool.{Bool, _&&_}
+use Prim.Native.Nat.{ℕ, _+_, _*_, _<_}
+use native.Mathlib.Omega.{arith}
+use lib.Dec.{ltb}
+use lib.ListN.{getD}
+use borrow.Author.Needs.{needs}
+use Rattle.bits.specs.Bits.{Word}
+use Rattle.vectors.specs.Vectors.{wbit, both, Holds, upTo, added, twice}
+use Rattle.vectors.proofs.Filling.{word-holds}
+use Rattle.syndromes.specs.Rows.{wide}
+use Rattle.steps.specs.Steps.{target, source}
+use Rattle.solver.specs.Rows.{copies}
+use Rattle.solver.proofs.Laws.{copies-are, to-row, from-row, wide-some, step-held, held-at, rows-few}
+use Rattle.solver.proofs.step_narrow.Statement.{statement}
+use Rattle.solver.proofs.step_narrow.Tie as tie
+
+shared-slice-read-double-word : tie.Need-shared-slice-read-double-word
+shared-slice-read-double-word c = search needs
+
+cast-double-word : tie.Need-cast-double-word
+cast-double-word c = omega (arith, c .shared-slice-known2 .given 1)
+
+mul-double-word : tie.Need-mul-double-word
+mul-double-word c = omega (arith, c .shared-slice-known2 .given 1)
+
+slice-read-double-word : tie.Need-slice-read-double-word
+slice-read-double-word c = let s = c .before .before .before .before in
+    omega (arith, from-row (s .args .sh .rows) (s .args .step .now) (s .pre .3), rows-few (s .args .sh) (s .pre .0))
+
+double-word-requires : tie.Need-double-word-requires
+double-word-requires c κs = search needs
+
+turns-requires : tie.Need-turns-requires
+turns-requires c κs = search needs
+
+front-requires : tie.Need-front-requires
+front-requires c κs = search needs
+
+shared-slice-read-add-word : tie.Need-shared-slice-read-add-word
+shared-slice-read-add-word c = search needs
+
+cast-add-word : tie.Need-cast-add-word
+cast-add-word c = omega (arith, c .shared-slice-known3 .given 0)
+
+add-word-requires : tie.Need-add-word-requires
+add-word-requires c κs = let s = c .before .before .before .before .before .before .before .before .before in
+    omega (arith, to-row (s .args .sh .rows) (s .args .step .now) (s .pre .3), rows-few (s .args .sh) (s .pre .0))
+
+same-length : tie.Need-same-length
+same-length c = search needs
+
+returns : tie.Need-returns
+returns c = λ f e.
+    let s = c .before .before .before .before .before .before .before .before .before .before .before .before in
+    let a = s .args in
+    let sh = a .sh in
+    let step = a .step .now in
+    let M = sh .size in
+    let t = target step in
+    let q = source step in
+    let x = wbit (a .s .now) in
+    let d = c .before .before .before .before .before .before .before .double-word .result in
+    let some : 0 < wide sh = wide-some sh (s .pre .0) in
+    let one : 64 ≡ wide sh = omega arith in
+    let hold : Holds (getD (a .s .now) q 0) (upTo M (f q)) =
+    λ i hi.
+    word-holds (a .s .now) q i hi ∙ ap (λ (w : ℕ). x (w * q + i)) one
+    ∙ held-at sh some f x e q i (from-row (sh .rows) step (s .pre .3)) (subst (λ (w : ℕ). i < w) one hi) in
+    let doubled : both d ≡ twice M (upTo M (f q)) = c .before .before .before .before .before .before .before .double-word .ensures (f q) hold in
+    c .before .before .add-word .ensures (upTo M (copies M step (both d))) (λ i hi. c .before .before .before .before .before .front .ensures i hi ∙ ap (λ (z : Bool). ltb i M && z) (c .before .before .before .before .before .before .turns .ensures i hi))
+    ∙ ap₂ (λ (z : Word) (w : ℕ). added z (w * t) (w * (t + 1)) (upTo M (copies M step (both d)))) e one
+    ∙ step-held sh some step f (copies M step (both d)) (to-row (sh .rows) step (s .pre .3))
+    (λ i hi. ap (λ (z : Word). copies M step z i) doubled ∙ copies-are M step (f q) i hi)
+
+pub step-narrow-spec : {M : Type 1} → statement M
+step-narrow-spec =
+    tie.close
+    (tie.spec
+    shared-slice-read-double-word
+    cast-double-word
+    mul-double-word
+    slice-read-double-word
+    double-word-requires
+    turns-requires
+    front-requires
+    shared-slice-read-add-word
+    cast-add-word
+    add-word-requires
+    same-length
+    returns)

@@ -1,0 +1,55 @@
+-- Rows of M bits as they are held in words, and how they are put behind the information.
+use mathlib.Core.Path.{_≡_}
+use mathlib.Core.List.{List, []}
+use Prim.Native.Nat.{ℕ, _+_, _-_, _*_, _/_, _%_, _≤_, _<_}
+use lib.Dec.{T, eqb}
+use lib.ListN.{getD}
+use Rattle.bits.specs.Bits.{Word, over, if_then_else_}
+use Rattle.vectors.specs.Vectors.{upTo, from, joined}
+use Rattle.layout.specs.declared.Shape.{Shape}
+use Rattle.syndromes.specs.Rows.{rowed, wide}
+use Rattle.steps.specs.Steps.{shifts, rowsIn, steps16, steps32, steps64, steps511}
+
+-- Rows, each in whole words; the rest is 0.
+abbrev pub held : Shape → (ℕ → Word) → Word
+held sh rows = rowed (wide sh) (sh .rows) (λ r. upTo (sh .size) (rows r))
+
+-- Nothing stands past bit M of a row.
+abbrev pub Kept : Shape → Word → Type 0
+Kept sh x = x ≡ held sh (λ r i. x (wide sh * r + i))
+
+-- The two rows of M = 511.
+abbrev pub twoRows : (ℕ → Word) → Word
+twoRows rows = rowed 512 2 (λ r. upTo 511 (rows r))
+
+-- The numbers of a shape fit the arrays.
+pub record Fits (sh : Shape) : Type 0 where
+  pub some : 1 ≤ sh .size
+  pub held-in : sh .size ≤ 64 * sh .words
+  pub close : 64 * sh .words < sh .size + 64
+  pub words : sh .words ≤ 8
+  pub room : sh .rows * sh .words ≤ 16
+  pub parity : sh .rows ≤ sh .blocks
+  pub bits : sh .blocks * sh .size ≤ 8176
+
+-- A doubled row, turned by the shifts of a step and summed.
+abbrev pub copies : ℕ → List ℕ → Word → Word
+copies M step d i = over (shifts M step) (λ s. from s d i)
+
+-- The list of steps for M.
+unfoldable pub stepsOf : ℕ → List (List ℕ)
+stepsOf M = if eqb M 16 then steps16 else if eqb M 32 then steps32 else if eqb M 64 then steps64 else steps511
+
+-- Every step of a list is between rows of the shape.
+abbrev pub Within : ℕ → List (List ℕ) → Type 0
+Within R steps = (k : ℕ) → k < 15 → T (rowsIn R (getD steps k []))
+
+-- The rows as parity blocks: block a is row (a + first) mod R, behind the information blocks.
+unfoldable pub behind : Shape → ℕ → (ℕ → Word) → Word
+behind sh first rows n = rows ((n / sh .size - (sh .blocks - sh .rows) + first) % sh .rows) (n % sh .size)
+
+abbrev pub informed : Shape → ℕ
+informed sh = (sh .blocks - sh .rows) * sh .size
+
+abbrev pub completed : Shape → ℕ → (ℕ → Word) → Word → Word
+completed sh first rows x = joined (informed sh) x (behind sh first rows)

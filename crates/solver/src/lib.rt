@@ -1,0 +1,280 @@
+// The parity of a word: the checks that its information breaks, solved by steps that add turned copies of one row to another.
+use layout::Shape;
+use vectors::Pair;
+ghost use mathlib.Core.Path.{_≡_};
+ghost use mathlib.Core.Bool.{Bool, true};
+ghost use Prim.Native.Nat.{ℕ, _+_, _-_, _*_, _/_, _%_, _<_, _≤_};
+ghost use lib.Dec.{T};
+ghost use lib.ListN.{length, getD};
+ghost use Rattle.bits.specs.Bits.{Word, tally, _⊕_};
+ghost use Rattle.rules.specs.Codes.{bits, information, offered};
+ghost use Rattle.rules.specs.Codes.{code as codeOf};
+ghost use Rattle.rules.specs.Encoding.{encoded};
+ghost use Rattle.vectors.specs.Vectors.{wbit, both, Holds, upTo, from, added};
+ghost use Rattle.syndromes.specs.Rows.{wide};
+ghost use Rattle.ownparity.specs.Odd.{oddTogether};
+ghost use Rattle.steps.specs.Steps.{target, source, rowsIn, stepped, walked};
+ghost use Rattle.solver.specs.Rows.{held, Kept, twoRows, Fits, copies, stepsOf, Within, informed, completed};
+
+// A number that is no shift of any table: it ends the shifts of a step.
+const END: u16 = 65535;
+
+// M = 16. A step: the row that is added to, the row whose turned copies are added, and the shifts.
+const STEPS16: [[u16; 10]; 15] = [
+    [3, 2, 1, END, END, END, END, END, END, END],
+    [3, 1, 12, 14, END, END, END, END, END, END],
+    [0, 2, 0, END, END, END, END, END, END, END],
+    [0, 1, 11, END, END, END, END, END, END, END],
+    [0, 0, 12, 14, END, END, END, END, END, END],
+    [0, 3, 11, 13, END, END, END, END, END, END],
+    [0, 0, 10, 15, END, END, END, END, END, END],
+    [0, 0, 7, 12, 14, 15, END, END, END, END],
+    [3, 0, 3, 4, 5, END, END, END, END, END],
+    [3, 3, 12, 14, END, END, END, END, END, END],
+    [3, 3, 4, 8, END, END, END, END, END, END],
+    [1, 3, 0, END, END, END, END, END, END, END],
+    [1, 0, 7, END, END, END, END, END, END, END],
+    [2, 1, 11, END, END, END, END, END, END, END],
+    [2, 0, 3, END, END, END, END, END, END, END],
+];
+
+// M = 32.
+const STEPS32: [[u16; 10]; 15] = [
+    [3, 2, 26, END, END, END, END, END, END, END],
+    [3, 1, 23, 25, END, END, END, END, END, END],
+    [0, 2, 20, END, END, END, END, END, END, END],
+    [0, 1, 17, END, END, END, END, END, END, END],
+    [0, 0, 2, 8, END, END, END, END, END, END],
+    [0, 3, 20, 26, END, END, END, END, END, END],
+    [0, 0, 8, 13, 29, 31, END, END, END, END],
+    [0, 0, 5, 6, 9, 15, END, END, END, END],
+    [3, 0, 11, 13, 15, END, END, END, END, END],
+    [3, 3, 2, 8, END, END, END, END, END, END],
+    [3, 3, 4, 16, END, END, END, END, END, END],
+    [1, 3, 1, END, END, END, END, END, END, END],
+    [1, 0, 20, END, END, END, END, END, END, END],
+    [2, 1, 29, END, END, END, END, END, END, END],
+    [2, 0, 21, END, END, END, END, END, END, END],
+];
+
+// M = 64.
+const STEPS64: [[u16; 10]; 15] = [
+    [3, 2, 3, END, END, END, END, END, END, END],
+    [3, 1, 58, 59, END, END, END, END, END, END],
+    [0, 2, 43, END, END, END, END, END, END, END],
+    [0, 1, 35, END, END, END, END, END, END, END],
+    [0, 0, 31, 32, END, END, END, END, END, END],
+    [0, 3, 8, 62, END, END, END, END, END, END],
+    [0, 0, 24, 51, END, END, END, END, END, END],
+    [0, 0, 15, 19, 36, 49, END, END, END, END],
+    [0, 0, 5, 22, 37, 46, 48, 51, 56, 59],
+    [3, 0, 20, 21, 46, END, END, END, END, END],
+    [3, 3, 0, 2, 33, 34, END, END, END, END],
+    [1, 3, 37, END, END, END, END, END, END, END],
+    [1, 0, 26, END, END, END, END, END, END, END],
+    [2, 1, 56, END, END, END, END, END, END, END],
+    [2, 0, 43, END, END, END, END, END, END, END],
+];
+
+// M = 511.
+const STEPS511: [[u16; 10]; 15] = [
+    [1, 1, 247, END, END, END, END, END, END, END],
+    [1, 0, 51, 382, END, END, END, END, END, END],
+    [1, 1, 61, 151, 187, 204, 212, 254, 271, END],
+    [1, 1, 72, 106, 122, 206, 209, 240, 331, END],
+    [1, 1, 31, 175, 182, 243, 275, 443, 449, END],
+    [1, 1, 39, 62, 350, 364, 375, 387, 486, END],
+    [1, 1, 78, 124, 189, 217, 239, 263, 461, END],
+    [1, 1, 33, 48, 189, 281, 411, 444, 467, END],
+    [1, 1, 88, 139, 154, 184, 399, 465, 466, END],
+    [1, 1, 102, 111, 132, 192, 243, 245, 335, END],
+    [0, 1, 36, 261, END, END, END, END, END, END],
+    [0, 0, 460, 477, 494, END, END, END, END, END],
+    [0, 0, 307, 375, 443, END, END, END, END, END],
+    [0, 0, 206, 239, 478, END, END, END, END, END],
+    [0, 0, 313, 379, 445, END, END, END, END, END],
+];
+
+// The copies of a doubled row that are turned by the shifts of a step, summed; one word holds the row.
+fn turns(d: Pair, step: &[u16], size: usize) -> u64
+    requires { ⌜ (size ≤ 64) × (length (now step) ≡ 10) ⌝ }
+    ensures { λ r. ⌜ Holds r (copies size (now (step .entry)) (both d)) ⌝ }
+{
+    let mut sum: u64 = 0;
+    let mut k: usize = 2;
+    while k < 10 && (step[k] as usize) < size {
+        sum ^= vectors::funnel(d.first, d.second, step[k] as usize);
+        k += 1;
+    }
+    sum
+}
+
+// A step where one word holds a row.
+fn step_narrow(step: &[u16], sh: Shape, s: &mut [u64])
+    requires { ⌜ Fits sh × (sh .words ≡ 1) × (length (now step) ≡ 10) × T (rowsIn (sh .rows) (now step)) × (length (now s) ≡ 16) ⌝ }
+    ensures { λ _. ⌜ ((f : ℕ → Word) → wbit (now (s .entry)) ≡ held sh f → wbit (now (s .exit)) ≡ held sh (stepped (sh .size) (now (step .entry)) f)) ⌝ }
+{
+    let d = vectors::double_word(s[step[1] as usize], sh.size);
+    vectors::add_word(
+        vectors::front(turns(d, step, sh.size), sh.size),
+        s,
+        step[0] as usize,
+    );
+}
+
+// Adds a doubled row to the row of a step, turned by each of its shifts.
+fn add_turns(d: &[u64], step: &[u16], sh: Shape, s: &mut [u64])
+    requires { ⌜ Fits sh × (length (now d) ≡ 16) × (length (now step) ≡ 10) × T (rowsIn (sh .rows) (now step)) × (length (now s) ≡ 16) ⌝ }
+    ensures { λ _. ⌜ wbit (now (s .exit)) ≡ added (wbit (now (s .entry))) (wide sh * target (now (step .entry))) (wide sh * (target (now (step .entry)) + 1)) (copies (sh .size) (now (step .entry)) (wbit (now (d .entry)))) ⌝ }
+{
+    let at = step[0] as usize * sh.words;
+    let mut k: usize = 2;
+    while k < 10 && (step[k] as usize) < sh.size {
+        vectors::add_turned(d, step[k] as usize, s, at, sh.words);
+        k += 1;
+    }
+}
+
+// A step where more words hold a row; d has room for a doubled one.
+fn step_wide(step: &[u16], sh: Shape, d: &mut [u64], s: &mut [u64])
+    requires { ⌜ Fits sh × (length (now d) ≡ 16) × (length (now step) ≡ 10) × T (rowsIn (sh .rows) (now step)) × (length (now s) ≡ 16) × Kept sh (wbit (now s)) ⌝ }
+    ensures { λ _. ⌜ ((f : ℕ → Word) → wbit (now (s .entry)) ≡ held sh f → wbit (now (s .exit)) ≡ held sh (stepped (sh .size) (now (step .entry)) f)) ⌝ }
+{
+    let at = step[1] as usize * sh.words;
+    let end = at + sh.words;
+    vectors::double(&s[at..end], sh.size, d);
+    add_turns(d, step, sh, s);
+    syndromes::trim_rows(s, sh);
+}
+
+// A step, of whatever width.
+fn take_step(step: &[u16], sh: Shape, d: &mut [u64], s: &mut [u64])
+    requires { ⌜ Fits sh × (length (now d) ≡ 16) × (length (now step) ≡ 10) × T (rowsIn (sh .rows) (now step)) × (length (now s) ≡ 16) × Kept sh (wbit (now s)) ⌝ }
+    ensures { λ _. ⌜ ((f : ℕ → Word) → wbit (now (s .entry)) ≡ held sh f → wbit (now (s .exit)) ≡ held sh (stepped (sh .size) (now (step .entry)) f)) ⌝ }
+{
+    if sh.words == 1 {
+        step_narrow(step, sh, s);
+        return;
+    }
+    step_wide(step, sh, d, s);
+}
+
+// A list of steps, one after the other.
+fn walk(steps: &[[u16; 10]; 15], sh: Shape, s: &mut [u64])
+    requires { ⌜ Fits sh × Within (sh .rows) (now steps) × (length (now s) ≡ 16) × Kept sh (wbit (now s)) ⌝ }
+    ensures { λ _. ⌜ ((f : ℕ → Word) → wbit (now (s .entry)) ≡ held sh f → wbit (now (s .exit)) ≡ held sh (walked (sh .size) (now (steps .entry)) 15 f)) ⌝ }
+{
+    let mut d = [0u64; 16];
+    let mut k: usize = 0;
+    while k < 15 {
+        take_step(&steps[k], sh, &mut d, s);
+        k += 1;
+    }
+}
+
+// The steps for M.
+fn solve(sh: Shape, s: &mut [u64])
+    requires { ⌜ Fits sh × Within (sh .rows) (stepsOf (sh .size)) × (length (now s) ≡ 16) × Kept sh (wbit (now s)) ⌝ }
+    ensures { λ _. ⌜ ((f : ℕ → Word) → wbit (now (s .entry)) ≡ held sh f → wbit (now (s .exit)) ≡ held sh (walked (sh .size) (stepsOf (sh .size)) 15 f)) ⌝ }
+{
+    if sh.size == 16 {
+        let steps = STEPS16;
+        walk(&steps, sh, s);
+        return;
+    }
+    if sh.size == 32 {
+        let steps = STEPS32;
+        walk(&steps, sh, s);
+        return;
+    }
+    if sh.size == 64 {
+        let steps = STEPS64;
+        walk(&steps, sh, s);
+        return;
+    }
+    let steps = STEPS511;
+    walk(&steps, sh, s);
+}
+
+// A word of ones for 1, and of zeros for 0.
+fn ones_if(odd: u64) -> u64
+    ensures { λ r. ⌜ ((b : Bool) → odd ≡ tally b → Holds r (λ i. b)) ⌝ }
+{
+    if odd == 1 { 0xFFFFFFFFFFFFFFFF } else { 0 }
+}
+
+// Adds a word of 64 equal bits to each word of row r, of 511 bits.
+fn invert_row(s: &mut [u64], r: usize, v: u64)
+    requires { ⌜ (length (now s) ≡ 16) × (r < 2) ⌝ }
+    ensures { λ _. ⌜ ((b : Bool) → Holds v (λ i. b) → wbit (now (s .exit)) ≡ added (wbit (now (s .entry))) (512 * r) (512 * (r + 1)) (upTo 511 (λ i. b))) ⌝ }
+{
+    let mut k: usize = 8 * r;
+    while k < 8 * r + 7 {
+        vectors::add_word(v, s, k);
+        k += 1;
+    }
+    vectors::add_word(vectors::front(v, 63), s, k);
+}
+
+// Inverts the rows that end with every bit the other way.
+fn invert(y: &[u64], s: &mut [u64])
+    requires { ⌜ (length (now y) ≡ 130) × (length (now s) ≡ 16) ⌝ }
+    ensures { λ _. ⌜ ((f : ℕ → Word) → wbit (now (s .entry)) ≡ twoRows f → wbit (now (s .exit)) ≡ twoRows (λ r i. f r i ⊕ oddTogether (wbit (now (y .entry))) r)) ⌝ }
+{
+    let odd = ownparity::odd_together(y);
+    invert_row(s, 0, ones_if(odd.first));
+    invert_row(s, 1, ones_if(odd.second));
+}
+
+// Adds the 64 bits of v to those of y from bit p on.
+fn put_word(v: u64, y: &mut [u64], p: usize)
+    requires { ⌜ p / 64 + 2 ≤ length (now y) ⌝ }
+    ensures { λ _. ⌜ ((x : Word) → Holds v x → wbit (now (y .exit)) ≡ added (wbit (now (y .entry))) p (p + 64) x) ⌝ }
+{
+    let u = [0u64, v, 0u64, 0u64];
+    vectors::add_turned(&u, 64 - p % 64, y, p / 64, 2);
+}
+
+// Adds row r of s to the bits of y from bit p on.
+fn put_row(s: &[u64], sh: Shape, r: usize, y: &mut [u64], p: usize)
+    requires { ⌜ Fits sh × (r < sh .rows) × (length (now s) ≡ 16) × (length (now y) ≡ 130) × (p + sh .size ≤ 8176) ⌝ }
+    ensures { λ _. ⌜ ((f : ℕ → Word) → wbit (now (s .entry)) ≡ held sh f → wbit (now (y .exit)) ≡ added (wbit (now (y .entry))) p (p + sh .size) (f r)) ⌝ }
+{
+    let mut j: usize = 0;
+    while j < sh.words {
+        put_word(s[r * sh.words + j], y, p + 64 * j);
+        j += 1;
+    }
+}
+
+// Puts the rows behind the information blocks, as parity block a the row (a + first) mod R.
+fn put_rows(s: &[u64], sh: Shape, first: usize, y: &mut [u64])
+    requires { ⌜ Fits sh × (first ≤ 1) × (length (now s) ≡ 16) × (length (now y) ≡ 130) ⌝ }
+    ensures { λ _. ⌜ ((f : ℕ → Word) (x : Word) → wbit (now (s .entry)) ≡ held sh f → wbit (now (y .entry)) ≡ upTo (informed sh) x → wbit (now (y .exit)) ≡ upTo (sh .blocks * sh .size) (completed sh first f x)) ⌝ }
+{
+    let inform = sh.blocks - sh.rows;
+    let mut a: usize = 0;
+    while a < sh.rows {
+        put_row(s, sh, (a + first) % sh.rows, y, (inform + a) * sh.size);
+        a += 1;
+    }
+}
+
+// Puts the parity after the information bits that y holds.
+pub fn encode(code: u8, y: &mut [u64])
+    requires { ⌜ (offered code ≡ true) × (length (now y) ≡ 130) × (wbit (now y) ≡ upTo (information (codeOf code)) (wbit (now y))) ⌝ }
+    ensures { λ _. ⌜ wbit (now (y .exit)) ≡ upTo (bits (codeOf code)) (encoded (codeOf code) (wbit (now (y .entry)))) ⌝ }
+{
+    let o = offer::of(code);
+    let mut t = [0u16; 64];
+    let mut s = [0u64; 16];
+    measured::checks(o, y, &mut t, &mut s);
+    let sh = o.shape;
+    solve(sh, &mut s);
+    if sh.size == 511 {
+        invert(y, &mut s);
+        put_rows(&s, sh, 0, y);
+    } else {
+        put_rows(&s, sh, 1, y);
+    }
+}

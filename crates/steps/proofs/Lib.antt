@@ -1,0 +1,5 @@
+pub mod Walk
+pub mod Facts
+pub mod Solved
+pub mod Telecommand
+pub mod NearEarth
