@@ -2,7 +2,7 @@
 use mathlib.Core.Path.{_≡_, sym, ap, ap₂, _∙_, fun-ext}
 use mathlib.Core.Bool.{true, not, _&&_}
 use mathlib.Core.List.{List}
-use Prim.Native.Nat.{ℕ, suc, _+_, _-_, _*_, _<_}
+use Prim.Native.Nat.{ℕ, suc, _+_, _-_, _*_, _≤_, _<_}
 use native.Mathlib.Nat.{le-of-eq, lt-of-not-le, lt-of-lt-of-le}
 use native.Mathlib.Decide.{decLt}
 use native.Mathlib.Omega.{arith}
@@ -15,6 +15,7 @@ use Rattle.rules.specs.Checks.{check, broken}
 use Rattle.rules.specs.Encoding.{lifted, codeword}
 use Rattle.rules.specs.Flipping.{byExcess, run}
 use Rattle.answers.specs.Calls.{Corrected, ranCorrect, correctAnswer}
+use Rattle.answers.specs.Promises.{limitForTwo}
 use Rattle.bits.proofs.Sums.{and-⊕}
 use Rattle.bits.proofs.Octets.{Octets, length-octets, bit-octets, bit-past}
 use Rattle.rules.proofs.Two.{Mends, two-mended}
@@ -39,10 +40,10 @@ module _ (n : ℕ) (near : T (nearEarthed n)) (word out : List ℕ) (lw : length
   off : T (offered n)
   off = near-offered n near
 
-  pub two-back : (limit b d : ℕ) → b < bits (code n) - code n .unsent → d < bits (code n) - code n .unsent → (b ≡ d → ⊥)
+  by-two : (limit b d : ℕ) → b < bits (code n) - code n .unsent → d < bits (code n) - code n .unsent → (b ≡ d → ⊥)
       → correctAnswer n (twoWrong (code n) word b d) (suc (suc limit)) out
       ≡ record { number = 0; flips = 2; first = broken (code n) (lifted (code n) (bit (twoWrong (code n) word b d))); last = 0; out = word }
-  two-back limit b d hb hd apart =
+  by-two limit b d hb hd apart =
       let pb : Published (code n) = published n off in
       let u = code n .unsent in
       let x = lifted (code n) (bit word) in
@@ -58,6 +59,13 @@ module _ (n : ℕ) (near : T (nearEarthed n)) (word out : List ℕ) (lw : length
       ∙ mended n off word out lw lo oct is (run (byExcess (code n)) (suc (suc limit)) (flipped (flipped x (b + u)) (d + u))) (m .number) (m .word)
       (lifted (code n) (bit (twoWrong (code n) word b d)))
       ∙ ap (λ k. record { number = 0; flips = k; first = broken (code n) (lifted (code n) (bit (twoWrong (code n) word b d))); last = 0; out = word }) (m .flips)
+
+  pub two-back : (limit b d : ℕ) → limitForTwo ≤ limit → b < bits (code n) - code n .unsent → d < bits (code n) - code n .unsent → (b ≡ d → ⊥)
+      → correctAnswer n (twoWrong (code n) word b d) limit out
+      ≡ record { number = 0; flips = 2; first = broken (code n) (lifted (code n) (bit (twoWrong (code n) word b d))); last = 0; out = word }
+  two-back limit b d enough hb hd apart =
+      let is : limit ≡ suc (suc (limit - 2)) = omega arith in
+      ap (λ l. correctAnswer n (twoWrong (code n) word b d) l out) is ∙ by-two (limit - 2) b d hb hd apart
 
 -- ---- which codeword was sent
 
