@@ -196,7 +196,7 @@ unfolding code code1 parity16
 next1 =
     ap (λ w. byExcess code1 (lifted code1 (bit w))) (only-wrong 1 tt 0)
     ∙ ap (byExcess code1) (ap (lifted code1) (bit-one-wrong code1 (replicate 16 0) 0 refl (lit< tt)) ∙ lifted-flip code1 (bit (replicate 16 0)) 0 ∙ ap (λ x. flipped x 0) (zeros-are 1 tt))
-    ∙ one-next code1 (published1 .girth) none (none-met 1 tt) 0 (lit< tt) (by-excess code1 (published1 .some)) (by-greatest code1) zero-le ∙ ap (λ d. flip 0 (pos d)) degree1
+    ∙ one-next code1 (published1 .girth) none (none-met 1 tt) 0 (lit< tt) (by-excess code1 (published1 .some)) (by-greatest code1 (published1 .some)) zero-le ∙ ap (λ d. flip 0 (pos d)) degree1
 
 steps3 : Holds (steps 1 (only 16 0) 0 (pos 5))
 unfolding code code1 nextStep

@@ -11,7 +11,7 @@ use lib.IntN.{pos}
 use lib.ListN.{length}
 use borrow.Author.Tests.{eq-eqb, ne-eqb, lt-ltb, le-ltb}
 use Rattle.bits.specs.Bits.{Word, bit, octets, count, _⊕_, flipped, if_then_else_}
-use Rattle.rules.specs.Codes.{Code, code, code4, code5, bits, offered}
+use Rattle.rules.specs.Codes.{Code, code, code4, code5, bits, checks, offered}
 use Rattle.rules.specs.Checks.{check, broken, degreeOf}
 use Rattle.rules.specs.Encoding.{lifted, sent, codeword, written}
 use Rattle.rules.specs.Flipping.{Way, byExcess, Run, run, ended, after}
@@ -153,6 +153,9 @@ two P p4 p5 n t = go n (leb→le 4 n (and-l (leb 4 n) (leb n 5) t)) (leb→le n 
     go (suc (suc (suc (suc (suc zero))))) l h = p5
     go (suc (suc (suc (suc (suc (suc n)))))) l h = absurd (omega arith)
 
+pub near-offered : (n : ℕ) → T (nearEarthed n) → T (offered n)
+near-offered = two (λ n. T (offered n)) tt tt
+
 -- every bit has four checks
 pub near-degree : (n : ℕ) → T (nearEarthed n) → (k : ℕ) → k < bits (code n) → degreeOf (code n) k ≡ 4
 unfolding code code4 code5
@@ -203,14 +206,14 @@ bit-one-wrong c word b lw h = fun-ext (λ i. bit-octets (c .wordOctets) (flipped
 
 module _ (n : ℕ) (off : T (offered n)) (word out : List ℕ) (lw : length word ≡ code n .wordOctets) (lo : length out ≡ code n .wordOctets)
     (oct : Octets word) (is : codeword (code n) (bit word) ≡ true) where
-  met : broken (code n) (lifted (code n) (bit word)) ≡ 0
+  pub met : broken (code n) (lifted (code n) (bit word)) ≡ 0
   met = codeword-quiet (code n) (published n off) (bit word) is
 
   -- a run that ends quiet at the codeword is taken, and gives the word
-  done : (r : Run) → r .number ≡ 0 → r .word ≡ lifted (code n) (bit word) → (x : Word)
+  pub mended : (r : Run) → r .number ≡ 0 → r .word ≡ lifted (code n) (bit word) → (x : Word)
       → ranCorrect (code n) x r out ≡ record { number = 0; flips = length (r .flips); first = broken (code n) x; last = 0; unlike = differing (code n) x (lifted (code n) (bit word)); out = word }
   unfolding ranCorrect
-  done r e w x =
+  mended r e w x =
       let zero-is : judged (code n) r ≡ 0 =
       judged-done (code n) r e (λ k h. ap (λ z. z k) w ∙ lifted-unsent (code n) (bit word) k h)
       (ap (λ z. codeword (code n) (sent (code n) z)) w
@@ -234,7 +237,7 @@ module _ (n : ℕ) (off : T (offered n)) (word out : List ℕ) (lw : length word
         ≡ record { number = 0; flips = 0; first = 0; last = 0; unlike = 0; out = word }
     ran-back limit =
         ap (λ r. ranCorrect (code n) (lifted (code n) (bit word)) r out) (run-quiet way limit (lifted (code n) (bit word)) (ch .met-quiet (lifted (code n) (bit word)) met))
-        ∙ done (ended 0 (lifted (code n) (bit word))) refl refl (lifted (code n) (bit word))
+        ∙ mended (ended 0 (lifted (code n) (bit word))) refl refl (lifted (code n) (bit word))
         ∙ ap₂ (λ z d. record { number = 0; flips = 0; first = z; last = 0; unlike = d; out = word }) met (differ-self (code n) (lifted (code n) (bit word)))
 
     pub ran-one-back : TakesGreatest (code n) way → (limit k : ℕ) → code n .unsent ≤ k → k < bits (code n)
@@ -243,7 +246,7 @@ module _ (n : ℕ) (off : T (offered n)) (word out : List ℕ) (lw : length word
     ran-one-back takes limit k from h =
         let girth : Girth (code n) = published n off .girth in
         ap (λ r. ranCorrect (code n) (flipped (lifted (code n) (bit word)) k) r out) (one-mended (code n) girth (lifted (code n) (bit word)) met k h ch takes from limit)
-        ∙ done (after k (pos (degreeOf (code n) k)) (ended 0 (lifted (code n) (bit word)))) refl refl (flipped (lifted (code n) (bit word)) k)
+        ∙ mended (after k (pos (degreeOf (code n) k)) (ended 0 (lifted (code n) (bit word)))) refl refl (flipped (lifted (code n) (bit word)) k)
         ∙ ap₂ (λ z d. record { number = 0; flips = 1; first = z; last = 0; unlike = d; out = word })
         (first-count (code n) girth (lifted (code n) (bit word)) met k h) (differ-one (code n) (lifted (code n) (bit word)) k h)
 
@@ -261,7 +264,7 @@ module _ (n : ℕ) (off : T (offered n)) (word out : List ℕ) (lw : length word
       ap (lifted (code n)) (bit-one-wrong (code n) word b lw (lt-of-lt-of-le h (published n off .fits))) ∙ lifted-flip (code n) (bit word) b in
       correct-taken n (oneWrong (code n) word b) (suc limit) out off (length-octets (code n .wordOctets) (flipped (bit word) b)) lo
       ∙ ap (λ y. ranCorrect (code n) y (run (byExcess (code n)) (suc limit) y) out) same
-      ∙ ran-one-back (chooses n off) (by-greatest (code n)) limit (b + code n .unsent) (omega arith) (omega arith)
+      ∙ ran-one-back (chooses n off) (by-greatest (code n) (published n off .some)) limit (b + code n .unsent) (omega arith) (omega arith)
 
 -- ---- a wrong bit that is not sent
 
@@ -280,8 +283,8 @@ module _ (n : ℕ) (off : T (offered n)) (x : Word) (met : broken (code n) x ≡
           lifted-back (code n) x k (omega (arith, lt-of-not-le g)) h
           ∙ sym (ap (λ b. x k ⊕ b) (ne-eqb k n₀ (λ q. omega (arith, lt-of-not-le g))) ∙ ⊕-false (x k))
 
-  checks-are : check (code n) got ≡ check (code n) (flipped x n₀)
-  checks-are = fun-ext (check-same (code n) got (flipped x n₀) got-is)
+  checks-are : (k : ℕ) → k < checks (code n) → check (code n) got k ≡ check (code n) (flipped x n₀) k
+  checks-are k l = check-same (code n) got (flipped x n₀) got-is k
 
   pub unsent-wrong : (limit : ℕ) (out : List ℕ) → length out ≡ code n .wordOctets → correctAnswer n (written (code n) x) limit out
       ≡ record { number = 5; flips = 0; first = degreeOf (code n) n₀; last = degreeOf (code n) n₀; unlike = 0; out = out }

@@ -4,6 +4,7 @@ use mathlib.Core.Bool.{Bool, true, false, _&&_}
 use Prim.Native.Nat.{ℕ, _+_, _*_, _≤_, _<_}
 use native.Mathlib.Omega.{arith}
 use lib.Dec.{eqb}
+use borrow.Author.Tests.{ne-eqb}
 use Rattle.bits.specs.Bits.{Word, _⊕_, count, tally, flipped}
 use Rattle.rules.specs.Codes.{Code, bits}
 use Rattle.answers.specs.Calls.{differing}
@@ -24,12 +25,29 @@ back true false = refl
 back false true = refl
 back false false = refl
 
+back-two : (p q r : Bool) → (((p ⊕ q) ⊕ r) ⊕ p) ≡ (q ⊕ r)
+back-two true true true = refl
+back-two true true false = refl
+back-two true false true = refl
+back-two true false false = refl
+back-two false true true = refl
+back-two false true false = refl
+back-two false false true = refl
+back-two false false false = refl
+
 module _ (c : Code) where
   pub differ-self : (x : Word) → differing c x x ≡ 0
   differ-self x = count-none (bits c) (λ i. x i ⊕ x i) (λ i l. ⊕-self (x i))
 
   pub differ-one : (x : Word) (n : ℕ) → n < bits c → differing c (flipped x n) x ≡ 1
   differ-one x n h = count-same (bits c) (λ i. flipped x n i ⊕ x i) (λ i. eqb i n) (λ i l. back (x i) (eqb i n)) ∙ count-one (bits c) n h
+
+  pub differ-two : (x : Word) (b d : ℕ) → b < bits c → d < bits c → (b ≡ d → ⊥) → differing c (flipped (flipped x b) d) x ≡ 2
+  differ-two x b d hb hd apart =
+      let a : differing c (flipped (flipped x b) d) x ≡ count (bits c) (λ i. eqb i b ⊕ eqb i d) =
+      count-same (bits c) (λ i. flipped (flipped x b) d i ⊕ x i) (λ i. eqb i b ⊕ eqb i d) (λ i l. back-two (x i) (eqb i b) (eqb i d)) in
+      omega (arith, a, count-xor (bits c) (λ i. eqb i b) (λ i. eqb i d), count-pick (bits c) d (λ i. eqb i b) hd, count-one (bits c) b hb, count-one (bits c) d hd,
+      ap tally (ne-eqb d b (λ q. apart (sym q))))
 
   -- a flip adds one bit that differs, or takes one
   pub differ-flip : (x y : Word) (n : ℕ) → n < bits c → differing c x (flipped y n) + 2 * tally (x n ⊕ y n) ≡ differing c x y + 1

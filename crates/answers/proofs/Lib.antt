@@ -2,6 +2,7 @@ pub mod Answers
 pub mod Differing
 pub mod Demands
 pub mod Corrections
+pub mod Wrong
 pub mod Steps
 pub mod Refusals
 pub mod Cases

@@ -8,12 +8,13 @@ use lib.Dec.{eqb}
 use lib.IntN.{ℤ, pos, subℕ}
 use lib.Signed.{ltZ}
 use borrow.Author.Tests.{eq-eqb, ne-eqb, eqb-true, ltb-true, le-ltb}
-use Rattle.bits.specs.Bits.{Word, count, flipped, if_then_else_}
+use Rattle.bits.specs.Bits.{Word, flipped, if_then_else_}
 use Rattle.rules.specs.Codes.{Code, bits, checks}
 use Rattle.rules.specs.Checks.{covers, check, broken, excess, brokenOf, metOf}
 use Rattle.rules.specs.Flipping.{quiet, stuck, flip, greatest, greatestSent, flipAbove, byExcess}
+use Rattle.bits.proofs.Counting.{count-same}
 use Rattle.rules.proofs.Flips.{broken-met, excess-is, sub-order}
-use Rattle.rules.proofs.Greatest.{Greatest, greatest-has, greatest-is}
+use Rattle.rules.proofs.Greatest.{Greatest, greatest-has, not-less, not-over}
 use Rattle.rules.proofs.Ways.{Chooses, TakesGreatest, Girth, broken-shared, first-count}
 
 -- excess 0 is not flipped, so that a run ends
@@ -55,6 +56,14 @@ module _ (c : Code) (x : Word) where
       go false true e f = let w = next-by false true e f in let z : _≡_ {A = ℕ} 0 1 = cc in absurd (omega arith)
       go false false e f = let w = next-by false false e f in let z : _≡_ {A = ℕ} 0 1 = cc in absurd (omega arith)
 
+  pub next-stuck : (n : ℕ) (ex : ℤ) → byExcess c x ≡ stuck n ex → ltZ (pos 0) (excess c x chosen) ≡ false
+  next-stuck n ex q = go (eqb (broken c x) 0) (ltZ (pos 0) (excess c x chosen)) refl refl
+    where
+      go : (a b : Bool) → eqb (broken c x) 0 ≡ a → ltZ (pos 0) (excess c x chosen) ≡ b → ltZ (pos 0) (excess c x chosen) ≡ false
+      go true b e f = let w = next-by true b e f in let z : _≡_ {A = ℕ} 0 1 = cc in absurd (omega arith)
+      go false true e f = let w = next-by false true e f in let z : _≡_ {A = ℕ} 0 1 = cc in absurd (omega arith)
+      go false false e f = f
+
   -- the chosen bit
   pub record Flips (n : ℕ) (ex : ℤ) : Type 0 where
     pub bit : n ≡ chosen
@@ -92,22 +101,24 @@ module _ (c : Code) (some : c .unsent < bits c) where
         record { sent = omega (arith, f .bit, chosen-greatest x .from); under = omega (arith, f .bit, chosen-greatest x .under); value = f .value; above = f .above };
   }
 
-pub by-greatest : (c : Code) → TakesGreatest c (byExcess c)
-unfolding greatestSent
-by-greatest c x n₀ sent h₀ some above others =
-    let at : chosen c x ≡ n₀ = greatest-is (c .unsent) (bits c - c .unsent) (excess c x) n₀ sent (omega arith) (λ i a l d. others i (omega arith) d) in
-    flip-next c x some (ap (λ z. ltZ (pos 0) (excess c x z)) at ∙ above) ∙ ap₂ flip at (ap (excess c x) at)
+pub by-greatest : (c : Code) → c .unsent < bits c → TakesGreatest c (byExcess c)
+by-greatest c some = record {
+  most = λ x n ex e m sent under.
+      ap (λ k. ltZ (excess c x k) (excess c x m)) (next-flip c x n ex e .bit) ∙ not-less (excess c x m) (excess c x (chosen c x)) (chosen-greatest c some x .most m sent (omega arith));
+  sticks = λ x n ex e m sent under. not-over (excess c x m) (excess c x (chosen c x)) (chosen-greatest c some x .most m sent (omega arith)) (next-stuck c x n ex e);
+}
 
 -- ---- what comes next depends on the checks alone
 
-module _ (c : Code) (x y : Word) (e : check c x ≡ check c y) where
+module _ (c : Code) (x y : Word) (e : (k : ℕ) → k < checks c → check c x k ≡ check c y k) where
   pub broken-same : broken c x ≡ broken c y
   unfolding broken
-  broken-same = ap (count (checks c)) e
+  broken-same = count-same (checks c) (check c x) (check c y) e
 
   excess-same : excess c x ≡ excess c y
   unfolding excess brokenOf metOf
-  excess-same = fun-ext (λ n. ap (λ s. subℕ (count (checks c) (λ k. covers c k n && s k)) (count (checks c) (λ k. covers c k n && not (s k)))) e)
+  excess-same = fun-ext (λ n.
+      ap₂ subℕ (count-same (checks c) _ _ (λ k l. ap (λ b. covers c k n && b) (e k l))) (count-same (checks c) _ _ (λ k l. ap (λ b. covers c k n && not b) (e k l))))
 
   pub next-same : byExcess c x ≡ byExcess c y
   unfolding byExcess greatestSent

@@ -7,7 +7,7 @@ use native.Mathlib.Decide.{ℕ-discrete}
 use native.Mathlib.Omega.{arith}
 use lib.Dec.{T, ltb→lt, lt→ltb, leb→le, le→leb}
 use lib.IntN.{ℤ, pos, negsuc}
-use lib.Signed.{ltZ, leZ, _≤ℤ_, _<ℤ_, ltZ-yes, ltZ-no, ≤ℤ-refl, clashℤ}
+use lib.Signed.{ltZ, leZ, _≤ℤ_, _<ℤ_, ltZ-yes, ltZ-no, ≤ℤ-refl, <ℤ-≤ℤ-trans, clashℤ}
 use Rattle.bits.specs.Bits.{if_then_else_}
 use Rattle.rules.specs.Flipping.{greatest}
 
@@ -32,6 +32,25 @@ pub ≤ℤ-<ℤ-trans : {a b c : ℤ} → a ≤ℤ b → b <ℤ c → a <ℤ c
 
 pub <ℤ-≤ℤ : {a b : ℤ} → a <ℤ b → a ≤ℤ b
 <ℤ-≤ℤ {a} {b} h = record { le = lt-le a b (h .lt) }
+
+-- what is not above is not less
+pub not-less : (a b : ℤ) → a ≤ℤ b → ltZ b a ≡ false
+not-less a b h = go (ltZ b a) refl
+  where
+    go : (t : Bool) → ltZ b a ≡ t → ltZ b a ≡ false
+    go true e = clashℤ (ltZ-yes (subst T (sym e) tt)) h
+    go false e = e
+
+pub not-over : (a b : ℤ) → a ≤ℤ b → ltZ (pos 0) b ≡ false → ltZ (pos 0) a ≡ false
+not-over a b h f = go (ltZ (pos 0) a) refl
+  where
+    go : (t : Bool) → ltZ (pos 0) a ≡ t → ltZ (pos 0) a ≡ false
+    go true e =
+        let up : pos 0 <ℤ a = ltZ-yes (subst T (sym e) tt) in
+        let over : pos 0 <ℤ b = <ℤ-≤ℤ-trans up h in
+        let under : b ≤ℤ pos 0 = ltZ-no (subst (λ (t : Bool). T (not t)) (sym f) tt) in
+        clashℤ over under
+    go false e = e
 
 -- ---- `greatest`
 
@@ -91,12 +110,3 @@ greatest-has first (suc (suc n)) f h =
           most = more (λ i. f i ≤ℤ f (greatest first (suc n) f)) (b .most) (ltZ-no (subst (λ (t : Bool). T (not t)) (sym e) tt));
           lowest = b .lowest;
         }
-
--- a bit that is above every other is the greatest
-pub greatest-is : (first n : ℕ) (f : ℕ → ℤ) (k : ℕ) → first ≤ k → k < first + n
-    → ((i : ℕ) → first ≤ i → i < first + n → (i ≡ k → ⊥) → ltZ (f i) (f k) ≡ true) → greatest first n f ≡ k
-greatest-is first n f k a h up = go (ℕ-discrete (greatest first n f) k) (greatest-has first n f (omega arith))
-  where
-    go : Dec (greatest first n f ≡ k) → Greatest first n f (greatest first n f) → greatest first n f ≡ k
-    go (yes e) g = e
-    go (no d) g = clashℤ (ltZ-yes (subst T (sym (up (greatest first n f) (g .from) (g .under) d)) tt)) (g .most k a h)

@@ -4,6 +4,8 @@ pub mod Flips
 pub mod Runs
 pub mod Ways
 pub mod Choosing
+pub mod Two
+pub mod Alike
 pub mod Shared
 pub mod Quiet
 pub mod Unique

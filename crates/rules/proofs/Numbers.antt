@@ -1,22 +1,23 @@
 -- What holds of the codes by their numbers: the demands on words, for every code.
-use mathlib.Core.Path.{_≡_, refl, sym, ap, _∙_, fun-ext}
+use mathlib.Core.Path.{_≡_, refl, sym, ap, ap₂, _∙_, fun-ext}
 use mathlib.Core.Bool.{Bool, true, false, not, _&&_}
 use mathlib.Core.List.{List}
 use Prim.Native.Nat.{ℕ, zero, suc, _+_, _-_, _*_, _/_, _≤_, _<_}
-use native.Mathlib.Nat.{lt-of-not-le, add-zero}
+use native.Mathlib.Nat.{lt-of-not-le, lt-of-lt-of-le, le-of-eq, add-zero}
 use native.Mathlib.Decide.{decLt}
 use native.Mathlib.Omega.{arith}
-use lib.Dec.{T, eqb, leb, leb→le}
+use lib.Dec.{T, eqb, leb, ltb, leb→le, lit<, lit≤}
+use borrow.Author.Tests.{eq-eqb, lt-ltb, le-ltb}
 use lib.ListN.{length}
-use Rattle.bits.specs.Bits.{Word, bit, _⊕_}
-use Rattle.rules.specs.Codes.{Code, code, code1, code2, code3, code4, bits, offered, telecommanded}
+use Rattle.bits.specs.Bits.{Word, bit, _⊕_, if_then_else_}
+use Rattle.rules.specs.Codes.{Code, code, code1, code2, code3, code4, bits, information, offered, telecommanded}
 use Rattle.rules.specs.Checks.{broken}
-use Rattle.rules.specs.Encoding.{parityBit, encoded, lifted, sent, codeword, OwnParity}
+use Rattle.rules.specs.Encoding.{parityBit, encoded, inverted, lifted, sent, codeword, OwnParity}
 use Rattle.rules.specs.Tables.{parity16, parity32, parity64, parity511, generator511}
-use Rattle.bits.proofs.Sums.{and-l, and-r}
+use Rattle.bits.proofs.Sums.{⊕-self, ⊕-false, ⊕-assoc, and-l, and-r}
 use Rattle.bits.proofs.Octets.{bit-past}
 use Rattle.rules.proofs.Published.{Published, published1, published2, published3, published4, published5, met-own1, met-own2, met-own3, nearInverted, near-inverted, inverted-near}
-use Rattle.rules.proofs.Codewords.{encoded-own, own-encoded, own-codeword, lifted-unsent, lifted-sent-bit, sent-bit, sent-fill}
+use Rattle.rules.proofs.Codewords.{parity-same, encoded-information, encoded-parity, encoded-own, own-encoded, own-codeword, lifted-unsent, lifted-sent-bit, sent-bit, sent-fill}
 
 -- ---- code numbers
 
@@ -120,3 +121,95 @@ quiet-four x e p h = near-inverted 1022 895 0 x e p h
 pub four-quiet : (x f : Word) → ((p : ℕ) → p < 1022 → x (7154 + p) ≡ parityBit code4 x p ⊕ f (p / 511)) → broken code4 x ≡ 0
 unfolding code4 parity511 generator511
 four-quiet x f h = inverted-near 1022 895 0 x f h
+
+-- ---- code 4: for given information bits just four words meet every check
+
+four-size : information code4 ≡ 7154
+unfolding code4 generator511
+four-size = refl
+
+⊕-cancel : (a b c : Bool) → a ⊕ b ≡ a ⊕ c → b ≡ c
+⊕-cancel a b c e = sym (back b) ∙ ap (λ z. a ⊕ z) e ∙ back c
+  where
+    back : (b : Bool) → a ⊕ (a ⊕ b) ≡ b
+    back b = sym (⊕-assoc a a b) ∙ ap (λ z. z ⊕ b) (⊕-self a)
+
+-- the codeword of the information bits of x, with either or both parity blocks inverted
+abbrev pub fourWord : Word → Bool → Bool → Word
+fourWord x first second = inverted code4 (encoded code4 x) first second
+
+module _ (x : Word) (first second : Bool) where
+  inform : (n : ℕ) → n < 7154 → fourWord x first second n ≡ encoded code4 x n
+  unfolding inverted code4 generator511
+  inform n h = ap (λ b. encoded code4 x n ⊕ (not b && (if ltb n 7665 then first else second))) (lt-ltb n 7154 h) ∙ ⊕-false (encoded code4 x n)
+
+  in-first : (n : ℕ) → 7154 ≤ n → n < 7665 → fourWord x first second n ≡ encoded code4 x n ⊕ first
+  unfolding inverted code4 generator511
+  in-first n l h = ap₂ (λ a b. encoded code4 x n ⊕ (not a && (if b then first else second))) (le-ltb n 7154 l) (lt-ltb n 7665 h)
+
+  in-second : (n : ℕ) → 7665 ≤ n → fourWord x first second n ≡ encoded code4 x n ⊕ second
+  unfolding inverted code4 generator511
+  in-second n l = ap₂ (λ a b. encoded code4 x n ⊕ (not a && (if b then first else second))) (le-ltb n 7154 (omega arith)) (le-ltb n 7665 l)
+
+  -- each has the information bits
+  pub four-information : (n : ℕ) → n < 7154 → fourWord x first second n ≡ x n
+  four-information n h = inform n h ∙ encoded-information code4 x n (lt-of-lt-of-le h (le-of-eq (sym four-size)))
+
+  parity-at : (p : ℕ) → encoded code4 x (7154 + p) ≡ parityBit code4 (fourWord x first second) p
+  parity-at p =
+      ap (λ k. encoded code4 x (k + p)) (sym four-size)
+      ∙ encoded-parity code4 x (information code4 + p) (omega arith)
+      ∙ ap (parityBit code4 x) (omega arith)
+      ∙ parity-same code4 x (fourWord x first second) (λ n h. sym (four-information n (lt-of-lt-of-le h (le-of-eq four-size)))) p
+
+  -- each meets every check
+  pub four-meet : broken code4 (fourWord x first second) ≡ 0
+  four-meet = four-quiet (fourWord x first second) (λ b. if eqb b 0 then first else second) (λ p h. at p h (decLt p 511))
+    where
+      at : (p : ℕ) → p < 1022 → Dec (p < 511) → fourWord x first second (7154 + p) ≡ parityBit code4 (fourWord x first second) p ⊕ (if eqb (p / 511) 0 then first else second)
+      at p h (yes l) =
+          let q : p / 511 ≡ 0 = omega arith in
+          in-first (7154 + p) (omega arith) (omega arith) ∙ ap₂ (λ a b. a ⊕ (if b then first else second)) (parity-at p) (sym (eq-eqb (p / 511) 0 q))
+      at p h (no g) =
+          let q : p / 511 ≡ 1 = omega (arith, lt-of-not-le g) in
+          in-second (7154 + p) (omega (arith, lt-of-not-le g)) ∙ ap₂ (λ a b. a ⊕ (if b then first else second)) (parity-at p) (sym (ap (λ z. eqb z 0) q))
+
+-- they are different words
+pub four-differ : (x : Word) (a b a′ b′ : Bool) → ((n : ℕ) → n < 8176 → fourWord x a b n ≡ fourWord x a′ b′ n) → (a ≡ a′) × (b ≡ b′)
+four-differ x a b a′ b′ same = (
+  ⊕-cancel (encoded code4 x 7154) a a′ (sym (in-first x a b 7154 (lit≤ tt) (lit< tt)) ∙ same 7154 (lit< tt) ∙ in-first x a′ b′ 7154 (lit≤ tt) (lit< tt)),
+  ⊕-cancel (encoded code4 x 7665) b b′ (sym (in-second x a b 7665 (lit≤ tt)) ∙ same 7665 (lit< tt) ∙ in-second x a′ b′ 7665 (lit≤ tt)),
+)
+
+-- and any word that has those information bits and meets every check is one of them
+pub record OneOfFour (x y : Word) : Type 0 where
+  pub first : Bool
+  pub second : Bool
+  pub is : (n : ℕ) → n < 8176 → y n ≡ fourWord x first second n
+
+pub four-all : (x y : Word) → ((n : ℕ) → n < 7154 → y n ≡ x n) → broken code4 y ≡ 0 → OneOfFour x y
+four-all x y same e = record { first = i; second = j; is = λ n h. at n h (decLt n 7154) (decLt n 7665) }
+  where
+    i : Bool
+    i = nearInverted 1022 895 0 y 0
+
+    j : Bool
+    j = nearInverted 1022 895 0 y 1
+
+    parity : (p : ℕ) → parityBit code4 y p ≡ encoded code4 x (7154 + p)
+    parity p =
+        parity-same code4 y x (λ n h. same n (lt-of-lt-of-le h (le-of-eq four-size))) p
+        ∙ sym (ap (λ k. encoded code4 x (k + p)) (sym four-size) ∙ encoded-parity code4 x (information code4 + p) (omega arith) ∙ ap (parityBit code4 x) (omega arith))
+
+    at : (n : ℕ) → n < 8176 → Dec (n < 7154) → Dec (n < 7665) → y n ≡ fourWord x i j n
+    at n h (yes l) q = same n l ∙ sym (four-information x i j n l)
+    at n h (no g) (yes l) =
+        let p = n - 7154 in
+        let is : 7154 + p ≡ n = omega (arith, lt-of-not-le g) in
+        let q : p / 511 ≡ 0 = omega (arith, lt-of-not-le g) in
+        ap y (sym is) ∙ quiet-four y e p (omega arith) ∙ ap₂ (λ a b. a ⊕ nearInverted 1022 895 0 y b) (parity p ∙ ap (encoded code4 x) is) q ∙ sym (in-first x i j n (omega (arith, lt-of-not-le g)) l)
+    at n h (no g) (no d) =
+        let p = n - 7154 in
+        let is : 7154 + p ≡ n = omega (arith, lt-of-not-le g) in
+        let q : p / 511 ≡ 1 = omega (arith, lt-of-not-le d) in
+        ap y (sym is) ∙ quiet-four y e p (omega arith) ∙ ap₂ (λ a b. a ⊕ nearInverted 1022 895 0 y b) (parity p ∙ ap (encoded code4 x) is) q ∙ sym (in-second x i j n (omega (arith, lt-of-not-le d)))

@@ -79,13 +79,18 @@ pub tests3 : Tests 64 32 0 63 parity64 generator64 64 8 4
 unfolding parity64 generator64
 tests3 = record { shape = tt; wide = refl; room = refl; tables = tt; size = tt; many = tt; apart = tt }
 
+-- no two bits share two checks
+apart511 : T (sharedOnce 511 16 parity511)
+unfolding parity511
+apart511 = tt
+
 rows511 : T (rowsTied 511 512 parity511 generator511)
 unfolding parity511 generator511
 rows511 = tt
 
 pub nearTests : (wordOctets informationOctets unsent : ℕ) → Tests wordOctets informationOctets unsent 510 parity511 generator511 512 16 2
 unfolding parity511 generator511
-nearTests wordOctets informationOctets unsent = record { shape = tt; wide = refl; room = refl; tables = rows511; size = tt; many = tt; apart = tt }
+nearTests wordOctets informationOctets unsent = record { shape = tt; wide = refl; room = refl; tables = rows511; size = tt; many = tt; apart = apart511 }
 
 pub published1 : Published code1
 unfolding code1 parity16 generator16

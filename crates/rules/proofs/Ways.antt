@@ -1,9 +1,11 @@
 -- What a run does under any way of choosing, from what the law needs of the way: its flips, its bounds, and one wrong bit.
 use mathlib.Core.Path.{_≡_, refl, sym, ap, ap₂, _∙_}
-use mathlib.Core.Bool.{true, _&&_, and-self, cond}
+use mathlib.Core.Bool.{true, false, true≢false, _&&_, and-self, and-false, cond}
 use Prim.Native.Nat.{ℕ, suc, _+_, _-_, _*_, _≤_, _<_, zero-le}
 use native.Mathlib.Nat.{le-of-eq, le-trans}
+use native.Mathlib.Decide.{ℕ-discrete}
 use native.Mathlib.Omega.{arith}
+use lib.Dec.{ltb}
 use lib.IntN.{ℤ, pos, negsuc, subℕ}
 use lib.ListN.{length}
 use lib.Signed.{ltZ}
@@ -11,10 +13,10 @@ use borrow.Author.Tests.{lt-ltb, le-ltb, ne-eqb}
 use Rattle.bits.specs.Bits.{Word, _⊕_, count, flipped}
 use Rattle.rules.specs.Codes.{Code, bits, checks}
 use Rattle.rules.specs.Checks.{covers, check, broken, excess, brokenOf, degreeOf, metOf}
-use Rattle.rules.specs.Flipping.{quiet, flip, Way, run, ended, after}
+use Rattle.rules.specs.Flipping.{Next, quiet, stuck, flip, Way, run, ended, after}
 use Rattle.bits.proofs.Sums.{⊕-false}
-use Rattle.bits.proofs.Counting.{count-same, none-counted}
-use Rattle.rules.proofs.Flips.{broken-met, excess-is, excess-order, check-flip, broken-flip, flip-back}
+use Rattle.bits.proofs.Counting.{count-same, count-none, none-counted}
+use Rattle.rules.proofs.Flips.{broken-met, excess-is, excess-order, check-flip, broken-flip, sub-order, flip-back}
 use Rattle.rules.proofs.Runs.{every-run, run-quiet, run-flip, run-falls, run-enough, run-ends, End, ends-quiet, ends-stuck, ends-limit}
 
 -- ---- what is needed of a way
@@ -32,11 +34,10 @@ pub record Chooses (c : Code) (way : Way) : Type 0 where
   pub quiet-met : (x : Word) → way x ≡ quiet → broken c x ≡ 0
   pub flips : (x : Word) (n : ℕ) (ex : ℤ) → way x ≡ flip n ex → Chosen c x n ex
 
--- where the excess of one sent bit is above 0 and above that of every other bit, that bit is flipped
-abbrev pub TakesGreatest : Code → Way → Type 0
-TakesGreatest c way =
-    (x : Word) (n₀ : ℕ) → c .unsent ≤ n₀ → n₀ < bits c → (broken c x ≡ 0 → ⊥) → ltZ (pos 0) (excess c x n₀) ≡ true
-    → ((n : ℕ) → n < bits c → (n ≡ n₀ → ⊥) → ltZ (excess c x n) (excess c x n₀) ≡ true) → way x ≡ flip n₀ (excess c x n₀)
+-- of the sent bits none is above what is flipped, and where nothing is, none is above 0
+pub record TakesGreatest (c : Code) (way : Way) : Type 0 where
+  pub most : (x : Word) (n : ℕ) (ex : ℤ) → way x ≡ flip n ex → (m : ℕ) → c .unsent ≤ m → m < bits c → ltZ (excess c x n) (excess c x m) ≡ false
+  pub sticks : (x : Word) (n : ℕ) (ex : ℤ) → way x ≡ stuck n ex → (m : ℕ) → c .unsent ≤ m → m < bits c → ltZ (pos 0) (excess c x m) ≡ false
 
 -- ---- the bounds
 
@@ -83,6 +84,35 @@ module _ {c : Code} {way : Way} (ch : Chooses c way) where
     pub half-serves : (limit : ℕ) (x : Word) → broken c x ≤ 2 * limit + 1 → run way limit x .number ≡ 6 → ⊥
     half-serves limit x h = run-enough way (broken c) 2 falls-two limit x (omega arith)
 
+-- ---- a bit of which more checks are broken than met is flipped, or one that it is not above
+
+-- an excess is above 0 where more checks are broken than met
+pub above-is : (c : Code) (x : Word) (n : ℕ) → ltZ (pos 0) (excess c x n) ≡ ltb (metOf c x n) (brokenOf c x n)
+above-is c x n =
+    let a : 0 + metOf c x n ≡ metOf c x n = omega arith in
+    let b : brokenOf c x n + 0 ≡ brokenOf c x n = omega arith in
+    ap (ltZ (pos 0)) (excess-is c x n) ∙ sub-order 0 0 (brokenOf c x n) (metOf c x n) ∙ ap₂ ltb a b
+
+-- where no check is broken none of a bit's is
+pub none-broken : (c : Code) (x : Word) → broken c x ≡ 0 → (n : ℕ) → brokenOf c x n ≡ 0
+unfolding broken brokenOf
+none-broken c x e n = count-none (checks c) _ (λ k l. ap (λ b. covers c k n && b) (none-counted (checks c) (check c x) e k l) ∙ and-false (covers c k n))
+
+module _ {c : Code} {way : Way} (ch : Chooses c way) (takes : TakesGreatest c way) (x : Word) (m : ℕ) (sent : c .unsent ≤ m) (under : m < bits c) (above : metOf c x m < brokenOf c x m) where
+  pub record FlipsOne : Type 0 where
+    pub bit : ℕ
+    pub value : ℤ
+    pub is : way x ≡ flip bit value
+    pub low : ltZ (excess c x bit) (excess c x m) ≡ false
+
+  pub flips-one : FlipsOne
+  flips-one = go (way x) refl
+    where
+      go : (nx : Next) → way x ≡ nx → FlipsOne
+      go quiet e = absurd (omega (arith, none-broken c x (ch .quiet-met x e) m))
+      go (stuck n ex) e = absurd (true≢false (sym (above-is c x m ∙ lt-ltb (metOf c x m) (brokenOf c x m) above) ∙ takes .sticks x n ex e m sent under))
+      go (flip n ex) e = record { bit = n; value = ex; is = e; low = takes .most x n ex e m sent under }
+
 -- ---- one wrong bit
 
 -- the checks that two bits share
@@ -100,7 +130,7 @@ whole d = ap (λ b. cond b (negsuc (0 - suc d)) (pos (d - 0))) (le-ltb d 0 zero-
 
 module _ (c : Code) (girth : Girth c) (x : Word) (met : broken c x ≡ 0) (n₀ : ℕ) (h₀ : n₀ < bits c) where
   -- the broken checks are the bit's own
-  broken-own : (k : ℕ) → k < checks c → check c (flipped x n₀) k ≡ covers c k n₀
+  pub broken-own : (k : ℕ) → k < checks c → check c (flipped x n₀) k ≡ covers c k n₀
   unfolding broken
   broken-own k l = check-flip c x n₀ h₀ k ∙ ap (λ z. z ⊕ covers c k n₀) (none-counted (checks c) (check c x) met k l)
 
@@ -132,12 +162,17 @@ module _ (c : Code) (girth : Girth c) (x : Word) (met : broken c x ≡ 0) (n₀ 
   module _ {way : Way} (ch : Chooses c way) (takes : TakesGreatest c way) (sent : c .unsent ≤ n₀) where
     -- so it is the one that is flipped
     pub one-next : way (flipped x n₀) ≡ flip n₀ (pos (degreeOf c n₀))
-    one-next =
-        takes (flipped x n₀) n₀ sent h₀
-        (λ e. omega (arith, sym first-count ∙ e, girth .many n₀ h₀))
-        (ap (ltZ (pos 0)) excess-own ∙ lt-ltb 0 (degreeOf c n₀) (omega (arith, girth .many n₀ h₀)))
-        above-others
-        ∙ ap (flip n₀) excess-own
+    one-next = go (flips-one ch takes (flipped x n₀) n₀ sent h₀ (omega (arith, own, none-met, girth .many n₀ h₀)))
+      where
+        go : FlipsOne ch takes (flipped x n₀) n₀ sent h₀ (omega (arith, own, none-met, girth .many n₀ h₀)) → way (flipped x n₀) ≡ flip n₀ (pos (degreeOf c n₀))
+        go f = by (ℕ-discrete (f .bit) n₀)
+          where
+            chosen : Chosen c (flipped x n₀) (f .bit) (f .value)
+            chosen = ch .flips (flipped x n₀) (f .bit) (f .value) (f .is)
+
+            by : Dec (f .bit ≡ n₀) → way (flipped x n₀) ≡ flip n₀ (pos (degreeOf c n₀))
+            by (yes e) = f .is ∙ ap₂ flip e (chosen .value ∙ ap (excess c (flipped x n₀)) e ∙ excess-own)
+            by (no d) = absurd (true≢false (sym (above-others (f .bit) (chosen .under) d) ∙ f .low))
 
     -- and the run ends with it
     pub one-mended : (limit : ℕ) → run way (suc limit) (flipped x n₀) ≡ after n₀ (pos (degreeOf c n₀)) (ended 0 x)

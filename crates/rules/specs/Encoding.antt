@@ -5,7 +5,7 @@ use mathlib.Core.List.{List, []}
 use Prim.Native.Nat.{ℕ, _+_, _-_, _*_, _/_, _%_, _<_}
 use lib.Dec.{ltb}
 use lib.ListN.{getD}
-use Rattle.bits.specs.Bits.{Word, digit, octets, sum, agree, if_then_else_}
+use Rattle.bits.specs.Bits.{Word, digit, octets, _⊕_, sum, agree, if_then_else_}
 use Rattle.rules.specs.Codes.{Code, bits, information}
 
 -- Bit k of a printed row: where its digits carry more than M bits, the one in front is dropped, and the next bit is bit 0 of the row.
@@ -25,6 +25,10 @@ parityBit c x p = sum (information c) (λ n. x n && rowBit c n p)
 -- A word is the information bits, then the parity.
 unfoldable pub encoded : Code → Word → Word
 encoded c x n = if ltb n (information c) then x n else parityBit c x (n - information c)
+
+-- A word with its first parity block inverted or not, and its second.
+unfoldable pub inverted : Code → Word → Bool → Bool → Word
+inverted c x first second n = x n ⊕ (not (ltb n (information c)) && (if ltb n (information c + c .size) then first else second))
 
 -- The bits that the checks are over, from those that are sent: the unsent ones in front are 0. What is sent after the parity, the last two
 -- bits of code 5, comes behind the bits that the checks are over: no check and no encoding reads it.
