@@ -5,3 +5,4 @@ pub mod Assembled
 pub mod Compared
 pub mod Answering
 pub mod Theorems
+pub mod Outcomes
