@@ -32,6 +32,7 @@ reader-outcome κs a r₁ r₂ s₁ s₂ p q = ap (λ x. record { kept = numbers
 
 pub read-outcome : (κs : Lfts 2) (a : ArgsD read.signature κs) (r₁ r₂ : ResD read.signature κs) (s₁ s₂ : AtExit (endedOf 2 read-kinds.ps read-kinds.r) κs)
     → read-reads.Post κs a r₁ s₁ → read-reads.Post κs a r₂ s₂ → (r₁ ≡ r₂) × (now (s₁ .1 .1 .0) ≡ now (s₂ .1 .1 .0))
-read-outcome κs a r₁ r₂ s₁ s₂ p q =
-    (ap (λ x. record { corrected = numbers (x .corrected); none = x .none; next = record { kept = numbers (x .next .kept); code = x .next .code; limit = x .next .limit; place = x .next .place } }) (p ∙ sym q),
-    ap (λ x. x .corrected .out) (p ∙ sym q))
+read-outcome κs a r₁ r₂ s₁ s₂ p q = (
+  ap (λ x. record { corrected = numbers (x .corrected); none = x .none; next = record { kept = numbers (x .next .kept); code = x .next .code; limit = x .next .limit; place = x .next .place } }) (p ∙ sym q),
+  ap (λ x. x .corrected .out) (p ∙ sym q),
+)

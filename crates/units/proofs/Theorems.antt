@@ -239,7 +239,7 @@ module _ (n : ℕ) (u : unitCode n ≡ true) (info : List ℕ) (oct : Octets inf
     right-mended : (k limit flips : ℕ) → got k ≡ sentBlock k → Mended (answer k limit) k flips
     right-mended k limit flips e =
         let back = ap (λ z. correctAnswer n z limit (replicate (code n .wordOctets) 0)) (right-word k e)
-            ∙ codeword-back n (unit-offered n u) (codeblock n info k) (replicate (code n .wordOctets) 0) (length-codeblock n info k) (length-replicate (code n .wordOctets) 0) (block-octets k) (block-is k) limit in
+        ∙ codeword-back n (unit-offered n u) (codeblock n info k) (replicate (code n .wordOctets) 0) (length-codeblock n info k) (length-replicate (code n .wordOctets) 0) (block-octets k) (block-is k) limit in
         record {
           number = ap (λ r. r .number) back;
           few = subst (λ z. z ≤ flips) (sym (ap (λ r. r .flips) back)) (omega arith);
@@ -252,8 +252,8 @@ module _ (n : ℕ) (u : unitCode n ≡ true) (info : List ℕ) (oct : Octets inf
     near-mended k limit (wrong b h e) =
         let q = plain n u in
         let back = ap (λ z. correctAnswer n z (suc limit) (replicate (code n .wordOctets) 0)) (wrong-word k b e)
-            ∙ one-back n (unit-offered n u) (codeblock n info k) (replicate (code n .wordOctets) 0) (length-codeblock n info k) (length-replicate (code n .wordOctets) 0) (block-octets k) (block-is k) limit b
-              (omega (arith, q .full, q .unsent)) in
+        ∙ one-back n (unit-offered n u) (codeblock n info k) (replicate (code n .wordOctets) 0) (length-codeblock n info k) (length-replicate (code n .wordOctets) 0) (block-octets k) (block-is k) limit b
+        (omega (arith, q .full, q .unsent)) in
         record {
           number = ap (λ r. r .number) back;
           few = subst (λ z. z ≤ 1) (sym (ap (λ r. r .flips) back)) (omega arith);
@@ -270,8 +270,8 @@ module _ (n : ℕ) (u : unitCode n ≡ true) (info : List ℕ) (oct : Octets inf
         let r : Corrected = answer k limit in
         let here : k < blocksIn n U = omega (arith, blocks-is n u X (blocksFor n (length info)) lx) in
         let is : readAnswer s U out ≡ handedOut s r =
-            read-more s U out u lo refl here
-            ∙ next-out s U out r (ap (λ z. correctAnswer n z limit (replicate (code n .wordOctets) 0)) (received-from n u X (blocksFor n (length info)) lx k h)) (m .number) in
+        read-more s U out u lo refl here
+        ∙ next-out s U out r (ap (λ z. correctAnswer n z limit (replicate (code n .wordOctets) 0)) (received-from n u X (blocksFor n (length info)) lx k h)) (m .number) in
         record {
           number = ap (λ z. z .corrected .number) is ∙ m .number;
           few = subst (λ z. z ≤ flips) (sym (ap (λ z. z .corrected .flips) is)) (m .few);
