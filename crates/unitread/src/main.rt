@@ -28,7 +28,10 @@ fn ended() -> bool {
         return false;
     }
     if got > 0 {
-        io::write_all(STDERR_FILENO, b"unitread: a unit of more than 131096 octets\n");
+        io::write_all(
+            STDERR_FILENO,
+            b"unitread: a unit of more than 131096 octets\n",
+        );
         return false;
     }
     true
@@ -110,7 +113,10 @@ fn limit_of(high: u8, low: u8) -> u16 {
 }
 
 fn main() {
-    io::write_all(STDOUT_FILENO, b"codeblock answer flips first last information\n");
+    io::write_all(
+        STDOUT_FILENO,
+        b"codeblock answer flips first last information\n",
+    );
     let mut head = [0u8; 3];
     io::read_full(STDIN_FILENO, &mut head);
     let mut unit = unit_buffer();

@@ -39,6 +39,11 @@ module _ (n : ℕ) (information : List ℕ) where
   long-blocks : length sent-blocks ≡ blocks * code n .wordOctets
   long-blocks = length-randomised telecommand 0 (codeblocks n information blocks) ∙ length-codeblocks n information blocks
 
+  -- the start stands in front as it is
+  pub unit-starts : take 8 (unit n information) ≡ start
+  unfolding unit
+  unit-starts = refl
+
   pub unit-length : length (unit n information) ≡ unitLength n (length information)
   unfolding unit
   unit-length = length-append start (sent-blocks ++ tail n) ∙ ap (λ z. 8 + z) (length-append sent-blocks (tail n) ∙ ap (λ z. z + length (tail n)) long-blocks)

@@ -22,7 +22,10 @@ fn ended() -> bool {
         return false;
     }
     if got > 0 {
-        io::write_all(STDERR_FILENO, b"unitwrite: more than 65536 octets of information\n");
+        io::write_all(
+            STDERR_FILENO,
+            b"unitwrite: more than 65536 octets of information\n",
+        );
         return false;
     }
     true
