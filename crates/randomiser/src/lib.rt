@@ -1,7 +1,7 @@
 // Randomising: the telecommand sequence, added to octets in place.
 ghost use mathlib.Core.Path.{_≡_};
-ghost use Prim.Native.Nat.{_≤_, _<_};
-ghost use lib.ListN.{length};
+ghost use Prim.Native.Nat.{ℕ, _+_, _≤_, _<_};
+ghost use lib.ListN.{length, getD};
 ghost use Rattle.randomiser.specs.Randomiser.{sequenceOctet, telecommand, randomised};
 
 // The octets of the telecommand sequence, which come again after 255; 64 more, so that a codeblock is done without a test for the end.
@@ -327,11 +327,16 @@ const TELECOMMAND: [u8; 319] = [
     0x7B,
 ];
 
-fn octet(n: usize) -> u8
-    requires { ⌜ n < 319 ⌝ }
-    ensures { λ r. ⌜ r ≡ sequenceOctet telecommand n ⌝ }
+// The octets of the sequence from `from` on, which come after `used` others, added to as many octets.
+fn add(octets: &mut [u8], sequence: &[u8], from: usize, used: usize)
+    requires { ⌜ (from + length (now octets) ≤ length (now sequence)) × ((i : ℕ) → i < length (now octets) → getD (now sequence) (from + i) 0 ≡ sequenceOctet telecommand (used + i)) ⌝ }
+    ensures { λ _. ⌜ now (octets .exit) ≡ randomised telecommand used (now (octets .entry)) ⌝ }
 {
-    TELECOMMAND[n]
+    let mut i = 0;
+    while i < octets.len() {
+        octets[i] ^= sequence[from + i];
+        i += 1;
+    }
 }
 
 // Randomises up to 64 octets in place, or takes it off again; `used` octets of the sequence were used before.
@@ -340,9 +345,5 @@ pub fn randomise(octets: &mut [u8], used: usize)
     ensures { λ _. ⌜ now (octets .exit) ≡ randomised telecommand used (now (octets .entry)) ⌝ }
 {
     let from = used % 255;
-    let mut i = 0;
-    while i < octets.len() {
-        octets[i] ^= octet(from + i);
-        i += 1;
-    }
+    add(octets, &TELECOMMAND, from, used);
 }

@@ -5,7 +5,7 @@ use mathlib.Core.List.{List, [], _∷_, _++_}
 use Prim.Native.Nat.{ℕ, zero, suc, _+_, _-_, _*_, _/_, _%_, _≤_, _<_}
 use native.Mathlib.Omega.{arith}
 use lib.Dec.{T, eqb, leb, ltb, eqb→eq}
-use lib.ListN.{length, take, drop, getD, length-take, length-drop, drop-of-length-le}
+use lib.ListN.{length, take, drop, getD, replicate, length-take, length-drop, drop-of-length-le}
 use lib.Seq.{drop-cons, length-take-le, take-all}
 use borrow.Author.Tests.{eq-eqb, ne-eqb, eqb-true, le-leb}
 use Rattle.rules.specs.Codes.{code, code1, code3}
@@ -47,6 +47,11 @@ module _ (a b : List ℕ) (i : ℕ) (ha : i < length a) (hb : i < length b) wher
 
 pub same-past : (a b : List ℕ) (i : ℕ) → length a ≤ i → length b ≤ i → same (drop i a) (drop i b) ≡ true
 same-past a b i ha hb = ap₂ same (drop-of-length-le a ha) (drop-of-length-le b hb)
+
+-- a codeblock and no tail behind it, of code 1
+tail-demanded : shaped 1 (start ++ replicate 32 0) ≡ false
+unfolding code code1 tail shaped
+tail-demanded = refl
 
 pub short-start : (unit : List ℕ) → length unit < 8 → started unit ≡ false
 unfolding started

@@ -1,81 +1,28 @@
--- `randomiser::randomise`: what is done so far is randomised, and the rest is as it was. Assumes nothing.
-use mathlib.Core.Path.{_≡_, refl, ap, ap₂, sym, _∙_}
-use mathlib.Core.List.{List, _∷_, [], _++_, append-nil}
-use Prim.Native.Nat.{ℕ, _≤_, _<_, _-_}
+-- `randomiser::randomise`: the table holds the octets of the sequence. Assumes nothing.
+use mathlib.Core.Path.{_∙_}
+use Prim.Native.Nat.{_+_, _%_}
 use native.Mathlib.Omega.{arith}
-use native.Mathlib.Numerals.{add-one}
-use lib.ListN.{length, take, drop, getD, length-set}
-use lib.Seq.{take-length, drop-length}
-use Rattle.randomiser.proofs.Sequences.{telecommand-place}
-use Rattle.randomiser.proofs.Randomising.{randomised-more}
-use Rattle.randomiser.specs.Randomiser.{telecommand, randomised}
+use Rattle.bits.specs.Bits.{number}
+use Rattle.randomiser.specs.Randomiser.{telecommand}
+use Rattle.randomiser.proofs.Sequences.{telecommand-octets, telecommand-place}
+use borrow.Author.Needs.{needs}
 use Rattle.randomiser.proofs.randomise.Statement.{statement}
 use Rattle.randomiser.proofs.randomise.Tie as tie
 
-abbrev Inv-loop : tie.InvT-loop
-Inv-loop octets₀ used from i₀ octets i = (i ≤ length octets₀) × (length octets ≡ length octets₀) × (octets ≡ randomised telecommand used (take i octets₀) ++ drop i octets₀)
+slice-aggregate-add : tie.Need-slice-aggregate-add
+slice-aggregate-add c = search needs
 
-abbrev μ-loop : tie.MeasureT-loop
-μ-loop octets₀ used from i₀ octets i = length octets₀ - i
+add-requires : tie.Need-add-requires
+unfolding number telecommand
+add-requires c κs =
+    let a = c .before .before .before in
+    (omega arith, λ i l. telecommand-octets (a .args .used % 255 + i) (omega arith) ∙ telecommand-place (a .args .used) i)
 
-loop-holds : tie.Need-loop-holds Inv-loop μ-loop
-unfolding randomised
-loop-holds c = (omega arith, refl, refl)
+same-length : tie.Need-same-length
+same-length c = search needs
 
-add-octet : tie.Need-add-octet Inv-loop μ-loop
-add-octet c = omega arith
-
-octet-requires : tie.Need-octet-requires Inv-loop μ-loop
-octet-requires c κs = omega arith
-
-slice-read-octets : tie.Need-slice-read-octets Inv-loop μ-loop
-slice-read-octets c = omega arith
-
-slice-write-octets : tie.Need-slice-write-octets Inv-loop μ-loop
-slice-write-octets c = omega arith
-
-add-i : tie.Need-add-i Inv-loop μ-loop
-add-i c = omega arith
-
-loop-less : tie.Need-loop-less Inv-loop μ-loop
-loop-less c = omega arith
-
-loop-again : tie.Need-loop-again Inv-loop μ-loop
-loop-again c =
-    let h = c .before .before .before .loop in
-    let a = c .before .before .before .before .before .args in (
-      omega arith,
-      simp length-set (h .inv .1),
-      randomised-more telecommand (a .used) (a .octets .now) (h .octets) (h .i) (c .before .octet .result) (omega arith) (c .slice-known2 .given (h .i) .fits) (h .inv .2)
-          (c .before .octet .ensures ∙ telecommand-place (a .used) (h .i)),
-    )
-
-same-length : tie.Need-same-length Inv-loop μ-loop
-same-length c = omega arith
-
-returns : tie.Need-returns Inv-loop μ-loop
-returns c =
-    let h = c .before .loop in
-    let a = c .before .before .before .args in
-    let e : h .i ≡ length (a .octets .now) = omega arith in
-    h .inv .2
-    ∙ ap (λ z. randomised telecommand (a .used) (take z (a .octets .now)) ++ drop z (a .octets .now)) e
-    ∙ ap₂ (λ x y. randomised telecommand (a .used) x ++ y) (take-length (a .octets .now)) (drop-length (a .octets .now))
-    ∙ append-nil (randomised telecommand (a .used) (a .octets .now))
+returns : tie.Need-returns
+returns c = search needs
 
 pub randomise-spec : {M : Type 1} → statement M
-randomise-spec =
-    tie.close
-    (tie.spec
-    Inv-loop
-    μ-loop
-    loop-holds
-    add-octet
-    octet-requires
-    slice-read-octets
-    slice-write-octets
-    add-i
-    loop-less
-    loop-again
-    same-length
-    returns)
+randomise-spec = tie.close (tie.spec slice-aggregate-add add-requires same-length returns)
