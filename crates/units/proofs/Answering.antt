@@ -14,7 +14,7 @@ use Rattle.rules.specs.Codes.{code, code1, code3}
 use Rattle.rules.specs.Encoding.{lifted, sent, written}
 use Rattle.rules.specs.Flipping.{byExcess, run}
 use Rattle.answers.specs.Calls.{Corrected, judged, refusedCorrect, ranCorrect, correctAnswer}
-use Rattle.answers.proofs.Answers.{correct-cases}
+use Rattle.answers.proofs.Answers.{correct-cases, when-not, when-long}
 use Rattle.randomiser.specs.Randomiser.{telecommand, randomised}
 use Rattle.randomiser.proofs.Randomising.{length-randomised}
 use Rattle.units.specs.Units.{unitCode, tail, started, shaped, between, blocksIn, received, Reading, Handed, withOut, handedOut, handedLast, handedAgain, readNext, readAnswer, readerNumber}
@@ -149,3 +149,28 @@ module _ (n : ℕ) (unit got buf₁ buf₂ : List ℕ) (k size limit : ℕ) (u :
 pub place-fits : (n : ℕ) (unit : List ℕ) (k : ℕ) → unitCode n ≡ true → k < blocksIn n unit → k < length unit
 unfolding code code1 code3 tail
 place-fits n unit k = both (λ n. k < (length unit - 8 - length (tail n)) / code n .wordOctets → k < length unit) (λ h. omega arith) (λ h. omega arith) n
+
+-- an asking leaves the output's length as it is
+when-is : (b : Bool) → T b → b ≡ true
+when-is true t = refl
+when-is false t = absurd t
+
+pub read-length : (s : Reading) (unit out : List ℕ) → length (readAnswer s unit out .corrected .out) ≡ length out
+unfolding readAnswer readNext
+read-length s unit out =
+    let I = code (s .code) .informationOctets in
+    let r = correctedAt s unit out in
+    when-not Kept (unitCode (s .code)) (handedAgain s (refusedCorrect 1 out) false) _ (λ e. refl) (λ t.
+    when-long Kept out (code (s .code) .informationOctets) (handedAgain s (refusedCorrect 3 out) false) _ refl (λ lo.
+    pick (not (eqb (s .kept .number) 0)) (handedAgain s (withOut (s .kept) out) false) _ refl (
+    pick (not (ltb (s .place) (blocksIn (s .code) unit))) (handedAgain s (refusedCorrect 0 out) true) _ refl (
+    pick (eqb (r .number) 0) (handedOut s r) (handedLast s r out) (
+    let z = sizes (s .code) (when-is (unitCode (s .code)) t) in
+    length-take-le I (r .out) (omega (arith, z .whole, correct-length (s .code) (received (s .code) unit (s .place)) (s .limit) (replicate (code (s .code) .wordOctets) 0), length-replicate {A = ℕ} (code (s .code) .wordOctets) 0)) ∙ sym lo) refl))))
+  where
+    Kept : Handed → Type 0
+    Kept h = length (h .corrected .out) ≡ length out
+
+    pick : (b : Bool) (x y : Handed) → length (x .corrected .out) ≡ length out → length (y .corrected .out) ≡ length out → length ((if b then x else y) .corrected .out) ≡ length out
+    pick true x y p q = p
+    pick false x y p q = q
