@@ -64,3 +64,15 @@ pub fn next<'a>(r: Reader<'a>) -> Block
 {
     block_at(r.unit, r.place, r.code, r.limit)
 }
+
+// The reader at another place.
+pub fn moved<'a>(r: Reader<'a>, to: usize) -> Reader<'a>
+    ensures { λ q. ⌜ (q .unit ≡ r .entry .unit) × (q .place ≡ to) × (q .code ≡ r .entry .code) × (q .limit ≡ r .entry .limit) ⌝ }
+{
+    Reader {
+        unit: r.unit,
+        place: to,
+        code: r.code,
+        limit: r.limit,
+    }
+}
