@@ -24,3 +24,4 @@ compare: lib
 
 bench: lib
 	outside/bench
+	outside/units_bench
