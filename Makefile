@@ -26,3 +26,4 @@ compare: lib
 
 bench: lib
 	outside/bench
+	outside/units_bench

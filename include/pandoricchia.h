@@ -62,6 +62,8 @@ enum pandoricchia_number {
     PANDORICCHIA_UNSENT = 7,         /* never given: no run sets a bit that is not sent */
     PANDORICCHIA_PARITY = 8,         /* correct, codes 4 and 5: quiet, but the parity is not the encoder's */
     PANDORICCHIA_NO_CODEWORD = 9,    /* open: the word is not a codeword */
+    PANDORICCHIA_NO_START = 11,      /* reader: the whole start sequence is not there */
+    PANDORICCHIA_NO_TAIL = 12,       /* reader: what follows is not one or more whole codeblocks and the tail */
     PANDORICCHIA_NO_BCH_WORD = 13,   /* bch_check: no codeword differs in at most one bit; detect-only: the word is none */
     PANDORICCHIA_TOO_LONG = 20,      /* import_blocks: not whole blocks or more than 128; export_blocks: more than 64,512 octets */
     PANDORICCHIA_BLOCK_CHECK = 21,   /* import_blocks: a block's frame check */
@@ -93,6 +95,10 @@ static inline const char *pandoricchia_text(uint8_t number)
         return "quiet, parity not the encoder's";
     case PANDORICCHIA_NO_CODEWORD:
         return "not a codeword";
+    case PANDORICCHIA_NO_START:
+        return "the whole start is not there";
+    case PANDORICCHIA_NO_TAIL:
+        return "what follows is not one or more whole codeblocks and the tail";
     case PANDORICCHIA_NO_BCH_WORD:
         return "no codeword differs in at most one bit; detect-only: the word is none";
     case PANDORICCHIA_TOO_LONG:
@@ -155,6 +161,39 @@ typedef struct pandoricchia_stepped {
 /* Step, codes 1 to 4: one flip of correct's run. */
 pandoricchia_stepped pandoricchia_step(uint8_t code, const uint8_t *word, size_t word_len, uint8_t *out,
                                           size_t out_len);
+
+/* Telecommand transmission units, codes 1 and 3: a start sequence, codeblocks, and for code 1 a tail. */
+
+/* How many octets the unit of so many octets of information has; 0 where there is no unit. */
+size_t pandoricchia_unit_octets(uint8_t code, size_t information_len);
+
+/* Writes the unit of the information, which is filled up with octets 55 to whole codeblocks. Returns 0; 1 for another
+ * code; 2 if there is no information; 3 if out is not exactly as long as the unit. */
+uint8_t pandoricchia_write_unit(uint8_t code, const uint8_t *information, size_t information_len, uint8_t *out,
+                                size_t out_len);
+
+/* A reading of a unit. kept.number is 0 while it goes on; 1, 11 or 12 if there is no reader; 5 or 6 after a refused
+ * codeblock. */
+typedef struct pandoricchia_reading {
+    pandoricchia_corrected kept;  /* the answer that ended the reading */
+    uint8_t code;
+    uint16_t limit;
+    size_t place;  /* how many codeblocks were handed out */
+} pandoricchia_reading;
+
+/* A reader over a unit: its number is kept.number, 0, 1, 11 or 12. */
+pandoricchia_reading pandoricchia_reader(uint8_t code, const uint8_t *unit, size_t unit_len, uint16_t limit);
+
+typedef struct pandoricchia_handed {
+    pandoricchia_corrected corrected;  /* correct's numbers for this codeblock */
+    bool none;                         /* the last codeblock was handed out before: nothing is written, number is 0 */
+    pandoricchia_reading next;         /* the reading from here on: hand it in at the next asking */
+} pandoricchia_handed;
+
+/* Asks for the next codeblock of the same unit, as its information octets. 3 first, if out is not the code's information
+ * length, which ends nothing. 5 or 6 ends the reading, and is answered again and again, as none is after the last. */
+pandoricchia_handed pandoricchia_read(pandoricchia_reading state, const uint8_t *unit, size_t unit_len, uint8_t *out,
+                                      size_t out_len);
 
 /* The older BCH words, BCH (63,56) by CCSDS 231.0-B: 7 octets of information, then seven inverted parity bits and one
  * zero fill bit, 8 octets in all. These calls take no code number. */

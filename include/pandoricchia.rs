@@ -23,6 +23,8 @@ pub const LIMIT: u8 = 6;
 pub const UNSENT: u8 = 7;
 pub const PARITY: u8 = 8;
 pub const NO_CODEWORD: u8 = 9;
+pub const NO_START: u8 = 11;
+pub const NO_TAIL: u8 = 12;
 pub const NO_BCH_WORD: u8 = 13;
 pub const TOO_LONG: u8 = 20;
 pub const BLOCK_CHECK: u8 = 21;
@@ -55,11 +57,29 @@ pub struct Stepped {
     pub excess: i8,
 }
 
+/// A reading of a unit: `kept.number` is its number.
+#[repr(C)]
+#[derive(Clone, Copy, Debug, PartialEq, Eq)]
+pub struct Reading {
+    pub kept: Corrected,
+    pub code: u8,
+    pub limit: u16,
+    pub place: usize,
+}
+
 #[repr(C)]
 #[derive(Clone, Copy, Debug, PartialEq, Eq)]
 pub struct Mended {
     pub number: u8,
     pub mended: u8,
+}
+
+#[repr(C)]
+#[derive(Clone, Copy, Debug, PartialEq, Eq)]
+pub struct Handed {
+    pub corrected: Corrected,
+    pub none: bool,
+    pub next: Reading,
 }
 
 #[repr(C)]
@@ -77,6 +97,10 @@ extern "C" {
     fn pandoricchia_open(code: u8, word: *const u8, word_len: usize, number: *mut u8) -> usize;
     fn pandoricchia_correct(code: u8, word: *const u8, word_len: usize, limit: u16, out: *mut u8, out_len: usize) -> Corrected;
     fn pandoricchia_step(code: u8, word: *const u8, word_len: usize, out: *mut u8, out_len: usize) -> Stepped;
+    fn pandoricchia_unit_octets(code: u8, information_len: usize) -> usize;
+    fn pandoricchia_write_unit(code: u8, information: *const u8, information_len: usize, out: *mut u8, out_len: usize) -> u8;
+    fn pandoricchia_reader(code: u8, unit: *const u8, unit_len: usize, limit: u16) -> Reading;
+    fn pandoricchia_read(state: Reading, unit: *const u8, unit_len: usize, out: *mut u8, out_len: usize) -> Handed;
     fn pandoricchia_bch_encode(information: *const u8, information_len: usize, word: *mut u8, word_len: usize) -> u8;
     fn pandoricchia_bch_check(detect_only: bool, word: *const u8, word_len: usize, out: *mut u8, out_len: usize) -> Mended;
     fn pandoricchia_import_blocks(blocks: *const u8, blocks_len: usize, out: *mut u8, out_len: usize) -> Imported;
@@ -102,6 +126,8 @@ pub fn text(number: u8) -> &'static str {
         UNSENT => "an unsent bit became 1",
         PARITY => "quiet, parity not the encoder's",
         NO_CODEWORD => "not a codeword",
+        NO_START => "the whole start is not there",
+        NO_TAIL => "what follows is not one or more whole codeblocks and the tail",
         NO_BCH_WORD => "no codeword differs in at most one bit; detect-only: the word is none",
         TOO_LONG => "not whole blocks or more than 128; more than 64,512 octets",
         BLOCK_CHECK => "a block's frame check",
@@ -153,6 +179,41 @@ pub fn correct(code: u8, word: &[u8], limit: u16, out: &mut [u8]) -> Corrected {
 #[must_use]
 pub fn step(code: u8, word: &[u8], out: &mut [u8]) -> Stepped {
     unsafe { pandoricchia_step(code, word.as_ptr(), word.len(), out.as_mut_ptr(), out.len()) }
+}
+
+/// How many octets the unit of so many octets of information has; 0 where there is no unit.
+#[must_use]
+pub fn unit_octets(code: u8, information_len: usize) -> usize {
+    unsafe { pandoricchia_unit_octets(code, information_len) }
+}
+
+/// The unit of the information. Gives the number, 0 to 3.
+#[must_use]
+pub fn write_unit(code: u8, information: &[u8], out: &mut [u8]) -> u8 {
+    unsafe { pandoricchia_write_unit(code, information.as_ptr(), information.len(), out.as_mut_ptr(), out.len()) }
+}
+
+/// A reader that stands on the lent unit and hands out one codeblock after another.
+#[derive(Clone, Copy, Debug)]
+pub struct Reader<'a> {
+    unit: &'a [u8],
+    state: Reading,
+}
+
+/// A reader over a unit; or the number, 1, 11 or 12.
+pub fn reader(code: u8, unit: &[u8], limit: u16) -> Result<Reader<'_>, u8> {
+    let state = unsafe { pandoricchia_reader(code, unit.as_ptr(), unit.len(), limit) };
+    if state.kept.number == DONE { Ok(Reader { unit, state }) } else { Err(state.kept.number) }
+}
+
+impl Reader<'_> {
+    /// The information octets of the next codeblock, with correct's numbers; or none.
+    #[must_use]
+    pub fn read(&mut self, out: &mut [u8]) -> Handed {
+        let handed = unsafe { pandoricchia_read(self.state, self.unit.as_ptr(), self.unit.len(), out.as_mut_ptr(), out.len()) };
+        self.state = handed.next;
+        handed
+    }
 }
 
 /// BCH (63,56): information in, word out. Gives the number, 0, 2 or 3.

@@ -26,6 +26,20 @@ use Rattle.capi.proofs.pandoricchia_correct.Reads as correct-reads
 use Rattle.capi.proofs.pandoricchia_step as step
 use Rattle.capi.proofs.pandoricchia_step.Kinds as step-kinds
 use Rattle.capi.proofs.pandoricchia_step.Reads as step-reads
+use Rattle.capi.proofs.pandoricchia_unit_octets as unit-octets
+use Rattle.capi.proofs.pandoricchia_unit_octets.Kinds as unit-octets-kinds
+use Rattle.capi.proofs.pandoricchia_unit_octets.Reads as unit-octets-reads
+use Rattle.capi.proofs.pandoricchia_write_unit as write-unit
+use Rattle.capi.proofs.pandoricchia_write_unit.Kinds as write-unit-kinds
+use Rattle.capi.proofs.pandoricchia_write_unit.Reads as write-unit-reads
+use Rattle.capi.proofs.pandoricchia_reader as reader
+use Rattle.capi.proofs.pandoricchia_reader.Kinds as reader-kinds
+use Rattle.capi.proofs.pandoricchia_reader.Reads as reader-reads
+use Rattle.capi.proofs.pandoricchia_read as read
+use Rattle.capi.proofs.pandoricchia_read.Kinds as read-kinds
+use Rattle.capi.proofs.pandoricchia_read.Reads as read-reads
+use Rattle.answers.specs.Calls.{Corrected}
+use Rattle.codes.specs.declared.Corrected.{Corrected as Numbers}
 
 pub word-octets-outcome : (κs : Lfts 0) (a : ArgsD word-octets.signature κs) (r₁ r₂ : ResD word-octets.signature κs) (s₁ s₂ : AtExit (endedOf 0 word-octets-kinds.ps word-octets-kinds.r) κs)
     → word-octets-reads.Post κs a r₁ s₁ → word-octets-reads.Post κs a r₂ s₂ → r₁ ≡ r₂
@@ -57,3 +71,26 @@ pub step-outcome : (κs : Lfts 2) (a : ArgsD step.signature κs) (r₁ r₂ : Re
     → step-reads.Post κs a r₁ s₁ → step-reads.Post κs a r₂ s₂ → (r₁ ≡ r₂) × (now (s₁ .1 .1 .0) ≡ now (s₂ .1 .1 .0))
 step-outcome κs a r₁ r₂ s₁ s₂ p q =
     (ap (λ x. record { number = x .number; quiet = x .quiet; bit = x .bit; excess = x .excess }) (p ∙ sym q), ap (λ x. x .out) (p ∙ sym q))
+
+pub unit-octets-outcome : (κs : Lfts 0) (a : ArgsD unit-octets.signature κs) (r₁ r₂ : ResD unit-octets.signature κs) (s₁ s₂ : AtExit (endedOf 0 unit-octets-kinds.ps unit-octets-kinds.r) κs)
+    → unit-octets-reads.Post κs a r₁ s₁ → unit-octets-reads.Post κs a r₂ s₂ → r₁ ≡ r₂
+unit-octets-outcome κs a r₁ r₂ s₁ s₂ p q = p ∙ sym q
+
+pub write-unit-outcome : (κs : Lfts 2) (a : ArgsD write-unit.signature κs) (r₁ r₂ : ResD write-unit.signature κs) (s₁ s₂ : AtExit (endedOf 2 write-unit-kinds.ps write-unit-kinds.r) κs)
+    → write-unit-reads.Post κs a r₁ s₁ → write-unit-reads.Post κs a r₂ s₂ → (r₁ ≡ r₂) × (now (s₁ .1 .1 .0) ≡ now (s₂ .1 .1 .0))
+write-unit-outcome κs a r₁ r₂ s₁ s₂ p q = (ap (λ x. x .number) (p ∙ sym q), ap (λ x. x .out) (p ∙ sym q))
+
+-- A record of numbers from the answer that it stands for.
+abbrev numbers : Corrected → Numbers
+numbers r = record { number = r .number; flips = r .flips; first = r .first; last = r .last; unlike = r .unlike }
+
+pub reader-outcome : (κs : Lfts 1) (a : ArgsD reader.signature κs) (r₁ r₂ : ResD reader.signature κs) (s₁ s₂ : AtExit (endedOf 1 reader-kinds.ps reader-kinds.r) κs)
+    → reader-reads.Post κs a r₁ s₁ → reader-reads.Post κs a r₂ s₂ → r₁ ≡ r₂
+reader-outcome κs a r₁ r₂ s₁ s₂ p q = ap (λ x. record { kept = numbers (x .kept); code = x .code; limit = x .limit; place = x .place }) (p ∙ sym q)
+
+pub read-outcome : (κs : Lfts 2) (a : ArgsD read.signature κs) (r₁ r₂ : ResD read.signature κs) (s₁ s₂ : AtExit (endedOf 2 read-kinds.ps read-kinds.r) κs)
+    → read-reads.Post κs a r₁ s₁ → read-reads.Post κs a r₂ s₂ → (r₁ ≡ r₂) × (now (s₁ .1 .1 .0) ≡ now (s₂ .1 .1 .0))
+read-outcome κs a r₁ r₂ s₁ s₂ p q = (
+  ap (λ x. record { corrected = numbers (x .corrected); none = x .none; next = record { kept = numbers (x .next .kept); code = x .next .code; limit = x .next .limit; place = x .next .place } }) (p ∙ sym q),
+  ap (λ x. x .corrected .out) (p ∙ sym q),
+)

@@ -3,6 +3,8 @@ ghost use mathlib.Core.Path.{_≡_};
 ghost use lib.ListN.{length};
 ghost use Rattle.answers.specs.Calls.{wordOctetsAnswer, informationOctetsAnswer, encodeAnswer, checkAnswer, openAnswer, correctAnswer, stepAnswer};
 ghost use Rattle.codes.specs.Answers.{asEncoded, asChecked, asCorrected, asStepped};
+ghost use Rattle.units.specs.Units.{unitOctets, writeAnswer, readerAnswer, readAnswer};
+ghost use Rattle.units.specs.Answers.{asReading, asHanded};
 ghost use Rattle.bch.specs.Bch.{bchEncodeAnswer, bchCheckAnswer};
 ghost use Rattle.bch.specs.Answers.{asEncoded as asBchEncoded, asMended};
 use bch::Mended;
@@ -12,6 +14,8 @@ use blocks::Imported;
 use codes::Checked;
 use codes::Corrected;
 use codes::Stepped;
+use units::Handed;
+use units::Reading;
 
 // The octets of a word; 0 for a code that is not offered.
 #[no_mangle]
@@ -75,6 +79,35 @@ pub extern "C" fn pandoricchia_step(code: u8, word: &[u8], out: &mut [u8]) -> St
     ensures { λ r. ⌜ asStepped r (now (out .exit)) ≡ stepAnswer code (now (word .entry)) (now (out .entry)) ⌝ }
 {
     codes::step(code, word, out)
+}
+
+#[no_mangle]
+pub extern "C" fn pandoricchia_unit_octets(code: u8, information_len: usize) -> usize
+    ensures { λ r. ⌜ r ≡ unitOctets code «information_len» ⌝ }
+{
+    units::unit_octets(code, information_len)
+}
+
+#[no_mangle]
+pub extern "C" fn pandoricchia_write_unit(code: u8, information: &[u8], out: &mut [u8]) -> u8
+    ensures { λ r. ⌜ asEncoded r (now (out .exit)) ≡ writeAnswer code (now (information .entry)) (now (out .entry)) ⌝ }
+{
+    units::write_unit(code, information, out)
+}
+
+// The reader's state is the caller's, by value: a struct that holds the unit's slice has no form in C.
+#[no_mangle]
+pub extern "C" fn pandoricchia_reader(code: u8, unit: &[u8], limit: u16) -> Reading
+    ensures { λ r. ⌜ asReading r ≡ readerAnswer code (now (unit .entry)) limit ⌝ }
+{
+    units::reader(code, unit, limit)
+}
+
+#[no_mangle]
+pub extern "C" fn pandoricchia_read(state: Reading, unit: &[u8], out: &mut [u8]) -> Handed
+    ensures { λ r. ⌜ asHanded r (now (out .exit)) ≡ readAnswer (asReading state) (now (unit .entry)) (now (out .entry)) ⌝ }
+{
+    units::read(state, unit, out)
 }
 
 #[no_mangle]

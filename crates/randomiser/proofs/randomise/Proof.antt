@@ -1,0 +1,28 @@
+-- `randomiser::randomise`: the table holds the octets of the sequence. Assumes nothing.
+use mathlib.Core.Path.{_∙_}
+use Prim.Native.Nat.{_+_, _%_}
+use native.Mathlib.Omega.{arith}
+use Rattle.bits.specs.Bits.{number}
+use Rattle.randomiser.specs.Randomiser.{telecommand}
+use Rattle.randomiser.proofs.Sequences.{telecommand-octets, telecommand-place}
+use borrow.Author.Needs.{needs}
+use Rattle.randomiser.proofs.randomise.Statement.{statement}
+use Rattle.randomiser.proofs.randomise.Tie as tie
+
+slice-aggregate-add : tie.Need-slice-aggregate-add
+slice-aggregate-add c = search needs
+
+add-requires : tie.Need-add-requires
+unfolding number telecommand
+add-requires c κs =
+    let a = c .before .before .before in
+    (omega arith, λ i l. telecommand-octets (a .args .used % 255 + i) (omega arith) ∙ telecommand-place (a .args .used) i)
+
+same-length : tie.Need-same-length
+same-length c = search needs
+
+returns : tie.Need-returns
+returns c = search needs
+
+pub randomise-spec : {M : Type 1} → statement M
+randomise-spec = tie.close (tie.spec slice-aggregate-add add-requires same-length returns)
