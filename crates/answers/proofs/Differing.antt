@@ -46,8 +46,15 @@ module _ (c : Code) where
   differ-two x b d hb hd apart =
       let a : differing c (flipped (flipped x b) d) x ≡ count (bits c) (λ i. eqb i b ⊕ eqb i d) =
       count-same (bits c) (λ i. flipped (flipped x b) d i ⊕ x i) (λ i. eqb i b ⊕ eqb i d) (λ i l. back-two (x i) (eqb i b) (eqb i d)) in
-      omega (arith, a, count-xor (bits c) (λ i. eqb i b) (λ i. eqb i d), count-pick (bits c) d (λ i. eqb i b) hd, count-one (bits c) b hb, count-one (bits c) d hd,
-      ap tally (ne-eqb d b (λ q. apart (sym q))))
+      omega (
+        arith,
+        a,
+        count-xor (bits c) (λ i. eqb i b) (λ i. eqb i d),
+        count-pick (bits c) d (λ i. eqb i b) hd,
+        count-one (bits c) b hb,
+        count-one (bits c) d hd,
+        ap tally (ne-eqb d b (λ q. apart (sym q))),
+      )
 
   -- a flip adds one bit that differs, or takes one
   pub differ-flip : (x y : Word) (n : ℕ) → n < bits c → differing c x (flipped y n) + 2 * tally (x n ⊕ y n) ≡ differing c x y + 1
