@@ -1,6 +1,6 @@
 -- The worked cases of the paper that are marked to be proved, gathered into one statement over a list of them.
 use mathlib.Core.Path.{_≡_, refl, sym, ap, ap₂, _∙_, fun-ext, subst}
-use mathlib.Core.Bool.{Bool, true, false, not, _&&_, _||_, and-false}
+use mathlib.Core.Bool.{Bool, true, false, not, _&&_, and-false}
 use mathlib.Core.List.{List, [], _∷_, _++_}
 use Prim.Native.Nat.{ℕ, _+_, _-_, _/_, _%_, _≤_, _<_, zero-le}
 use native.Mathlib.Nat.{lt-of-lt-of-le, lt-of-le-of-lt, le-of-eq, not-suc-le-zero, lt-of-not-le}
@@ -27,14 +27,10 @@ use Rattle.rules.proofs.Ways.{one-next}
 use Rattle.rules.proofs.Choosing.{quiet-next, by-excess, by-greatest}
 use Rattle.rules.proofs.Published.{published1, published4, published5}
 use Rattle.rules.proofs.Codewords.{own-codeword, codeword-bit, sent-bit, encoded-parity, encoded-information, parity-same, lifted-sent}
+use Rattle.answers.proofs.Three.{among}
 use Rattle.answers.proofs.Answers.{correct-taken, step-taken, open-taken}
 use Rattle.rules.proofs.Numbers.{published, encoded-meets, whole, lifted-whole, four-quiet, met-codeword}
 use Rattle.answers.proofs.Corrections.{oneWrong, bit-one-wrong, lifted-flip, one-back, unsent-wrong, near-degree}
-
--- whether a number stands in a list
-abbrev pub among : ℕ → List ℕ → Bool
-among k [] = false
-among k (j ∷ js) = eqb k j || among k js
 
 pub data Case : Type 0 where
   -- information is encoded as this word

@@ -3,6 +3,7 @@ pub mod Differing
 pub mod Demands
 pub mod Corrections
 pub mod Wrong
+pub mod Three
 pub mod Steps
 pub mod Refusals
 pub mod Cases

@@ -11,7 +11,7 @@ use Rattle.bits.proofs.Counting.{count-none}
 use Rattle.bits.specs.Bits.{Word, bit, count, if_then_else_}
 use Rattle.rules.specs.Codes.{Code, code, telecommanded}
 use Rattle.rules.specs.Encoding.{lifted, sent, codeword}
-use Rattle.rules.specs.Flipping.{quiet, Way, byExcess, Run, run}
+use Rattle.rules.specs.Flipping.{quiet, Way, Run, run}
 use Rattle.answers.specs.Calls.{judged, ranCorrect, correctAnswer}
 use Rattle.rules.proofs.Runs.{run-ends, End, ends-quiet, ends-stuck, ends-limit}
 use Rattle.rules.proofs.Ways.{Chooses, run-unsent}

@@ -53,7 +53,7 @@ fn table(code: u8)
     let mut t = [0u16; 64];
     let o = offer::of(code);
     let sh = o.shape;
-    tables::lend(sh.size, &mut t);
+    let lent = tables::lend(sh.size, &mut t);
     entries(code, sh.size, sh.blocks, &t);
 }
 

@@ -1,14 +1,15 @@
 -- A code's record and its lengths, where a call is admitted or refused.
 use mathlib.Core.Path.{_≡_, refl, sym, ap, _∙_, subst}
 use mathlib.Core.Bool.{Bool, true, false, not, _&&_}
-use Prim.Native.Nat.{ℕ}
+use Prim.Native.Nat.{ℕ, _≤_, _<_}
 use lib.Dec.{T, eqb}
 use Rattle.rules.specs.Codes.{code, bits, offered}
 use Rattle.answers.specs.Calls.{refusal}
 use Rattle.answers.proofs.Answers.{Right, refusal-as, refusal-right}
 use Rattle.offer.specs.declared.Offer.{Offer}
 use Rattle.offer.specs.Offers.{offerOf, Known}
-use Rattle.offer.proofs.Offers.{offers, fixed, known}
+use Rattle.layout.specs.declared.Shape.{Shape}
+use Rattle.offer.proofs.Offers.{offers, fixed, known, small}
 
 -- a truth, as an equation; and the first of two
 pub as-truth : {b : Bool} → b ≡ true → T b
@@ -90,3 +91,7 @@ module _ (n : ℕ) {o : Offer} (is : o ≡ offerOf n) where
 
   pub bits-are : offered n ≡ true → o .bits ≡ bits (code n)
   bits-are off = ap (λ z. z .bits) is ∙ fixed n off .bits-are
+
+-- what the engine asks of a shape that is the record's
+pub shaped : {o : Offer} {sh : Shape} → Known o → sh ≡ o .shape → (1 ≤ sh .blocks) × (o .unsent < sh .size)
+shaped {o} k e = (subst (λ z. 1 ≤ z .blocks) (sym e) (small k .blocks), subst (λ z. o .unsent < z .size) (sym e) (small k .within))

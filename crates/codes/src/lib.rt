@@ -184,9 +184,8 @@ fn correct_taken(o: Offer, word: &[u8], limit: u16, out: &mut [u8]) -> Corrected
     let mut t = [0u16; 64];
     let mut y = [0u64; 130];
     let mut s = [0u64; 16];
-    measured::measure(o, word, &mut t, &mut y, &mut s);
+    let sh = measured::measure(o, word, &mut t, &mut y, &mut s);
     let first = syndromes::broken(&s);
-    let sh = o.shape;
     let ran = runs::run(&mut y, &mut s, &t, sh, o.unsent, limit);
     let last = syndromes::broken(&s);
     let unlike = unlike_after(o, word, &y, ran.flips);
@@ -223,8 +222,7 @@ fn step_taken(o: Offer, word: &[u8], out: &mut [u8]) -> Stepped
     let mut t = [0u16; 64];
     let mut y = [0u64; 130];
     let mut s = [0u64; 16];
-    measured::measure(o, word, &mut t, &mut y, &mut s);
-    let sh = o.shape;
+    let sh = measured::measure(o, word, &mut t, &mut y, &mut s);
     let next = runs::comes_next(&s, &t, sh, o.unsent);
     match next {
         Next::Quiet => {

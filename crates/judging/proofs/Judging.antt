@@ -159,11 +159,11 @@ module _ (n : ℕ) (off : offered n ≡ true) (o : Offer) (is : o ≡ offerOf n)
 
 -- ---- a measured word, by what is found of it
 
-module _ (n : ℕ) (off : offered n ≡ true) (o : Offer) (is : o ≡ offerOf n) (y s : Word) (word t : List ℕ) (long : length word ≡ code n .wordOctets)
-    (m : Measured n word t y s (o .shape)) (q : Bool)
+module _ (n : ℕ) (off : offered n ≡ true) (o : Offer) (is : o ≡ offerOf n) (y s : Word) (word t : List ℕ) (sh : Shape) (long : length word ≡ code n .wordOctets)
+    (m : Measured n word t y s sh) (q : Bool)
     (tells-quiet : (c : Code) (h : List ℕ) (sh : Shape) (x : Word) → Fit h sh → Lent c h sh → s ≡ laid c sh x → q ≡ eqb (broken c x) 0) where
   found : q ≡ eqb (broken (code n) (lifted (code n) (bit word))) 0
-  found = tells-quiet (code n) t (o .shape) y (m .lends .fit) (m .lends .lent) (m .held) ∙ ap (λ x. eqb (broken (code n) x) 0) (m .bits)
+  found = tells-quiet (code n) t sh y (m .lends .fit) (m .lends .lent) (m .held) ∙ ap (λ x. eqb (broken (code n) x) 0) (m .bits)
 
   met : q ≡ true → broken (code n) (lifted (code n) (bit word)) ≡ 0
   met e = eqb-true (broken (code n) (lifted (code n) (bit word))) 0 (sym found ∙ e)

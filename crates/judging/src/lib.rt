@@ -13,6 +13,7 @@ ghost use Rattle.rules.specs.Flipping.{Run};
 ghost use Rattle.answers.specs.Calls.{judged};
 ghost use Rattle.vectors.specs.Vectors.{wbit, from};
 ghost use Rattle.offer.specs.Offers.{offerOf, Known};
+ghost use Rattle.layout.specs.declared.Shape.{Shape};
 ghost use Rattle.measured.specs.Measured.{Measured};
 use offer::Offer;
 
@@ -43,7 +44,7 @@ pub fn judge(o: Offer, y: &[u64], number: u8) -> u8
 // Whether a measured word is a codeword.
 pub fn is_codeword(o: Offer, y: &[u64], s: &[u64]) -> bool
     requires { ⌜ Known o × (length (now y) ≡ 130) × (length (now s) ≡ 16) ⌝ }
-    ensures { λ r. ⌜ ((n : ℕ) → offered n ≡ true → o ≡ offerOf n → (word t : List ℕ) → length word ≡ codeOf n .wordOctets → Measured n word t (wbit (now (y .entry))) (wbit (now (s .entry))) (o .shape) → r ≡ codeword (codeOf n) (bit word)) ⌝ }
+    ensures { λ r. ⌜ ((n : ℕ) → offered n ≡ true → o ≡ offerOf n → (word t : List ℕ) (sh : Shape) → length word ≡ codeOf n .wordOctets → Measured n word t (wbit (now (y .entry))) (wbit (now (s .entry))) sh → r ≡ codeword (codeOf n) (bit word)) ⌝ }
 {
     if !syndromes::is_quiet(s) {
         return false;

@@ -10,23 +10,25 @@ ghost use Rattle.layout.specs.Lent.{laid};
 ghost use Rattle.offer.specs.Offers.{offerOf, Known};
 ghost use Rattle.tables.specs.Flat.{Lends};
 ghost use Rattle.measured.specs.Measured.{Measured};
+use layout::Shape;
 use offer::Offer;
 
-// The parity table into t, and the syndrome of the bits that y holds into s, which is handed over as zeros.
-pub fn checks(o: Offer, y: &[u64], t: &mut [u16], s: &mut [u64])
+// The parity table into t, its shape, and the syndrome of the bits that y holds into s, which is handed over as zeros.
+pub fn checks(o: Offer, y: &[u64], t: &mut [u16], s: &mut [u64]) -> Shape
     requires { ⌜ Known o × (length (now y) ≡ 130) × (length (now t) ≡ 64) × (length (now s) ≡ 16) × (wbit (now s) ≡ (λ n. false)) ⌝ }
-    ensures { λ _. ⌜ ((n : ℕ) → offered n ≡ true → o ≡ offerOf n → Lends n (now (t .exit)) (o .shape) × (wbit (now (s .exit)) ≡ laid (codeOf n) (o .shape) (wbit (now (y .entry))))) ⌝ }
+    ensures { λ r. ⌜ (r ≡ o .shape) × ((n : ℕ) → offered n ≡ true → o ≡ offerOf n → Lends n (now (t .exit)) r × (wbit (now (s .exit)) ≡ laid (codeOf n) r (wbit (now (y .entry))))) ⌝ }
 {
-    let sh = o.shape;
-    tables::lend(sh.size, t);
+    let of = o.shape;
+    let sh = tables::lend(of.size, t);
     syndromes::syndrome(y, t, sh, s);
+    sh
 }
 
-// The parity table into t, the word's bits into y, and its syndrome into s; y and s are handed over as zeros.
-pub fn measure(o: Offer, word: &[u8], t: &mut [u16], y: &mut [u64], s: &mut [u64])
+// The parity table into t, its shape, the word's bits into y, and its syndrome into s; y and s are handed over as zeros.
+pub fn measure(o: Offer, word: &[u8], t: &mut [u16], y: &mut [u64], s: &mut [u64]) -> Shape
     requires { ⌜ Known o × (length (now word) ≡ o .word) × (length (now t) ≡ 64) × (length (now y) ≡ 130) × (length (now s) ≡ 16) × (wbit (now y) ≡ (λ n. false)) × (wbit (now s) ≡ (λ n. false)) ⌝ }
-    ensures { λ _. ⌜ ((n : ℕ) → offered n ≡ true → o ≡ offerOf n → Measured n (now (word .entry)) (now (t .exit)) (wbit (now (y .exit))) (wbit (now (s .exit))) (o .shape)) ⌝ }
+    ensures { λ r. ⌜ (r ≡ o .shape) × ((n : ℕ) → offered n ≡ true → o ≡ offerOf n → Measured n (now (word .entry)) (now (t .exit)) (wbit (now (y .exit))) (wbit (now (s .exit))) r) ⌝ }
 {
     received::take(word, o.unsent, y);
-    checks(o, y, t, s);
+    checks(o, y, t, s)
 }

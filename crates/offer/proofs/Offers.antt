@@ -106,6 +106,8 @@ pub record Fixed (n : ℕ) : Type 0 where
   pub sends : offerOf n .unsent < offerOf n .bits
   -- the bits that are sent fill the word's octets but for less than the last eight
   pub fits : offerOf n .bits - offerOf n .unsent ≤ 8 * offerOf n .word
+  -- where nothing is sent after the parity, every bit is sent
+  pub plain : 8 * offerOf n .word + offerOf n .unsent ≤ offerOf n .bits → offerOf n .unsent ≡ 0
   pub full : offerOf n .word < 8 * ((offerOf n .bits - offerOf n .unsent) / 64) + 8
   pub blocks : 1 ≤ offerOf n .shape .blocks
   pub asked : offerOf n .asked ≡ not (telecommanded n)
@@ -114,11 +116,11 @@ fixed-five : (n : ℕ) → T (offered n) → Fixed n
 unfolding code code1 code2 code3 code4 code5 parity16 parity32 parity64 parity511
 fixed-five =
     five Fixed
-    (record { word = refl; few = lit≤ tt; information = refl; some = lit≤ tt; less = lit≤ tt; multiple = lit≤ tt; unsent = refl; low = lit≤ tt; bits-are = refl; most = lit≤ tt; fill = refl; filled = lit≤ tt; within = lit< tt; sends = lit< tt; fits = lit≤ tt; full = lit< tt; blocks = lit≤ tt; asked = refl })
-    (record { word = refl; few = lit≤ tt; information = refl; some = lit≤ tt; less = lit≤ tt; multiple = lit≤ tt; unsent = refl; low = lit≤ tt; bits-are = refl; most = lit≤ tt; fill = refl; filled = lit≤ tt; within = lit< tt; sends = lit< tt; fits = lit≤ tt; full = lit< tt; blocks = lit≤ tt; asked = refl })
-    (record { word = refl; few = lit≤ tt; information = refl; some = lit≤ tt; less = lit≤ tt; multiple = lit≤ tt; unsent = refl; low = lit≤ tt; bits-are = refl; most = lit≤ tt; fill = refl; filled = lit≤ tt; within = lit< tt; sends = lit< tt; fits = lit≤ tt; full = lit< tt; blocks = lit≤ tt; asked = refl })
-    (record { word = refl; few = lit≤ tt; information = refl; some = lit≤ tt; less = lit≤ tt; multiple = lit≤ tt; unsent = refl; low = lit≤ tt; bits-are = refl; most = lit≤ tt; fill = refl; filled = lit≤ tt; within = lit< tt; sends = lit< tt; fits = lit≤ tt; full = lit< tt; blocks = lit≤ tt; asked = refl })
-    (record { word = refl; few = lit≤ tt; information = refl; some = lit≤ tt; less = lit≤ tt; multiple = lit≤ tt; unsent = refl; low = lit≤ tt; bits-are = refl; most = lit≤ tt; fill = refl; filled = lit≤ tt; within = lit< tt; sends = lit< tt; fits = lit≤ tt; full = lit< tt; blocks = lit≤ tt; asked = refl })
+    (record { word = refl; few = lit≤ tt; information = refl; some = lit≤ tt; less = lit≤ tt; multiple = lit≤ tt; unsent = refl; low = lit≤ tt; bits-are = refl; most = lit≤ tt; fill = refl; filled = lit≤ tt; within = lit< tt; sends = lit< tt; fits = lit≤ tt; full = lit< tt; plain = λ h. refl; blocks = lit≤ tt; asked = refl })
+    (record { word = refl; few = lit≤ tt; information = refl; some = lit≤ tt; less = lit≤ tt; multiple = lit≤ tt; unsent = refl; low = lit≤ tt; bits-are = refl; most = lit≤ tt; fill = refl; filled = lit≤ tt; within = lit< tt; sends = lit< tt; fits = lit≤ tt; full = lit< tt; plain = λ h. refl; blocks = lit≤ tt; asked = refl })
+    (record { word = refl; few = lit≤ tt; information = refl; some = lit≤ tt; less = lit≤ tt; multiple = lit≤ tt; unsent = refl; low = lit≤ tt; bits-are = refl; most = lit≤ tt; fill = refl; filled = lit≤ tt; within = lit< tt; sends = lit< tt; fits = lit≤ tt; full = lit< tt; plain = λ h. refl; blocks = lit≤ tt; asked = refl })
+    (record { word = refl; few = lit≤ tt; information = refl; some = lit≤ tt; less = lit≤ tt; multiple = lit≤ tt; unsent = refl; low = lit≤ tt; bits-are = refl; most = lit≤ tt; fill = refl; filled = lit≤ tt; within = lit< tt; sends = lit< tt; fits = lit≤ tt; full = lit< tt; plain = λ h. refl; blocks = lit≤ tt; asked = refl })
+    (record { word = refl; few = lit≤ tt; information = refl; some = lit≤ tt; less = lit≤ tt; multiple = lit≤ tt; unsent = refl; low = lit≤ tt; bits-are = refl; most = lit≤ tt; fill = refl; filled = lit≤ tt; within = lit< tt; sends = lit< tt; fits = lit≤ tt; full = lit< tt; plain = λ h. absurd (omega (arith, h)); blocks = lit≤ tt; asked = refl })
 
 pub fixed : (n : ℕ) → offered n ≡ true → Fixed n
 fixed n o = fixed-five n (is-offered n o)
@@ -136,6 +138,7 @@ pub record Small (o : Offer) : Type 0 where
   pub within : o .unsent < o .shape .size
   pub sends : o .unsent < o .bits
   pub fits : o .bits - o .unsent ≤ 8 * o .word
+  pub plain : 8 * o .word + o .unsent ≤ o .bits → o .unsent ≡ 0
   pub full : o .word < 8 * ((o .bits - o .unsent) / 64) + 8
   pub blocks : 1 ≤ o .shape .blocks
 
@@ -155,6 +158,7 @@ small {o} k =
       sends = f .sends;
       fits = f .fits;
       full = f .full;
+      plain = f .plain;
       blocks = f .blocks;
     })
 

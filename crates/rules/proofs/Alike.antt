@@ -1,10 +1,9 @@
 -- A run does not depend on which codeword was sent: a word that meets every check, added to what the run starts from, is carried along.
-use mathlib.Core.Path.{_≡_, refl, sym, ap, _∙_, fun-ext}
-use Prim.Native.Nat.{ℕ, suc, _<_}
+use mathlib.Core.Path.{_≡_, ap, _∙_, fun-ext}
+use Prim.Native.Nat.{ℕ, _<_}
 use lib.Dec.{eqb}
-use lib.IntN.{ℤ}
 use mathlib.Core.Bool.{_&&_}
-use Rattle.bits.specs.Bits.{Word, _⊕_, sum, flipped}
+use Rattle.bits.specs.Bits.{Word, _⊕_, sum}
 use Rattle.rules.specs.Codes.{Code, bits, checks}
 use Rattle.rules.specs.Checks.{covers, check, broken}
 use Rattle.rules.specs.Flipping.{Way, Run, run, after}

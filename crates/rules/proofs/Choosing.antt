@@ -1,10 +1,11 @@
 -- The way of the flipping run: which bit it chooses. For any code that sends bits.
 use mathlib.Core.Path.{_≡_, refl, sym, ap, ap₂, _∙_, fun-ext, subst}
-use mathlib.Core.Bool.{Bool, true, false, not, _&&_}
+use mathlib.Core.Bool.{Bool, true, false, true≢false, not, _&&_}
 use Prim.Native.Nat.{ℕ, _+_, _-_, _≤_, _<_}
-use native.Mathlib.Nat.{le-of-eq, le-trans}
+use native.Mathlib.Nat.{le-of-eq, le-trans, lt-of-not-le}
+use native.Mathlib.Decide.{decLt}
 use native.Mathlib.Omega.{arith}
-use lib.Dec.{eqb}
+use lib.Dec.{T, eqb}
 use lib.IntN.{ℤ, pos, subℕ}
 use lib.Signed.{ltZ}
 use borrow.Author.Tests.{eq-eqb, ne-eqb, eqb-true, ltb-true, le-ltb}
@@ -100,6 +101,19 @@ module _ (c : Code) (some : c .unsent < bits c) where
         let f = next-flip c x n ex e in
         record { sent = omega (arith, f .bit, chosen-greatest x .from); under = omega (arith, f .bit, chosen-greatest x .under); value = f .value; above = f .above };
   }
+
+  -- a bit that no earlier sent bit equals and no later one is above
+  pub chosen-is : (x : Word) (n : ℕ) → c .unsent ≤ n → n < bits c → ((m : ℕ) → m < n → ltZ (excess c x m) (excess c x n) ≡ true)
+      → ((m : ℕ) → m < bits c → ltZ (excess c x n) (excess c x m) ≡ false) → chosen c x ≡ n
+  chosen-is x n sent under before after = go (decLt (chosen c x) n) (decLt n (chosen c x))
+    where
+      g : Greatest (c .unsent) (bits c - c .unsent) (excess c x) (chosen c x)
+      g = chosen-greatest x
+
+      go : Dec (chosen c x < n) → Dec (n < chosen c x) → chosen c x ≡ n
+      go (yes l) q = absurd (true≢false (sym (before (chosen c x) l) ∙ not-less (excess c x n) (excess c x (chosen c x)) (g .most n sent (omega arith))))
+      go (no p) (yes l) = absurd (subst T (after (chosen c x) (omega (arith, g .under))) (g .lowest n sent l .lt))
+      go (no p) (no q) = omega (arith, lt-of-not-le p, lt-of-not-le q)
 
 pub by-greatest : (c : Code) → c .unsent < bits c → TakesGreatest c (byExcess c)
 by-greatest c some = record {

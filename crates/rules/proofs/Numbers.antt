@@ -139,10 +139,6 @@ abbrev pub fourWord : Word → Bool → Bool → Word
 fourWord x first second = inverted code4 (encoded code4 x) first second
 
 module _ (x : Word) (first second : Bool) where
-  inform : (n : ℕ) → n < 7154 → fourWord x first second n ≡ encoded code4 x n
-  unfolding inverted code4 generator511
-  inform n h = ap (λ b. encoded code4 x n ⊕ (not b && (if ltb n 7665 then first else second))) (lt-ltb n 7154 h) ∙ ⊕-false (encoded code4 x n)
-
   in-first : (n : ℕ) → 7154 ≤ n → n < 7665 → fourWord x first second n ≡ encoded code4 x n ⊕ first
   unfolding inverted code4 generator511
   in-first n l h = ap₂ (λ a b. encoded code4 x n ⊕ (not a && (if b then first else second))) (le-ltb n 7154 l) (lt-ltb n 7665 h)
@@ -150,6 +146,10 @@ module _ (x : Word) (first second : Bool) where
   in-second : (n : ℕ) → 7665 ≤ n → fourWord x first second n ≡ encoded code4 x n ⊕ second
   unfolding inverted code4 generator511
   in-second n l = ap₂ (λ a b. encoded code4 x n ⊕ (not a && (if b then first else second))) (le-ltb n 7154 (omega arith)) (le-ltb n 7665 l)
+
+  inform : (n : ℕ) → n < 7154 → fourWord x first second n ≡ encoded code4 x n
+  unfolding inverted code4 generator511
+  inform n h = ap (λ b. encoded code4 x n ⊕ (not b && (if ltb n 7665 then first else second))) (lt-ltb n 7154 h) ∙ ⊕-false (encoded code4 x n)
 
   -- each has the information bits
   pub four-information : (n : ℕ) → n < 7154 → fourWord x first second n ≡ x n

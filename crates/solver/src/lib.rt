@@ -268,8 +268,7 @@ pub fn encode(code: u8, y: &mut [u64])
     let o = offer::of(code);
     let mut t = [0u16; 64];
     let mut s = [0u64; 16];
-    measured::checks(o, y, &mut t, &mut s);
-    let sh = o.shape;
+    let sh = measured::checks(o, y, &mut t, &mut s);
     solve(sh, &mut s);
     if sh.size == 511 {
         invert(y, &mut s);

@@ -9,6 +9,7 @@ use lib.Dec.{lit<, lit≤}
 use Rattle.rules.specs.Tables.{parity16, parity32, parity64, parity511, generator16, generator32, generator64, generator511}
 use Rattle.rules.specs.Codes.{code, code1, code2, code3, code4, code5, offered}
 use Rattle.rules.proofs.Numbers.{five}
+use Rattle.layout.specs.declared.Shape.{Shape}
 use Rattle.layout.proofs.Lending.{lent}
 use Rattle.offer.specs.Offers.{offerOf}
 use Rattle.offer.proofs.Offers.{is-offered}
@@ -50,18 +51,24 @@ lends5 = record {
 }
 
 -- the places of the table whose blocks have this size are those of every code that has them
-pub record Chosen (size : ℕ) (t : List ℕ) : Type 0 where
-  pub small : size ≡ 16 → t ≡ flat8 (pairs parity16)
-  pub middle : size ≡ 32 → t ≡ flat8 (pairs parity32)
-  pub large : size ≡ 64 → t ≡ flat8 (pairs parity64)
-  pub near : size ≡ 511 → t ≡ flat16 (pairs parity511)
+pub record Chosen (size : ℕ) (t : List ℕ) (sh : Shape) : Type 0 where
+  pub small : size ≡ 16 → (t ≡ flat8 (pairs parity16)) × (sh ≡ offerOf 1 .shape)
+  pub middle : size ≡ 32 → (t ≡ flat8 (pairs parity32)) × (sh ≡ offerOf 2 .shape)
+  pub large : size ≡ 64 → (t ≡ flat8 (pairs parity64)) × (sh ≡ offerOf 3 .shape)
+  pub near : size ≡ 511 → (t ≡ flat16 (pairs parity511)) × (sh ≡ offerOf 4 .shape)
 
-pub by-size : (size : ℕ) (t : List ℕ) → Chosen size t → (n : ℕ) → offered n ≡ true → size ≡ offerOf n .shape .size → Lends n t (offerOf n .shape)
-by-size size t ch n o =
-    five (λ n. size ≡ offerOf n .shape .size → Lends n t (offerOf n .shape))
-    (λ e. subst (λ z. Lends 1 z (offerOf 1 .shape)) (sym (ch .small e)) lends1)
-    (λ e. subst (λ z. Lends 2 z (offerOf 2 .shape)) (sym (ch .middle e)) lends2)
-    (λ e. subst (λ z. Lends 3 z (offerOf 3 .shape)) (sym (ch .large e)) lends3)
-    (λ e. subst (λ z. Lends 4 z (offerOf 4 .shape)) (sym (ch .near e)) lends4)
-    (λ e. subst (λ z. Lends 5 z (offerOf 5 .shape)) (sym (ch .near e)) lends5)
+abbrev Given : ℕ → List ℕ → Shape → Type 0
+Given n t sh = (sh ≡ offerOf n .shape) × Lends n t sh
+
+given : (n : ℕ) {t : List ℕ} {sh : Shape} (t′ : List ℕ) → (t ≡ t′) × (sh ≡ offerOf n .shape) → Lends n t′ (offerOf n .shape) → Given n t sh
+given n {t} {sh} t′ p l = (p .1, subst (λ z. Lends n t z) (sym (p .1)) (subst (λ z. Lends n z (offerOf n .shape)) (sym (p .0)) l))
+
+pub by-size : (size : ℕ) (t : List ℕ) (sh : Shape) → Chosen size t sh → (n : ℕ) → offered n ≡ true → size ≡ offerOf n .shape .size → (sh ≡ offerOf n .shape) × Lends n t sh
+by-size size t sh ch n o =
+    five (λ n. size ≡ offerOf n .shape .size → Given n t sh)
+    (λ e. given 1 (flat8 (pairs parity16)) (ch .small e) lends1)
+    (λ e. given 2 (flat8 (pairs parity32)) (ch .middle e) lends2)
+    (λ e. given 3 (flat8 (pairs parity64)) (ch .large e) lends3)
+    (λ e. given 4 (flat16 (pairs parity511)) (ch .near e) lends4)
+    (λ e. given 5 (flat16 (pairs parity511)) (ch .near e) lends5)
     n (is-offered n o)

@@ -7,6 +7,7 @@ ghost use Rattle.rules.specs.Codes.{offered};
 ghost use Rattle.rules.specs.Tables.{parity16, parity32, parity64, parity511};
 ghost use Rattle.offer.specs.Offers.{offerOf};
 ghost use Rattle.tables.specs.Flat.{RowLaid, pairs, flat8, flat16, Lends};
+use layout::Shape;
 
 // No entry: a number that is no shift of any table.
 const NONE: u16 = 65535;
@@ -253,22 +254,43 @@ pub fn lend511(t: &mut [u16])
     flatten16(&h, t);
 }
 
-// The parity table whose blocks have this size, lent: its places into t.
-pub fn lend(size: usize, t: &mut [u16])
+// The parity table whose blocks have this size, lent: its places into t, and its shape, in numbers that a compiler sees.
+pub fn lend(size: usize, t: &mut [u16]) -> Shape
     requires { ⌜ length (now t) ≡ 64 ⌝ }
-    ensures { λ _. ⌜ ((n : ℕ) → offered n ≡ true → size ≡ offerOf n .shape .size → Lends n (now (t .exit)) (offerOf n .shape)) ⌝ }
+    ensures { λ r. ⌜ ((n : ℕ) → offered n ≡ true → size ≡ offerOf n .shape .size → (r ≡ offerOf n .shape) × Lends n (now (t .exit)) r) ⌝ }
 {
     if size == 16 {
         lend16(t);
-        return;
+        return Shape {
+            size: 16,
+            words: 1,
+            blocks: 8,
+            rows: 4,
+        };
     }
     if size == 32 {
         lend32(t);
-        return;
+        return Shape {
+            size: 32,
+            words: 1,
+            blocks: 8,
+            rows: 4,
+        };
     }
     if size == 64 {
         lend64(t);
-        return;
+        return Shape {
+            size: 64,
+            words: 1,
+            blocks: 8,
+            rows: 4,
+        };
     }
     lend511(t);
+    Shape {
+        size: 511,
+        words: 8,
+        blocks: 16,
+        rows: 2,
+    }
 }

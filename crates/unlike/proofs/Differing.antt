@@ -6,14 +6,18 @@ use lib.Bits.{bitXor}
 use lib.Count.{ones}
 use lib.Dec.{ltb}
 use Rattle.bits.specs.Bits.{Word, digit, count, _⊕_}
-use Rattle.bits.proofs.Sums.{and-⊕}
-use Rattle.bits.proofs.Counting.{count-same, count-add}
+use Rattle.bits.proofs.Sums.{and-⊕, ⊕-self}
+use Rattle.bits.proofs.Counting.{count-none, count-same, count-add}
 use Rattle.vectors.specs.Vectors.{Holds, upTo, from}
 use Rattle.vectors.proofs.Counts.{ones-count, count-upTo}
 use Rattle.vectors.proofs.Places.{digit-xor}
 
 pub apart-count : (v w : ℕ) → bitXor v w < 2 ^ 64 → ones (bitXor v w) ≡ count 64 (λ i. digit 64 v i ⊕ digit 64 w i)
 apart-count v w h = ones-count 64 (bitXor v w) h ∙ count-same 64 (digit 64 (bitXor v w)) (λ i. digit 64 v i ⊕ digit 64 w i) (λ i l. digit-xor 64 v w i)
+
+-- equal words differ in no bit
+pub apart-none : (v w : ℕ) → v ≡ w → 0 ≡ count 64 (λ i. digit 64 v i ⊕ digit 64 w i)
+apart-none v w e = sym (count-none 64 (λ i. digit 64 v i ⊕ digit 64 w i) (λ i l. ap (λ z. digit 64 v i ⊕ digit 64 z i) (sym e) ∙ ⊕-self (digit 64 v i)))
 
 -- 64 bits more
 pub apart-more : (x y : Word) (j v w r : ℕ) → Holds v (from (64 * j) x) → Holds w (from (64 * j) y) → r ≡ count 64 (λ i. digit 64 v i ⊕ digit 64 w i)

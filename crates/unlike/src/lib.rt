@@ -9,6 +9,9 @@ ghost use Rattle.vectors.specs.Vectors.{wbit};
 fn apart(v: u64, w: u64) -> usize
     ensures { λ r. ⌜ (r ≡ count 64 (λ i. digit 64 v i ⊕ digit 64 w i)) × (r ≤ 64) ⌝ }
 {
+    if v == w {
+        return 0;
+    }
     u64::count_ones(v ^ w) as usize
 }
 

@@ -60,7 +60,7 @@ returns-2 c =
     let n = a .args .code in
     let is = f .before .of .ensures in
     let t = taken n is (f .before .of .result .offered) (offered-by n is) (length (a .args .word .now)) _ 0 0 (f .refusal .ensures) (i .if1 .left) in
-    let e = m .measure .ensures n (t .offers) is in
+    let e = m .measure .ensures .1 n (t .offers) is in
     ap (λ z. record { number = 0; broken = z }) (c .broken .ensures _ _ _ _ (e .lends .fit) (e .lends .lent) (e .held) ∙ ap (broken (code n)) (e .bits))
     ∙ sym (check-taken n (a .args .word .now) (is-offered n (t .offers)) (word-long n is (t .offers) (t .input-is)))
 

@@ -8,7 +8,7 @@ use Rattle.rules.specs.Flipping.{byExcess, run}
 use Rattle.vectors.proofs.Filling.{zero-words}
 use Rattle.rules.proofs.Numbers.{published}
 use Rattle.offer.proofs.Offers.{small, is-offered}
-use Rattle.codes.proofs.Admitted.{word-long, unsent-is, bits-are}
+use Rattle.codes.proofs.Admitted.{shaped, word-long, unsent-is, bits-are}
 use Rattle.codes.proofs.Correcting.{holding, ran-number, ran-word, ran-met, ran-unsent, ran-ends, corrected-is, wrote-word, wrote-none}
 use borrow.Author.Needs.{needs}
 use Rattle.codes.proofs.correct_taken.Statement.{statement}
@@ -46,11 +46,11 @@ slice-aggregate-run-3 c = search needs
 
 run-requires : tie.Need-run-requires
 run-requires c κs =
-    let m = c .before .before .before .before .before .before .before .before .before in
+    let m = c .before .before .before .before .before .before .before .before in
     let a = m .before .before .before .before .before .before in
     let k = a .pre .0 in
-    let e = m .measure .ensures (k .number) (k .offers) (k .is) in
-    (e .lends .fit, search needs, search needs, small k .blocks, small k .within, holding (k .number) (a .args .word .now) _ _ _ _ e)
+    let e = m .measure .ensures .1 (k .number) (k .offers) (k .is) in
+    (e .lends .fit, search needs, search needs, shaped k (m .measure .ensures .0) .0, shaped k (m .measure .ensures .0) .1, holding (k .number) (a .args .word .now) _ _ _ _ e)
 
 slice-aggregate-broken-2 : tie.Need-slice-aggregate-broken-2
 slice-aggregate-broken-2 c = search needs
@@ -75,8 +75,8 @@ slice-aggregate-write c = search needs
 
 write-requires : tie.Need-write-requires
 write-requires c κs =
-    let a = c .before .before .before .before .before .before .before .before .before .before .before .before .before .before .before .before .before .before .before .before .before .before .before .before .before .before .before in
-    (search needs, small (a .pre .0) .unsent, omega (arith, a .pre .2, small (a .pre .0) .word))
+    let a = c .before .before .before .before .before .before .before .before .before .before .before .before .before .before .before .before .before .before .before .before .before .before .before .before .before .before in
+    (search needs, small (a .pre .0) .unsent, omega (arith, a .pre .2, small (a .pre .0) .word), λ h. small (a .pre .0) .plain (omega (arith, h, a .pre .2)))
 
 same-length : tie.Need-same-length
 same-length c = search needs
@@ -87,12 +87,12 @@ returns c =
     let u = j .before .before in
     let b2 = u .before .before in
     let g = b2 .before .before .before .before in
-    let b1 = g .before .before .before .before .before in
+    let b1 = g .before .before .before .before in
     let m = b1 .before .before .before .before .before in
     let a = m .before .before .before .before .before .before in
     λ n off is.
     let word = a .args .word .now in
-    let e = m .measure .ensures n off is in
+    let e = m .measure .ensures .1 n off is in
     let to = g .run .ensures (code n) (e .lends .lent) (sym (unsent-is n is off)) (e .held) in
     corrected-is n word _ _ _ _ e (a .args .limit) (g .run .result) _ _ to (b1 .broken .result) (b2 .broken2 .result) (j .judge .result) (u .unlike-after .result)
     (b1 .broken .ensures) (b2 .broken2 .ensures)
@@ -109,12 +109,12 @@ returns-2 c =
     let u = j .before .before in
     let b2 = u .before .before in
     let g = b2 .before .before .before .before in
-    let b1 = g .before .before .before .before .before in
+    let b1 = g .before .before .before .before in
     let m = b1 .before .before .before .before .before in
     let a = m .before .before .before .before .before .before in
     λ n off is.
     let word = a .args .word .now in
-    let e = m .measure .ensures n off is in
+    let e = m .measure .ensures .1 n off is in
     let to = g .run .ensures (code n) (e .lends .lent) (sym (unsent-is n is off)) (e .held) in
     corrected-is n word _ _ _ _ e (a .args .limit) (g .run .result) _ _ to (b1 .broken .result) (b2 .broken2 .result) (j .judge .result) (u .unlike-after .result)
     (b1 .broken .ensures) (b2 .broken2 .ensures)

@@ -5,7 +5,7 @@ use Rattle.rules.specs.Codes.{code, information}
 use Rattle.rules.specs.Encoding.{encoded, written}
 use Rattle.vectors.specs.Vectors.{upTo}
 use Rattle.vectors.proofs.Filling.{zero-words}
-use Rattle.offer.proofs.Offers.{fixed}
+use Rattle.offer.proofs.Offers.{fixed, known, small}
 use Rattle.codes.proofs.Admitted.{unsent-is, bits-are}
 use Rattle.codes.proofs.Encoding.{few-information, information-only, written-upTo}
 use borrow.Author.Needs.{needs}
@@ -40,8 +40,12 @@ write-requires c κs =
     let e = c .before .before .before in
     let t = e .before .before .before in
     let a = t .before .before .before .before in
-    let f = fixed (a .args .code) (a .pre .0) in
-    (search needs, omega (arith, unsent-is (a .args .code) (a .pre .1) (a .pre .0), f .low), omega (arith, a .pre .3, f .few))
+    let f = fixed (a .args .code) (a .pre .0) in (
+      search needs,
+      omega (arith, unsent-is (a .args .code) (a .pre .1) (a .pre .0), f .low),
+      omega (arith, a .pre .3, f .few),
+      λ h. small (known (a .args .code) (a .pre .0) (a .pre .1)) .plain (omega (arith, h, a .pre .3, f .word, ap (λ z. z .word) (a .pre .1))),
+    )
 
 same-length : tie.Need-same-length
 same-length c = search needs

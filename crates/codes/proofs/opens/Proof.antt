@@ -33,7 +33,7 @@ returns : tie.Need-returns
 returns c =
     let m = c .before .before .before .before .before .before in
     let a = m .before .before .before .before .before in
-    λ n off is. c .is-codeword .ensures n off is (a .args .word .now) _ (word-long n is off (a .pre .1)) (m .measure .ensures n off is)
+    λ n off is. c .is-codeword .ensures n off is (a .args .word .now) _ _ (word-long n is off (a .pre .1)) (m .measure .ensures .1 n off is)
 
 pub opens-spec : {M : Type 1} → statement M
 opens-spec =

@@ -13,7 +13,7 @@ use Rattle.rules.specs.Encoding.{written}
 use Rattle.answers.specs.Calls.{nextStep}
 use Rattle.runs.specs.Turns.{comesNext, Within}
 use Rattle.offer.proofs.Offers.{small}
-use Rattle.codes.proofs.Admitted.{word-long, unsent-is, bits-are}
+use Rattle.codes.proofs.Admitted.{shaped, word-long, unsent-is, bits-are}
 use Rattle.codes.proofs.Correcting.{holding, stepped-is}
 use Rattle.vectors.proofs.Filling.{zero-words}
 use borrow.Author.Needs.{needs}
@@ -43,11 +43,11 @@ slice-aggregate-comes-next-2 c = search needs
 
 comes-next-requires : tie.Need-comes-next-requires
 comes-next-requires c κs =
-    let m = c .before .before .before .before .before .before in
+    let m = c .before .before .before .before .before in
     let a = m .before .before .before .before .before .before in
     let k = a .pre .0 in
-    let e = m .measure .ensures (k .number) (k .offers) (k .is) in
-    (e .lends .fit, search needs, small k .blocks, small k .within, holding (k .number) (a .args .word .now) _ _ _ _ e)
+    let e = m .measure .ensures .1 (k .number) (k .offers) (k .is) in
+    (e .lends .fit, search needs, shaped k (m .measure .ensures .0) .0, shaped k (m .measure .ensures .0) .1, holding (k .number) (a .args .word .now) _ _ _ _ e)
 
 enum-told : tie.Need-enum-told
 enum-told c = search needs
@@ -68,12 +68,12 @@ turn-over-requires : tie.Need-turn-over-requires
 turn-over-requires c κs =
     let f = c .before .before in
     let x = f .before .before in
-    let m = x .before .before .before .before .before .before .before in
+    let m = x .before .before .before .before .before .before in
     let a = m .before .before .before .before .before .before in
     let k = a .pre .0 in
-    let e = m .measure .ensures (k .number) (k .offers) (k .is) in
-    let l = subst (Within (a .args .o .shape .blocks * a .args .o .shape .size)) (f .next .given .1) (x .comes-next .ensures .0) in
-    let b : a .args .o .shape .blocks * a .args .o .shape .size ≤ 8176 = e .lends .fit .bits in
+    let e = m .measure .ensures .1 (k .number) (k .offers) (k .is) in
+    let l = subst (Within (m .measure .result .blocks * m .measure .result .size)) (f .next .given .1) (x .comes-next .ensures .0) in
+    let b : m .measure .result .blocks * m .measure .result .size ≤ 8176 = e .lends .fit .bits in
     search needs
 
 slice-aggregate-write : tie.Need-slice-aggregate-write
@@ -81,19 +81,19 @@ slice-aggregate-write c = search needs
 
 write-requires : tie.Need-write-requires
 write-requires c κs =
-    let a = c .before .before .before .before .before .before .before .before .before .before .before .before .before .before .before .before .before .before .before .before .before in
-    (search needs, small (a .pre .0) .unsent, omega (arith, a .pre .2, small (a .pre .0) .word))
+    let a = c .before .before .before .before .before .before .before .before .before .before .before .before .before .before .before .before .before .before .before .before in
+    (search needs, small (a .pre .0) .unsent, omega (arith, a .pre .2, small (a .pre .0) .word), λ h. small (a .pre .0) .plain (omega (arith, h, a .pre .2)))
 
-cast-t33 : tie.Need-cast-t33
-cast-t33 c =
+cast-t32 : tie.Need-cast-t32
+cast-t32 c =
     let f = c .before .before .before .before .before .before .before .before .before .before in
     let x = f .before .before in
-    let m = x .before .before .before .before .before .before .before in
+    let m = x .before .before .before .before .before .before in
     let a = m .before .before .before .before .before .before in
     let k = a .pre .0 in
-    let e = m .measure .ensures (k .number) (k .offers) (k .is) in
-    let l = subst (Within (a .args .o .shape .blocks * a .args .o .shape .size)) (f .next .given .1) (x .comes-next .ensures .0) in
-    let b : a .args .o .shape .blocks * a .args .o .shape .size ≤ 8176 = e .lends .fit .bits in
+    let e = m .measure .ensures .1 (k .number) (k .offers) (k .is) in
+    let l = subst (Within (m .measure .result .blocks * m .measure .result .size)) (f .next .given .1) (x .comes-next .ensures .0) in
+    let b : m .measure .result .blocks * m .measure .result .size ≤ 8176 = e .lends .fit .bits in
     search needs
 
 same-length : tie.Need-same-length
@@ -104,21 +104,21 @@ unfolding nextStep
 returns c =
     let told = c .before .before .before .before in
     let x = told .before .before in
-    let m = x .before .before .before .before .before .before .before in
+    let m = x .before .before .before .before .before .before in
     let a = m .before .before .before .before .before .before in
     λ n off is.
     ap (λ z. record { number = 0; quiet = true; bit = 0; excess = pos 0; out = z }) (c .before .before .copy .ensures)
-    ∙ stepped-is n (a .args .word .now) _ _ _ _ (m .measure .ensures n off is) (a .args .out .now) (x .comes-next .result) _ _ (sym (unsent-is n is off)) (x .comes-next .ensures .1) (ap comesNext (told .enum-told .given .1))
+    ∙ stepped-is n (a .args .word .now) _ _ _ _ (m .measure .ensures .1 n off is) (a .args .out .now) (x .comes-next .result) _ _ (sym (unsent-is n is off)) (x .comes-next .ensures .1) (ap comesNext (told .enum-told .given .1))
 
 returns-2 : tie.Need-returns-2
 unfolding nextStep
 returns-2 c =
     let x = c .before .before .before in
-    let m = x .before .before .before .before .before .before .before in
+    let m = x .before .before .before .before .before .before in
     let a = m .before .before .before .before .before .before in
     λ n off is.
     c .refused-step .ensures (a .args .out .now)
-    ∙ stepped-is n (a .args .word .now) _ _ _ _ (m .measure .ensures n off is) (a .args .out .now) (x .comes-next .result) _ _ (sym (unsent-is n is off)) (x .comes-next .ensures .1) (ap comesNext (c .before .enum-told2 .given .1))
+    ∙ stepped-is n (a .args .word .now) _ _ _ _ (m .measure .ensures .1 n off is) (a .args .out .now) (x .comes-next .result) _ _ (sym (unsent-is n is off)) (x .comes-next .ensures .1) (ap comesNext (c .before .enum-told2 .given .1))
 
 same-length-2 : tie.Need-same-length-2
 same-length-2 c = search needs
@@ -128,10 +128,10 @@ unfolding nextStep
 returns-3 c =
     let f = c .before .before .before .before .before .before .before .before .before .before in
     let x = f .before .before in
-    let m = x .before .before .before .before .before .before .before in
+    let m = x .before .before .before .before .before .before in
     let a = m .before .before .before .before .before .before in
     λ n off is.
-    let e = m .measure .ensures n off is in
+    let e = m .measure .ensures .1 n off is in
     let b = f .next .given .0 .0 in
     let ex = f .next .given .0 .1 .0 in
     let known = c .before .before .before .before .before .before .before .before .before .known-told .given in
@@ -164,7 +164,7 @@ step-taken-spec =
     turn-over-requires
     slice-aggregate-write
     write-requires
-    cast-t33
+    cast-t32
     same-length
     returns
     returns-2

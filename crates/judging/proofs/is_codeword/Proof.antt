@@ -16,16 +16,16 @@ returns : tie.Need-returns
 returns c =
     let q = c .before in
     let a = q .before .before .before in
-    λ n off is word t long m.
-    finds-broken n off (a .args .o) is (wbit (a .args .y .now)) (wbit (a .args .s .now)) word t long m _ (q .is-quiet .ensures) (not-true _ (c .if1 .taken))
+    λ n off is word t sh long m.
+    finds-broken n off (a .args .o) is (wbit (a .args .y .now)) (wbit (a .args .s .now)) word t sh long m _ (q .is-quiet .ensures) (not-true _ (c .if1 .taken))
 
 returns-2 : tie.Need-returns-2
 returns-2 c =
     let i = c .before .before in
     let q = i .before in
     let a = q .before .before .before in
-    λ n off is word t long m.
-    finds-telecommand n off (a .args .o) is (wbit (a .args .y .now)) (wbit (a .args .s .now)) word t long m _ (q .is-quiet .ensures)
+    λ n off is word t sh long m.
+    finds-telecommand n off (a .args .o) is (wbit (a .args .y .now)) (wbit (a .args .s .now)) word t sh long m _ (q .is-quiet .ensures)
     (not-false _ (i .if1 .left)) (not-true _ (c .if2 .taken))
 
 some-set-requires : tie.Need-some-set-requires
@@ -40,8 +40,8 @@ returns-3 c =
     let i = u .before .before .before in
     let q = i .before in
     let a = q .before .before .before in
-    λ n off is word t long m.
-    finds-fill n off (a .args .o) is (wbit (a .args .y .now)) (wbit (a .args .s .now)) word t long m _ (q .is-quiet .ensures) (sym (c .if3 .taken) ∙ u .some-set .ensures)
+    λ n off is word t sh long m.
+    finds-fill n off (a .args .o) is (wbit (a .args .y .now)) (wbit (a .args .s .now)) word t sh long m _ (q .is-quiet .ensures) (sym (c .if3 .taken) ∙ u .some-set .ensures)
 
 own-parity-requires : tie.Need-own-parity-requires
 own-parity-requires c κs = search needs
@@ -53,8 +53,8 @@ returns-4 c =
     let i = u .before .before .before in
     let q = i .before in
     let a = q .before .before .before in
-    λ n off is word t long m.
-    finds-parity n off (a .args .o) is (wbit (a .args .y .now)) (wbit (a .args .s .now)) word t long m _ (q .is-quiet .ensures)
+    λ n off is word t sh long m.
+    finds-parity n off (a .args .o) is (wbit (a .args .y .now)) (wbit (a .args .s .now)) word t sh long m _ (q .is-quiet .ensures)
     (not-false _ (i .if1 .left)) (not-false _ (u .before .if2 .left)) (sym (j .if3 .left) ∙ u .some-set .ensures) _ (c .own-parity .ensures)
 
 pub is-codeword-spec : {M : Type 1} → statement M

@@ -1,7 +1,6 @@
 -- `measured::checks`: the table lent, and the syndrome by it. Assumes nothing.
-use mathlib.Core.Path.{ap}
+use mathlib.Core.Path.{sym, ap, _∙_}
 use Rattle.rules.specs.Codes.{code}
-use Rattle.measured.proofs.Measuring.{lends-as}
 use borrow.Author.Needs.{needs}
 use Rattle.measured.proofs.checks.Statement.{statement}
 use Rattle.measured.proofs.checks.Tie as tie
@@ -15,7 +14,7 @@ syndrome-requires c κs =
     let a = l .before .before .before .before .before .before in
     let k = a .pre .0 in
     let e = l .lend .ensures (k .number) (k .offers) (ap (λ z. z .shape .size) (k .is)) in
-    (lends-as (k .is) e .fit, search needs, search needs, a .pre .4)
+    (e .1 .fit, search needs, search needs, a .pre .4)
 
 same-length : tie.Need-same-length
 same-length c = search needs
@@ -27,9 +26,13 @@ returns : tie.Need-returns
 returns c =
     let s = c .before .before in
     let l = s .before .before .before .before .before in
-    λ n off e.
-    let lends = lends-as e (l .lend .ensures n off (ap (λ z. z .shape .size) e)) in
-    (lends, s .syndrome .ensures (code n) (lends .lent))
+    let a = l .before .before .before .before .before .before in
+    let k = a .pre .0 in (
+      l .lend .ensures (k .number) (k .offers) (ap (λ z. z .shape .size) (k .is)) .0 ∙ sym (ap (λ z. z .shape) (k .is)),
+      λ n off e.
+          let lends = l .lend .ensures n off (ap (λ z. z .shape .size) e) .1 in
+          (lends, s .syndrome .ensures (code n) (lends .lent)),
+    )
 
 pub checks-spec : {M : Type 1} → statement M
 checks-spec =

@@ -28,15 +28,17 @@ same-length-3 c = search needs
 returns : tie.Need-returns
 returns c =
     let s = c .before .before .before .before in
-    let k = s .before .before .before .before .before .before in
-    λ n off e.
-    let f = fixed n off in
-    let made = s .checks .ensures n off e in
-    record {
-      lends = made .0;
-      bits = k .take .ensures (code n) (ap (λ z. z .unsent) e ∙ f .unsent);
-      held = made .1;
-    }
+    let k = s .before .before .before .before .before .before in (
+      s .checks .ensures .0,
+      λ n off e.
+          let f = fixed n off in
+          let made = s .checks .ensures .1 n off e in
+          record {
+            lends = made .0;
+            bits = k .take .ensures (code n) (ap (λ z. z .unsent) e ∙ f .unsent);
+            held = made .1;
+          },
+    )
 
 pub measure-spec : {M : Type 1} → statement M
 measure-spec =

@@ -1,5 +1,6 @@
 -- `received::write`: trimmed where more is sent than there are bits, and sent from the first sent bit on. Assumes nothing.
-use mathlib.Core.Path.{ap, _∙_}
+use mathlib.Core.Path.{sym, ap, _∙_}
+use Prim.Native.Nat.{_+_, _*_, _≤_}
 use native.Mathlib.Omega.{arith}
 use lib.ListN.{length}
 use Rattle.bits.specs.Bits.{octets}
@@ -50,7 +51,11 @@ returns-2 : tie.Need-returns-2
 returns-2 c =
     let d = c .before .before in
     let a = d .before .before .before .before .before .before in
-    λ k e f g. d .store2 .ensures ∙ written-whole k (a .args .unsent) (a .args .bits) e f (wbit (a .args .y .now)) (length (a .args .out .now)) g (omega arith)
+    let h : 8 * length (a .args .out .now) + a .args .unsent ≤ a .args .bits = omega arith in
+    λ k e f g.
+    d .store2 .ensures
+    ∙ ap (λ u. octets (length (a .args .out .now)) (from u (wbit (a .args .y .now)))) (sym (a .pre .3 h))
+    ∙ written-whole k (a .args .unsent) (a .args .bits) e f (wbit (a .args .y .now)) (length (a .args .out .now)) g (omega arith)
 
 pub write-spec : {M : Type 1} → statement M
 write-spec =

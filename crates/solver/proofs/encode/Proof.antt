@@ -36,14 +36,14 @@ slice-aggregate-solve : tie.Need-slice-aggregate-solve
 slice-aggregate-solve c = search needs
 
 solve-requires : tie.Need-solve-requires
-solve-requires c κs = let s = c .before .before .before .before .before .before .before .before .before .before in
+solve-requires c κs = let s = c .before .before .before .before .before .before .before .before .before in
     let n = s .args .code in
-    let made = c .before .before .before .before .checks in
-    let o = c .before .before .before .before .before .before .before .before .of in
-    let sh = o .result .shape in
-    let ok = ready n (s .pre .0) sh (ap (λ (z : Offer). z .shape) (o .ensures)) in
+    let made = c .before .before .before .checks in
+    let o = c .before .before .before .before .before .before .before .of in
+    let sh = made .result in
+    let ok = ready n (s .pre .0) sh (made .ensures .0 ∙ ap (λ (z : Offer). z .shape) (o .ensures)) in
     let x = wbit (s .args .y .now) in
-    let start = made .ensures n (s .pre .0) (o .ensures) .1 ∙ start-held n sh ok x in
+    let start = made .ensures .1 n (s .pre .0) (o .ensures) .1 ∙ start-held n sh ok x in
     (ok .fits, ok .inside, made .kept .1 .1 .1 .0, held-kept sh (wide-some sh (ok .fits)) (checkRows (code n) x) (wbit (made .last .1 .1 .1 .0)) start)
 
 slice-aggregate-invert : tie.Need-slice-aggregate-invert
@@ -56,12 +56,12 @@ slice-aggregate-put-rows : tie.Need-slice-aggregate-put-rows
 slice-aggregate-put-rows c = search needs
 
 put-rows-requires : tie.Need-put-rows-requires
-put-rows-requires c κs = let s = c .before .before .before .before .before .before .before .before .before .before .before .before .before .before .before .before .before .before .before .before in
+put-rows-requires c κs = let s = c .before .before .before .before .before .before .before .before .before .before .before .before .before .before .before .before .before .before .before in
     let n = s .args .code in
-    let made = c .before .before .before .before .before .before .before .before .before .before .before .before .before .before .checks in
-    let o = c .before .before .before .before .before .before .before .before .before .before .before .before .before .before .before .before .before .before .of in
-    let sh = o .result .shape in
-    let ok = ready n (s .pre .0) sh (ap (λ (z : Offer). z .shape) (o .ensures)) in
+    let made = c .before .before .before .before .before .before .before .before .before .before .before .before .before .checks in
+    let o = c .before .before .before .before .before .before .before .before .before .before .before .before .before .before .before .before .before .of in
+    let sh = made .result in
+    let ok = ready n (s .pre .0) sh (made .ensures .0 ∙ ap (λ (z : Offer). z .shape) (o .ensures)) in
     let x = wbit (s .args .y .now) in
     (ok .fits, lit≤ tt, c .before .before .before .invert .kept .1 .0 ∙ c .before .before .before .before .before .before .before .before .before .solve .kept .1 .0 ∙ made .kept .1 .1 .1 .0, s .pre .1)
 
@@ -69,12 +69,12 @@ slice-aggregate-put-rows-2 : tie.Need-slice-aggregate-put-rows-2
 slice-aggregate-put-rows-2 c = search needs
 
 put-rows-requires-2 : tie.Need-put-rows-requires-2
-put-rows-requires-2 c κs = let s = c .before .before .before .before .before .before .before .before .before .before .before .before .before .before .before .before in
+put-rows-requires-2 c κs = let s = c .before .before .before .before .before .before .before .before .before .before .before .before .before .before .before in
     let n = s .args .code in
-    let made = c .before .before .before .before .before .before .before .before .before .before .checks in
-    let o = c .before .before .before .before .before .before .before .before .before .before .before .before .before .before .of in
-    let sh = o .result .shape in
-    let ok = ready n (s .pre .0) sh (ap (λ (z : Offer). z .shape) (o .ensures)) in
+    let made = c .before .before .before .before .before .before .before .before .before .checks in
+    let o = c .before .before .before .before .before .before .before .before .before .before .before .before .before .of in
+    let sh = made .result in
+    let ok = ready n (s .pre .0) sh (made .ensures .0 ∙ ap (λ (z : Offer). z .shape) (o .ensures)) in
     let x = wbit (s .args .y .now) in
     (ok .fits, lit≤ tt, c .before .before .before .before .before .solve .kept .1 .0 ∙ made .kept .1 .1 .1 .0, s .pre .1)
 
@@ -82,14 +82,14 @@ same-length : tie.Need-same-length
 same-length c = search needs
 
 returns : tie.Need-returns
-returns c = let s = c .before .before .before .before .before .before .before .before .before .before .before .before .before .before .before .before .before .before .before .before .before .before .before in
+returns c = let s = c .before .before .before .before .before .before .before .before .before .before .before .before .before .before .before .before .before .before .before .before .before .before in
     let n = s .args .code in
-    let made = c .before .before .before .before .before .before .before .before .before .before .before .before .before .before .before .before .before .checks in
-    let o = c .before .before .before .before .before .before .before .before .before .before .before .before .before .before .before .before .before .before .before .before .before .of in
-    let sh = o .result .shape in
-    let ok = ready n (s .pre .0) sh (ap (λ (z : Offer). z .shape) (o .ensures)) in
+    let made = c .before .before .before .before .before .before .before .before .before .before .before .before .before .before .before .before .checks in
+    let o = c .before .before .before .before .before .before .before .before .before .before .before .before .before .before .before .before .before .before .before .before .of in
+    let sh = made .result in
+    let ok = ready n (s .pre .0) sh (made .ensures .0 ∙ ap (λ (z : Offer). z .shape) (o .ensures)) in
     let x = wbit (s .args .y .now) in
-    let start = made .ensures n (s .pre .0) (o .ensures) .1 ∙ start-held n sh ok x in
+    let start = made .ensures .1 n (s .pre .0) (o .ensures) .1 ∙ start-held n sh ok x in
     let near = ok .near (c .before .before .before .before .before .before .before .before .before .if1 .taken) in
     let f : ℕ → Word = endRows n (sh .size) x in
     let g : ℕ → Word = λ r i. f r i ⊕ oddTogether x r in
@@ -102,14 +102,14 @@ same-length-2 : tie.Need-same-length-2
 same-length-2 c = search needs
 
 returns-2 : tie.Need-returns-2
-returns-2 c = let s = c .before .before .before .before .before .before .before .before .before .before .before .before .before .before .before .before .before .before .before in
+returns-2 c = let s = c .before .before .before .before .before .before .before .before .before .before .before .before .before .before .before .before .before .before in
     let n = s .args .code in
-    let made = c .before .before .before .before .before .before .before .before .before .before .before .before .before .checks in
-    let o = c .before .before .before .before .before .before .before .before .before .before .before .before .before .before .before .before .before .of in
-    let sh = o .result .shape in
-    let ok = ready n (s .pre .0) sh (ap (λ (z : Offer). z .shape) (o .ensures)) in
+    let made = c .before .before .before .before .before .before .before .before .before .before .before .before .checks in
+    let o = c .before .before .before .before .before .before .before .before .before .before .before .before .before .before .before .before .of in
+    let sh = made .result in
+    let ok = ready n (s .pre .0) sh (made .ensures .0 ∙ ap (λ (z : Offer). z .shape) (o .ensures)) in
     let x = wbit (s .args .y .now) in
-    let start = made .ensures n (s .pre .0) (o .ensures) .1 ∙ start-held n sh ok x in
+    let start = made .ensures .1 n (s .pre .0) (o .ensures) .1 ∙ start-held n sh ok x in
     let f : ℕ → Word = endRows n (sh .size) x in
     let ended = c .before .before .before .before .before .before .before .before .solve .ensures (checkRows (code n) x) start in
     c .before .before .put-rows2 .ensures f x ended (s .pre .2 ∙ ap (λ (m : ℕ). upTo m x) (ok .informs))

@@ -1,4 +1,5 @@
 -- `tables::lend`: each size has its table. Assumes nothing.
+use mathlib.Core.Path.{refl}
 use borrow.Author.Needs.{needs}
 use native.Mathlib.Omega.{arith}
 use Rattle.tables.proofs.Lending.{by-size}
@@ -12,8 +13,8 @@ same-length : tie.Need-same-length
 same-length c = search needs
 
 returns : tie.Need-returns
-returns c = by-size _ _ (record {
-  small = λ e. c .before .before .lend16 .ensures;
+returns c = by-size _ _ _ (record {
+  small = λ e. (c .before .before .lend16 .ensures, refl);
   middle = λ e. absurd (omega arith);
   large = λ e. absurd (omega arith);
   near = λ e. absurd (omega arith);
@@ -26,9 +27,9 @@ same-length-2 : tie.Need-same-length-2
 same-length-2 c = search needs
 
 returns-2 : tie.Need-returns-2
-returns-2 c = by-size _ _ (record {
+returns-2 c = by-size _ _ _ (record {
   small = λ e. absurd (omega arith);
-  middle = λ e. c .before .before .lend32 .ensures;
+  middle = λ e. (c .before .before .lend32 .ensures, refl);
   large = λ e. absurd (omega arith);
   near = λ e. absurd (omega arith);
 })
@@ -40,10 +41,10 @@ same-length-3 : tie.Need-same-length-3
 same-length-3 c = search needs
 
 returns-3 : tie.Need-returns-3
-returns-3 c = by-size _ _ (record {
+returns-3 c = by-size _ _ _ (record {
   small = λ e. absurd (omega arith);
   middle = λ e. absurd (omega arith);
-  large = λ e. c .before .before .lend64 .ensures;
+  large = λ e. (c .before .before .lend64 .ensures, refl);
   near = λ e. absurd (omega arith);
 })
 
@@ -54,11 +55,11 @@ same-length-4 : tie.Need-same-length-4
 same-length-4 c = search needs
 
 returns-4 : tie.Need-returns-4
-returns-4 c = by-size _ _ (record {
+returns-4 c = by-size _ _ _ (record {
   small = λ e. absurd (omega arith);
   middle = λ e. absurd (omega arith);
   large = λ e. absurd (omega arith);
-  near = λ e. c .before .before .lend511 .ensures;
+  near = λ e. (c .before .before .lend511 .ensures, refl);
 })
 
 pub lend-spec : {M : Type 1} → statement M
