@@ -54,15 +54,15 @@ module _ (n : ℕ) (word : List ℕ) where
   abbrev quiet? : Bool
   quiet? = eqb (broken (code n) (lifted (code n) (bit word))) 0
 
+  -- 9 exactly if a check is broken
+  pub fault-broken : quiet? ≡ false → fault n word ≡ 9
+  fault-broken e = ap (λ z. if not z then 9 else if lastTwoSet n word then 14 else if not (codeword (code n) (bit word)) then 15 else 0) e
+
   spelled : (a b d : Bool) → quiet? ≡ a → lastTwoSet n word ≡ b → codeword (code n) (bit word) ≡ d
       → fault n word ≡ (if not a then 9 else if b then 14 else if not d then 15 else 0)
   spelled a b d e f g =
       ap (λ z. if not z then 9 else if lastTwoSet n word then 14 else if not (codeword (code n) (bit word)) then 15 else 0) e
       ∙ ap₂ (λ y z. if not a then 9 else if y then 14 else if not z then 15 else 0) f g
-
-  -- 9 exactly if a check is broken
-  pub fault-broken : quiet? ≡ false → fault n word ≡ 9
-  fault-broken e = spelled false (lastTwoSet n word) (codeword (code n) (bit word)) e refl refl
 
   -- else 14 exactly if code 5's last two bits are not both 0
   pub fault-two : quiet? ≡ true → lastTwoSet n word ≡ true → fault n word ≡ 14

@@ -9,6 +9,11 @@ use Rattle.bits.proofs.Counting.{count-none, none-counted}
 abbrev next : (ℕ → Bool) → ℕ → Bool
 next f k = f (suc k)
 
+-- counted from 0
+from-zero : least 2 (λ k. true) ≡ 0
+unfolding least
+from-zero = refl
+
 -- one number more, in front
 least-here : (n : ℕ) (f : ℕ → Bool) → f 0 ≡ true → least (suc n) f ≡ 0
 unfolding least
