@@ -7,8 +7,8 @@ use lib.Count.{leading-le}
 use lib.ListN.{length, getD}
 use Rattle.bits.specs.Bits.{least}
 use Rattle.bits.proofs.Leasts.{least-none}
-use Rattle.vectors.specs.Vectors.{wbit}
-use Rattle.vectors.proofs.Firsts.{Clear, clear-more, first-of}
+use Rattle.vectors.specs.Vectors.{wbit, Clear}
+use Rattle.vectors.proofs.Firsts.{clear-more, first-of}
 use borrow.Author.Needs.{needs}
 use Rattle.vectors.proofs.first.Statement.{statement}
 use Rattle.vectors.proofs.first.Tie as tie
@@ -19,8 +19,11 @@ Inv-loop ws k₀ k = (k ≤ length ws) × Clear ws k
 abbrev μ-loop : tie.MeasureT-loop
 μ-loop ws k₀ k = length ws - k
 
+skip-requires : tie.Need-skip-requires Inv-loop μ-loop
+skip-requires c κs = search needs
+
 loop-holds : tie.Need-loop-holds Inv-loop μ-loop
-loop-holds c = (omega arith, λ i l. absurd (omega arith))
+loop-holds c = c .skip .ensures
 
 mul-if1 : tie.Need-mul-if1 Inv-loop μ-loop
 mul-if1 c = omega arith
@@ -40,19 +43,19 @@ shared-slice-read-result c = search needs
 cast-result : tie.Need-cast-result Inv-loop μ-loop
 cast-result c =
     let l = c .before .before .before .before in
-    omega (arith, leading-le 64 (getD (l .before .args .ws .now) (l .loop .k) 0))
+    omega (arith, leading-le 64 (getD (l .before .before .before .args .ws .now) (l .loop .k) 0))
 
 add-result : tie.Need-add-result Inv-loop μ-loop
 add-result c =
     let l = c .before .before .before .before in
-    omega (arith, leading-le 64 (getD (l .before .args .ws .now) (l .loop .k) 0))
+    omega (arith, leading-le 64 (getD (l .before .before .before .args .ws .now) (l .loop .k) 0))
 
 returns : tie.Need-returns Inv-loop μ-loop
 returns c =
     let l = c .before .before .before .before in
-    let ws = l .before .args .ws .now in
+    let ws = l .before .before .before .args .ws .now in
     let k = l .loop .k in
-    first-of ws k (omega arith) (l .loop .inv .1) (pos-of-ne-zero (c .before .if1 .taken)) (c .shared-slice-known2 .given k .fits)
+    first-of ws k (omega arith) (l .loop .inv .1) (pos-of-ne-zero (c .before .if1 .taken)) (c .shared-slice-known3 .given k .fits)
 
 add-k : tie.Need-add-k Inv-loop μ-loop
 add-k c = search needs
@@ -63,14 +66,14 @@ loop-less c = omega arith
 loop-again : tie.Need-loop-again Inv-loop μ-loop
 loop-again c =
     let l = c .before .before .before in
-    (omega arith, clear-more (l .before .args .ws .now) (l .loop .k) (l .loop .inv .1) (c .if1 .left))
+    (omega arith, clear-more (l .before .before .before .args .ws .now) (l .loop .k) (l .loop .inv .1) (c .if1 .left))
 
 mul-result-3 : tie.Need-mul-result-3 Inv-loop μ-loop
 mul-result-3 c = search needs
 
 returns-2 : tie.Need-returns-2 Inv-loop μ-loop
 returns-2 c =
-    let ws = c .before .before .args .ws .now in
+    let ws = c .before .before .before .before .args .ws .now in
     let l = c .before .loop in
     let e : l .k ≡ length ws = omega arith in
     ap (λ (k : ℕ). 64 * k) e ∙ sym (least-none (64 * length ws) (wbit ws) (λ i h. l .inv .1 i (omega arith)))
@@ -81,6 +84,7 @@ first-spec =
     (tie.spec
     Inv-loop
     μ-loop
+    skip-requires
     loop-holds
     mul-if1
     shared-slice-read-if1
