@@ -19,7 +19,7 @@ lib:
 	cp target/staticlib/libcapi.a $(ARCHIVE)
 
 compare: lib
-	outside/build_c target/outside/compare outside/compare.c outside/judge.c
+	outside/build_c target/outside/compare outside/compare.c outside/breaks.c outside/judge.c
 	outside/run_x86 target/outside/compare $(N) $$(( $(N) / 10 )) $(SEED)
 	outside/build_c target/outside/bch_compare outside/bch_compare.c outside/bch_judge.c
 	outside/run_x86 target/outside/bch_compare $$(( $(N) / 100 )) $(N) $(or $(SEED),1)

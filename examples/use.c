@@ -30,7 +30,7 @@ static void demand_done(const char *call, uint8_t number)
 int main(void)
 {
     const uint8_t information[INFORMATION] = {'T', 'U', 'R', 'N', ' ', 'O', 'F', 'F'};
-    uint8_t word[WORD], out[WORD], number;
+    uint8_t word[WORD], out[WORD];
 
     print_octets("information", information, INFORMATION);
     demand_done("encode", pandoricchia_encode(CODE, information, INFORMATION, word, WORD));
@@ -42,11 +42,11 @@ int main(void)
 
     pandoricchia_checked checked = pandoricchia_check(CODE, word, WORD);
     demand_done("check", checked.number);
-    printf("check: %u checks are broken\n", checked.broken);
+    printf("check: %u checks are broken, the lowest is %u\n", checked.broken, checked.lowest);
 
     /* A word with a broken check does not open. */
-    size_t part = pandoricchia_open(CODE, word, WORD, &number);
-    printf("open: %s, %zu octets\n", pandoricchia_text(number), part);
+    pandoricchia_opened opened = pandoricchia_open(CODE, word, WORD);
+    printf("open: %s, the lowest is %u\n", pandoricchia_text(opened.number), opened.lowest);
 
     pandoricchia_stepped stepped = pandoricchia_step(CODE, word, WORD, out, WORD);
     demand_done("step", stepped.number);
@@ -58,8 +58,8 @@ int main(void)
            corrected.last, corrected.unlike);
     print_octets("corrected", out, WORD);
 
-    part = pandoricchia_open(CODE, out, WORD, &number);
-    demand_done("open", number);
-    print_octets("opened", out, part);
+    opened = pandoricchia_open(CODE, out, WORD);
+    demand_done("open", opened.number);
+    print_octets("opened", out, opened.octets);
     return EXIT_SUCCESS;
 }

@@ -37,12 +37,12 @@ fn main() {
 
     let checked = pandoricchia::check(CODE, &word);
     demand_done("check", checked.number);
-    println!("check: {} checks are broken", checked.broken);
+    println!("check: {} checks are broken, the lowest is {}", checked.broken, checked.lowest);
 
     // A word with a broken check does not open.
     match pandoricchia::open(CODE, &word) {
         Ok(part) => println!("open: done, {} octets", part.len()),
-        Err(number) => println!("open: {}, 0 octets", pandoricchia::text(number)),
+        Err(why) => println!("open: {}, the lowest is {}", pandoricchia::text(why.number), why.lowest),
     }
 
     let stepped = pandoricchia::step(CODE, &word, &mut out);
@@ -57,6 +57,6 @@ fn main() {
 
     match pandoricchia::open(CODE, &out) {
         Ok(part) => print_octets("opened", part),
-        Err(number) => demand_done("open", number),
+        Err(why) => demand_done("open", why.number),
     }
 }

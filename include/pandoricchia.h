@@ -28,7 +28,7 @@
 extern "C" {
 #endif
 
-#define PANDORICCHIA_VERSION "0.3.0"
+#define PANDORICCHIA_VERSION "0.4.0"
 
 /* The table above; for a code number that is not known until the program runs there are two calls below. */
 #define PANDORICCHIA_WORD_OCTETS_1 16
@@ -61,10 +61,12 @@ enum pandoricchia_number {
     PANDORICCHIA_LIMIT = 6,          /* correct: the limit is reached */
     PANDORICCHIA_UNSENT = 7,         /* never given: no run sets a bit that is not sent */
     PANDORICCHIA_PARITY = 8,         /* correct, codes 4 and 5: quiet, but the parity is not the encoder's */
-    PANDORICCHIA_NO_CODEWORD = 9,    /* open: the word is not a codeword */
+    PANDORICCHIA_BROKEN = 9,         /* open: a check is broken */
     PANDORICCHIA_NO_START = 11,      /* reader: the whole start sequence is not there */
     PANDORICCHIA_NO_TAIL = 12,       /* reader: what follows is not one or more whole codeblocks and the tail */
     PANDORICCHIA_NO_BCH_WORD = 13,   /* bch_check: no codeword differs in at most one bit; detect-only: the word is none */
+    PANDORICCHIA_LAST_TWO = 14,      /* open, code 5: no check is broken, but one of the last two bits is set */
+    PANDORICCHIA_OTHER_PARITY = 15,  /* open, code 5: neither, but the parity is not the encoder's */
     PANDORICCHIA_TOO_LONG = 20,      /* import_blocks: not whole blocks or more than 128; export_blocks: more than 64,512 octets */
     PANDORICCHIA_BLOCK_CHECK = 21,   /* import_blocks: a block's frame check */
     PANDORICCHIA_BLOCK_NUMBER = 22,  /* import_blocks: a block's number */
@@ -93,14 +95,18 @@ static inline const char *pandoricchia_text(uint8_t number)
         return "an unsent bit became 1";
     case PANDORICCHIA_PARITY:
         return "quiet, parity not the encoder's";
-    case PANDORICCHIA_NO_CODEWORD:
-        return "not a codeword";
+    case PANDORICCHIA_BROKEN:
+        return "a check is broken";
     case PANDORICCHIA_NO_START:
         return "the whole start is not there";
     case PANDORICCHIA_NO_TAIL:
         return "what follows is not one or more whole codeblocks and the tail";
     case PANDORICCHIA_NO_BCH_WORD:
         return "no codeword differs in at most one bit; detect-only: the word is none";
+    case PANDORICCHIA_LAST_TWO:
+        return "one of the last two bits set";
+    case PANDORICCHIA_OTHER_PARITY:
+        return "parity not the encoder's";
     case PANDORICCHIA_TOO_LONG:
         return "not whole blocks or more than 128; more than 64,512 octets";
     case PANDORICCHIA_BLOCK_CHECK:
@@ -125,15 +131,22 @@ uint8_t pandoricchia_encode(uint8_t code, const uint8_t *information, size_t inf
 typedef struct pandoricchia_checked {
     uint8_t number;   /* 0 to 2 */
     uint32_t broken;  /* how many checks are broken; 0 where the call is refused */
+    uint32_t lowest;  /* the lowest broken check, the number of checks if none is broken; 0 where the call is refused */
 } pandoricchia_checked;
 
 /* Check: counts the broken checks; for code 5 with the unsent bits 0 and the last two bits unread. A word without a
  * broken check is a codeword in codes 1 to 3, but need not be one in codes 4 and 5. */
 pandoricchia_checked pandoricchia_check(uint8_t code, const uint8_t *word, size_t word_len);
 
-/* Open, codes 1, 2, 3 and 5: for a codeword, how many of its leading octets are its information; 0 where the call is
- * refused. Nothing is copied. The number, 0 to 2 or 9, is always written, so its pointer must not be NULL. */
-size_t pandoricchia_open(uint8_t code, const uint8_t *word, size_t word_len, uint8_t *number);
+typedef struct pandoricchia_opened {
+    uint8_t number;   /* 0 to 2, 9, 14 or 15 */
+    uint32_t lowest;  /* as check gives it; with 14 and 15 no check is broken */
+    size_t octets;    /* how many of the leading octets are information; 0 where the call is refused */
+} pandoricchia_opened;
+
+/* Open, codes 1, 2, 3 and 5: for a codeword, how many of its leading octets are its information. Nothing is copied. What is
+ * no codeword is refused by 9 if a check is broken, else by 14 if one of code 5's last two bits is set, else by 15. */
+pandoricchia_opened pandoricchia_open(uint8_t code, const uint8_t *word, size_t word_len);
 
 typedef struct pandoricchia_corrected {
     uint8_t number;   /* 0 to 3 or 5 to 8 */
@@ -141,13 +154,15 @@ typedef struct pandoricchia_corrected {
     uint32_t first;   /* broken checks of the word as received */
     uint32_t last;    /* broken checks at the end of the run */
     uint32_t unlike;  /* in how many bits the word as received and the word at the end differ: never more than flips */
+    uint32_t lowest;  /* the lowest broken check of the word as received, as check gives it */
 } pandoricchia_corrected;
 
 /* Correct: flips the bit of greatest excess, which is the number of its broken checks less that of its met ones, and of
  * several the lowest bit; again and again, until no check is broken (quiet), or no bit has an excess above 0, or limit
  * flips are made. On 0 out is a codeword. A run may flip a bit and later flip it back: unlike counts the bits that really
  * differ at its end, of those that the checks are over; code 5's unsent bits are among them, its last two are not.
- * Refusals 1 to 3 return all other values as 0, refusals 5 to 8 the flips made, the true counts, and unlike as it stands. */
+ * Refusals 1 to 3 return all other values as 0, refusals 5 to 8 the flips made, the true counts, unlike as it stands, and
+ * lowest. */
 pandoricchia_corrected pandoricchia_correct(uint8_t code, const uint8_t *word, size_t word_len, uint16_t limit,
                                             uint8_t *out, size_t out_len);
 

@@ -7,7 +7,7 @@
 //!
 //! and `rustc -L target/staticlib -l static=pandoricchia`.
 
-pub const VERSION: &str = "0.3.0";
+pub const VERSION: &str = "0.4.0";
 
 /// Octets of a word and of its information, by code number; there is no code 0.
 pub const WORD_OCTETS: [usize; 6] = [0, 16, 32, 64, 1022, 1020];
@@ -22,10 +22,12 @@ pub const STUCK: u8 = 5;
 pub const LIMIT: u8 = 6;
 pub const UNSENT: u8 = 7;
 pub const PARITY: u8 = 8;
-pub const NO_CODEWORD: u8 = 9;
+pub const BROKEN: u8 = 9;
 pub const NO_START: u8 = 11;
 pub const NO_TAIL: u8 = 12;
 pub const NO_BCH_WORD: u8 = 13;
+pub const LAST_TWO: u8 = 14;
+pub const OTHER_PARITY: u8 = 15;
 pub const TOO_LONG: u8 = 20;
 pub const BLOCK_CHECK: u8 = 21;
 pub const BLOCK_NUMBER: u8 = 22;
@@ -36,6 +38,15 @@ pub const BLOCK_COUNT: u8 = 23;
 pub struct Checked {
     pub number: u8,
     pub broken: u32,
+    pub lowest: u32,
+}
+
+#[repr(C)]
+#[derive(Clone, Copy, Debug, PartialEq, Eq)]
+pub struct Opened {
+    pub number: u8,
+    pub lowest: u32,
+    pub octets: usize,
 }
 
 #[repr(C)]
@@ -46,6 +57,7 @@ pub struct Corrected {
     pub first: u32,
     pub last: u32,
     pub unlike: u32,
+    pub lowest: u32,
 }
 
 #[repr(C)]
@@ -94,7 +106,7 @@ extern "C" {
     fn pandoricchia_information_octets(code: u8) -> usize;
     fn pandoricchia_encode(code: u8, information: *const u8, information_len: usize, word: *mut u8, word_len: usize) -> u8;
     fn pandoricchia_check(code: u8, word: *const u8, word_len: usize) -> Checked;
-    fn pandoricchia_open(code: u8, word: *const u8, word_len: usize, number: *mut u8) -> usize;
+    fn pandoricchia_open(code: u8, word: *const u8, word_len: usize) -> Opened;
     fn pandoricchia_correct(code: u8, word: *const u8, word_len: usize, limit: u16, out: *mut u8, out_len: usize) -> Corrected;
     fn pandoricchia_step(code: u8, word: *const u8, word_len: usize, out: *mut u8, out_len: usize) -> Stepped;
     fn pandoricchia_unit_octets(code: u8, information_len: usize) -> usize;
@@ -125,10 +137,12 @@ pub fn text(number: u8) -> &'static str {
         LIMIT => "limit reached",
         UNSENT => "an unsent bit became 1",
         PARITY => "quiet, parity not the encoder's",
-        NO_CODEWORD => "not a codeword",
+        BROKEN => "a check is broken",
         NO_START => "the whole start is not there",
         NO_TAIL => "what follows is not one or more whole codeblocks and the tail",
         NO_BCH_WORD => "no codeword differs in at most one bit; detect-only: the word is none",
+        LAST_TWO => "one of the last two bits set",
+        OTHER_PARITY => "parity not the encoder's",
         TOO_LONG => "not whole blocks or more than 128; more than 64,512 octets",
         BLOCK_CHECK => "a block's frame check",
         BLOCK_NUMBER => "a block's number",
@@ -155,21 +169,27 @@ pub fn encode(code: u8, information: &[u8], word: &mut [u8]) -> u8 {
     unsafe { pandoricchia_encode(code, information.as_ptr(), information.len(), word.as_mut_ptr(), word.len()) }
 }
 
-/// Counts the broken checks.
+/// Counts the broken checks, and gives the lowest.
 #[must_use]
 pub fn check(code: u8, word: &[u8]) -> Checked {
     unsafe { pandoricchia_check(code, word.as_ptr(), word.len()) }
 }
 
-/// The information octets of a codeword, lent back as a part of it; or the number, 1, 2 or 9.
-pub fn open(code: u8, word: &[u8]) -> Result<&[u8], u8> {
-    let mut number = 0;
-    let part = unsafe { pandoricchia_open(code, word.as_ptr(), word.len(), &mut number) };
-    if number == DONE { Ok(&word[..part]) } else { Err(number) }
+/// Why a word was not opened: the number, 1, 2, 9, 14 or 15, and the lowest broken check, as check gives it.
+#[derive(Clone, Copy, Debug, PartialEq, Eq)]
+pub struct Unopened {
+    pub number: u8,
+    pub lowest: u32,
+}
+
+/// The information octets of a codeword, lent back as a part of it; or why there are none.
+pub fn open(code: u8, word: &[u8]) -> Result<&[u8], Unopened> {
+    let Opened { number, lowest, octets } = unsafe { pandoricchia_open(code, word.as_ptr(), word.len()) };
+    if number == DONE { Ok(&word[..octets]) } else { Err(Unopened { number, lowest }) }
 }
 
 /// Flips the bit of greatest excess until no check is broken, or no bit has an excess above 0, or the limit is reached.
-/// `unlike` counts the bits in which the word as received and the word at the end differ.
+/// `unlike` counts the bits in which the word as received and the word at the end differ; `lowest` is the received word's.
 #[must_use]
 pub fn correct(code: u8, word: &[u8], limit: u16, out: &mut [u8]) -> Corrected {
     unsafe { pandoricchia_correct(code, word.as_ptr(), word.len(), limit, out.as_mut_ptr(), out.len()) }

@@ -68,7 +68,6 @@ static unsigned long ask(unsigned who, char call, uint8_t code, unsigned w)
 {
     const uint8_t *i = information[w], *x = word[w];
     size_t il = info_octets[code], l = word_octets[code];
-    uint8_t number;
     switch (call) {
     case 'e':
         return who == 0   ? pandoricchia_encode(code, i, il, out, l)
@@ -79,9 +78,9 @@ static unsigned long ask(unsigned who, char call, uint8_t code, unsigned w)
                : who == 1 ? judge_check(code, x, l).broken
                           : fast_check(code, x, l).broken;
     case 'o':
-        return who == 0   ? pandoricchia_open(code, x, l, &number)
-               : who == 1 ? judge_open(code, x, l, &number)
-                          : fast_open(code, x, l, &number);
+        return who == 0   ? pandoricchia_open(code, x, l).octets
+               : who == 1 ? judge_open(code, x, l).octets
+                          : fast_open(code, x, l).octets;
     case 'c':
         return who == 0   ? pandoricchia_correct(code, x, l, 65535, out, l).flips
                : who == 1 ? judge_correct(code, x, l, 65535, out, l).flips

@@ -57,23 +57,24 @@ static void test_lengths(void)
 static void test_texts(void)
 {
     const char *none = pandoricchia_text(255);
-    for (unsigned number = 0; number <= PANDORICCHIA_NO_CODEWORD; number++)
+    for (unsigned number = 0; number <= PANDORICCHIA_BROKEN; number++)
         expect(strcmp(pandoricchia_text((uint8_t)number), none) != 0, "no text for a number", number);
-    expect(strcmp(pandoricchia_text(PANDORICCHIA_NO_CODEWORD + 1), none) == 0, "a text for no number", 0);
+    expect(strcmp(pandoricchia_text(PANDORICCHIA_BROKEN + 1), none) == 0, "a text for no number", 0);
 }
 
 /* No code has a length of 0, so such a call is refused: 1 where the code is not offered, 2 for the input, 3 for the output. */
 static void test_null(void)
 {
     for (unsigned code = 0; code < 256; code++) {
-        uint8_t c = (uint8_t)code, number = 255;
+        uint8_t c = (uint8_t)code;
         uint8_t input = 1 <= code && code <= 5 ? 2 : 1, output = input == 2 ? 3 : 1;
         size_t info = pandoricchia_information_octets(c), long_word = pandoricchia_word_octets(c);
         fill(code < 6 ? c : 0, 0);
         expect(pandoricchia_encode(c, NULL, 0, NULL, 0) == input, "encode, both NULL", code);
         expect(pandoricchia_encode(c, information, info, NULL, 0) == output, "encode, output NULL", code);
         expect(pandoricchia_check(c, NULL, 0).number == input, "check, NULL", code);
-        expect(pandoricchia_open(c, NULL, 0, &number) == 0 && number == (code == 4 ? 1 : input), "open, NULL", code);
+        pandoricchia_opened opened = pandoricchia_open(c, NULL, 0);
+        expect(opened.number == (code == 4 ? 1 : input) && opened.octets == 0, "open, NULL", code);
         expect(pandoricchia_correct(c, NULL, 0, 9, NULL, 0).number == input, "correct, both NULL", code);
         expect(pandoricchia_correct(c, word, long_word, 9, NULL, 0).number == output, "correct, output NULL", code);
         expect(pandoricchia_step(c, NULL, 0, NULL, 0).number == (code == 5 ? 1 : input), "step, both NULL", code);
@@ -88,15 +89,14 @@ static void test_addresses(void)
     for (uint8_t code = 1; code <= 5; code++) {
         size_t n = words[code], info = informations[code];
         for (size_t at = 0; at < 16; at++) {
-            uint8_t number = 255;
             fill(code, at);
             expect(pandoricchia_encode(code, information + at, info, word + (15 - at), n) == 0, "encode", code);
             if (at == 0)
                 memcpy(first, word + 15, n);
             expect(memcmp(word + (15 - at), first, n) == 0, "encode's octets", code);
             expect(pandoricchia_check(code, word + (15 - at), n).broken == 0, "check", code);
-            size_t part = pandoricchia_open(code, word + (15 - at), n, &number);
-            expect(code == 4 ? number == 1 && part == 0 : number == 0 && part == info, "open", code);
+            pandoricchia_opened opened = pandoricchia_open(code, word + (15 - at), n);
+            expect(opened.number == (code == 4 ? 1 : 0) && opened.octets == (code == 4 ? 0 : info), "open", code);
             word[15 - at + 3] ^= 0x10;
             pandoricchia_corrected mended = pandoricchia_correct(code, word + (15 - at), n, 1, out + at, n);
             expect(mended.flips == 1 && mended.unlike == 1, "correct", code);
@@ -134,7 +134,6 @@ static void test_stack(void)
         size_t most = 0;
         for (uint8_t code = 1; code <= 5; code++) {
             size_t n = words[code];
-            uint8_t number;
             fill(code, 0);
             pandoricchia_encode(code, information, informations[code], word, n);
             for (size_t i = 0; i < 4 && call > 2; i++)
@@ -145,7 +144,7 @@ static void test_stack(void)
             else if (call == 1)
                 pandoricchia_check(code, word, n);
             else if (call == 2)
-                pandoricchia_open(code, word, n, &number);
+                pandoricchia_open(code, word, n);
             else if (call == 3)
                 pandoricchia_correct(code, word, n, 1000, out, n);
             else

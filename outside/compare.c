@@ -1,12 +1,14 @@
 /* Compares the library with the judge on many inputs: every number returned, every octet of the output afterwards.
  *
- *     cc -std=c11 -Wall -Wextra -O2 -Iinclude -o target/compare outside/compare.c outside/judge.c LIBRARY.a
+ *     cc -std=c11 -Wall -Wextra -O2 -Iinclude -o target/compare outside/compare.c outside/breaks.c \
+ *         outside/judge.c LIBRARY.a
  *     target/compare TELECOMMAND NEAR_EARTH [SEED]
  *
  * TELECOMMAND is the number of comparisons of each call under each of the codes 1 to 3, NEAR_EARTH the same for codes 4
  * and 5; wrong lengths and wrong code numbers come on top. With -DJUDGE_AS_LIBRARY and without the library the judge
  * stands in for it, and what runs is the campaign alone.
  */
+#include "breaks.h"
 #include "judge.h"
 #include "pandoricchia.h"
 
@@ -25,19 +27,20 @@ uint8_t pandoricchia_encode(uint8_t code, const uint8_t *info, size_t info_len, 
 pandoricchia_checked pandoricchia_check(uint8_t code, const uint8_t *word, size_t len)
 {
     struct judge_checked a = judge_check(code, word, len);
-    return (pandoricchia_checked){a.number, a.broken};
+    return (pandoricchia_checked){a.number, a.broken, a.lowest};
 }
 
-size_t pandoricchia_open(uint8_t code, const uint8_t *word, size_t len, uint8_t *number)
+pandoricchia_opened pandoricchia_open(uint8_t code, const uint8_t *word, size_t len)
 {
-    return judge_open(code, word, len, number);
+    struct judge_opened a = judge_open(code, word, len);
+    return (pandoricchia_opened){a.number, a.lowest, a.octets};
 }
 
 pandoricchia_corrected pandoricchia_correct(uint8_t code, const uint8_t *word, size_t len, uint16_t limit,
                                             uint8_t *out, size_t out_len)
 {
     struct judge_corrected a = judge_correct(code, word, len, limit, out, out_len);
-    return (pandoricchia_corrected){a.number, a.flips, a.first, a.last, a.unlike};
+    return (pandoricchia_corrected){a.number, a.flips, a.first, a.last, a.unlike, a.lowest};
 }
 
 pandoricchia_stepped pandoricchia_step(uint8_t code, const uint8_t *word, size_t len, uint8_t *out, size_t out_len)
@@ -51,14 +54,14 @@ enum call { ENCODE, CHECK, OPEN, CORRECT, STEP, CALLS };
 
 static const char *const call_names[CALLS] = {"encode", "check", "open", "correct", "step"};
 
-enum { VALUES = 4 };
+enum { VALUES = 5 };
 
 /* What an answer's values are, besides the number. */
 static const char *const value_names[CALLS][VALUES] = {
     {NULL},
-    {"broken"},
-    {"part"},
-    {"flips", "first", "last", "unlike"},
+    {"broken", "lowest"},
+    {"lowest", "octets"},
+    {"flips", "first", "last", "unlike", "lowest"},
     {"quiet", "bit", "excess"},
 };
 
@@ -66,6 +69,7 @@ static const size_t word_octets[] = {0, 16, 32, 64, 1022, 1020};
 static const size_t info_octets[] = {0, 8, 16, 32, 895, 892};
 static const unsigned covered_bits[] = {0, 128, 256, 512, 8176, 8158};
 static const unsigned info_bits[] = {0, 64, 128, 256, 7154, 7136};
+static const unsigned checks[] = {0, 64, 128, 256, 1022, 1022};
 
 enum {
     LONGEST = 1022,
@@ -98,16 +102,17 @@ static struct answer ask_judge(const struct question *q, const uint8_t *input, u
         break;
     case CHECK: {
         struct judge_checked r = judge_check(q->code, input, q->len);
-        a = (struct answer){r.number, {r.broken}};
+        a = (struct answer){r.number, {r.broken, r.lowest}};
         break;
     }
-    case OPEN:
-        a.number = 0xEE;
-        a.value[0] = (int64_t)judge_open(q->code, input, q->len, &a.number);
+    case OPEN: {
+        struct judge_opened r = judge_open(q->code, input, q->len);
+        a = (struct answer){r.number, {r.lowest, (int64_t)r.octets}};
         break;
+    }
     case CORRECT: {
         struct judge_corrected r = judge_correct(q->code, input, q->len, q->limit, out, q->out_len);
-        a = (struct answer){r.number, {r.flips, r.first, r.last, r.unlike}};
+        a = (struct answer){r.number, {r.flips, r.first, r.last, r.unlike, r.lowest}};
         break;
     }
     default: {
@@ -127,16 +132,17 @@ static struct answer ask_library(const struct question *q, const uint8_t *input,
         break;
     case CHECK: {
         pandoricchia_checked r = pandoricchia_check(q->code, input, q->len);
-        a = (struct answer){r.number, {r.broken}};
+        a = (struct answer){r.number, {r.broken, r.lowest}};
         break;
     }
-    case OPEN:
-        a.number = 0xEE;
-        a.value[0] = (int64_t)pandoricchia_open(q->code, input, q->len, &a.number);
+    case OPEN: {
+        pandoricchia_opened r = pandoricchia_open(q->code, input, q->len);
+        a = (struct answer){r.number, {r.lowest, (int64_t)r.octets}};
         break;
+    }
     case CORRECT: {
         pandoricchia_corrected r = pandoricchia_correct(q->code, input, q->len, q->limit, out, q->out_len);
-        a = (struct answer){r.number, {r.flips, r.first, r.last, r.unlike}};
+        a = (struct answer){r.number, {r.flips, r.first, r.last, r.unlike, r.lowest}};
         break;
     }
     default: {
@@ -388,7 +394,7 @@ static void find_loud(uint8_t code)
 static unsigned draw_word(uint8_t code, uint8_t *word)
 {
     unsigned bits = covered_bits[code], wrong = 0;
-    switch (below(20)) {
+    switch (below(22)) {
     case 0:
     case 1:
         draw_octets(word, word_octets[code]);
@@ -400,6 +406,16 @@ static unsigned draw_word(uint8_t code, uint8_t *word)
             word[i] ^= loud[code][i];
         wrong = below(2) ? 0 : below(41);
         break;
+    case 20:
+    case 21: {
+        /* Quiet below a check of any number. */
+        unsigned lowest = below(checks[code]);
+        draw_codeword(code, word);
+        break_check(code, lowest, word);
+        for (unsigned more = below(2) ? 0 : below(9); more > 0; more--)
+            break_check(code, lowest + below(checks[code] - lowest), word);
+        return below(4);
+    }
     case 16:
     case 17:
         if (below(2)) {
@@ -506,6 +522,8 @@ static void compare_drawn(enum call call, uint8_t code, struct tally *tally)
         draw_codeword(code, input);
         if (code == 5 && below(4) == 0)
             input[1019] ^= (uint8_t)(1 + below(3));
+        if (code == 5 && below(4) == 0)
+            invert_parity(code, input);
     } else {
         unsigned wrong = draw_word(code, input);
         if (call == CORRECT)

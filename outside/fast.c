@@ -53,6 +53,15 @@ LEAF bool quiet(const uint64_t *s, struct shape sh)
     return any == 0;
 }
 
+/* The lowest broken check: the first one of the first word that has one. */
+LEAF unsigned lowest(const uint64_t *s, struct shape sh)
+{
+    for (unsigned k = 0; k < sh.rows * sh.words; k++)
+        if (s[k] != 0)
+            return k / sh.words * sh.size + k % sh.words * 64 + (unsigned)__builtin_clzll(s[k]);
+    return sh.rows * sh.size;
+}
+
 /* The octets, and two words of zeros after them. */
 LEAF void load(const uint8_t *octets, size_t len, uint64_t *y)
 {
@@ -333,36 +342,35 @@ uint8_t fast_encode(uint8_t code, const uint8_t *information, size_t information
 }
 
 #define MEASURE(h, steps, sh, lead) \
-    syndrome(y, h, sh, s);               \
-    wrong = broken(s, sh)
+    syndrome(y, h, sh, s);           \
+    wrong = broken(s, sh);           \
+    low = lowest(s, sh)
 
 struct judge_checked fast_check(uint8_t code, const uint8_t *word, size_t len)
 {
     if (!offered(code))
-        return (struct judge_checked){1, 0};
+        return (struct judge_checked){1, 0, 0};
     if (len != word_octets[code])
-        return (struct judge_checked){2, 0};
+        return (struct judge_checked){2, 0, 0};
     uint64_t y[HELD], s[SYNDROME];
-    unsigned wrong;
+    unsigned wrong, low;
     take(code, word, len, y);
     FOR_CODE(code, MEASURE)
-    return (struct judge_checked){0, wrong};
+    return (struct judge_checked){0, wrong, low};
 }
 
-size_t fast_open(uint8_t code, const uint8_t *word, size_t len, uint8_t *number)
+struct judge_opened fast_open(uint8_t code, const uint8_t *word, size_t len)
 {
-    *number = !offered(code) || code == 4 ? 1 : len != word_octets[code] ? 2 : 0;
-    if (*number != 0)
-        return 0;
+    if (!offered(code) || code == 4)
+        return (struct judge_opened){1, 0, 0};
+    if (len != word_octets[code])
+        return (struct judge_opened){2, 0, 0};
     uint64_t y[HELD], s[SYNDROME];
-    unsigned wrong;
+    unsigned wrong, low;
     take(code, word, len, y);
     FOR_CODE(code, MEASURE)
-    if (wrong != 0 || (code == 5 && (!own_parity(y) || (word[1019] & 3) != 0))) {
-        *number = 9;
-        return 0;
-    }
-    return info_octets[code];
+    uint8_t number = wrong != 0 ? 9 : code != 5 ? 0 : (word[1019] & 3) != 0 ? 14 : own_parity(y) ? 0 : 15;
+    return (struct judge_opened){number, low, number == 0 ? info_octets[code] : 0};
 }
 
 /* In how many bits y differs from the octets it was taken from. Code 5's last two are the same in both. */
@@ -394,6 +402,7 @@ struct judge_corrected fast_correct(uint8_t code, const uint8_t *word, size_t le
 #define RUN(h, steps, sh, lead) \
     syndrome(y, h, sh, s);           \
     answer.first = broken(s, sh);    \
+    answer.lowest = lowest(s, sh);   \
     answer.number = run(y, s, h, sh, code == 5 ? 18 : 0, limit, &answer.flips); \
     answer.last = broken(s, sh)
     FOR_CODE(code, RUN)

@@ -308,6 +308,15 @@ static uint32_t check_all(const struct code *c, const unsigned char *x, unsigned
     return count;
 }
 
+/* The lowest broken check, or the number of checks if none is broken. */
+static uint32_t lowest_broken(const struct code *c, const unsigned char *broken)
+{
+    uint32_t check = 0;
+    while (check < c->checks && !broken[check])
+        check++;
+    return check;
+}
+
 /* Broken checks of the bit less its met checks. */
 static int excess_of(const struct code *c, const unsigned char *broken, unsigned bit)
 {
@@ -365,28 +374,33 @@ struct judge_checked judge_check(uint8_t code, const uint8_t *word, size_t len)
     unsigned char x[MOST_BITS], broken[MOST_CHECKS];
     lift(c, word, c->bits, x);
     answer.broken = check_all(c, x, broken);
+    answer.lowest = lowest_broken(c, broken);
     return answer;
 }
 
-size_t judge_open(uint8_t code, const uint8_t *word, size_t len, uint8_t *number)
+struct judge_opened judge_open(uint8_t code, const uint8_t *word, size_t len)
 {
+    struct judge_opened answer = {0};
     if (!offered(code) || code == 4) {
-        *number = 1;
-        return 0;
+        answer.number = 1;
+        return answer;
     }
     const struct code *c = code_of(code);
     if (len != c->word_octets) {
-        *number = 2;
-        return 0;
+        answer.number = 2;
+        return answer;
     }
-    unsigned char x[MOST_BITS];
+    unsigned char x[MOST_BITS], broken[MOST_CHECKS];
     lift(c, word, c->bits, x);
-    bool codeword = parity_is_the_encoders(c, x);
+    bool after = false; /* whether a bit after the parity is set: code 5 has two */
     for (unsigned n = c->bits - c->unsent; n < 8 * c->word_octets; n++)
         if (get_bit(word, n))
-            codeword = false;
-    *number = codeword ? 0 : 9;
-    return codeword ? c->info_octets : 0;
+            after = true;
+    uint32_t count = check_all(c, x, broken);
+    answer.lowest = lowest_broken(c, broken);
+    answer.number = count > 0 ? 9 : after ? 14 : !parity_is_the_encoders(c, x) ? 15 : 0;
+    answer.octets = answer.number == 0 ? c->info_octets : 0;
+    return answer;
 }
 
 /* What is refused of a word in and a word out before a bit is read: the code, then the lengths. */
@@ -448,6 +462,7 @@ struct judge_corrected judge_correct(uint8_t code, const uint8_t *word, size_t l
     unsigned char received[MOST_BITS], x[MOST_BITS], broken[MOST_CHECKS];
     lift(c, word, c->bits, received);
     answer.first = check_all(c, received, broken);
+    answer.lowest = lowest_broken(c, broken);
     memcpy(x, received, c->bits);
     answer.number = run(c, x, limit, &answer.flips, &answer.last);
     answer.unlike = count_unlike(c, received, x);
@@ -491,4 +506,12 @@ bool judge_broken(uint8_t code, const uint8_t *word, uint32_t check)
     unsigned char x[MOST_BITS];
     lift(c, word, c->bits, x);
     return check_sum(c, x, check) != 0;
+}
+
+void judge_checks(uint8_t code, const uint8_t *word, unsigned char *broken)
+{
+    const struct code *c = code_of(code);
+    unsigned char x[MOST_BITS];
+    lift(c, word, c->bits, x);
+    check_all(c, x, broken);
 }

@@ -10,12 +10,18 @@
 
 struct judge_checked {
     uint8_t number;
-    uint32_t broken;
+    uint32_t broken, lowest;
+};
+
+struct judge_opened {
+    uint8_t number;
+    uint32_t lowest;
+    size_t octets;
 };
 
 struct judge_corrected {
     uint8_t number;
-    uint32_t flips, first, last, unlike;
+    uint32_t flips, first, last, unlike, lowest;
 };
 
 struct judge_stepped {
@@ -29,15 +35,16 @@ uint8_t judge_encode(uint8_t code, const uint8_t *info, size_t info_len, uint8_t
 
 struct judge_checked judge_check(uint8_t code, const uint8_t *word, size_t len);
 
-/* How many leading octets are lent back. The number is always written. */
-size_t judge_open(uint8_t code, const uint8_t *word, size_t len, uint8_t *number);
+struct judge_opened judge_open(uint8_t code, const uint8_t *word, size_t len);
 
 struct judge_corrected judge_correct(uint8_t code, const uint8_t *word, size_t len, uint16_t limit, uint8_t *out,
                                      size_t out_len);
 
 struct judge_stepped judge_step(uint8_t code, const uint8_t *word, size_t len, uint8_t *out, size_t out_len);
 
-/* For tests: whether one check is broken. The code is 1 to 5 and the word has its length. */
+/* For tests: whether one check is broken; and of all of them, 1 for each that is. The code is 1 to 5 and the word has its
+ * length. */
 bool judge_broken(uint8_t code, const uint8_t *word, uint32_t check);
+void judge_checks(uint8_t code, const uint8_t *word, unsigned char *broken);
 
 #endif

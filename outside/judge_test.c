@@ -106,16 +106,43 @@ static struct judge_corrected correct(uint8_t code, const uint8_t *word, uint16_
     return judge_correct(code, word, word_octets[code], limit, out, word_octets[code]);
 }
 
-static bool are(struct judge_corrected a, uint8_t number, uint32_t flips, uint32_t first, uint32_t last, uint32_t unlike)
+static bool are(struct judge_corrected a, uint8_t number, uint32_t flips, uint32_t first, uint32_t last, uint32_t unlike,
+                uint32_t lowest)
 {
-    return a.number == number && a.flips == flips && a.first == first && a.last == last && a.unlike == unlike;
+    return a.number == number && a.flips == flips && a.first == first && a.last == last && a.unlike == unlike
+           && a.lowest == lowest;
+}
+
+/* Open is refused by this number, with this place. */
+static bool unopened(uint8_t code, const uint8_t *word, uint8_t number, uint32_t lowest)
+{
+    struct judge_opened o = judge_open(code, word, word_octets[code]);
+    return o.number == number && o.lowest == lowest && o.octets == 0;
+}
+
+static bool opened(uint8_t code, const uint8_t *word)
+{
+    struct judge_opened o = judge_open(code, word, word_octets[code]);
+    return o.number == 0 && o.lowest == checks[code] && o.octets == info_octets[code];
+}
+
+/* The lowest broken check, looked for from the last one down; the number of checks if there is none. */
+static uint32_t lowest_of(uint8_t code, const uint8_t *word)
+{
+    unsigned char broken[MOST_OCTETS];
+    uint32_t lowest = checks[code];
+    judge_checks(code, word, broken);
+    for (unsigned check = checks[code]; check > 0; check--)
+        if (broken[check - 1])
+            lowest = check - 1;
+    return lowest;
 }
 
 /* Exactly these checks are broken, and check counts them. */
 static bool broken_are(uint8_t code, const uint8_t *word, const unsigned *list, unsigned count)
 {
     struct judge_checked counted = judge_check(code, word, word_octets[code]);
-    if (counted.number != 0 || counted.broken != count)
+    if (counted.number != 0 || counted.broken != count || counted.lowest != (count > 0 ? list[0] : checks[code]))
         return false;
     for (unsigned check = 0, at = 0; check < checks[code]; check++) {
         bool listed = at < count && list[at] == check;
@@ -128,7 +155,7 @@ static bool broken_are(uint8_t code, const uint8_t *word, const unsigned *list, 
 
 static void starred_cases(void)
 {
-    uint8_t info[MOST_OCTETS] = {0}, word[MOST_OCTETS] = {0}, out[MOST_OCTETS + 1], number = 99;
+    uint8_t info[MOST_OCTETS] = {0}, word[MOST_OCTETS] = {0}, out[MOST_OCTETS + 1];
 
     begin("code 1, information 80 then zeros");
     info[0] = 0x80;
@@ -144,9 +171,9 @@ static void starred_cases(void)
     EXPECT(s.number == 0 && !s.quiet && s.bit == 0 && s.excess == 5);
     EXPECT(all_are(out, 0, 16));
     memset(out, 0x5A, sizeof out);
-    EXPECT(are(correct(1, word, 0, out), 6, 0, 5, 5, 0));
+    EXPECT(are(correct(1, word, 0, out), 6, 0, 5, 5, 0, 0));
     EXPECT(all_are(out, 0x5A, 16));
-    EXPECT(are(correct(1, word, 1, out), 0, 1, 5, 0, 1));
+    EXPECT(are(correct(1, word, 1, out), 0, 1, 5, 0, 1, 0));
     EXPECT(all_are(out, 0, 16));
     end();
 
@@ -154,12 +181,15 @@ static void starred_cases(void)
     memset(word, 0, sizeof word);
     word[15] = 0x01;
     EXPECT(broken_are(1, word, (unsigned[]){15, 24, 44}, 3));
+    EXPECT(unopened(1, word, 9, 15));
+    EXPECT(are(correct(1, word, 0, out), 6, 0, 3, 3, 0, 15));
+    EXPECT(are(correct(1, word, 1, out), 0, 1, 3, 0, 1, 15));
     end();
 
     begin("code 1, all-one word");
     memset(word, 0xFF, sizeof word);
     EXPECT(broken_are(1, word, NULL, 0));
-    EXPECT(judge_open(1, word, 16, &number) == 8 && number == 0);
+    EXPECT(opened(1, word));
     end();
 
     begin("code 4, only bit 0 set");
@@ -174,8 +204,8 @@ static void starred_cases(void)
         flip(word, bit);
     EXPECT(broken_are(4, word, NULL, 0));
     memset(out, 0x5A, sizeof out);
-    EXPECT(are(correct(4, word, 65535, out), 8, 0, 0, 0, 0));
-    EXPECT(are(correct(4, word, 0, out), 8, 0, 0, 0, 0));
+    EXPECT(are(correct(4, word, 65535, out), 8, 0, 0, 0, 0, 1022));
+    EXPECT(are(correct(4, word, 0, out), 8, 0, 0, 0, 0, 1022));
     EXPECT(all_are(out, 0x5A, sizeof out));
     end();
 
@@ -183,18 +213,23 @@ static void starred_cases(void)
     memset(word, 0, sizeof word);
     word[0] = 0x80;
     memset(out, 0x5A, sizeof out);
-    EXPECT(are(judge_correct(1, word, 15, 9, out, 16), 2, 0, 0, 0, 0));
-    EXPECT(are(judge_correct(1, word, 16, 9, out, 17), 3, 0, 0, 0, 0));
+    EXPECT(are(judge_correct(1, word, 15, 9, out, 16), 2, 0, 0, 0, 0, 0));
+    EXPECT(are(judge_correct(1, word, 16, 9, out, 17), 3, 0, 0, 0, 0, 0));
     for (uint8_t code = 0; code <= 6; code += 6) {
         EXPECT(judge_encode(code, info, 8, out, 16) == 1);
         struct judge_checked c = judge_check(code, word, 16);
-        EXPECT(c.number == 1 && c.broken == 0);
-        EXPECT(judge_open(code, word, 16, &number) == 0 && number == 1);
-        EXPECT(are(judge_correct(code, word, 16, 9, out, 16), 1, 0, 0, 0, 0));
+        EXPECT(c.number == 1 && c.broken == 0 && c.lowest == 0);
+        struct judge_opened o = judge_open(code, word, 16);
+        EXPECT(o.number == 1 && o.lowest == 0 && o.octets == 0);
+        EXPECT(are(judge_correct(code, word, 16, 9, out, 16), 1, 0, 0, 0, 0, 0));
         s = judge_step(code, word, 16, out, 16);
         EXPECT(s.number == 1 && !s.quiet && s.bit == 0 && s.excess == 0);
     }
-    EXPECT(judge_open(4, word, 1022, &number) == 0 && number == 1);
+    EXPECT(unopened(4, word, 1, 0));
+    struct judge_opened o = judge_open(5, word, 1022);
+    EXPECT(o.number == 2 && o.lowest == 0 && o.octets == 0);
+    struct judge_checked c = judge_check(5, word, 1022);
+    EXPECT(c.number == 2 && c.broken == 0 && c.lowest == 0);
     s = judge_step(5, word, 1020, out, 1020);
     EXPECT(s.number == 1 && !s.quiet && s.bit == 0 && s.excess == 0);
     EXPECT(all_are(out, 0x5A, sizeof out));
@@ -272,7 +307,8 @@ static void other_cases(void)
         if (bit_of(word, bit))
             flip(sent, bit - 18);
     memset(out, 0x5A, sizeof out);
-    EXPECT(are(correct(5, sent, 1, out), 5, 0, 4, 4, 0));
+    EXPECT(are(correct(5, sent, 1, out), 5, 0, 4, 4, 0, 0));
+    EXPECT(unopened(5, sent, 9, 0));
     EXPECT(all_are(out, 0x5A, sizeof out));
     end();
 
@@ -286,8 +322,9 @@ static void other_cases(void)
             for (unsigned i = 0; i < word_octets[code]; i++)
                 word[i] ^= solution[check][i];
             EXPECT(broken_are(code, word, &check, 1));
+            EXPECT(unopened(code, word, 9, check));
             memset(out, 0x5A, sizeof out);
-            EXPECT(are(correct(code, word, (uint16_t)below(65536), out), 5, 0, 1, 1, 0));
+            EXPECT(are(correct(code, word, (uint16_t)below(65536), out), 5, 0, 1, 1, 0, check));
             struct judge_stepped s = judge_step(code, word, word_octets[code], out, word_octets[code]);
             EXPECT(s.number == 5 && !s.quiet && s.bit == 0 && s.excess == 0);
             EXPECT(all_are(out, 0x5A, sizeof out));
@@ -300,9 +337,9 @@ static void other_cases(void)
     begin("the two lines of the bench program");
     memset(word, 0, sizeof word);
     word[0] = 0x80;
-    EXPECT(are(correct(1, word, 10, out), 0, 1, 5, 0, 1));
+    EXPECT(are(correct(1, word, 10, out), 0, 1, 5, 0, 1, 0));
     word[0] = 0;
-    EXPECT(are(correct(1, word, 10, out), 0, 0, 0, 0, 0));
+    EXPECT(are(correct(1, word, 10, out), 0, 0, 0, 0, 0, 64));
     end();
 
     /* The auditor's two words of code 1: zeros with these bits wrong. */
@@ -311,14 +348,14 @@ static void other_cases(void)
     memset(word, 0, sizeof word);
     for (unsigned k = 0; k < 7; k++)
         flip(word, seven[k]);
-    EXPECT(are(correct(1, word, 65535, out), 0, 9, 23, 0, 7));
+    EXPECT(are(correct(1, word, 65535, out), 0, 9, 23, 0, 7, lowest_of(1, word)));
     EXPECT(all_are(out, 0, 16));
-    EXPECT(are(correct(1, word, 6, out), 6, 6, 23, 7, 6));
-    EXPECT(are(correct(1, word, 7, out), 6, 7, 23, 6, 5));
+    EXPECT(are(correct(1, word, 6, out), 6, 6, 23, 7, 6, lowest_of(1, word)));
+    EXPECT(are(correct(1, word, 7, out), 6, 7, 23, 6, 5, lowest_of(1, word)));
     memset(word, 0, sizeof word);
     for (unsigned k = 0; k < 9; k++)
         flip(word, nine[k]);
-    EXPECT(are(correct(1, word, 65535, out), 0, 9, 23, 0, 9));
+    EXPECT(are(correct(1, word, 65535, out), 0, 9, 23, 0, 9, lowest_of(1, word)));
     EXPECT(!all_are(out, 0, 16));
     end();
 }
@@ -353,20 +390,20 @@ static void encoded_words(void)
 {
     begin("encoded words are quiet, opened and taken");
     for (uint8_t code = 1; code <= 5; code++) {
-        uint8_t info[MOST_OCTETS], word[MOST_OCTETS], out[MOST_OCTETS], number = 99;
+        uint8_t info[MOST_OCTETS], word[MOST_OCTETS], out[MOST_OCTETS];
         for (unsigned turn = code <= 3 ? 1000 : 60; turn > 0; turn--) {
             draw_codeword(code, info, word);
             for (unsigned bit = 0; bit < info_bits[code]; bit++)
                 if (bit_of(info, bit) != bit_of(word, bit))
                     EXPECT(false);
             struct judge_checked c = judge_check(code, word, word_octets[code]);
-            EXPECT(c.number == 0 && c.broken == 0);
+            EXPECT(c.number == 0 && c.broken == 0 && c.lowest == checks[code]);
             if (code != 4) {
-                EXPECT(judge_open(code, word, word_octets[code], &number) == info_octets[code] && number == 0);
+                EXPECT(opened(code, word));
                 EXPECT(memcmp(info, word, info_octets[code]) == 0);
             }
             memset(out, 0x5A, sizeof out);
-            EXPECT(are(correct(code, word, (uint16_t)below(3), out), 0, 0, 0, 0, 0));
+            EXPECT(are(correct(code, word, (uint16_t)below(3), out), 0, 0, 0, 0, 0, checks[code]));
             EXPECT(memcmp(out, word, word_octets[code]) == 0);
             if (code != 5) {
                 memset(out, 0x5A, sizeof out);
@@ -387,17 +424,18 @@ static unsigned degree(uint8_t code, unsigned bit)
 /* A codeword with one wrong bit: one flip, that bit, and the codeword comes back. */
 static void one_wrong_bit(uint8_t code, unsigned bit)
 {
-    uint8_t info[MOST_OCTETS], word[MOST_OCTETS], wrong[MOST_OCTETS], out[MOST_OCTETS], number = 99;
+    uint8_t info[MOST_OCTETS], word[MOST_OCTETS], wrong[MOST_OCTETS], out[MOST_OCTETS];
     draw_codeword(code, info, word);
     memcpy(wrong, word, sizeof wrong);
     flip(wrong, bit);
+    uint32_t lowest = lowest_of(code, wrong);
     memset(out, 0x5A, sizeof out);
     uint16_t limit = below(2) ? 1 : (uint16_t)(1 + below(65535));
-    EXPECT(are(correct(code, wrong, limit, out), 0, 1, degree(code, bit), 0, 1));
+    EXPECT(are(correct(code, wrong, limit, out), 0, 1, degree(code, bit), 0, 1, lowest));
     EXPECT(memcmp(out, word, word_octets[code]) == 0);
-    EXPECT(are(correct(code, wrong, 0, out), 6, 0, degree(code, bit), degree(code, bit), 0));
+    EXPECT(are(correct(code, wrong, 0, out), 6, 0, degree(code, bit), degree(code, bit), 0, lowest));
     if (code != 4)
-        EXPECT(judge_open(code, wrong, word_octets[code], &number) == 0 && number == 9);
+        EXPECT(unopened(code, wrong, 9, lowest));
     if (code != 5) {
         memset(out, 0x5A, sizeof out);
         struct judge_stepped s = judge_step(code, wrong, word_octets[code], out, word_octets[code]);
@@ -426,15 +464,17 @@ static void wrong_bits(void)
 
     begin("code 5, the last two bits");
     for (unsigned turn = 0; turn < 30; turn++) {
-        uint8_t info[MOST_OCTETS], word[MOST_OCTETS], wrong[MOST_OCTETS], out[MOST_OCTETS], number = 99;
+        uint8_t info[MOST_OCTETS], word[MOST_OCTETS], wrong[MOST_OCTETS], out[MOST_OCTETS];
         draw_codeword(5, info, word);
         EXPECT((word[1019] & 3) == 0);
         memcpy(wrong, word, sizeof wrong);
         wrong[1019] |= (uint8_t)(1 + turn % 3);
         EXPECT(judge_check(5, wrong, 1020).broken == 0);
-        EXPECT(judge_open(5, wrong, 1020, &number) == 0 && number == 9);
-        EXPECT(are(correct(5, wrong, 0, out), 0, 0, 0, 0, 0));
+        EXPECT(unopened(5, wrong, 14, 1022));
+        EXPECT(are(correct(5, wrong, 0, out), 0, 0, 0, 0, 0, 1022));
         EXPECT(memcmp(out, word, 1020) == 0);
+        flip(wrong, below(8158));
+        EXPECT(unopened(5, wrong, 9, lowest_of(5, wrong)));
     }
     end();
 }
@@ -489,19 +529,27 @@ static void inverted_blocks(void)
     begin("codes 4 and 5, parity blocks inverted");
     for (uint8_t code = 4; code <= 5; code++) {
         for (unsigned turn = 0; turn < 12; turn++) {
-            uint8_t info[MOST_OCTETS], word[MOST_OCTETS], out[MOST_OCTETS], number = 99;
+            uint8_t info[MOST_OCTETS], word[MOST_OCTETS], out[MOST_OCTETS];
             draw_codeword(code, info, word);
             for (unsigned k = 0; k < 1022; k++)
                 if ((turn % 3 + 1) >> k / 511 & 1)
                     flip(word, info_bits[code] + k);
             EXPECT(judge_check(code, word, word_octets[code]).broken == 0);
             memset(out, 0x5A, sizeof out);
-            EXPECT(are(correct(code, word, 65535, out), 8, 0, 0, 0, 0));
+            EXPECT(are(correct(code, word, 65535, out), 8, 0, 0, 0, 0, 1022));
+            if (code == 5) {
+                EXPECT(unopened(5, word, 15, 1022));
+                word[1019] |= 2; /* the last two bits come before the parity, */
+                EXPECT(unopened(5, word, 14, 1022));
+                word[1019] &= 0xFC;
+            }
             flip(word, below(covered_bits[code]));
-            EXPECT(are(correct(code, word, 1, out), 8, 1, 4, 0, 1));
+            EXPECT(are(correct(code, word, 1, out), 8, 1, 4, 0, 1, lowest_of(code, word)));
             EXPECT(all_are(out, 0x5A, sizeof out));
-            if (code == 5)
-                EXPECT(judge_open(5, word, 1020, &number) == 0 && number == 9);
+            if (code == 5) {
+                word[1019] |= 1; /* and a broken check before both */
+                EXPECT(unopened(5, word, 9, lowest_of(5, word)));
+            }
         }
     }
     end();
@@ -529,6 +577,8 @@ static void bounds(uint8_t code, const uint8_t *word, uint16_t limit)
     EXPECT(a.flips <= limit);
     EXPECT(a.last + least * a.flips <= a.first);
     EXPECT(a.first == judge_check(code, word, len).broken);
+    EXPECT(a.lowest == judge_check(code, word, len).lowest && a.lowest == lowest_of(code, word));
+    EXPECT((a.lowest == checks[code]) == (a.first == 0));
     EXPECT(a.unlike <= a.flips && a.unlike % 2 == a.flips % 2);
     EXPECT(a.number == 0 || a.number == 5 || a.number == 6 || a.number == 8);
     EXPECT((a.last == 0) == (a.number == 0 || a.number == 8));
@@ -538,10 +588,8 @@ static void bounds(uint8_t code, const uint8_t *word, uint16_t limit)
         EXPECT(judge_check(code, out, len).broken == 0 && a.unlike == differing(code, word, out));
     else
         EXPECT(all_are(out, 0x5A, sizeof out));
-    if (a.number == 0 && code != 4) {
-        uint8_t number = 99;
-        EXPECT(judge_open(code, out, len, &number) == info_octets[code] && number == 0);
-    }
+    if (a.number == 0 && code != 4)
+        EXPECT(opened(code, out));
     if (code == 5)
         return;
     memcpy(now, word, len);

@@ -24,7 +24,7 @@ def build(name, *words):
 
 
 class Corrected(ctypes.Structure):
-    _fields_ = [("number", ctypes.c_uint8)] + [(name, ctypes.c_uint32) for name in ("flips", "first", "last", "unlike")]
+    _fields_ = [("number", ctypes.c_uint8)] + [(name, ctypes.c_uint32) for name in ("flips", "first", "last", "unlike", "lowest")]
 
 
 class Stepped(ctypes.Structure):

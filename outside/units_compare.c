@@ -45,7 +45,8 @@ static void fail(const char *what, uint8_t code, size_t len)
 
 static bool same_numbers(struct judge_corrected j, pandoricchia_corrected l)
 {
-    return j.number == l.number && j.flips == l.flips && j.first == l.first && j.last == l.last && j.unlike == l.unlike;
+    return j.number == l.number && j.flips == l.flips && j.first == l.first && j.last == l.last && j.unlike == l.unlike
+           && j.lowest == l.lowest;
 }
 
 static bool same_reading(struct judge_reading j, pandoricchia_reading l)
@@ -72,7 +73,8 @@ static void write_both(uint8_t code, const uint8_t *info, size_t len, size_t out
 
 static struct judge_reading in_judge(pandoricchia_reading s)
 {
-    return (struct judge_reading){{s.kept.number, s.kept.flips, s.kept.first, s.kept.last, s.kept.unlike}, s.code, s.limit, s.place};
+    struct judge_corrected kept = {s.kept.number, s.kept.flips, s.kept.first, s.kept.last, s.kept.unlike, s.kept.lowest};
+    return (struct judge_reading){kept, s.code, s.limit, s.place};
 }
 
 /* One asking of both. */
@@ -112,6 +114,7 @@ static void read_both(uint8_t code, const uint8_t *unit, size_t len, uint16_t li
     /* states that no reader made, and another unit under the same state */
     s.place = below(3) == 0 ? (size_t)draw() : below(len / word + 2);
     s.kept.number = (uint8_t)(below(3) == 0 ? below(256) : 0);
+    s.kept.lowest = (uint32_t)draw();
     s.code = (uint8_t)(below(3) == 0 ? below(256) : code);
     ask(s, unit, below(len + 1), info);
 }

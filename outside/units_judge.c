@@ -84,7 +84,7 @@ uint8_t judge_write_unit(uint8_t code, const uint8_t *info, size_t info_len, uin
 
 struct judge_reading judge_reader(uint8_t code, const uint8_t *unit, size_t unit_len, uint16_t limit)
 {
-    struct judge_reading state = {{0, 0, 0, 0, 0}, code, limit, 0};
+    struct judge_reading state = {.code = code, .limit = limit};
     if (!unit_code(code)) {
         state.kept.number = 1;
         return state;
@@ -103,7 +103,7 @@ struct judge_reading judge_reader(uint8_t code, const uint8_t *unit, size_t unit
 struct judge_handed judge_read(struct judge_reading state, const uint8_t *unit, size_t unit_len, uint8_t *out,
                                size_t out_len)
 {
-    struct judge_handed h = {{0, 0, 0, 0, 0}, false, state};
+    struct judge_handed h = {.next = state};
     if (!unit_code(state.code)) {
         h.corrected.number = 1;
         return h;

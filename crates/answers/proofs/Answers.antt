@@ -11,7 +11,7 @@ use Rattle.bits.specs.Bits.{bit, if_then_else_}
 use Rattle.rules.specs.Codes.{code, code1, offered}
 use Rattle.rules.specs.Checks.{broken}
 use Rattle.rules.specs.Encoding.{lifted, encoded, codeword, written}
-use Rattle.answers.specs.Calls.{refusal, unless, sixSet, Encoded, refusedEncode, encodedFrom, encodeAnswer, refusedCheck, checkedFrom, checkAnswer, refusedOpen, openedFrom, openAnswer, Corrected, refusedCorrect, ranFrom, correctAnswer, Stepped, refusedStep, steppedFrom, stepAnswer}
+use Rattle.answers.specs.Calls.{refusal, unless, sixSet, Encoded, refusedEncode, encodedFrom, encodeAnswer, refusedCheck, checkedFrom, checkAnswer, Opened, refusedOpen, openedFrom, openAnswer, Corrected, refusedCorrect, ranFrom, correctAnswer, Stepped, refusedStep, steppedFrom, stepAnswer}
 
 -- ---- refused, or taken
 
@@ -164,20 +164,18 @@ module _ (n : ℕ) (word : List ℕ) where
   unfolding checkAnswer
   check-refused k e d = ap (λ z. unless z refusedCheck (checkedFrom n word)) (sym e) ∙ unless-refused refusedCheck (checkedFrom n word) k d
 
+  -- an open by the refusals, or by what is wrong with the word
+  pub open-cases : (P : Opened → Type 0) → P (refusedOpen 1) → P (refusedOpen 2) → P (refusedOpen 3)
+      → (T (offered n && not (eqb n 4)) → length word ≡ code n .wordOctets → P (openedFrom n word)) → P (openAnswer n word)
+  unfolding openAnswer
+  open-cases P p1 p2 p3 p =
+      unless-cases (offered n && not (eqb n 4)) (length word) (code n .wordOctets) 0 0 P refusedOpen (openedFrom n word) p1 p2 p3 (λ t lw lo. p t lw)
+
   pub open-from : T (offered n && not (eqb n 4)) → length word ≡ code n .wordOctets → openAnswer n word ≡ openedFrom n word
   unfolding openAnswer
   open-from t lw =
       unless-taken refusedOpen (openedFrom n word) (refusal (offered n && not (eqb n 4)) (length word) (code n .wordOctets) 0 0)
       (refusal-not (offered n && not (eqb n 4)) (length word) (code n .wordOctets) 0 0 t lw refl)
-
-  pub open-taken : T (offered n && not (eqb n 4)) → length word ≡ code n .wordOctets → codeword (code n) (bit word) ≡ true
-      → openAnswer n word ≡ record { number = 0; part = take (code n .informationOctets) word }
-  open-taken t lw is =
-      open-from t lw ∙ ap (λ b. if not b then refusedOpen 9 else record { number = 0; part = take (code n .informationOctets) word }) is
-
-  pub open-nine : T (offered n && not (eqb n 4)) → length word ≡ code n .wordOctets → codeword (code n) (bit word) ≡ false → openAnswer n word ≡ refusedOpen 9
-  open-nine t lw f =
-      open-from t lw ∙ ap (λ b. if not b then refusedOpen 9 else record { number = 0; part = take (code n .informationOctets) word }) f
 
   pub open-refused : (k : ℕ) → k ≡ refusal (offered n && not (eqb n 4)) (length word) (code n .wordOctets) 0 0 → (k ≡ 0 → ⊥) → openAnswer n word ≡ refusedOpen k
   unfolding openAnswer

@@ -13,7 +13,7 @@ use borrow.Author.Tests.{eq-eqb, lt-ltb, le-ltb, le-leb, lt-leb}
 use Rattle.bits.specs.Bits.{Word, digit, bit, number, octets, count, _⊕_, sum, flipped, if_then_else_, below}
 use Rattle.rules.specs.Tables.{parity16, parity511, generator16, generator511}
 use Rattle.rules.specs.Codes.{code, code1, code4, code5, bits, checks, information, offered}
-use Rattle.rules.specs.Checks.{covers, check, broken, degreeOf}
+use Rattle.rules.specs.Checks.{covers, check, broken, lowest, degreeOf}
 use Rattle.rules.specs.Encoding.{rowBit, parityBit, encoded, lifted, sent, codeword, written, OwnParity}
 use Rattle.rules.specs.Flipping.{flip, byExcess, run, ended}
 use Rattle.answers.specs.Calls.{encodeAnswer, checkAnswer, openAnswer, judged, refusal, unless, refusedCorrect, ranCorrect, correctAnswer, refusedStep, nextStep, stepAnswer, ranFrom}
@@ -28,7 +28,8 @@ use Rattle.rules.proofs.Choosing.{quiet-next, by-excess, by-greatest}
 use Rattle.rules.proofs.Published.{published1, published4, published5}
 use Rattle.rules.proofs.Codewords.{own-codeword, codeword-bit, sent-bit, encoded-parity, encoded-information, parity-same, lifted-sent}
 use Rattle.answers.proofs.Three.{among}
-use Rattle.answers.proofs.Answers.{correct-taken, step-taken, open-taken}
+use Rattle.answers.proofs.Answers.{correct-taken, step-taken}
+use Rattle.answers.proofs.Opening.{codeword-opened}
 use Rattle.rules.proofs.Numbers.{published, encoded-meets, whole, lifted-whole, four-quiet, met-codeword}
 use Rattle.answers.proofs.Corrections.{oneWrong, bit-one-wrong, lifted-flip, one-back, unsent-wrong, near-degree}
 
@@ -56,18 +57,18 @@ Holds (breaks n word ks) = (k : ℕ) → k < checks (code n) → check (code n) 
 Holds (steps n word k ex) =
     (out : List ℕ) → length out ≡ code n .wordOctets
     → (stepAnswer n word out .number ≡ 0) × (stepAnswer n word out .quiet ≡ false) × (stepAnswer n word out .bit ≡ k) × (stepAnswer n word out .excess ≡ ex)
-Holds (opens n word part) = openAnswer n word ≡ record { number = 0; part = part }
+Holds (opens n word part) = openAnswer n word ≡ record { number = 0; lowest = checks (code n); part = part }
 Holds (corrects n word limit number flips first last) =
     (out : List ℕ) → length out ≡ code n .wordOctets
     → (correctAnswer n word limit out .number ≡ number) × (correctAnswer n word limit out .flips ≡ flips) × (correctAnswer n word limit out .first ≡ first) × (correctAnswer n word limit out .last ≡ last)
 Holds (lengths n long room number) = (word out : List ℕ) (limit : ℕ) → length word ≡ long → length out ≡ room → correctAnswer n word limit out ≡ refusedCorrect out number
 Holds (unoffered n) =
     ((info out : List ℕ) → encodeAnswer n info out ≡ record { number = 1; out = out })
-    × ((word : List ℕ) → checkAnswer n word ≡ record { number = 1; broken = 0 })
-    × ((word : List ℕ) → openAnswer n word ≡ record { number = 1; part = [] })
+    × ((word : List ℕ) → checkAnswer n word ≡ record { number = 1; broken = 0; lowest = 0 })
+    × ((word : List ℕ) → openAnswer n word ≡ record { number = 1; lowest = 0; part = [] })
     × ((word out : List ℕ) (limit : ℕ) → correctAnswer n word limit out ≡ refusedCorrect out 1)
     × ((word out : List ℕ) → stepAnswer n word out ≡ refusedStep out 1)
-Holds (unopened n) = (word : List ℕ) → openAnswer n word ≡ record { number = 1; part = [] }
+Holds (unopened n) = (word : List ℕ) → openAnswer n word ≡ record { number = 1; lowest = 0; part = [] }
 Holds (unstepped n) = (word out : List ℕ) → stepAnswer n word out ≡ refusedStep out 1
 
 abbrev pub All : List Case → Type 0
@@ -217,7 +218,7 @@ breaks5 k h = none-counted 64 (check code1 (lifted code1 (bit (allOnes 16)))) on
 
 opens6 : Holds (opens 1 (allOnes 16) (replicate 8 0xFF))
 unfolding code code1 octets number
-opens6 = open-taken 1 (allOnes 16) tt refl (met-codeword 1 tt (allOnes 16) refl ones-met)
+opens6 = codeword-opened 1 (allOnes 16) tt refl (met-codeword 1 tt (allOnes 16) refl ones-met)
 
 -- code 4: the first parity block set
 block-bits : lifted code4 (bit (octets 1022 blockBits)) ≡ blockBits
@@ -287,12 +288,12 @@ corrects9 out lo =
     (ap (λ r. r .number) e ∙ eight, ap (λ r. r .flips) e, ap (λ r. r .first) e ∙ block-met, ap (λ r. r .last) e ∙ block-met)
 
 -- code 1, only bit 0 set: its five checks are broken, and one flip mends it
-only-first : (out : List ℕ) → length out ≡ 16 → correctAnswer 1 (only 16 0) 1 out ≡ record { number = 0; flips = 1; first = 5; last = 0; unlike = 1; out = replicate 16 0 }
+only-first : (out : List ℕ) → length out ≡ 16 → correctAnswer 1 (only 16 0) 1 out ≡ record { number = 0; flips = 1; first = 5; last = 0; unlike = 1; lowest = lowest code1 (flipped (lifted code1 (bit (replicate 16 0))) 0); out = replicate 16 0 }
 unfolding code code1 parity16
 only-first out lo =
     ap (λ w. correctAnswer 1 w 1 out) (only-wrong 1 tt 0)
     ∙ one-back 1 tt (replicate 16 0) out refl lo (zeros-octets 1 tt) (zeros-codeword 1 tt) 0 0 (lit< tt)
-    ∙ ap (λ d. record { number = 0; flips = 1; first = d; last = 0; unlike = 1; out = replicate 16 0 }) degree1
+    ∙ ap (λ d. record { number = 0; flips = 1; first = d; last = 0; unlike = 1; lowest = lowest code1 (flipped (lifted code1 (bit (replicate 16 0))) 0); out = replicate 16 0 }) degree1
 
 corrects11 : Holds (corrects 1 (only 16 0) 1 0 1 5 0)
 unfolding code code1

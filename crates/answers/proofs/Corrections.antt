@@ -12,7 +12,7 @@ use lib.ListN.{length}
 use borrow.Author.Tests.{eq-eqb, ne-eqb, lt-ltb, le-ltb}
 use Rattle.bits.specs.Bits.{Word, bit, octets, count, _⊕_, flipped, if_then_else_}
 use Rattle.rules.specs.Codes.{Code, code, code4, code5, bits, checks, offered}
-use Rattle.rules.specs.Checks.{check, broken, degreeOf}
+use Rattle.rules.specs.Checks.{check, broken, lowest, degreeOf}
 use Rattle.rules.specs.Encoding.{lifted, sent, codeword, written}
 use Rattle.rules.specs.Flipping.{Way, byExcess, Run, run, ended, after}
 use Rattle.answers.specs.Calls.{Corrected, differing, judged, unless, refusedCorrect, ranCorrect, ranFrom, correctAnswer}
@@ -26,6 +26,7 @@ use Rattle.rules.proofs.Published.{Published, near-four}
 use Rattle.rules.proofs.Codewords.{own-codeword, codeword-own, codeword-quiet, codeword-sent, written-back, bit-written, lifted-unsent, lifted-sent-bit, lifted-back, check-same}
 use Rattle.answers.proofs.Differing.{differ-self, differ-one}
 use Rattle.answers.proofs.Answers.{refusal-cases, correct-cases, correct-taken}
+use Rattle.rules.proofs.Lowest.{quiet-lowest}
 use Rattle.rules.proofs.Numbers.{published}
 
 -- ---- the number that a run is judged by
@@ -211,7 +212,7 @@ module _ (n : ℕ) (off : T (offered n)) (word out : List ℕ) (lw : length word
 
   -- a run that ends quiet at the codeword is taken, and gives the word
   pub mended : (r : Run) → r .number ≡ 0 → r .word ≡ lifted (code n) (bit word) → (x : Word)
-      → ranCorrect (code n) x r out ≡ record { number = 0; flips = length (r .flips); first = broken (code n) x; last = 0; unlike = differing (code n) x (lifted (code n) (bit word)); out = word }
+      → ranCorrect (code n) x r out ≡ record { number = 0; flips = length (r .flips); first = broken (code n) x; last = 0; unlike = differing (code n) x (lifted (code n) (bit word)); lowest = lowest (code n) x; out = word }
   unfolding ranCorrect
   mended r e w x =
       let zero-is : judged (code n) r ≡ 0 =
@@ -224,41 +225,69 @@ module _ (n : ℕ) (off : T (offered n)) (word out : List ℕ) (lw : length word
         first = broken (code n) x;
         last = b;
         unlike = differing (code n) x (r .word);
+        lowest = lowest (code n) x;
         out = if eqb a 0 then written (code n) (r .word) else out;
       })
       zero-is (ap (broken (code n)) w ∙ met)
-      ∙ ap₂ (λ d z. record { number = 0; flips = length (r .flips); first = broken (code n) x; last = 0; unlike = d; out = z })
+      ∙ ap₂ (λ d z. record { number = 0; flips = length (r .flips); first = broken (code n) x; last = 0; unlike = d; lowest = lowest (code n) x; out = z })
       (ap (differing (code n) x) w)
       (ap (written (code n)) w ∙ written-back (code n) (published n off) word lw oct (lifted (code n) (bit word)) (codeword-sent (code n) (published n off) (bit word) is))
 
   -- for every way of choosing: a codeword comes back with no flips, and with one wrong sent bit it comes back mended by one flip
   module _ {way : Way} (ch : Chooses (code n) way) where
     pub ran-back : (limit : ℕ) → ranCorrect (code n) (lifted (code n) (bit word)) (run way limit (lifted (code n) (bit word))) out
-        ≡ record { number = 0; flips = 0; first = 0; last = 0; unlike = 0; out = word }
+        ≡ record { number = 0; flips = 0; first = 0; last = 0; unlike = 0; lowest = checks (code n); out = word }
     ran-back limit =
         ap (λ r. ranCorrect (code n) (lifted (code n) (bit word)) r out) (run-quiet way limit (lifted (code n) (bit word)) (ch .met-quiet (lifted (code n) (bit word)) met))
         ∙ mended (ended 0 (lifted (code n) (bit word))) refl refl (lifted (code n) (bit word))
-        ∙ ap₂ (λ z d. record { number = 0; flips = 0; first = z; last = 0; unlike = d; out = word }) met (differ-self (code n) (lifted (code n) (bit word)))
+        ∙ ap₂ (λ z d. record { number = 0; flips = 0; first = z; last = 0; unlike = d; lowest = lowest (code n) (lifted (code n) (bit word)); out = word })
+        met (differ-self (code n) (lifted (code n) (bit word)))
+        ∙ ap (λ k. record { number = 0; flips = 0; first = 0; last = 0; unlike = 0; lowest = k; out = word }) (quiet-lowest (code n) (lifted (code n) (bit word)) met)
 
     pub ran-one-back : TakesGreatest (code n) way → (limit k : ℕ) → code n .unsent ≤ k → k < bits (code n)
         → ranCorrect (code n) (flipped (lifted (code n) (bit word)) k) (run way (suc limit) (flipped (lifted (code n) (bit word)) k)) out
-        ≡ record { number = 0; flips = 1; first = degreeOf (code n) k; last = 0; unlike = 1; out = word }
+        ≡ record {
+          number = 0;
+          flips = 1;
+          first = degreeOf (code n) k;
+          last = 0;
+          unlike = 1;
+          lowest = lowest (code n) (flipped (lifted (code n) (bit word)) k);
+          out = word;
+        }
     ran-one-back takes limit k from h =
         let girth : Girth (code n) = published n off .girth in
         ap (λ r. ranCorrect (code n) (flipped (lifted (code n) (bit word)) k) r out) (one-mended (code n) girth (lifted (code n) (bit word)) met k h ch takes from limit)
         ∙ mended (after k (pos (degreeOf (code n) k)) (ended 0 (lifted (code n) (bit word)))) refl refl (flipped (lifted (code n) (bit word)) k)
-        ∙ ap₂ (λ z d. record { number = 0; flips = 1; first = z; last = 0; unlike = d; out = word })
+        ∙ ap₂ (λ z d. record {
+          number = 0;
+          flips = 1;
+          first = z;
+          last = 0;
+          unlike = d;
+          lowest = lowest (code n) (flipped (lifted (code n) (bit word)) k);
+          out = word;
+        })
         (first-count (code n) girth (lifted (code n) (bit word)) met k h) (differ-one (code n) (lifted (code n) (bit word)) k h)
 
   -- a codeword comes back with no flips
-  pub codeword-back : (limit : ℕ) → correctAnswer n word limit out ≡ record { number = 0; flips = 0; first = 0; last = 0; unlike = 0; out = word }
+  pub codeword-back : (limit : ℕ) → correctAnswer n word limit out
+      ≡ record { number = 0; flips = 0; first = 0; last = 0; unlike = 0; lowest = checks (code n); out = word }
   codeword-back limit = correct-taken n word limit out off lw lo ∙ ran-back (chooses n off) limit
 
   -- a codeword with exactly one wrong covered bit comes back mended by exactly one flip, if the limit is at least 1.
   -- The covered bits are those that the checks are over and that are sent: all of codes 1 to 4, all but the last two of code 5.
   pub one-back : (limit b : ℕ) → b < bits (code n) - code n .unsent
       → correctAnswer n (oneWrong (code n) word b) (suc limit) out
-      ≡ record { number = 0; flips = 1; first = degreeOf (code n) (b + code n .unsent); last = 0; unlike = 1; out = word }
+      ≡ record {
+        number = 0;
+        flips = 1;
+        first = degreeOf (code n) (b + code n .unsent);
+        last = 0;
+        unlike = 1;
+        lowest = lowest (code n) (flipped (lifted (code n) (bit word)) (b + code n .unsent));
+        out = word;
+      }
   one-back limit b h =
       let same : lifted (code n) (bit (oneWrong (code n) word b)) ≡ flipped (lifted (code n) (bit word)) (b + code n .unsent) =
       ap (lifted (code n)) (bit-one-wrong (code n) word b lw (lt-of-lt-of-le h (published n off .fits))) ∙ lifted-flip (code n) (bit word) b in
@@ -287,13 +316,13 @@ module _ (n : ℕ) (off : T (offered n)) (x : Word) (met : broken (code n) x ≡
   checks-are k l = check-same (code n) got (flipped x n₀) got-is k
 
   pub unsent-wrong : (limit : ℕ) (out : List ℕ) → length out ≡ code n .wordOctets → correctAnswer n (written (code n) x) limit out
-      ≡ record { number = 5; flips = 0; first = degreeOf (code n) n₀; last = degreeOf (code n) n₀; unlike = 0; out = out }
+      ≡ record { number = 5; flips = 0; first = degreeOf (code n) n₀; last = degreeOf (code n) n₀; unlike = 0; lowest = lowest (code n) got; out = out }
   unfolding ranCorrect
   unsent-wrong limit out lo =
       let pb : Published (code n) = published n off in
       correct-taken n (written (code n) x) limit out off (length-octets (code n .wordOctets) (sent (code n) x)) lo
       ∙ ap (λ r. ranCorrect (code n) got r out) (run-stuck (byExcess (code n)) limit got _ _
       (next-same (code n) got (flipped x n₀) checks-are ∙ unsent-stuck (code n) (pb .some) (pb .girth) x met n₀ h₀))
-      ∙ ap₂ (λ z d. record { number = 5; flips = 0; first = z; last = z; unlike = d; out = out })
+      ∙ ap₂ (λ z d. record { number = 5; flips = 0; first = z; last = z; unlike = d; lowest = lowest (code n) got; out = out })
       (broken-same (code n) got (flipped x n₀) checks-are ∙ first-count (code n) (pb .girth) x met n₀ (omega (arith, pb .some)))
       (differ-self (code n) got)

@@ -9,7 +9,7 @@ use native.Mathlib.Omega.{arith}
 use lib.Dec.{T, eqb, leb, leb→le}
 use lib.ListN.{length, take, length-take}
 use Rattle.bits.specs.Bits.{Word, bit, _⊕_}
-use Rattle.rules.specs.Codes.{Code, code, code1, code2, code3, code4, bits, offered, telecommanded}
+use Rattle.rules.specs.Codes.{Code, code, code1, code2, code3, code4, bits, checks, offered, telecommanded}
 use Rattle.rules.specs.Checks.{broken}
 use Rattle.rules.specs.Encoding.{parityBit, encoded, lifted, sent, codeword, written, OwnParity}
 use Rattle.answers.specs.Calls.{sixSet, encodeAnswer, checkAnswer}
@@ -18,17 +18,18 @@ use Rattle.bits.proofs.Sums.{and-l, and-r}
 use Rattle.bits.proofs.Octets.{Octets, length-octets, bit-past}
 use Rattle.rules.proofs.Published.{Published, met-own1, met-own2, met-own3, nearInverted, near-inverted, inverted-near}
 use Rattle.rules.proofs.Codewords.{encoded-own, own-encoded, own-codeword, codeword-quiet, codeword-encoded, encoded-codeword, lifted-unsent, lifted-sent-bit, sent-bit, sent-fill}
+use Rattle.answers.proofs.Opening.{quiet-checked}
 use Rattle.answers.proofs.Answers.{encode-taken, encode-cases, check-taken}
 use Rattle.rules.proofs.Numbers.{five, published, telecommand-offered, met-codeword, three}
 
 -- ---- demand 2: every encoded word meets every check
 
-pub encoded-word-meets : (n : ℕ) (info out : List ℕ) → encodeAnswer n info out .number ≡ 0 → checkAnswer n (encodeAnswer n info out .out) ≡ record { number = 0; broken = 0 }
+pub encoded-word-meets : (n : ℕ) (info out : List ℕ) → encodeAnswer n info out .number ≡ 0 → checkAnswer n (encodeAnswer n info out .out) ≡ record { number = 0; broken = 0; lowest = checks (code n) }
 encoded-word-meets n info out =
-    encode-cases n info out (λ r. r .number ≡ 0 → checkAnswer n (r .out) ≡ record { number = 0; broken = 0 }) (λ k e. absurd (omega arith)) (λ t li lo six e.
+    encode-cases n info out (λ r. r .number ≡ 0 → checkAnswer n (r .out) ≡ record { number = 0; broken = 0; lowest = checks (code n) }) (λ k e. absurd (omega arith)) (λ t li lo six e.
     let word : List ℕ = written (code n) (encoded (code n) (lifted (code n) (bit info))) in
     check-taken n word t (length-octets (code n .wordOctets) (sent (code n) (encoded (code n) (lifted (code n) (bit info)))))
-    ∙ ap (λ z. record { number = 0; broken = z }) (codeword-quiet (code n) (published n t) (bit word) (encoded-codeword (code n) (published n t) (bit info))))
+    ∙ quiet-checked n word (codeword-quiet (code n) (published n t) (bit word) (encoded-codeword (code n) (published n t) (bit info))))
 
 -- ---- demand 2: the telecommand codes
 

@@ -1,4 +1,5 @@
 pub mod Answers
+pub mod Opening
 pub mod Differing
 pub mod Demands
 pub mod Corrections

@@ -11,7 +11,7 @@ use lib.ListN.{length}
 use borrow.Author.Tests.{lt-ltb, le-ltb}
 use Rattle.bits.specs.Bits.{Word, bit, octets, _⊕_, flipped}
 use Rattle.rules.specs.Codes.{Code, code, bits, checks, offered}
-use Rattle.rules.specs.Checks.{check, broken}
+use Rattle.rules.specs.Checks.{check, broken, lowest}
 use Rattle.rules.specs.Encoding.{lifted, codeword}
 use Rattle.rules.specs.Flipping.{byExcess, run}
 use Rattle.answers.specs.Calls.{Corrected, ranCorrect, correctAnswer, differing}
@@ -41,9 +41,13 @@ module _ (n : ℕ) (near : T (nearEarthed n)) (word out : List ℕ) (lw : length
   off : T (offered n)
   off = near-offered n near
 
+  -- the word as received
+  abbrev got : ℕ → ℕ → Word
+  got b d = lifted (code n) (bit (twoWrong (code n) word b d))
+
   by-two : (limit b d : ℕ) → b < bits (code n) - code n .unsent → d < bits (code n) - code n .unsent → (b ≡ d → ⊥)
       → correctAnswer n (twoWrong (code n) word b d) (suc (suc limit)) out
-      ≡ record { number = 0; flips = 2; first = broken (code n) (lifted (code n) (bit (twoWrong (code n) word b d))); last = 0; unlike = 2; out = word }
+      ≡ record { number = 0; flips = 2; first = broken (code n) (got b d); last = 0; unlike = 2; lowest = lowest (code n) (got b d); out = word }
   by-two limit b d hb hd apart =
       let pb : Published (code n) = published n off in
       let u = code n .unsent in
@@ -59,12 +63,12 @@ module _ (n : ℕ) (near : T (nearEarthed n)) (word out : List ℕ) (lw : length
       ∙ ap (λ r. ranCorrect (code n) (lifted (code n) (bit (twoWrong (code n) word b d))) r out) (ap (run (byExcess (code n)) (suc (suc limit))) same)
       ∙ mended n off word out lw lo oct is (run (byExcess (code n)) (suc (suc limit)) (flipped (flipped x (b + u)) (d + u))) (m .number) (m .word)
       (lifted (code n) (bit (twoWrong (code n) word b d)))
-      ∙ ap₂ (λ k e. record { number = 0; flips = k; first = broken (code n) (lifted (code n) (bit (twoWrong (code n) word b d))); last = 0; unlike = e; out = word })
+      ∙ ap₂ (λ k e. record { number = 0; flips = k; first = broken (code n) (got b d); last = 0; unlike = e; lowest = lowest (code n) (got b d); out = word })
       (m .flips) (ap (λ y. differing (code n) y x) same ∙ differ-two (code n) x (b + u) (d + u) (omega arith) (omega arith) (λ q. apart (omega arith)))
 
   pub two-back : (limit b d : ℕ) → limitForTwo ≤ limit → b < bits (code n) - code n .unsent → d < bits (code n) - code n .unsent → (b ≡ d → ⊥)
       → correctAnswer n (twoWrong (code n) word b d) limit out
-      ≡ record { number = 0; flips = 2; first = broken (code n) (lifted (code n) (bit (twoWrong (code n) word b d))); last = 0; unlike = 2; out = word }
+      ≡ record { number = 0; flips = 2; first = broken (code n) (got b d); last = 0; unlike = 2; lowest = lowest (code n) (got b d); out = word }
   two-back limit b d enough hb hd apart =
       let is : limit ≡ suc (suc (limit - 2)) = omega arith in
       ap (λ l. correctAnswer n (twoWrong (code n) word b d) l out) is ∙ by-two (limit - 2) b d hb hd apart

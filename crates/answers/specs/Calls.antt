@@ -1,5 +1,5 @@
 -- The calls: for every input, every number returned and the output octets afterwards.
-use mathlib.Core.Bool.{Bool, true, false, not, _&&_}
+use mathlib.Core.Bool.{Bool, true, false, not, _&&_, _||_}
 use mathlib.Core.List.{List, []}
 use Prim.Native.Nat.{ℕ, _%_}
 use lib.Dec.{eqb, leb, ltb}
@@ -7,7 +7,7 @@ use lib.ListN.{length, getD, take}
 use lib.IntN.{ℤ, pos}
 use Rattle.bits.specs.Bits.{Word, bit, count, _⊕_, flipped, if_then_else_}
 use Rattle.rules.specs.Codes.{Code, bits, code, offered}
-use Rattle.rules.specs.Checks.{broken}
+use Rattle.rules.specs.Checks.{broken, lowest}
 use Rattle.rules.specs.Encoding.{lifted, sent, encoded, codeword, written}
 use Rattle.rules.specs.Flipping.{Next, quiet, stuck, flip, byExcess, Run, run}
 
@@ -50,33 +50,57 @@ encodeAnswer n information out =
     (refusedEncode out)
     (encodedFrom n information out)
 
--- Check: the count of broken checks; for code 5 with the unsent bits 0 and the last two unread.
+-- Check: the count of broken checks, and the lowest of them, or the number of checks if none is broken;
+-- for code 5 with the unsent bits 0 and the last two unread.
 pub record Checked : Type 0 where
   pub number : ℕ
   pub broken : ℕ
+  pub lowest : ℕ
 
 abbrev pub refusedCheck : ℕ → Checked
-refusedCheck number = record { number = number; broken = 0 }
+refusedCheck number = record { number = number; broken = 0; lowest = 0 }
 
 abbrev pub checkedFrom : ℕ → List ℕ → Checked
-checkedFrom n word = record { number = 0; broken = broken (code n) (lifted (code n) (bit word)) }
+checkedFrom n word =
+    let c = code n in
+    let x = lifted c (bit word) in
+    record { number = 0; broken = broken c x; lowest = lowest c x }
 
 unfoldable pub checkAnswer : ℕ → List ℕ → Checked
 checkAnswer n word = unless (refusal (offered n) (length word) (code n .wordOctets) 0 0) refusedCheck (checkedFrom n word)
 
 -- Open: for a codeword, its information octets, lent back as a part of the caller's own word; a refused open lends back an empty part.
+-- The lowest broken check is passed on.
 pub record Opened : Type 0 where
   pub number : ℕ
+  pub lowest : ℕ
   pub part : List ℕ
 
 abbrev pub refusedOpen : ℕ → Opened
-refusedOpen number = record { number = number; part = [] }
+refusedOpen number = record { number = number; lowest = 0; part = [] }
+
+-- Code 5's last two bits are not both 0.
+abbrev pub lastTwoSet : ℕ → List ℕ → Bool
+lastTwoSet n word = eqb n 5 && (bit word 8158 || bit word 8159)
+
+-- What is wrong with a word: 9 if a check is broken, else 14 if code 5's last two bits are not 0, else 15 if the parity is not the encoder's.
+-- 0 stands for none of these.
+abbrev pub fault : ℕ → List ℕ → ℕ
+fault n word =
+    let c = code n in
+    if not (eqb (broken c (lifted c (bit word))) 0) then 9
+    else if lastTwoSet n word then 14
+    else if not (codeword c (bit word)) then 15
+    else 0
 
 abbrev pub openedFrom : ℕ → List ℕ → Opened
 openedFrom n word =
     let c = code n in
-    if not (codeword c (bit word)) then refusedOpen 9
-    else record { number = 0; part = take (c .informationOctets) word }
+    record {
+      number = fault n word;
+      lowest = lowest c (lifted c (bit word));
+      part = if eqb (fault n word) 0 then take (c .informationOctets) word else [];
+    }
 
 -- Offered by open are all codes but 4.
 unfoldable pub openAnswer : ℕ → List ℕ → Opened
@@ -84,13 +108,14 @@ openAnswer n word =
     unless (refusal (offered n && not (eqb n 4)) (length word) (code n .wordOctets) 0 0) refusedOpen (openedFrom n word)
 
 -- Correct: received word, limit, output word. Gives number, flips, broken checks at the start, broken checks at the end,
--- and in how many bits the received and the final word differ.
+-- in how many bits the received and the final word differ, and the lowest broken check of the word as received.
 pub record Corrected : Type 0 where
   pub number : ℕ
   pub flips : ℕ
   pub first : ℕ
   pub last : ℕ
   pub unlike : ℕ
+  pub lowest : ℕ
   pub out : List ℕ
 
 -- After a quiet end: an unsent bit that is 1 gives refusal 7; then parity unlike the encoder's gives refusal 8.
@@ -107,7 +132,7 @@ differing c x y = count (bits c) (λ n. x n ⊕ y n)
 
 -- Refusals 1 to 4 return all other numbers as 0; refusals 5 to 8 return the flips made and the true counts. On 0 the output is written whole.
 abbrev pub refusedCorrect : List ℕ → ℕ → Corrected
-refusedCorrect out number = record { number = number; flips = 0; first = 0; last = 0; unlike = 0; out = out }
+refusedCorrect out number = record { number = number; flips = 0; first = 0; last = 0; unlike = 0; lowest = 0; out = out }
 
 unfoldable pub ranCorrect : Code → Word → Run → List ℕ → Corrected
 ranCorrect c x r out =
@@ -117,6 +142,7 @@ ranCorrect c x r out =
       first = broken c x;
       last = broken c (r .word);
       unlike = differing c x (r .word);
+      lowest = lowest c x;
       out = if eqb (judged c r) 0 then written c (r .word) else out;
     }
 

@@ -3,3 +3,4 @@ pub mod Sums
 pub mod Cyclic
 pub mod Counting
 pub mod Octets
+pub mod Leasts

@@ -81,3 +81,8 @@ infixr 1 if_then_else_
 abbrev pub if_then_else_ : {A : Type 0} → Bool → A → A → A
 if true then a else b = a
 if false then a else b = b
+
+-- The lowest number below n of which something holds; n if it holds of none.
+unfoldable pub least : ℕ → (ℕ → Bool) → ℕ
+least zero f = 0
+least (suc n) f = if f 0 then 0 else suc (least n (λ k. f (suc k)))

@@ -1,5 +1,5 @@
 -- Any two outcomes that one exported call's statement allows are equal: theorems over the contracts themselves, as the source has them.
-use mathlib.Core.Path.{_≡_, _∙_, sym, ap}
+use mathlib.Core.Path.{_≡_, _∙_, sym, ap, ap₂}
 use contract.Lifetimes.{Lfts}
 use borrow.Fn.World.{ArgsD, ResD}
 use borrow.Fn.Kinds.{endedOf}
@@ -55,17 +55,19 @@ encode-outcome κs a r₁ r₂ s₁ s₂ p q = (ap (λ x. x .number) (p ∙ sym 
 
 pub check-outcome : (κs : Lfts 1) (a : ArgsD check.signature κs) (r₁ r₂ : ResD check.signature κs) (s₁ s₂ : AtExit (endedOf 1 check-kinds.ps check-kinds.r) κs)
     → check-reads.Post κs a r₁ s₁ → check-reads.Post κs a r₂ s₂ → r₁ ≡ r₂
-check-outcome κs a r₁ r₂ s₁ s₂ p q = ap (λ x. record { number = x .number; broken = x .broken }) (p ∙ sym q)
+check-outcome κs a r₁ r₂ s₁ s₂ p q = ap (λ x. record { number = x .number; broken = x .broken; lowest = x .lowest }) (p ∙ sym q)
 
 -- The length of the part: its octets are the word's leading ones.
-pub open-outcome : (κs : Lfts 2) (a : ArgsD open-call.signature κs) (r₁ r₂ : ResD open-call.signature κs) (s₁ s₂ : AtExit (endedOf 2 open-kinds.ps open-kinds.r) κs)
-    → open-reads.Post κs a r₁ s₁ → open-reads.Post κs a r₂ s₂ → (r₁ ≡ r₂) × (now (s₁ .1 .1 .0) ≡ now (s₂ .1 .1 .0))
-open-outcome κs a r₁ r₂ s₁ s₂ p q = (p .1 ∙ sym (q .1), p .0 ∙ sym (q .0))
+pub open-outcome : (κs : Lfts 1) (a : ArgsD open-call.signature κs) (r₁ r₂ : ResD open-call.signature κs) (s₁ s₂ : AtExit (endedOf 1 open-kinds.ps open-kinds.r) κs)
+    → open-reads.Post κs a r₁ s₁ → open-reads.Post κs a r₂ s₂ → r₁ ≡ r₂
+open-outcome κs a r₁ r₂ s₁ s₂ p q =
+    ap₂ (λ k z. record { number = k; lowest = z; octets = r₁ .octets }) (p .0 ∙ sym (q .0)) (p .1 ∙ sym (q .1))
+    ∙ ap (λ z. record { number = r₂ .number; lowest = r₂ .lowest; octets = z }) (p .2 ∙ sym (q .2))
 
 pub correct-outcome : (κs : Lfts 2) (a : ArgsD correct.signature κs) (r₁ r₂ : ResD correct.signature κs) (s₁ s₂ : AtExit (endedOf 2 correct-kinds.ps correct-kinds.r) κs)
     → correct-reads.Post κs a r₁ s₁ → correct-reads.Post κs a r₂ s₂ → (r₁ ≡ r₂) × (now (s₁ .1 .1 .1 .0) ≡ now (s₂ .1 .1 .1 .0))
 correct-outcome κs a r₁ r₂ s₁ s₂ p q =
-    (ap (λ x. record { number = x .number; flips = x .flips; first = x .first; last = x .last; unlike = x .unlike }) (p ∙ sym q), ap (λ x. x .out) (p ∙ sym q))
+    (ap (λ x. record { number = x .number; flips = x .flips; first = x .first; last = x .last; unlike = x .unlike; lowest = x .lowest }) (p ∙ sym q), ap (λ x. x .out) (p ∙ sym q))
 
 pub step-outcome : (κs : Lfts 2) (a : ArgsD step.signature κs) (r₁ r₂ : ResD step.signature κs) (s₁ s₂ : AtExit (endedOf 2 step-kinds.ps step-kinds.r) κs)
     → step-reads.Post κs a r₁ s₁ → step-reads.Post κs a r₂ s₂ → (r₁ ≡ r₂) × (now (s₁ .1 .1 .0) ≡ now (s₂ .1 .1 .0))
@@ -82,7 +84,7 @@ write-unit-outcome κs a r₁ r₂ s₁ s₂ p q = (ap (λ x. x .number) (p ∙ 
 
 -- A record of numbers from the answer that it stands for.
 abbrev numbers : Corrected → Numbers
-numbers r = record { number = r .number; flips = r .flips; first = r .first; last = r .last; unlike = r .unlike }
+numbers r = record { number = r .number; flips = r .flips; first = r .first; last = r .last; unlike = r .unlike; lowest = r .lowest }
 
 pub reader-outcome : (κs : Lfts 1) (a : ArgsD reader.signature κs) (r₁ r₂ : ResD reader.signature κs) (s₁ s₂ : AtExit (endedOf 1 reader-kinds.ps reader-kinds.r) κs)
     → reader-reads.Post κs a r₁ s₁ → reader-reads.Post κs a r₂ s₂ → r₁ ≡ r₂

@@ -53,13 +53,26 @@ pub extern "C" fn pandoricchia_check(code: u8, word: &[u8]) -> Checked
     codes::check(code, word)
 }
 
-// How many octets open lends back: a returned reference has no form in C.
+// What open gives, with the number of leading octets for the part: a returned reference has no form in C.
+#[repr(C)]
+pub struct Opened {
+    pub number: u8,
+    pub lowest: u32,
+    pub octets: usize,
+}
+
 #[no_mangle]
-pub extern "C" fn pandoricchia_open(code: u8, word: &[u8], number: &mut u8) -> usize
-    ensures { λ r. ⌜ (now (number .exit) ≡ openAnswer code (now (word .entry)) .number) × (r ≡ length (openAnswer code (now (word .entry)) .part)) ⌝ }
+pub extern "C" fn pandoricchia_open(code: u8, word: &[u8]) -> Opened
+    ensures { λ r. ⌜ (r .number ≡ openAnswer code (now (word .entry)) .number) × (r .lowest ≡ openAnswer code (now (word .entry)) .lowest) × (r .octets ≡ length (openAnswer code (now (word .entry)) .part)) ⌝ }
 {
-    let part = codes::open(code, word, number);
-    part.len()
+    let mut number: u8 = 0;
+    let mut lowest: u32 = 0;
+    let part = codes::open(code, word, &mut number, &mut lowest);
+    Opened {
+        number: number,
+        lowest: lowest,
+        octets: part.len(),
+    }
 }
 
 #[no_mangle]

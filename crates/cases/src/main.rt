@@ -175,6 +175,8 @@ fn one_broken(code: u8, word: &[u8], out: &mut [u8]) {
     text(b", a word with one broken check:");
     let checked = codes::check(code, word);
     show(checked.broken as u64);
+    text(b", the lowest");
+    show(checked.lowest as u64);
     text(b";");
     show_corrected(codes::correct(code, word, 65535, out));
 }

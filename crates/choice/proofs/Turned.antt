@@ -4,7 +4,7 @@ use mathlib.Core.Path.{_≡_, refl, sym, ap, ap₂, _∙_}
 use mathlib.Core.Bool.{Bool, true, false, _&&_}
 use mathlib.Core.List.{List, [], _∷_}
 use Prim.Native.Nat.{ℕ, zero, suc, _+_, _-_, _*_, _/_, _%_, _≤_, _<_}
-use native.Mathlib.Nat.{mod-lt, div-eq-of-lt-le, mod-def}
+use native.Mathlib.Nat.{mod-lt}
 use native.Mathlib.Omega.{arith}
 use borrow.Author.Tests.{ltb-true, lt-ltb}
 use lib.Dec.{ltb}
@@ -16,6 +16,7 @@ use Rattle.rules.proofs.Blocks.{count-all as entries-all}
 use Rattle.layout.specs.declared.Shape.{Shape}
 use Rattle.layout.specs.Lent.{kept, entries, total, placeOf, shiftsOf, Lent, laid, score}
 use Rattle.layout.proofs.Lending.{total-same}
+use Rattle.layout.proofs.Laying.{laid-at}
 use Rattle.choice.specs.Reading.{Twice, hits, Scored, Starts}
 
 -- ---- sums over rows and over entries
@@ -37,20 +38,6 @@ count-all zero = refl
 count-all (suc n) = omega (arith, count-all n)
 
 -- ---- a check as it is held
-
-laid-at : (c : Code) (sh : Shape) (x : Word) (r i : ℕ) → r < sh .rows → i < sh .size → sh .size ≤ 64 * sh .words
-    → laid c sh x (64 * (r * sh .words) + i) ≡ check c x (r * sh .size + i)
-unfolding laid
-laid-at c sh x r i hr hi fits =
-    let wide = 64 * sh .words in
-    let n = 64 * (r * sh .words) + i in
-    let whole : n / wide ≡ r = div-eq-of-lt-le wide (omega arith) (omega arith) in
-    let rest : n % wide ≡ i = mod-def n wide ∙ ap (λ q. n - wide * q) whole ∙ left in
-    ap₂ (λ q j. ltb q (sh .rows) && (ltb j (sh .size) && check c x (q * sh .size + j))) whole rest
-    ∙ ap₂ (λ s t. s && (t && check c x (r * sh .size + i))) (lt-ltb r (sh .rows) hr) (lt-ltb i (sh .size) hi)
-  where
-    left : 64 * (r * sh .words) + i - 64 * sh .words * r ≡ i
-    left = omega arith
 
 module _ (c : Code) (h : List ℕ) (sh : Shape) (lent : Lent c h sh) (x d : Word) (fits : sh .size ≤ 64 * sh .words) (two : Twice sh (sh .rows) (laid c sh x) d) where
   -- k places after the start of an entry s of row r stands the check of bit k.

@@ -1,7 +1,9 @@
 -- A code's record and its lengths, where a call is admitted or refused.
 use mathlib.Core.Path.{_≡_, refl, sym, ap, _∙_, subst}
 use mathlib.Core.Bool.{Bool, true, false, not, _&&_}
-use Prim.Native.Nat.{ℕ, _≤_, _<_}
+use mathlib.Core.List.{List}
+use Prim.Native.Nat.{ℕ, _*_, _≤_, _<_}
+use native.Mathlib.Omega.{arith}
 use lib.Dec.{T, eqb}
 use Rattle.rules.specs.Codes.{code, bits, offered}
 use Rattle.answers.specs.Calls.{refusal}
@@ -9,6 +11,7 @@ use Rattle.answers.proofs.Answers.{Right, refusal-as, refusal-right}
 use Rattle.offer.specs.declared.Offer.{Offer}
 use Rattle.offer.specs.Offers.{offerOf, Known}
 use Rattle.layout.specs.declared.Shape.{Shape}
+use Rattle.layout.specs.Lent.{Fit}
 use Rattle.offer.proofs.Offers.{offers, fixed, known, small}
 
 -- a truth, as an equation; and the first of two
@@ -95,3 +98,7 @@ module _ (n : ℕ) {o : Offer} (is : o ≡ offerOf n) where
 -- what the engine asks of a shape that is the record's
 pub shaped : {o : Offer} {sh : Shape} → Known o → sh ≡ o .shape → (1 ≤ sh .blocks) × (o .unsent < sh .size)
 shaped {o} k e = (subst (λ z. 1 ≤ z .blocks) (sym e) (small k .blocks), subst (λ z. o .unsent < z .size) (sym e) (small k .within))
+
+-- and of one that fits a table
+pub fitting : {h : List ℕ} {sh : Shape} → Fit h sh → (1 ≤ sh .words) × (sh .words ≤ 8) × (sh .rows ≤ 4) × (sh .size ≤ 64 * sh .words)
+fitting f = (omega (arith, f .some, f .held), f .words, f .rows, f .held)

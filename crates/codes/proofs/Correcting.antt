@@ -8,10 +8,10 @@ use lib.ListN.{length}
 use borrow.Author.Tests.{eq-eqb, ne-eqb}
 use Rattle.bits.specs.Bits.{Word, bit, if_then_else_}
 use Rattle.rules.specs.Codes.{Code, code, bits}
-use Rattle.rules.specs.Checks.{broken}
+use Rattle.rules.specs.Checks.{broken, lowest}
 use Rattle.rules.specs.Encoding.{lifted, written}
 use Rattle.rules.specs.Flipping.{Next as NextOf, byExcess, run}
-use Rattle.answers.specs.Calls.{differing, judged, ranCorrect, nextStep, ranFrom, steppedFrom}
+use Rattle.answers.specs.Calls.{Corrected, differing, judged, ranCorrect, nextStep, ranFrom, steppedFrom}
 use Rattle.rules.proofs.Runs.{no-flips}
 use Rattle.rules.proofs.Ways.{run-met}
 use Rattle.rules.proofs.Choosing.{by-excess}
@@ -24,6 +24,17 @@ use Rattle.runs.specs.declared.Ran.{Ran}
 use Rattle.runs.specs.declared.Next.{Next}
 use Rattle.runs.specs.Turns.{Holding, RunsTo, comesNext}
 use Rattle.codes.specs.Ends.{EndsAt}
+
+-- correct's numbers and the output, one by one
+abbrev numbers : ℕ → ℕ → ℕ → ℕ → ℕ → ℕ → List ℕ → Corrected
+numbers number flips first last unlike lowest out =
+    record { number = number; flips = flips; first = first; last = last; unlike = unlike; lowest = lowest; out = out }
+
+numbers-same : {a a′ b b′ c c′ d d′ e e′ f f′ : ℕ} {o o′ : List ℕ} → a ≡ a′ → b ≡ b′ → c ≡ c′ → d ≡ d′ → e ≡ e′ → f ≡ f′ → o ≡ o′
+    → numbers a b c d e f o ≡ numbers a′ b′ c′ d′ e′ f′ o′
+numbers-same {a} {a′} {b} {b′} {c} {c′} {d} {d′} {e} {e′} {f} {f′} {o} {o′} p q r s t u v =
+    ap₂ (λ x y. numbers x y c d e f o) p q ∙ ap₂ (λ x y. numbers a′ b′ x y e f o) r s
+    ∙ ap₂ (λ x y. numbers a′ b′ c′ d′ x y o) t u ∙ ap (numbers a′ b′ c′ d′ e′ f′) v
 
 module _ (n : ℕ) (word t : List ℕ) (y s : Word) (sh : Shape) (m : Measured n word t y s sh) where
   pub holding : Holding t sh s
@@ -57,45 +68,21 @@ module _ (n : ℕ) (word t : List ℕ) (y s : Word) (sh : Shape) (m : Measured n
       unsent = ran-unsent some;
     }
 
-    module _ (first last number unlike : ℕ)
+    module _ (first last number unlike low : ℕ)
         (at-first : (c : Code) (h : List ℕ) (sh : Shape) (x : Word) → Fit h sh → Lent c h sh → s ≡ laid c sh x → first ≡ broken c x)
         (at-last : (c : Code) (h : List ℕ) (sh : Shape) (x : Word) → Fit h sh → Lent c h sh → s′ ≡ laid c sh x → last ≡ broken c x)
+        (at-lowest : (c : Code) (h : List ℕ) (x : Word) → Fit h sh → Lent c h sh → s ≡ laid c sh x → low ≡ lowest c x)
         (judge : number ≡ judged (code n) (run (byExcess (code n)) limit (lifted (code n) (bit word)))) (differs : unlike ≡ differing (code n) (lifted (code n) (bit word)) y′) (out out′ : List ℕ)
         (wrote : out′ ≡ (if eqb number 0 then written (code n) y′ else out)) where
-      pub corrected-is : record { number = number; flips = ran .flips; first = first; last = last; unlike = unlike; out = out′ } ≡ ranFrom n word limit out
+      pub corrected-is : numbers number (ran .flips) first last unlike low out′ ≡ ranFrom n word limit out
       unfolding ranCorrect
       corrected-is =
-          ap (λ d. record { number = number; flips = ran .flips; first = first; last = last; unlike = d; out = out′ })
-          (differs ∙ ap (differing (code n) (lifted (code n) (bit word))) (sym ran-word))
-          ∙ ap₂ (λ a b. record {
-            number = number;
-            flips = ran .flips;
-            first = a;
-            last = b;
-            unlike = differing (code n) (lifted (code n) (bit word)) (run (byExcess (code n)) limit (lifted (code n) (bit word)) .word);
-            out = out′;
-          })
+          numbers-same judge (to .flips ∙ ap (λ r. length (r .flips)) same-run)
           (at-first (code n) t sh y (m .lends .fit) (m .lends .lent) (m .held) ∙ ap (broken (code n)) (m .bits))
           (at-last (code n) t sh y′ (m .lends .fit) (m .lends .lent) (to .held) ∙ ap (broken (code n)) (sym ran-word))
-          ∙ ap₂ (λ a b. record {
-            number = number;
-            flips = a;
-            first = broken (code n) (lifted (code n) (bit word));
-            last = broken (code n) (run (byExcess (code n)) limit (lifted (code n) (bit word)) .word);
-            unlike = differing (code n) (lifted (code n) (bit word)) (run (byExcess (code n)) limit (lifted (code n) (bit word)) .word);
-            out = b;
-          })
-          (to .flips ∙ ap (λ r. length (r .flips)) same-run)
-          (wrote ∙ ap (λ z. if eqb number 0 then written (code n) z else out) (sym ran-word))
-          ∙ ap (λ a. record {
-            number = a;
-            flips = length (run (byExcess (code n)) limit (lifted (code n) (bit word)) .flips);
-            first = broken (code n) (lifted (code n) (bit word));
-            last = broken (code n) (run (byExcess (code n)) limit (lifted (code n) (bit word)) .word);
-            unlike = differing (code n) (lifted (code n) (bit word)) (run (byExcess (code n)) limit (lifted (code n) (bit word)) .word);
-            out = if eqb a 0 then written (code n) (run (byExcess (code n)) limit (lifted (code n) (bit word)) .word) else out;
-          })
-          judge
+          (differs ∙ ap (differing (code n) (lifted (code n) (bit word))) (sym ran-word))
+          (at-lowest (code n) t y (m .lends .fit) (m .lends .lent) (m .held) ∙ ap (lowest (code n)) (m .bits))
+          (wrote ∙ ap₂ (λ k z. if eqb k 0 then written (code n) z else out) judge (sym ran-word))
 
   -- ---- step
 

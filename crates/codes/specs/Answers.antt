@@ -10,14 +10,14 @@ abbrev pub asEncoded : ℕ → List ℕ → EncodedAnswer
 asEncoded number out = record { number = number; out = out }
 
 abbrev pub asChecked : Checked → CheckedAnswer
-asChecked r = record { number = r .number; broken = r .broken }
+asChecked r = record { number = r .number; broken = r .broken; lowest = r .lowest }
 
-abbrev pub asOpened : ℕ → List ℕ → OpenedAnswer
-asOpened number part = record { number = number; part = part }
+abbrev pub asOpened : ℕ → ℕ → List ℕ → OpenedAnswer
+asOpened number lowest part = record { number = number; lowest = lowest; part = part }
 
 -- the output octets afterwards are part of the answer
 abbrev pub asCorrected : Corrected → List ℕ → CorrectedAnswer
-asCorrected r out = record { number = r .number; flips = r .flips; first = r .first; last = r .last; unlike = r .unlike; out = out }
+asCorrected r out = record { number = r .number; flips = r .flips; first = r .first; last = r .last; unlike = r .unlike; lowest = r .lowest; out = out }
 
 abbrev pub asStepped : Stepped → List ℕ → SteppedAnswer
 asStepped r out = record { number = r .number; quiet = r .quiet; bit = r .bit; excess = r .excess; out = out }

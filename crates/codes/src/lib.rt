@@ -6,8 +6,9 @@ ghost use Prim.Native.Nat.{ℕ, _≤_};
 ghost use lib.ListN.{length};
 ghost use Rattle.bits.specs.Bits.{bit};
 ghost use Rattle.rules.specs.Codes.{code as codeOf, offered};
-ghost use Rattle.rules.specs.Encoding.{lifted, encoded, written, codeword};
-ghost use Rattle.answers.specs.Calls.{differing, sixSet, ranFrom, steppedFrom, refusedCheck, refusedCorrect, refusedStep, encodeAnswer, checkAnswer, openAnswer, correctAnswer, stepAnswer};
+ghost use Rattle.rules.specs.Checks.{lowest};
+ghost use Rattle.rules.specs.Encoding.{lifted, encoded, written};
+ghost use Rattle.answers.specs.Calls.{differing, sixSet, fault, ranFrom, steppedFrom, refusedCheck, refusedCorrect, refusedStep, encodeAnswer, checkAnswer, openAnswer, correctAnswer, stepAnswer};
 ghost use Rattle.offer.specs.Offers.{offerOf, Known};
 ghost use Rattle.vectors.specs.Vectors.{wbit};
 ghost use Rattle.codes.specs.Ends.{EndsAt};
@@ -19,6 +20,7 @@ use runs::Next;
 pub struct Checked {
     pub number: u8,
     pub broken: u32,
+    pub lowest: u32,
 }
 
 #[repr(C)]
@@ -28,6 +30,7 @@ pub struct Corrected {
     pub first: u32,
     pub last: u32,
     pub unlike: u32,
+    pub lowest: u32,
 }
 
 #[repr(C)]
@@ -38,6 +41,12 @@ pub struct Stepped {
     pub excess: i8,
 }
 
+// What is wrong with a word, by number, and its lowest broken check.
+struct Found {
+    number: u8,
+    lowest: u32,
+}
+
 // What a refused check gives besides its number.
 fn refused_check(number: u8) -> Checked
     ensures { λ r. ⌜ asChecked r ≡ refusedCheck number ⌝ }
@@ -45,6 +54,7 @@ fn refused_check(number: u8) -> Checked
     Checked {
         number: number,
         broken: 0,
+        lowest: 0,
     }
 }
 
@@ -58,6 +68,7 @@ fn refused_correct(number: u8) -> Corrected
         first: 0,
         last: 0,
         unlike: 0,
+        lowest: 0,
     }
 }
 
@@ -115,7 +126,7 @@ pub fn encode(code: u8, information: &[u8], word: &mut [u8]) -> u8
     0
 }
 
-// How many checks are broken.
+// How many checks are broken, and the lowest of them.
 pub fn check(code: u8, word: &[u8]) -> Checked
     ensures { λ r. ⌜ asChecked r ≡ checkAnswer code (now (word .entry)) ⌝ }
 {
@@ -127,40 +138,46 @@ pub fn check(code: u8, word: &[u8]) -> Checked
     let mut t = [0u16; 64];
     let mut y = [0u64; 130];
     let mut s = [0u64; 16];
-    measured::measure(o, word, &mut t, &mut y, &mut s);
+    let sh = measured::measure(o, word, &mut t, &mut y, &mut s);
     Checked {
         number: 0,
         broken: syndromes::broken(&s),
+        lowest: syndromes::lowest(&s, sh),
     }
 }
 
-// Whether a word of the right length is a codeword.
-fn opens(o: Offer, word: &[u8]) -> bool
+// What is wrong with a word of the right length, and its lowest broken check.
+fn fault_of(o: Offer, word: &[u8]) -> Found
     requires { ⌜ Known o × (length (now word) ≡ o .word) ⌝ }
-    ensures { λ r. ⌜ ((n : ℕ) → offered n ≡ true → o ≡ offerOf n → r ≡ codeword (codeOf n) (bit (now (word .entry)))) ⌝ }
+    ensures { λ r. ⌜ ((n : ℕ) → offered n ≡ true → o ≡ offerOf n → (r .number ≡ fault n (now (word .entry))) × (r .lowest ≡ lowest (codeOf n) (lifted (codeOf n) (bit (now (word .entry)))))) ⌝ }
 {
     let mut t = [0u16; 64];
     let mut y = [0u64; 130];
     let mut s = [0u64; 16];
-    measured::measure(o, word, &mut t, &mut y, &mut s);
-    judging::is_codeword(o, &y, &s)
+    let sh = measured::measure(o, word, &mut t, &mut y, &mut s);
+    Found {
+        number: judging::fault(o, &y, &s),
+        lowest: syndromes::lowest(&s, sh),
+    }
 }
 
 // The information octets of a codeword, lent back as a part of the word.
-pub fn open<'a>(code: u8, word: &'a [u8], number: &mut u8) -> &'a [u8]
-    ensures { λ r. ⌜ asOpened (now (number .exit)) (now r) ≡ openAnswer code (now (word .entry)) ⌝ }
+pub fn open<'a>(code: u8, word: &'a [u8], number: &mut u8, lowest: &mut u32) -> &'a [u8]
+    ensures { λ r. ⌜ asOpened (now (number .exit)) (now (lowest .exit)) (now r) ≡ openAnswer code (now (word .entry)) ⌝ }
 {
     let o = offer::of(code);
     let refused = ladder::refusal(o.opens, word.len(), o.word, 0, 0);
     if refused != 0 {
         *number = refused;
+        *lowest = 0;
         return &word[..0];
     }
-    if !opens(o, word) {
-        *number = 9;
+    let f = fault_of(o, word);
+    *number = f.number;
+    *lowest = f.lowest;
+    if f.number != 0 {
         return &word[..0];
     }
-    *number = 0;
     let end = o.information;
     &word[..end]
 }
@@ -186,6 +203,7 @@ fn correct_taken(o: Offer, word: &[u8], limit: u16, out: &mut [u8]) -> Corrected
     let mut s = [0u64; 16];
     let sh = measured::measure(o, word, &mut t, &mut y, &mut s);
     let first = syndromes::broken(&s);
+    let lowest = syndromes::lowest(&s, sh);
     let ran = runs::run(&mut y, &mut s, &t, sh, o.unsent, limit);
     let last = syndromes::broken(&s);
     let unlike = unlike_after(o, word, &y, ran.flips);
@@ -199,6 +217,7 @@ fn correct_taken(o: Offer, word: &[u8], limit: u16, out: &mut [u8]) -> Corrected
         first: first,
         last: last,
         unlike: unlike,
+        lowest: lowest,
     }
 }
 

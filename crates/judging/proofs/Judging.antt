@@ -1,6 +1,6 @@
 -- How a quiet word is judged, from the tests that the code makes.
 use mathlib.Core.Path.{_≡_, refl, sym, ap, ap₂, _∙_, subst}
-use mathlib.Core.Bool.{Bool, true, false, not, true≢false}
+use mathlib.Core.Bool.{Bool, true, false, not, _&&_, _||_, true≢false}
 use mathlib.Core.List.{List}
 use Prim.Native.Nat.{ℕ, _+_, _-_, _*_, _≤_, _<_}
 use native.Mathlib.Nat.{le-of-eq, lt-of-not-le, lt-of-lt-of-le}
@@ -9,17 +9,18 @@ use native.Mathlib.Omega.{arith}
 use lib.Dec.{T, eqb, leb, ltb, le→leb, nltb→le}
 use lib.ListN.{length}
 use borrow.Author.Tests.{eq-eqb, ne-eqb, eqb-true, le-ltb}
-use Rattle.bits.specs.Bits.{Word, bit, count, if_then_else_}
+use Rattle.bits.specs.Bits.{Word, bit, count, tally, if_then_else_}
 use Rattle.rules.specs.Codes.{Code, code, code4, code5, nearEarth, bits, information, offered, telecommanded}
 use Rattle.rules.specs.Tables.{parity511}
 use Rattle.rules.specs.Checks.{broken}
 use Rattle.rules.specs.Encoding.{lifted, sent, encoded, codeword, OwnParity}
 use Rattle.rules.specs.Flipping.{Run}
-use Rattle.answers.specs.Calls.{judged}
-use Rattle.bits.proofs.Counting.{count-none, none-counted}
+use Rattle.answers.specs.Calls.{judged, lastTwoSet, fault}
+use Rattle.bits.proofs.Counting.{count-start, count-none, none-counted}
 use Rattle.rules.proofs.Published.{both, Published}
-use Rattle.rules.proofs.Codewords.{agree-all, own-encoded, own-codeword, codeword-own, codeword-quiet, codeword-bit, sent-bit, sent-fill, lifted-sent-bit, lifted-sent, parity-same}
+use Rattle.rules.proofs.Codewords.{agree-all, own-encoded, own-codeword, codeword-own, sent-bit, sent-fill, lifted-sent-bit, lifted-sent, parity-same}
 use Rattle.rules.proofs.Numbers.{published, met-own-telecommand, met-codeword}
+use Rattle.answers.proofs.Opening.{fault-broken, fault-two, fault-parity, fault-clear, telecommand-two}
 use Rattle.layout.specs.declared.Shape.{Shape}
 use Rattle.layout.specs.Lent.{Fit, Lent, laid}
 use Rattle.vectors.specs.Vectors.{upTo, from}
@@ -114,6 +115,17 @@ zero-of k e = omega (arith, nltb→le 0 k (subst (λ b. T (not b)) e tt))
 pub cut-count : (m long : ℕ) (v x : Word) → v ≡ upTo m x → m ≤ long → count long v ≡ count m x
 cut-count m long v x e l = ap (count long) e ∙ count-upTo m long x l
 
+-- one of two bits is set
+two-bits : (x : Word) (a b : Bool) → x 0 ≡ a → x 1 ≡ b → ltb 0 (count 2 x) ≡ (a || b)
+unfolding count
+two-bits x a b e f = ap₂ (λ p q. ltb 0 (0 + tally p + tally q)) e f ∙ go a b
+  where
+    go : (a b : Bool) → ltb 0 (0 + tally a + tally b) ≡ (a || b)
+    go true true = refl
+    go true false = refl
+    go false true = refl
+    go false false = refl
+
 -- ---- the parity of a near-Earth word, by code number
 
 abbrev Tells : Code → Word → Bool → Type 0
@@ -168,13 +180,13 @@ module _ (n : ℕ) (off : offered n ≡ true) (o : Offer) (is : o ≡ offerOf n)
   met : q ≡ true → broken (code n) (lifted (code n) (bit word)) ≡ 0
   met e = eqb-true (broken (code n) (lifted (code n) (bit word))) 0 (sym found ∙ e)
 
-  pub finds-broken : q ≡ false → false ≡ codeword (code n) (bit word)
-  finds-broken f =
-      sym (not-so (codeword (code n) (bit word)) (λ is.
-      true≢false (sym (found ∙ eq-eqb (broken (code n) (lifted (code n) (bit word))) 0 (codeword-quiet (code n) (pb n off) (bit word) is)) ∙ f)))
+  pub finds-broken : q ≡ false → 9 ≡ fault n word
+  finds-broken f = sym (fault-broken n word (sym found ∙ f))
 
-  pub finds-telecommand : q ≡ true → o .asked ≡ false → true ≡ codeword (code n) (bit word)
-  finds-telecommand e f = sym (met-codeword n (telecommand n off is f) word long (met e))
+  pub finds-telecommand : q ≡ true → o .asked ≡ false → 0 ≡ fault n word
+  finds-telecommand e f =
+      let tc : T (telecommanded n) = telecommand n off is f in
+      sym (fault-clear n word (sym found ∙ e) (telecommand-two n tc word) (met-codeword n tc word long (met e)))
 
   -- the bits after the parity
   after : (i : ℕ) → y (bits (code n) + i) ≡ bit word (bits (code n) + i - code n .unsent)
@@ -188,13 +200,31 @@ module _ (n : ℕ) (off : offered n ≡ true) (o : Offer) (is : o ≡ offerOf n)
   filled : o .bits + o .fill ≡ 8 * code n .wordOctets + code n .unsent
   filled = ap₂ (λ a b. a + b) here (ap (λ z. z .fill) is) ∙ fixed n off .fill
 
-  pub finds-fill : true ≡ ltb 0 (count (o .fill) (from (o .bits) y)) → false ≡ codeword (code n) (bit word)
-  finds-fill set =
-      sym (not-so (codeword (code n) (bit word)) (λ w.
-      true≢false (set ∙ ap (ltb 0) (count-none (o .fill) (from (o .bits) y) (λ i l.
-      ap (λ z. y (z + i)) here ∙ after i
-      ∙ codeword-bit (code n) (pb n off) (bit word) w (bits (code n) + i - code n .unsent) (omega (arith, filled, here, pb n off .before, pb n off .after))
-      ∙ sent-fill (code n) (encoded (code n) (lifted (code n) (bit word))) (bits (code n) + i - code n .unsent) (omega arith))))))
+  -- the bits that are sent after the parity, as they are found, are code 5's last two
+  two-found : o .asked ≡ true → ltb 0 (count (o .fill) (from (o .bits) y)) ≡ lastTwoSet n word
+  two-found asked = go (ℕ-discrete n 4)
+    where
+      go : Dec (n ≡ 4) → ltb 0 (count (o .fill) (from (o .bits) y)) ≡ lastTwoSet n word
+      go (yes e) =
+          ap (λ k. ltb 0 (count k (from (o .bits) y))) (ap (λ z. z .fill) is ∙ ap (λ k. offerOf k .fill) e)
+          ∙ le-ltb 0 (count 0 (from (o .bits) y)) (le-of-eq (sym (count-start (from (o .bits) y))))
+          ∙ sym (ap (λ k. lastTwoSet k word) e)
+      go (no d) =
+          let e : n ≡ 5 = omega (arith, near n off is asked, offered-high n off) in
+          let u : code n .unsent ≡ 18 = sym (fixed n off .unsent) ∙ ap (λ k. offerOf k .unsent) e in
+          let m : bits (code n) ≡ 8176 = sym (fixed n off .bits-are) ∙ ap (λ k. offerOf k .bits) e in
+          ap₂ (λ k p. ltb 0 (count k (from p y))) (ap (λ z. z .fill) is ∙ ap (λ k. offerOf k .fill) e) (here ∙ m)
+          ∙ two-bits (from 8176 y) (bit word 8158) (bit word 8159) (at u m 0) (at u m 1)
+          ∙ sym (ap (λ b. b && (bit word 8158 || bit word 8159)) (eq-eqb n 5 e))
+        where
+          at : code n .unsent ≡ 18 → bits (code n) ≡ 8176 → (i : ℕ) → y (8176 + i) ≡ bit word (8158 + i)
+          at u m i =
+              let e : bits (code n) + i - code n .unsent ≡ 8158 + i = omega (arith, u, m) in
+              ap (λ k. y (k + i)) (sym m) ∙ after i ∙ ap (bit word) e
+
+  module _ (quiet : q ≡ true) (asked : o .asked ≡ true) where
+    pub finds-fill : true ≡ ltb 0 (count (o .fill) (from (o .bits) y)) → 14 ≡ fault n word
+    finds-fill set = sym (fault-two n word (sym found ∙ quiet) (sym (two-found asked) ∙ sym set))
 
   module _ (quiet : q ≡ true) (asked : o .asked ≡ true) (none : false ≡ ltb 0 (count (o .fill) (from (o .bits) y))) (b : Bool)
       (tells : (wordOctets informationOctets unsent : ℕ) → broken (nearEarth wordOctets informationOctets unsent) y ≡ 0 → Tells (nearEarth wordOctets informationOctets unsent) y b) where
@@ -208,9 +238,13 @@ module _ (n : ℕ) (off : offered n ≡ true) (o : Offer) (is : o ≡ offerOf n)
         ap (bit word) (sym e) ∙ sym (after k) ∙ ap (λ z. y (z + k)) (sym here)
         ∙ none-counted (o .fill) (from (o .bits) y) (zero-of (count (o .fill) (from (o .bits) y)) none) k (omega (arith, filled, here, pb n off .before, pb n off .after))
 
-    pub finds-parity : b ≡ codeword (code n) (bit word)
-    finds-parity = go b refl
-      where
-        go : (v : Bool) → b ≡ v → b ≡ codeword (code n) (bit word)
-        go true e = e ∙ sym (fill-codeword n off (bit word) (known .0 e) zeros)
-        go false e = e ∙ sym (not-so (codeword (code n) (bit word)) (λ w. true≢false (sym (known .1 (codeword-own (code n) (pb n off) (bit word) w)) ∙ e)))
+    unset : lastTwoSet n word ≡ false
+    unset = sym (two-found asked) ∙ sym none
+
+    pub finds-own : b ≡ true → 0 ≡ fault n word
+    finds-own e = sym (fault-clear n word (sym found ∙ quiet) unset (fill-codeword n off (bit word) (known .0 e) zeros))
+
+    pub finds-other : b ≡ false → 15 ≡ fault n word
+    finds-other e =
+        sym (fault-parity n word (sym found ∙ quiet) unset
+        (not-so (codeword (code n) (bit word)) (λ w. true≢false (sym (known .1 (codeword-own (code n) (pb n off) (bit word) w)) ∙ e))))

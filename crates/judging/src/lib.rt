@@ -5,12 +5,11 @@ ghost use mathlib.Core.List.{List};
 ghost use Prim.Native.Nat.{ℕ, _≤_, _<_, _/_, _+_};
 ghost use lib.Dec.{ltb};
 ghost use lib.ListN.{length};
-ghost use Rattle.bits.specs.Bits.{bit, count};
+ghost use Rattle.bits.specs.Bits.{count};
 ghost use Rattle.rules.specs.Codes.{code as codeOf, offered};
 ghost use Rattle.rules.specs.Checks.{broken};
-ghost use Rattle.rules.specs.Encoding.{codeword};
 ghost use Rattle.rules.specs.Flipping.{Run};
-ghost use Rattle.answers.specs.Calls.{judged};
+ghost use Rattle.answers.specs.Calls.{judged, fault as faultOf};
 ghost use Rattle.vectors.specs.Vectors.{wbit, from};
 ghost use Rattle.offer.specs.Offers.{offerOf, Known};
 ghost use Rattle.layout.specs.declared.Shape.{Shape};
@@ -41,19 +40,19 @@ pub fn judge(o: Offer, y: &[u64], number: u8) -> u8
     if ownparity::own_parity(y) { 0 } else { 8 }
 }
 
-// Whether a measured word is a codeword.
-pub fn is_codeword(o: Offer, y: &[u64], s: &[u64]) -> bool
+// What is wrong with a measured word: a broken check, a bit set after the parity, or parity unlike the encoder's; 0 for a codeword.
+pub fn fault(o: Offer, y: &[u64], s: &[u64]) -> u8
     requires { ⌜ Known o × (length (now y) ≡ 130) × (length (now s) ≡ 16) ⌝ }
-    ensures { λ r. ⌜ ((n : ℕ) → offered n ≡ true → o ≡ offerOf n → (word t : List ℕ) (sh : Shape) → length word ≡ codeOf n .wordOctets → Measured n word t (wbit (now (y .entry))) (wbit (now (s .entry))) sh → r ≡ codeword (codeOf n) (bit word)) ⌝ }
+    ensures { λ r. ⌜ ((n : ℕ) → offered n ≡ true → o ≡ offerOf n → (word t : List ℕ) (sh : Shape) → length word ≡ codeOf n .wordOctets → Measured n word t (wbit (now (y .entry))) (wbit (now (s .entry))) sh → r ≡ faultOf n word) ⌝ }
 {
     if !syndromes::is_quiet(s) {
-        return false;
+        return 9;
     }
     if !o.asked {
-        return true;
+        return 0;
     }
     if some_set(y, o.bits, o.fill) {
-        return false;
+        return 14;
     }
-    ownparity::own_parity(y)
+    if ownparity::own_parity(y) { 0 } else { 15 }
 }

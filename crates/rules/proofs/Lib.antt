@@ -15,3 +15,4 @@ pub mod Published
 pub mod Codewords
 pub mod Numbers
 pub mod Degrees
+pub mod Lowest

@@ -5,7 +5,7 @@ use Prim.Native.Nat.{ℕ, _+_, _/_, _%_}
 use lib.Dec.{eqb}
 use lib.ListN.{getD}
 use lib.IntN.{ℤ, subℕ}
-use Rattle.bits.specs.Bits.{Word, sum, count}
+use Rattle.bits.specs.Bits.{Word, sum, count, least}
 use Rattle.rules.specs.Codes.{Code, bits, checks}
 
 -- A block is a square circulant of size M. An entry s means: in row i, a one at column (i + s) mod M. Two entries mean both ones.
@@ -26,6 +26,10 @@ check c x k = sum (bits c) (λ n. covers c k n && x n)
 -- The count of broken checks.
 unfoldable pub broken : Code → Word → ℕ
 broken c x = count (checks c) (check c x)
+
+-- The lowest broken check, or the number of checks if none is broken.
+unfoldable pub lowest : Code → Word → ℕ
+lowest c x = least (checks c) (check c x)
 
 -- Of the checks that cover a bit: the broken ones, the met ones, all of them.
 unfoldable pub brokenOf : Code → Word → ℕ → ℕ

@@ -3,3 +3,4 @@ pub mod Rowwise
 pub mod Shifts
 pub mod Trimming
 pub mod Laid
+pub mod LowestHeld

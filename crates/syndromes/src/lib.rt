@@ -9,7 +9,7 @@ ghost use lib.Dec.{eqb};
 ghost use lib.ListN.{length, getD};
 ghost use Rattle.bits.specs.Bits.{Word, flipped};
 ghost use Rattle.rules.specs.Codes.{Code};
-ghost use Rattle.rules.specs.Checks.{broken};
+ghost use Rattle.rules.specs.Checks.{broken, lowest};
 ghost use Rattle.vectors.specs.Vectors.{wbit, both, added};
 ghost use Rattle.layout.specs.Lent.{Fit, Lent, placeOf, laid};
 ghost use Rattle.syndromes.specs.Rows.{plus, rowed, within, wide, entry, spread, turned, summed, covering};
@@ -185,6 +185,19 @@ pub fn is_quiet(s: &[u64]) -> bool
     ensures { λ n. ⌜ ((c : Code) (h : List ℕ) (sh : Shape) (x : Word) → Fit h sh → Lent c h sh → wbit (now (s .entry)) ≡ laid c sh x → n ≡ eqb (broken c x) 0) ⌝ }
 {
     !vectors::any(s)
+}
+
+// The lowest broken check, or the number of checks if none is broken.
+pub fn lowest(s: &[u64], sh: Shape) -> u32
+    requires { ⌜ (length (now s) ≡ 16) × (1 ≤ sh .words) × (sh .words ≤ 8) × (sh .rows ≤ 4) × (sh .size ≤ 64 * sh .words) ⌝ }
+    ensures { λ n. ⌜ ((c : Code) (h : List ℕ) (x : Word) → Fit h sh → Lent c h sh → wbit (now (s .entry)) ≡ laid c sh x → n ≡ lowest c x) ⌝ }
+{
+    let place = vectors::first(s);
+    if place >= 1024 {
+        return (sh.rows * sh.size) as u32;
+    }
+    let wide = 64 * sh.words;
+    (place / wide * sh.size + place % wide) as u32
 }
 
 // Turns the check of row r over that covers bit k by the shift e; a number that is M or more is no shift.

@@ -73,6 +73,7 @@ fn put_numbers(index: u64, r: codes::Corrected) {
     put(r.first as u64);
     put(r.last as u64);
     put(r.unlike as u64);
+    put(r.lowest as u64);
     io::write_all(STDOUT_FILENO, b" ");
 }
 
@@ -116,7 +117,7 @@ fn limit_of(high: u8, low: u8) -> u16 {
 fn main() {
     io::write_all(
         STDOUT_FILENO,
-        b"codeblock answer flips first last unlike information\n",
+        b"codeblock answer flips first last unlike lowest information\n",
     );
     let mut head = [0u8; 3];
     io::read_full(STDIN_FILENO, &mut head);

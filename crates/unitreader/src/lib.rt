@@ -43,6 +43,7 @@ pub fn block_at(unit: &[u8], place: usize, code: u8, limit: u16) -> Block
         first: 0,
         last: 0,
         unlike: 0,
+        lowest: 0,
     };
     let state = Reading {
         kept: kept,

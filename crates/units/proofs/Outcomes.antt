@@ -20,7 +20,7 @@ use Rattle.codes.specs.declared.Corrected.{Corrected as Numbers}
 
 -- a record of numbers from the answer that it stands for
 abbrev numbers : Corrected → Numbers
-numbers r = record { number = r .number; flips = r .flips; first = r .first; last = r .last; unlike = r .unlike }
+numbers r = record { number = r .number; flips = r .flips; first = r .first; last = r .last; unlike = r .unlike; lowest = r .lowest }
 
 pub write-unit-outcome : (κs : Lfts 2) (a : ArgsD write-unit.signature κs) (r₁ r₂ : ResD write-unit.signature κs) (s₁ s₂ : AtExit (endedOf 2 write-unit-kinds.ps write-unit-kinds.r) κs)
     → write-unit-reads.Post κs a r₁ s₁ → write-unit-reads.Post κs a r₂ s₂ → (r₁ ≡ r₂) × (now (s₁ .1 .1 .0) ≡ now (s₂ .1 .1 .0))

@@ -304,6 +304,7 @@ fn numbered(number: u8) -> Corrected
         first: 0,
         last: 0,
         unlike: 0,
+        lowest: 0,
     }
 }
 

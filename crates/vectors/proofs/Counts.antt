@@ -60,7 +60,7 @@ neither : (p q : Bool) → (p || q) ≡ false → (p ≡ false) × (q ≡ false)
 neither true q e = absurd (true≢false e)
 neither false q e = (refl, e)
 
-or-zero : (u v : ℕ) → u < 2 ^ 64 → v < 2 ^ 64 → bitOr u v ≡ 0 → (u ≡ 0) × (v ≡ 0)
+pub or-zero : (u v : ℕ) → u < 2 ^ 64 → v < 2 ^ 64 → bitOr u v ≡ 0 → (u ≡ 0) × (v ≡ 0)
 or-zero u v hu hv e = (
   same-digits 64 u 0 hu (lit< tt) (λ i hi. none i .0 ∙ sym (digit-zero 64 i)),
   same-digits 64 v 0 hv (lit< tt) (λ i hi. none i .1 ∙ sym (digit-zero 64 i)),

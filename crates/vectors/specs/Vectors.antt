@@ -1,6 +1,6 @@
 -- Vectors of bits in words of 64, and what is made of a word's bits.
 use mathlib.Core.Path.{_≡_}
-use mathlib.Core.Bool.{not, _&&_}
+use mathlib.Core.Bool.{false, not, _&&_}
 use mathlib.Core.List.{List, [], _∷_}
 use Prim.Native.Nat.{ℕ, _+_, _-_, _*_, _/_, _%_, _<_}
 use lib.Dec.{leb, ltb}
@@ -47,3 +47,7 @@ added x a e y n = x n ⊕ ((leb a n && ltb n e) && y (n - a))
 -- The first k words of d are those of v, and n words behind each stand the bits that begin t bits later in v.
 abbrev pub Doubled : List ℕ → ℕ → ℕ → ℕ → List ℕ → Type 0
 Doubled v n t k d = (j : ℕ) → j < k → (getD d j 0 ≡ getD v j 0) × Holds (getD d (n + j) 0) (from (64 * j + t) (wbit v))
+
+-- No bit of the first k words is set.
+abbrev pub Clear : List ℕ → ℕ → Type 0
+Clear ws k = (i : ℕ) → i < 64 * k → wbit ws i ≡ false

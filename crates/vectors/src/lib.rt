@@ -5,8 +5,8 @@ ghost use mathlib.Core.Bool.{false};
 ghost use Prim.Native.Nat.{ℕ, _+_, _-_, _*_, _/_, _%_, _^_, _<_, _≤_};
 ghost use lib.Dec.{ltb};
 ghost use lib.ListN.{length};
-ghost use Rattle.bits.specs.Bits.{Word, bit, digit, octets, count, flipped};
-ghost use Rattle.vectors.specs.Vectors.{wbit, both, Holds, upTo, from, later, joined, twice, added, Doubled};
+ghost use Rattle.bits.specs.Bits.{Word, bit, digit, octets, count, least, flipped};
+ghost use Rattle.vectors.specs.Vectors.{wbit, Clear, both, Holds, upTo, from, later, joined, twice, added, Doubled};
 
 // The 64 bits of a and then b from bit t on.
 pub fn funnel(a: u64, b: u64, t: usize) -> u64
@@ -229,6 +229,36 @@ pub fn any(ws: &[u64]) -> bool
         k += 1;
     }
     v != 0
+}
+
+// How many words in front are 0, counted by fours.
+fn skip(ws: &[u64]) -> usize
+    requires { ⌜ length (now ws) ≤ 2 ^ 57 ⌝ }
+    ensures { λ r. ⌜ (r ≤ length (now (ws .entry))) × Clear (now (ws .entry)) r ⌝ }
+{
+    let mut k = 0;
+    while k + 4 <= ws.len() {
+        if (ws[k] | ws[k + 1]) | (ws[k + 2] | ws[k + 3]) != 0 {
+            return k;
+        }
+        k += 4;
+    }
+    k
+}
+
+// The first bit that is set, or the number of bits if none is.
+pub fn first(ws: &[u64]) -> usize
+    requires { ⌜ length (now ws) ≤ 2 ^ 57 ⌝ }
+    ensures { λ r. ⌜ r ≡ least (64 * length (now (ws .entry))) (wbit (now (ws .entry))) ⌝ }
+{
+    let mut k = skip(ws);
+    while k < ws.len() {
+        if ws[k] != 0 {
+            return 64 * k + u64::leading_zeros(ws[k]) as usize;
+        }
+        k += 1;
+    }
+    64 * k
 }
 
 // Turns bit n over.

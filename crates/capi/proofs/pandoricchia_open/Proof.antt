@@ -1,4 +1,4 @@
--- What `open` ensures, read at the number and at the part's length.
+-- What `open` ensures, read at its two numbers and at the part's length.
 use mathlib.Core.Path.{ap}
 use lib.ListN.{length}
 use borrow.Author.Needs.{needs}
@@ -11,7 +11,7 @@ open-requires c κs = search needs
 returns : tie.Need-returns
 returns c =
     let e = c .open .ensures in
-    (ap (λ a. a .number) e, ap (λ a. length (a .part)) e)
+    (ap (λ a. a .number) e, ap (λ a. a .lowest) e, ap (λ a. length (a .part)) e)
 
 pub pandoricchia-open-spec : {M : Type 1} → statement M
 pandoricchia-open-spec = tie.close (tie.spec open-requires returns)

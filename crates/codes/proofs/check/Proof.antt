@@ -1,12 +1,12 @@
 -- `codes::check`: refusals in the order of their numbers, then the count. Assumes nothing.
-use mathlib.Core.Path.{refl, sym, ap, _∙_}
+use mathlib.Core.Path.{refl, sym, ap, ap₂, _∙_}
 use lib.ListN.{length}
 use Rattle.rules.specs.Codes.{code}
-use Rattle.rules.specs.Checks.{broken}
+use Rattle.rules.specs.Checks.{broken, lowest}
 use Rattle.answers.proofs.Answers.{check-taken, check-refused}
 use Rattle.offer.proofs.Offers.{is-offered}
 use Rattle.vectors.proofs.Filling.{zero-words}
-use Rattle.codes.proofs.Admitted.{offered-by, check-refusal, taken, word-long}
+use Rattle.codes.proofs.Admitted.{offered-by, check-refusal, taken, word-long, fitting}
 use borrow.Author.Needs.{needs}
 use Rattle.codes.proofs.check.Statement.{statement}
 use Rattle.codes.proofs.check.Tie as tie
@@ -51,9 +51,25 @@ slice-aggregate-broken c = search needs
 broken-requires : tie.Need-broken-requires
 broken-requires c κs = search needs
 
+slice-aggregate-lowest : tie.Need-slice-aggregate-lowest
+slice-aggregate-lowest c = search needs
+
+lowest-requires : tie.Need-lowest-requires
+lowest-requires c κs =
+    let m = c .before .before .before .before .before .before in
+    let i = m .before .before .before .before in
+    let f = i .before in
+    let a = f .before .before .before in
+    let n = a .args .code in
+    let is = f .before .of .ensures in
+    let t = taken n is (f .before .of .result .offered) (offered-by n is) (length (a .args .word .now)) _ 0 0 (f .refusal .ensures) (i .if1 .left) in
+    let w = fitting (m .measure .ensures .1 n (t .offers) is .lends .fit) in
+    (search needs, w .0, w .1, w .2, w .3)
+
 returns-2 : tie.Need-returns-2
 returns-2 c =
-    let m = c .before .before .before .before .before in
+    let b = c .before .before in
+    let m = b .before .before .before .before .before in
     let i = m .before .before .before .before in
     let f = i .before in
     let a = f .before .before .before in
@@ -61,7 +77,8 @@ returns-2 c =
     let is = f .before .of .ensures in
     let t = taken n is (f .before .of .result .offered) (offered-by n is) (length (a .args .word .now)) _ 0 0 (f .refusal .ensures) (i .if1 .left) in
     let e = m .measure .ensures .1 n (t .offers) is in
-    ap (λ z. record { number = 0; broken = z }) (c .broken .ensures _ _ _ _ (e .lends .fit) (e .lends .lent) (e .held) ∙ ap (broken (code n)) (e .bits))
+    ap₂ (λ z l. record { number = 0; broken = z; lowest = l }) (b .broken .ensures _ _ _ _ (e .lends .fit) (e .lends .lent) (e .held) ∙ ap (broken (code n)) (e .bits))
+    (c .lowest .ensures _ _ _ (e .lends .fit) (e .lends .lent) (e .held) ∙ ap (lowest (code n)) (e .bits))
     ∙ sym (check-taken n (a .args .word .now) (is-offered n (t .offers)) (word-long n is (t .offers) (t .input-is)))
 
 pub check-spec : {M : Type 1} → statement M
@@ -78,4 +95,6 @@ check-spec =
     measure-requires
     slice-aggregate-broken
     broken-requires
+    slice-aggregate-lowest
+    lowest-requires
     returns-2)

@@ -8,7 +8,7 @@ use Rattle.rules.specs.Flipping.{byExcess, run}
 use Rattle.vectors.proofs.Filling.{zero-words}
 use Rattle.rules.proofs.Numbers.{published}
 use Rattle.offer.proofs.Offers.{small, is-offered}
-use Rattle.codes.proofs.Admitted.{shaped, word-long, unsent-is, bits-are}
+use Rattle.codes.proofs.Admitted.{shaped, word-long, unsent-is, bits-are, fitting}
 use Rattle.codes.proofs.Correcting.{holding, ran-number, ran-word, ran-met, ran-unsent, ran-ends, corrected-is, wrote-word, wrote-none}
 use borrow.Author.Needs.{needs}
 use Rattle.codes.proofs.correct_taken.Statement.{statement}
@@ -35,6 +35,16 @@ slice-aggregate-broken c = search needs
 broken-requires : tie.Need-broken-requires
 broken-requires c κs = search needs
 
+slice-aggregate-lowest : tie.Need-slice-aggregate-lowest
+slice-aggregate-lowest c = search needs
+
+lowest-requires : tie.Need-lowest-requires
+lowest-requires c κs =
+    let m = c .before .before .before .before .before .before in
+    let k = m .before .before .before .before .before .before .pre .0 in
+    let w = fitting (m .measure .ensures .1 (k .number) (k .offers) (k .is) .lends .fit) in
+    (search needs, w .0, w .1, w .2, w .3)
+
 slice-aggregate-run : tie.Need-slice-aggregate-run
 slice-aggregate-run c = search needs
 
@@ -46,7 +56,7 @@ slice-aggregate-run-3 c = search needs
 
 run-requires : tie.Need-run-requires
 run-requires c κs =
-    let m = c .before .before .before .before .before .before .before .before in
+    let m = c .before .before .before .before .before .before .before .before .before .before in
     let a = m .before .before .before .before .before .before in
     let k = a .pre .0 in
     let e = m .measure .ensures .1 (k .number) (k .offers) (k .is) in
@@ -68,14 +78,14 @@ slice-aggregate-judge : tie.Need-slice-aggregate-judge
 slice-aggregate-judge c = search needs
 
 judge-requires : tie.Need-judge-requires
-judge-requires c κs = search needs
+judge-requires c κs = (c .before .before .before .before .before .before .before .before .before .before .before .before .before .before .before .before .before .before .before .before .before .before .before .before .pre .0, search needs)
 
 slice-aggregate-write : tie.Need-slice-aggregate-write
 slice-aggregate-write c = search needs
 
 write-requires : tie.Need-write-requires
 write-requires c κs =
-    let a = c .before .before .before .before .before .before .before .before .before .before .before .before .before .before .before .before .before .before .before .before .before .before .before .before .before .before in
+    let a = c .before .before .before .before .before .before .before .before .before .before .before .before .before .before .before .before .before .before .before .before .before .before .before .before .before .before .before .before in
     (search needs, small (a .pre .0) .unsent, omega (arith, a .pre .2, small (a .pre .0) .word), λ h. small (a .pre .0) .plain (omega (arith, h, a .pre .2)))
 
 same-length : tie.Need-same-length
@@ -87,15 +97,16 @@ returns c =
     let u = j .before .before in
     let b2 = u .before .before in
     let g = b2 .before .before .before .before in
-    let b1 = g .before .before .before .before in
+    let w = g .before .before .before .before in
+    let b1 = w .before .before in
     let m = b1 .before .before .before .before .before in
     let a = m .before .before .before .before .before .before in
     λ n off is.
     let word = a .args .word .now in
     let e = m .measure .ensures .1 n off is in
     let to = g .run .ensures (code n) (e .lends .lent) (sym (unsent-is n is off)) (e .held) in
-    corrected-is n word _ _ _ _ e (a .args .limit) (g .run .result) _ _ to (b1 .broken .result) (b2 .broken2 .result) (j .judge .result) (u .unlike-after .result)
-    (b1 .broken .ensures) (b2 .broken2 .ensures)
+    corrected-is n word _ _ _ _ e (a .args .limit) (g .run .result) _ _ to (b1 .broken .result) (b2 .broken2 .result) (j .judge .result) (u .unlike-after .result) (w .lowest .result)
+    (b1 .broken .ensures) (b2 .broken2 .ensures) (w .lowest .ensures)
     (j .judge .ensures n off is (run (byExcess (code n)) (a .args .limit) (lifted (code n) (bit word)))
     (ran-number n word _ _ _ _ e (a .args .limit) (g .run .result) _ _ to) (ran-word n word _ _ _ _ e (a .args .limit) (g .run .result) _ _ to) (ran-met n word _ _ _ _ e (a .args .limit) (g .run .result) _ _ to (published n (is-offered n off) .some))
     (ran-unsent n word _ _ _ _ e (a .args .limit) (g .run .result) _ _ to (published n (is-offered n off) .some)))
@@ -109,15 +120,16 @@ returns-2 c =
     let u = j .before .before in
     let b2 = u .before .before in
     let g = b2 .before .before .before .before in
-    let b1 = g .before .before .before .before in
+    let w = g .before .before .before .before in
+    let b1 = w .before .before in
     let m = b1 .before .before .before .before .before in
     let a = m .before .before .before .before .before .before in
     λ n off is.
     let word = a .args .word .now in
     let e = m .measure .ensures .1 n off is in
     let to = g .run .ensures (code n) (e .lends .lent) (sym (unsent-is n is off)) (e .held) in
-    corrected-is n word _ _ _ _ e (a .args .limit) (g .run .result) _ _ to (b1 .broken .result) (b2 .broken2 .result) (j .judge .result) (u .unlike-after .result)
-    (b1 .broken .ensures) (b2 .broken2 .ensures)
+    corrected-is n word _ _ _ _ e (a .args .limit) (g .run .result) _ _ to (b1 .broken .result) (b2 .broken2 .result) (j .judge .result) (u .unlike-after .result) (w .lowest .result)
+    (b1 .broken .ensures) (b2 .broken2 .ensures) (w .lowest .ensures)
     (j .judge .ensures n off is (run (byExcess (code n)) (a .args .limit) (lifted (code n) (bit word)))
     (ran-number n word _ _ _ _ e (a .args .limit) (g .run .result) _ _ to) (ran-word n word _ _ _ _ e (a .args .limit) (g .run .result) _ _ to) (ran-met n word _ _ _ _ e (a .args .limit) (g .run .result) _ _ to (published n (is-offered n off) .some))
     (ran-unsent n word _ _ _ _ e (a .args .limit) (g .run .result) _ _ to (published n (is-offered n off) .some)))
@@ -134,6 +146,8 @@ correct-taken-spec =
     measure-requires
     slice-aggregate-broken
     broken-requires
+    slice-aggregate-lowest
+    lowest-requires
     slice-aggregate-run
     slice-aggregate-run-2
     slice-aggregate-run-3

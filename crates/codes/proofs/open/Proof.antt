@@ -2,9 +2,9 @@
 use mathlib.Core.Path.{refl, sym, ap, _∙_}
 use native.Mathlib.Omega.{arith}
 use lib.ListN.{length, take, length-take}
-use borrow.Author.Tests.{not-true, not-false}
-use Rattle.answers.proofs.Answers.{open-taken, open-nine, open-refused}
+use Rattle.answers.proofs.Answers.{open-from, open-refused}
 use Rattle.offer.proofs.Offers.{small}
+use Rattle.codes.proofs.Opened.{opened-other, opened-codeword}
 use Rattle.codes.proofs.Admitted.{as-truth, opens-by, opens-offered, open-refusal, taken, word-long, information-long}
 use borrow.Author.Needs.{needs}
 use Rattle.codes.proofs.open.Statement.{statement}
@@ -25,8 +25,8 @@ returns c =
     let a = f .before .before .before in
     sym (open-refused (a .args .code) (a .args .word .now) _ (open-refusal (a .args .code) (f .before .of .ensures) _ (f .refusal .ensures)) (c .before .if1 .taken))
 
-opens-requires : tie.Need-opens-requires
-opens-requires c κs =
+fault-of-requires : tie.Need-fault-of-requires
+fault-of-requires c κs =
     let i = c in
     let f = i .before in
     let a = f .before .before .before in
@@ -40,18 +40,19 @@ slice-aggregate-result-2 c = search needs
 
 returns-2 : tie.Need-returns-2
 returns-2 c =
-    let s = c .before .before in
+    let s = c .before .before .before in
     let i = s .before in
     let f = i .before in
     let a = f .before .before .before in
     let n = a .args .code in
     let is = f .before .of .ensures in
     let t = taken n is (f .before .of .result .opens) (opens-offered n is) (length (a .args .word .now)) (f .before .of .result .word) 0 0 (f .refusal .ensures) (i .if1 .left) in
-    sym (open-nine n (a .args .word .now) (as-truth (opens-by n is (t .chosen))) (word-long n is (t .offers) (t .input-is)) (sym (s .opens .ensures n (t .offers) is) ∙ not-true _ (c .before .if2 .taken)))
+    opened-other n (a .args .word .now) (s .fault-of .ensures n (t .offers) is) (c .before .if2 .taken)
+    ∙ sym (open-from n (a .args .word .now) (as-truth (opens-by n is (t .chosen))) (word-long n is (t .offers) (t .input-is)))
 
 slice-aggregate-result-3 : tie.Need-slice-aggregate-result-3
 slice-aggregate-result-3 c =
-    let s = c .before .before in
+    let s = c .before .before .before in
     let i = s .before in
     let f = i .before in
     let a = f .before .before .before in
@@ -62,15 +63,16 @@ slice-aggregate-result-3 c =
 
 returns-3 : tie.Need-returns-3
 returns-3 c =
-    let s = c .before .before in
+    let s = c .before .before .before in
     let i = s .before in
     let f = i .before in
     let a = f .before .before .before in
     let n = a .args .code in
     let is = f .before .of .ensures in
     let t = taken n is (f .before .of .result .opens) (opens-offered n is) (length (a .args .word .now)) (f .before .of .result .word) 0 0 (f .refusal .ensures) (i .if1 .left) in
-    ap (λ z. record { number = 0; part = take z (a .args .word .now) }) (information-long n is (t .offers) refl)
-    ∙ sym (open-taken n (a .args .word .now) (as-truth (opens-by n is (t .chosen))) (word-long n is (t .offers) (t .input-is)) (sym (s .opens .ensures n (t .offers) is) ∙ not-false _ (c .before .if2 .left)))
+    ap (λ z. record { number = s .fault-of .result .number; lowest = s .fault-of .result .lowest; part = take z (a .args .word .now) }) (information-long n is (t .offers) refl)
+    ∙ opened-codeword n (a .args .word .now) (s .fault-of .ensures n (t .offers) is) (c .before .if2 .left)
+    ∙ sym (open-from n (a .args .word .now) (as-truth (opens-by n is (t .chosen))) (word-long n is (t .offers) (t .input-is)))
 
 pub open-spec : {M : Type 1} → statement M
 open-spec =
@@ -80,7 +82,7 @@ open-spec =
     refusal-requires
     slice-aggregate-result
     returns
-    opens-requires
+    fault-of-requires
     slice-aggregate-result-2
     returns-2
     slice-aggregate-result-3

@@ -1,13 +1,13 @@
--- `judging::is_codeword`: each answer by the tests that led to it. Assumes nothing.
+-- `judging::fault`: each answer by the tests that led to it. Assumes nothing.
 use mathlib.Core.Path.{sym, _∙_}
 use native.Mathlib.Omega.{arith}
 use borrow.Author.Tests.{not-true, not-false}
 use Rattle.vectors.specs.Vectors.{wbit}
 use Rattle.offer.proofs.Offers.{small}
-use Rattle.judging.proofs.Judging.{finds-broken, finds-telecommand, finds-fill, finds-parity}
+use Rattle.judging.proofs.Judging.{finds-broken, finds-telecommand, finds-fill, finds-own, finds-other}
 use borrow.Author.Needs.{needs}
-use Rattle.judging.proofs.is_codeword.Statement.{statement}
-use Rattle.judging.proofs.is_codeword.Tie as tie
+use Rattle.judging.proofs.fault.Statement.{statement}
+use Rattle.judging.proofs.fault.Tie as tie
 
 is-quiet-requires : tie.Need-is-quiet-requires
 is-quiet-requires c κs = search needs
@@ -41,24 +41,38 @@ returns-3 c =
     let q = i .before in
     let a = q .before .before .before in
     λ n off is word t sh long m.
-    finds-fill n off (a .args .o) is (wbit (a .args .y .now)) (wbit (a .args .s .now)) word t sh long m _ (q .is-quiet .ensures) (sym (c .if3 .taken) ∙ u .some-set .ensures)
+    finds-fill n off (a .args .o) is (wbit (a .args .y .now)) (wbit (a .args .s .now)) word t sh long m _ (q .is-quiet .ensures)
+    (not-false _ (i .if1 .left)) (not-false _ (u .before .if2 .left)) (sym (c .if3 .taken) ∙ u .some-set .ensures)
 
 own-parity-requires : tie.Need-own-parity-requires
 own-parity-requires c κs = search needs
 
 returns-4 : tie.Need-returns-4
 returns-4 c =
-    let j = c .before in
+    let w = c .before in
+    let j = w .before in
     let u = j .before in
     let i = u .before .before .before in
     let q = i .before in
     let a = q .before .before .before in
     λ n off is word t sh long m.
-    finds-parity n off (a .args .o) is (wbit (a .args .y .now)) (wbit (a .args .s .now)) word t sh long m _ (q .is-quiet .ensures)
-    (not-false _ (i .if1 .left)) (not-false _ (u .before .if2 .left)) (sym (j .if3 .left) ∙ u .some-set .ensures) _ (c .own-parity .ensures)
+    finds-own n off (a .args .o) is (wbit (a .args .y .now)) (wbit (a .args .s .now)) word t sh long m _ (q .is-quiet .ensures)
+    (not-false _ (i .if1 .left)) (not-false _ (u .before .if2 .left)) (sym (j .if3 .left) ∙ u .some-set .ensures) _ (w .own-parity .ensures) (c .if4 .taken)
 
-pub is-codeword-spec : {M : Type 1} → statement M
-is-codeword-spec =
+returns-5 : tie.Need-returns-5
+returns-5 c =
+    let w = c .before in
+    let j = w .before in
+    let u = j .before in
+    let i = u .before .before .before in
+    let q = i .before in
+    let a = q .before .before .before in
+    λ n off is word t sh long m.
+    finds-other n off (a .args .o) is (wbit (a .args .y .now)) (wbit (a .args .s .now)) word t sh long m _ (q .is-quiet .ensures)
+    (not-false _ (i .if1 .left)) (not-false _ (u .before .if2 .left)) (sym (j .if3 .left) ∙ u .some-set .ensures) _ (w .own-parity .ensures) (c .if4 .left)
+
+pub fault-spec : {M : Type 1} → statement M
+fault-spec =
     tie.close
     (tie.spec
     is-quiet-requires
@@ -67,4 +81,5 @@ is-codeword-spec =
     some-set-requires
     returns-3
     own-parity-requires
-    returns-4)
+    returns-4
+    returns-5)
