@@ -1,15 +1,17 @@
 -- Codewords of code 1 are the words that break no check; and the checks in one number. Assumes nothing.
 use mathlib.Core.Path.{_≡_, refl, sym, ap, ap₂, _∙_, subst}
-use mathlib.Core.Bool.{Bool, true, false, not, true≢false}
+use mathlib.Core.Bool.{Bool, true, false, not, _&&_, and-true, and-false, true≢false}
+use mathlib.Core.List.{List}
 use Prim.Native.Nat.{ℕ, _+_, _-_, _*_, _^_, _<_}
 use native.Mathlib.Nat.{add-zero}
+use native.Mathlib.Numerals.{add-one}
 use native.Mathlib.Omega.{arith}
 use lib.Bits.{bitXor}
 use lib.Dec.{T, eqb, ltb, ltb→lt, lit<}
 use lib.ListN.{getD}
 use borrow.Author.Tests.{eq-eqb, ne-eqb}
-use Rattle.bits.specs.Bits.{Word, digit, _⊕_, below, flipped}
-use Rattle.bits.proofs.Sums.{⊕-eq, ⊕-self, below-at, not-true}
+use Rattle.bits.specs.Bits.{Word, digit, _⊕_, sum, below, flipped}
+use Rattle.bits.proofs.Sums.{⊕-false, ⊕-eq, ⊕-self, below-at, not-true}
 use Rattle.bits.proofs.Counting.{count-none, none-counted}
 use Rattle.bits.proofs.Octets.{digit-zero}
 use Rattle.rules.specs.Codes.{code, code1, bits, checks}
@@ -19,6 +21,7 @@ use Rattle.rules.specs.Encoding.{encoded, lifted, sent, codeword}
 use Rattle.rules.proofs.Flips.{check-flip}
 use Rattle.rules.proofs.Codewords.{agree-all, own-encoded, sent-bit, codeword-quiet, check-same}
 use Rattle.rules.proofs.Numbers.{published, whole, lifted-whole, met-own-telecommand}
+use Rattle.vectors.specs.Vectors.{Holds}
 use Rattle.vectors.proofs.Places.{digit-xor, same-digits}
 use Rattle.nearest.specs.Answers.{columnList, Broken}
 
@@ -113,3 +116,32 @@ module _ (s : ℕ) (x : Word) (h : Broken s x) where
       go false is =
           ne-eqb (getD columnList n 0) s (λ q.
           true≢false (sym (met-codeword (flipped x n) (λ k hk. turned k hk ∙ ap (λ z. digit 64 s k ⊕ digit 64 z k) q ∙ ⊕-self (digit 64 s k))) ∙ is))
+
+-- ---- the checks summed over the first bits
+
+abbrev pub Partly : Word → ℕ → Word
+Partly x n k = sum n (λ i. covers (code 1) k i && x i)
+
+pub partly-none : (x : Word) → Holds 0 (Partly x 0)
+unfolding sum
+partly-none x k h = digit-zero 64 k
+
+module _ (x : Word) (n s : ℕ) (h : n < 128) (part : Holds s (Partly x n)) where
+  pub partly-set : (cs : List ℕ) → cs ≡ columnList → x n ≡ true → Holds (bitXor s (getD cs n 0)) (Partly x (n + 1))
+  unfolding sum
+  partly-set cs e set k l =
+      ap (λ z. digit 64 (bitXor s (getD z n 0)) k) e
+      ∙ digit-xor 64 s (getD columnList n 0) k
+      ∙ ap₂ (λ a b. a ⊕ b) (part k l) (column-covers n k h l ∙ sym (ap (λ b. covers (code 1) k n && b) set ∙ and-true (covers (code 1) k n)))
+      ∙ ap (λ m. Partly x m k) (sym (add-one n))
+
+  pub partly-clear : x n ≡ false → Holds s (Partly x (n + 1))
+  unfolding sum
+  partly-clear clear k l =
+      part k l ∙ sym (⊕-false (Partly x n k))
+      ∙ ap (λ b. Partly x n k ⊕ b) (sym (ap (λ b. covers (code 1) k n && b) clear ∙ and-false (covers (code 1) k n)))
+      ∙ ap (λ m. Partly x m k) (sym (add-one n))
+
+pub partly-all : (x : Word) (n s : ℕ) → n ≡ 128 → Holds s (Partly x n) → Broken s x
+unfolding check
+partly-all x n s e part k l = part k l ∙ ap (λ m. Partly x m k) (e ∙ sym bits-are)

@@ -5,6 +5,7 @@ use mathlib.Core.List.{List, [], _∷_}
 use Prim.Native.Nat.{ℕ, zero, suc, _+_, _-_, _*_, _^_, _≤_, _<_}
 use native.Mathlib.Numerals.{add-one, sub-one}
 use native.Mathlib.Omega.{arith}
+use lib.Bits.{bitXor}
 use lib.Dec.{eqb, lit<}
 use lib.ListN.{length, getD, drop}
 use borrow.Author.Tests.{eq-eqb, ne-eqb}
@@ -14,7 +15,7 @@ use Rattle.rules.specs.Encoding.{codeword}
 use Rattle.nearest.specs.Nearest.{Found, none, list, chosen, _orElse_, firstList, fewest, turned, places}
 use Rattle.nearest.specs.Answers.{columnList, Broken, lowestFrom, held}
 use Rattle.nearest.specs.declared.Listed.{Listed}
-use Rattle.nearest.proofs.Quiet.{broken-none, broken-column}
+use Rattle.nearest.proofs.Quiet.{broken-none, broken-column, broken-turned}
 use Rattle.nearest.proofs.Lists.{rising-lt, Long, Within, within}
 
 -- ---- no bits left to choose
@@ -195,3 +196,36 @@ places-at bits zero h = refl
 places-at bits (suc zero) h = refl
 places-at bits (suc (suc zero)) h = refl
 places-at bits (suc (suc (suc k))) h = absurd (omega arith)
+
+pub held-are : (l : Listed) (bits : List ℕ) → l ≡ held (list bits) → (l .count ≡ length bits) × (l .bits ≡ places bits)
+unfolding held
+held-are l bits e = (ap (λ (z : Listed). z .count) e, ap (λ (z : Listed). z .bits) e)
+
+module _ (l : Listed) (bits : List ℕ) (is : l ≡ held (list bits)) (few : l .count ≤ 3) (k : ℕ) (y : Word) where
+  pub turn-more : (y′ : Word) → k < l .count → y′ ≡ flipped y (getD (l .bits) k 0) → turned (drop k bits) y ≡ turned (drop (k + 1) bits) y′
+  turn-more y′ h e =
+      let m = held-are l bits is in
+      turn-next bits k y (omega (arith, m .0))
+      ∙ ap (turned (drop (k + 1) bits)) (sym (e ∙ ap (flipped y) (ap (λ z. getD z k 0) (m .1) ∙ places-at bits k (omega arith))))
+
+  pub turn-all : l .count ≤ k → y ≡ turned (drop k bits) y
+  turn-all h = turn-end bits k y (omega (arith, held-are l bits is .0))
+
+-- ---- the columns that are lent
+
+pub lent-long : (cs : List ℕ) (n : ℕ) → cs ≡ columnList → n < 128 → n < length cs
+lent-long cs n e h = subst (λ z. n < length z) (sym e) h
+
+module _ (cs : List ℕ) (n s : ℕ) (e : cs ≡ columnList) (h : n < 128) where
+  pub lowest-here : getD cs n 0 ≡ s → lowestFrom (128 - n) n s ≡ n
+  lowest-here q =
+      lowest-turn n s h
+      ∙ ap (λ t. if t then n else lowestFrom (128 - (n + 1)) (n + 1) s) (eq-eqb (getD columnList n 0) s (ap (λ z. getD z n 0) (sym e) ∙ q))
+
+  pub lowest-later : (getD cs n 0 ≡ s → ⊥) → lowestFrom (128 - n) n s ≡ lowestFrom (128 - (n + 1)) (n + 1) s
+  lowest-later d =
+      lowest-turn n s h
+      ∙ ap (λ t. if t then n else lowestFrom (128 - (n + 1)) (n + 1) s) (ne-eqb (getD columnList n 0) s (λ q. d (ap (λ z. getD z n 0) e ∙ q)))
+
+pub broken-lent : (cs : List ℕ) (s n : ℕ) (x : Word) → cs ≡ columnList → n < 128 → Broken s x → Broken (bitXor s (getD cs n 0)) (flipped x n)
+broken-lent cs s n x e h k = subst (λ z. Broken (bitXor s (getD z n 0)) (flipped x n)) (sym e) (broken-turned s x k n h)

@@ -173,7 +173,7 @@ fn syndrome(columns: &[u64], y: &[u64]) -> u64
 // The lowest bit from a bit on that is covered by just these checks; 128 if none is.
 fn only(columns: &[u64], s: u64, from: usize) -> usize
     requires { ⌜ (now columns ≡ columnList) × (from ≤ 128) ⌝ }
-    ensures { λ r. ⌜ r ≡ lowestFrom (128 - from) from s ⌝ }
+    ensures { λ r. ⌜ (r ≤ 128) × (r ≡ lowestFrom (128 - from) from s) ⌝ }
 {
     let mut n = from;
     while n < 128 {

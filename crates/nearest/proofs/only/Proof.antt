@@ -1,45 +1,51 @@
+-- `nearest::only` meets its contract: no bit before n has the column. Assumes nothing.
+use mathlib.Core.Path.{_≡_, refl, sym, ap, _∙_}
+use Prim.Native.Nat.{ℕ, _+_, _-_, _≤_, _<_}
+use native.Mathlib.Omega.{arith}
+use borrow.Author.Needs.{needs}
+use Rattle.nearest.specs.Answers.{lowestFrom}
+use Rattle.nearest.proofs.Searching.{lowest-here, lowest-later, lowest-end, lent-long}
 use Rattle.nearest.proofs.only.Statement.{statement}
 use Rattle.nearest.proofs.only.Tie as tie
-use Rattle.nearest.proofs.only.Reads as reads
-use Rattle.nearest.proofs.only.Lts as lts
 
 abbrev Inv-loop : tie.InvT-loop
-Inv-loop columns s from n₀ n = ?
+Inv-loop columns s from n₀ n = (n ≤ 128) × (lowestFrom (128 - from) from s ≡ lowestFrom (128 - n) n s)
 
 abbrev μ-loop : tie.MeasureT-loop
-μ-loop columns s from n₀ n = ?
+μ-loop columns s from n₀ n = 128 - n
 
--- src/lib.rt:179:5
 loop-holds : tie.Need-loop-holds Inv-loop μ-loop
-loop-holds c = ?
+loop-holds c = (c .pre .1, refl)
 
--- src/lib.rt:180:12
 mul-if1 : tie.Need-mul-if1 Inv-loop μ-loop
-mul-if1 c = ?
+mul-if1 c = search needs
 
--- src/lib.rt:180:12
 shared-slice-read-if1 : tie.Need-shared-slice-read-if1 Inv-loop μ-loop
-shared-slice-read-if1 c = ?
+shared-slice-read-if1 c = lent-long _ _ (c .before .before .before .pre .0) (omega arith)
 
--- src/lib.rt:181:13
 returns : tie.Need-returns Inv-loop μ-loop
-returns c = ?
+returns c =
+    let l = c .before .before .before .loop in
+    let a = c .before .before .before .before in
+    (omega arith, sym (l .inv .1 ∙ lowest-here (a .args .columns .now) (l .n) (a .args .s) (a .pre .0) (omega arith) (c .if1 .taken)))
 
--- src/lib.rt:183:9
 add-n : tie.Need-add-n Inv-loop μ-loop
-add-n c = ?
+add-n c = search needs
 
--- src/lib.rt:179:5
 loop-less : tie.Need-loop-less Inv-loop μ-loop
-loop-less c = ?
+loop-less c = search needs
 
--- src/lib.rt:179:5
 loop-again : tie.Need-loop-again Inv-loop μ-loop
-loop-again c = ?
+loop-again c =
+    let l = c .before .before .before .loop in
+    let a = c .before .before .before .before in
+    (omega arith, l .inv .1 ∙ lowest-later (a .args .columns .now) (l .n) (a .args .s) (a .pre .0) (omega arith) (λ q. c .if1 .left q))
 
--- src/lib.rt:174:1
 returns-2 : tie.Need-returns-2 Inv-loop μ-loop
-returns-2 c = ?
+returns-2 c =
+    let l = c .before .loop in
+    let a = c .before .before in
+    (omega arith, lowest-end (l .n) (a .args .s) (omega arith) ∙ sym (l .inv .1))
 
 pub only-spec : {M : Type 1} → statement M
 only-spec =
