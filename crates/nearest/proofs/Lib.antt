@@ -1,3 +1,4 @@
 pub mod Quiet
 pub mod Lists
 pub mod Searching
+pub mod Reaching

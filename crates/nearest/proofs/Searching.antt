@@ -120,6 +120,7 @@ module _ (b left : ℕ) (f g : Found) (r : Listed) (is : r ≡ held f) where
       go none q = refl
       go (list bits) q = absurd (true≢false (ap (λ (z : Listed). z .found) (sym q) ∙ e))
 
+module _ (f g : Found) (r : Listed) (is : r ≡ held f) where
   pub held-first : r .found ≡ true → r ≡ held (f orElse g)
   unfolding held
   held-first e = go f is
