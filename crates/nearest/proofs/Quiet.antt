@@ -54,12 +54,12 @@ met-codeword x met =
     ∙ ap₂ (encoded (code 1)) (lifted-whole (code 1) (whole 1 tt) x) (ap (λ n. i + n) unsent-are ∙ add-zero i)
     ∙ own-encoded (code 1) x (met-own-telecommand 1 tt x quiet) i (omega (arith, bits-are, octets-are))))
 
+pub codeword-broken : (x : Word) → codeword (code 1) x ≡ true → broken (code 1) x ≡ 0
+codeword-broken x is = sym (ap (broken (code 1)) (lifted-whole (code 1) (whole 1 tt) x)) ∙ codeword-quiet (code 1) (published 1 tt) x is
+
 pub codeword-met : (x : Word) → codeword (code 1) x ≡ true → (k : ℕ) → k < 64 → check (code 1) x k ≡ false
 unfolding broken
-codeword-met x is k l =
-    none-counted (checks (code 1)) (check (code 1) x)
-    (sym (ap (broken (code 1)) (lifted-whole (code 1) (whole 1 tt) x)) ∙ codeword-quiet (code 1) (published 1 tt) x is)
-    k (omega (arith, checks-are))
+codeword-met x is k l = none-counted (checks (code 1)) (check (code 1) x) (codeword-broken x is) k (omega (arith, checks-are))
 
 -- only its 128 bits tell
 pub codeword-same : (x y : Word) → ((i : ℕ) → i < 128 → x i ≡ y i) → codeword (code 1) x ≡ true → codeword (code 1) y ≡ true

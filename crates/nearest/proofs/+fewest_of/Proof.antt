@@ -69,8 +69,8 @@ fewest-of-returns-2 t c =
     let r = c .before in
     let a = r .before .before .before in
     λ x h.
-        held-first (fewest (a .args .reach - 1) x) (firstList (a .args .reach) 128 0 x) (r .fewest-of .result) (r .fewest-of .ensures x h) (c .if2 .taken)
-        ∙ ap held (sym (fewest-more (a .args .reach) x (r .before .if1 .left)))
+    held-first (fewest (a .args .reach - 1) x) (firstList (a .args .reach) 128 0 x) (r .fewest-of .result) (r .fewest-of .ensures x h) (c .if2 .taken)
+    ∙ ap held (sym (fewest-more (a .args .reach) x (r .before .if1 .left)))
 
 fewest-of-search-requires-2 : (t : ℕ) → fewest-of-lts.Need-search-requires-2 (
   search-reads.Asked,
@@ -90,9 +90,9 @@ fewest-of-returns-3 t c =
     let r = c .before .before in
     let a = r .before .before .before in
     λ x h.
-        c .search2 .ensures x h
-        ∙ ap held (sym (fewest-more (a .args .reach) x (r .before .if1 .left)
-        ∙ held-else (fewest (a .args .reach - 1) x) (firstList (a .args .reach) 128 0 x) (r .fewest-of .result) (r .fewest-of .ensures x h) (c .before .if2 .left)))
+    c .search2 .ensures x h
+    ∙ ap held (sym (fewest-more (a .args .reach) x (r .before .if1 .left)
+    ∙ held-else (fewest (a .args .reach - 1) x) (firstList (a .args .reach) 128 0 x) (r .fewest-of .result) (r .fewest-of .ensures x h) (c .before .if2 .left)))
 
 pub +fewest-of-spec : {M : Type 1} → statement M
 +fewest-of-spec = close μ-fewest-of λ t. fewest-of-lts.spec (

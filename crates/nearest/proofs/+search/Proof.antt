@@ -77,8 +77,8 @@ search-returns-2 t c =
     let o = c .before .before in
     let a = o .before .before .before .before in
     λ x h.
-        c .no-list .ensures
-        ∙ alone-none (a .args .left) (a .args .s) (a .args .from) (o .only .result) x (o .before .if2 .taken) (a .pre .1 .1) (omega arith) (o .only .ensures .1) h (c .before .if3 .taken)
+    c .no-list .ensures
+    ∙ alone-none (a .args .left) (a .args .s) (a .args .from) (o .only .result) x (o .before .if2 .taken) (a .pre .1 .1) (omega arith) (o .only .ensures .1) h (c .before .if3 .taken)
 
 search-cast-t13 : (t : ℕ) → search-lts.Need-cast-t13 (
   only-reads.Asked,
@@ -102,7 +102,7 @@ search-returns-3 t c =
     let o = c .before in
     let a = o .before .before .before .before in
     λ x h.
-        alone-some (a .args .left) (a .args .s) (a .args .from) (o .only .result) x (o .before .if2 .taken) (a .pre .1 .1) (omega arith) (o .only .ensures .1) h (c .if3 .left)
+    alone-some (a .args .left) (a .args .s) (a .args .from) (o .only .result) x (o .before .if2 .taken) (a .pre .1 .1) (omega arith) (o .only .ensures .1) h (c .if3 .left)
 
 search-loop-holds : (t : ℕ) → search-lts.Need-loop-holds (
   only-reads.Asked,
@@ -208,10 +208,10 @@ search-returns-4 t c =
     let z = r .before .before .before .before .before in
     let a = z .before .before in
     λ x h.
-        held-chosen (l .n) (a .args .left) _ (firstList (a .args .left) (128 - (l .n + 1)) (l .n + 1) x) (r .search .result)
-        (r .search .ensures (flipped x (l .n)) (broken-lent (a .args .columns .now) (a .args .s) (l .n) x (a .pre .1 .0) (omega arith) h))
-        (long (a .args .left - 1) (128 - (l .n + 1)) (l .n + 1) (flipped x (l .n))) (z .if1 .left) (c .before .if4 .taken)
-        ∙ ap held (sym (l .inv .1 x h ∙ search-turn (a .args .left) (l .n) x (z .if1 .left) (omega arith)))
+    held-chosen (l .n) (a .args .left) _ (firstList (a .args .left) (128 - (l .n + 1)) (l .n + 1) x) (r .search .result)
+    (r .search .ensures (flipped x (l .n)) (broken-lent (a .args .columns .now) (a .args .s) (l .n) x (a .pre .1 .0) (omega arith) h))
+    (long (a .args .left - 1) (128 - (l .n + 1)) (l .n + 1) (flipped x (l .n))) (z .if1 .left) (c .before .if4 .taken)
+    ∙ ap held (sym (l .inv .1 x h ∙ search-turn (a .args .left) (l .n) x (z .if1 .left) (omega arith)))
 
 search-add-n : (t : ℕ) → search-lts.Need-add-n (
   only-reads.Asked,
@@ -278,8 +278,8 @@ search-returns-5 t c =
     let z = c .before .before .before .before in
     let a = z .before .before in
     λ x h.
-        c .no-list2 .ensures
-        ∙ ap held (search-end (a .args .left) (l .n) x (z .if1 .left) (omega arith) ∙ sym (l .inv .1 x h))
+    c .no-list2 .ensures
+    ∙ ap held (search-end (a .args .left) (l .n) x (z .if1 .left) (omega arith) ∙ sym (l .inv .1 x h))
 
 pub +search-spec : {M : Type 1} → statement M
 +search-spec = close μ-search λ t. search-lts.spec (
