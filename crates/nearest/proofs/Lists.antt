@@ -14,6 +14,19 @@ use Rattle.rules.specs.Encoding.{codeword}
 use Rattle.nearest.specs.Nearest.{Found, none, list, chosen, _orElse_, firstList, fewest, turned}
 use Rattle.nearest.specs.Lists.{Rising, NotAfter, Mends}
 
+-- ---- the order of the search
+
+-- lists that begin with bit b come before those that do not have it
+pub begun-first : (left n b : ℕ) (x : Word) (bits : List ℕ) → firstList left n (suc b) (flipped x b) ≡ list bits
+    → firstList (suc left) (suc n) b x ≡ list (b ∷ bits)
+unfolding firstList
+begun-first left n b x bits e = ap (λ f. chosen b f orElse firstList (suc left) n (suc b) x) e
+
+-- fewer flips come before more
+pub fewer-first : (reach : ℕ) (x : Word) (bits : List ℕ) → fewest reach x ≡ list bits → fewest (suc reach) x ≡ list bits
+unfolding fewest
+fewer-first reach x bits e = ap (λ f. f orElse firstList (suc reach) 128 0 x) e
+
 -- ---- rising lists
 
 pub rising-from : (b e : ℕ) (bits : List ℕ) → Rising (suc b) e bits → Rising b e bits
