@@ -1,11 +1,11 @@
 -- How far codewords of code 1 are apart: no one, two, three or four flips lead from one to another. Assumes nothing.
-use mathlib.Core.Path.{_≡_, refl, sym, ap, ap₂, _∙_, fun-ext}
+use mathlib.Core.Path.{_≡_, refl, sym, ap, _∙_, fun-ext}
 use mathlib.Core.Bool.{Bool, true, false, _&&_, and-comm, and-true, true≢false}
 use mathlib.Core.Logic.{⊎-elim}
 use Prim.Native.Nat.{ℕ, zero, suc, _+_, _%_, _≤_, _<_, zero-le}
 use native.Mathlib.Nat.{le-step, lt-suc-self}
 use native.Mathlib.Omega.{arith}
-use lib.Dec.{T, eqb, ltb}
+use lib.Dec.{eqb, ltb}
 use borrow.Author.Tests.{eq-eqb, ne-eqb, lt-ltb}
 use Rattle.bits.proofs.Orders.{le-or-lt}
 use Rattle.bits.specs.Bits.{Word, _⊕_, tally, sum, count, flipped, if_then_else_}
@@ -14,11 +14,10 @@ use Rattle.bits.proofs.Counting.{count-none, count-same}
 use Rattle.rules.specs.Codes.{code, code1, bits, checks, information}
 use Rattle.rules.specs.Tables.{generator16}
 use Rattle.rules.specs.Checks.{covers, check, degreeOf}
-use Rattle.rules.specs.Encoding.{encoded, codeword}
+use Rattle.rules.specs.Encoding.{codeword}
 use Rattle.rules.proofs.Flips.{check-flip}
-use Rattle.rules.proofs.Ways.{Girth, shared}
+use Rattle.rules.proofs.Ways.{shared}
 use Rattle.rules.proofs.Degrees.{bit-degree}
-use Rattle.rules.proofs.Published.{Published}
 use Rattle.rules.proofs.Codewords.{encoded-same}
 use Rattle.rules.proofs.Numbers.{published, met-encoded}
 use Rattle.ownparity.proofs.Words.{count-odd}
@@ -33,7 +32,8 @@ module _ (w : Word) (is : codeword (code 1) w ≡ true) where
   one-checks : (b : ℕ) → b < 128 → (k : ℕ) → k < 64 → check (code 1) (flipped w b) k ≡ covers (code 1) k b
   one-checks b hb k l = check-flip (code 1) w b (inside b hb) k ∙ ap (λ p. p ⊕ covers (code 1) k b) (codeword-met w is k l)
 
-  two-checks : (b d : ℕ) → b < 128 → d < 128 → (k : ℕ) → k < 64 → check (code 1) (flipped (flipped w b) d) k ≡ covers (code 1) k b ⊕ covers (code 1) k d
+  two-checks : (b d : ℕ) → b < 128 → d < 128 → (k : ℕ) → k < 64
+      → check (code 1) (flipped (flipped w b) d) k ≡ covers (code 1) k b ⊕ covers (code 1) k d
   two-checks b d hb hd k l = check-flip (code 1) (flipped w b) d (inside d hd) k ∙ ap (λ p. p ⊕ covers (code 1) k d) (one-checks b hb k l)
 
   -- a bit lies in three checks at least
@@ -107,7 +107,8 @@ information-are : information (code 1) ≡ 64
 unfolding code code1 generator16
 information-are = refl
 
-count-within : (n : ℕ) (f g h i : ℕ → Bool) → ((k : ℕ) → k < n → tally (f k) ≤ tally (g k) + tally (h k) + tally (i k)) → count n f ≤ count n g + count n h + count n i
+count-within : (n : ℕ) (f g h i : ℕ → Bool) → ((k : ℕ) → k < n → tally (f k) ≤ tally (g k) + tally (h k) + tally (i k))
+    → count n f ≤ count n g + count n h + count n i
 unfolding count
 count-within zero f g h i t = zero-le
 count-within (suc n) f g h i t = omega (arith, count-within n f g h i (λ k l. t k (le-step l)), t n (lt-suc-self n))
@@ -129,7 +130,8 @@ parity-bit b d e f hb hd he hf bd be bf zero-sum = ⊎-elim (λ l. l) informs (l
     most =
         count-within (checks (code 1)) (λ k. covers (code 1) k b) (λ k. covers (code 1) k b && covers (code 1) k d)
         (λ k. covers (code 1) k b && covers (code 1) k e) (λ k. covers (code 1) k b && covers (code 1) k f)
-        (λ k l. covered (covers (code 1) k b) (covers (code 1) k d) (covers (code 1) k e) (covers (code 1) k f) (zero-sum k (omega (arith, checks-are))))
+        (λ k l. covered (covers (code 1) k b) (covers (code 1) k d) (covers (code 1) k e) (covers (code 1) k f)
+        (zero-sum k (omega (arith, checks-are))))
 
     informs : b < 64 → 64 ≤ b
     informs l =
@@ -145,7 +147,8 @@ parity-bit b d e f hb hd he hf bd be bf zero-sum = ⊎-elim (λ l. l) informs (l
         ))
 
 -- two codewords that have the same information bits are the same
-same-information : (x y : Word) → codeword (code 1) x ≡ true → codeword (code 1) y ≡ true → ((i : ℕ) → i < 64 → x i ≡ y i) → (i : ℕ) → i < 128 → x i ≡ y i
+same-information : (x y : Word) → codeword (code 1) x ≡ true → codeword (code 1) y ≡ true
+    → ((i : ℕ) → i < 64 → x i ≡ y i) → (i : ℕ) → i < 128 → x i ≡ y i
 same-information x y isx isy same i h =
     sym (met-encoded 1 tt x (codeword-broken x isx) i (inside i h))
     ∙ ap (λ (z : Word). z i) (encoded-same (code 1) x y (λ n l. same n (omega (arith, information-are))))
@@ -182,13 +185,16 @@ module _ (w : Word) (is : codeword (code 1) w ≡ true) (b d e f : ℕ) (hb : b 
       after-b = parity-bit b d e f hb hd he hf bd be bf zero-sum
 
       after-d : 64 ≤ d
-      after-d = parity-bit d b e f hd hb he hf (turn bd) de df (λ k l. second (covers (code 1) k b) (covers (code 1) k d) (covers (code 1) k e) (covers (code 1) k f) (zero-sum k l))
+      after-d = parity-bit d b e f hd hb he hf (turn bd) de df (λ k l.
+          second (covers (code 1) k b) (covers (code 1) k d) (covers (code 1) k e) (covers (code 1) k f) (zero-sum k l))
 
       after-e : 64 ≤ e
-      after-e = parity-bit e b d f he hb hd hf (turn be) (turn de) ef (λ k l. third (covers (code 1) k b) (covers (code 1) k d) (covers (code 1) k e) (covers (code 1) k f) (zero-sum k l))
+      after-e = parity-bit e b d f he hb hd hf (turn be) (turn de) ef (λ k l.
+          third (covers (code 1) k b) (covers (code 1) k d) (covers (code 1) k e) (covers (code 1) k f) (zero-sum k l))
 
       after-f : 64 ≤ f
-      after-f = parity-bit f b d e hf hb hd he (turn bf) (turn df) (turn ef) (λ k l. fourth (covers (code 1) k b) (covers (code 1) k d) (covers (code 1) k e) (covers (code 1) k f) (zero-sum k l))
+      after-f = parity-bit f b d e hf hb hd he (turn bf) (turn df) (turn ef) (λ k l.
+          fourth (covers (code 1) k b) (covers (code 1) k d) (covers (code 1) k e) (covers (code 1) k f) (zero-sum k l))
 
       kept : (x : Word) (n i : ℕ) → (i ≡ n → ⊥) → flipped x n i ≡ x i
       kept x n i h = ap (λ p. x i ⊕ p) (ne-eqb i n h) ∙ plain (x i)
@@ -199,11 +205,13 @@ module _ (w : Word) (is : codeword (code 1) w ≡ true) (b d e f : ℕ) (hb : b 
 
       front : (i : ℕ) → i < 64 → w i ≡ far i
       front i l =
-          sym (kept (flipped (flipped (flipped w b) d) e) f i (λ q. omega (arith, after-f)) ∙ kept (flipped (flipped w b) d) e i (λ q. omega (arith, after-e))
+          sym (kept (flipped (flipped (flipped w b) d) e) f i (λ q. omega (arith, after-f))
+          ∙ kept (flipped (flipped w b) d) e i (λ q. omega (arith, after-e))
           ∙ kept (flipped w b) d i (λ q. omega (arith, after-d)) ∙ kept w b i (λ q. omega (arith, after-b)))
 
       here : w b ⊕ true ≡ far b
-      here = sym (kept (flipped (flipped (flipped w b) d) e) f b bf ∙ kept (flipped (flipped w b) d) e b be ∙ kept (flipped w b) d b bd ∙ ap (λ p. w b ⊕ p) (eq-eqb b b refl))
+      here = sym (kept (flipped (flipped (flipped w b) d) e) f b bf
+          ∙ kept (flipped (flipped w b) d) e b be ∙ kept (flipped w b) d b bd ∙ ap (λ p. w b ⊕ p) (eq-eqb b b refl))
 
       other : (p : Bool) → p ⊕ true ≡ p → ⊥
       other true q = true≢false (sym q)

@@ -56,7 +56,8 @@ among-many m b (c ∷ bits) r =
         let none : among bits i ≡ false = among-before (suc c) m bits (r .2) i (omega arith) in
         ap₂ (λ p q. tally (p ⊕ q)) (eq-eqb i c q) none ∙ sym (ap₂ (λ p q. tally p + tally q) (eq-eqb i c q) none))
         (λ (d : i ≡ c → ⊥).
-        ap (λ p. tally (p ⊕ among bits i)) (ne-eqb i c d) ∙ sym (ap (λ p. tally p + tally (among bits i)) (ne-eqb i c d) ∙ zero-add (tally (among bits i))))
+        ap (λ p. tally (p ⊕ among bits i)) (ne-eqb i c d)
+        ∙ sym (ap (λ p. tally p + tally (among bits i)) (ne-eqb i c d) ∙ zero-add (tally (among bits i))))
         (eq-or-not i c)
 
 back : (a b : Bool) → a ⊕ (a ⊕ b) ≡ b
@@ -66,7 +67,8 @@ back a b = sym (⊕-assoc a a b) ∙ ap (λ c. c ⊕ b) (⊕-self a)
 pub turned-far : (bits : List ℕ) (x : Word) → Rising 0 128 bits → differing (code 1) x (turned bits x) ≡ length bits
 turned-far bits x r =
     ap (λ n. count n (λ i. x i ⊕ turned bits x i)) bits-are
-    ∙ count-same 128 (λ i. x i ⊕ turned bits x i) (among bits) (λ i l. ap (λ p. x i ⊕ p) (turned-among bits x i) ∙ back (x i) (among bits i))
+    ∙ count-same 128 (λ i. x i ⊕ turned bits x i) (among bits) (λ i l.
+    ap (λ p. x i ⊕ p) (turned-among bits x i) ∙ back (x i) (among bits i))
     ∙ among-many 128 0 bits r
 
 -- ---- the list of the bits that are set in a word

@@ -4,7 +4,7 @@ use mathlib.Core.Bool.{Bool, true, false, true≢false}
 use mathlib.Core.Logic.{_⊎_, inl, inr, ⊎-elim}
 use mathlib.Core.List.{List, [], _∷_}
 use Prim.Native.Nat.{ℕ, zero, suc, _+_, _≤_, _<_}
-use native.Mathlib.Nat.{le-refl, zero-lt-suc}
+use native.Mathlib.Nat.{le-refl}
 use native.Mathlib.Omega.{arith}
 use lib.ListN.{length, getD}
 use Rattle.bits.specs.Bits.{Word, flipped, if_then_else_}
@@ -58,7 +58,8 @@ module _ (k b e : ℕ) (x : Word) where
           gives = subst (λ n. codeword (code 1) (turned bits (flipped x n)) ≡ true) q (m .gives);
         },
       ))
-      (λ (d : i ≡ b → ⊥). inr (record { many = m .many; rising = (omega (arith, m .rising .0), m .rising .1, m .rising .2); gives = m .gives }))
+      (λ (d : i ≡ b → ⊥).
+      inr (record { many = m .many; rising = (omega (arith, m .rising .0), m .rising .1, m .rising .2); gives = m .gives }))
       (eq-or-not i b)
 
   begin : (bits : List ℕ) → b < e → Mends k (suc b) e (flipped x b) bits → Mends (suc k) b e x (b ∷ bits)

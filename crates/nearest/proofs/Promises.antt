@@ -1,23 +1,23 @@
 -- What the answers promise, for every word, reach and output. Assumes nothing.
-use mathlib.Core.Path.{_≡_, refl, sym, ap, ap₂, _∙_, subst}
-use mathlib.Core.Bool.{Bool, true, false, true≢false}
+use mathlib.Core.Path.{_≡_, refl, sym, ap, _∙_, subst}
+use mathlib.Core.Bool.{true}
 use mathlib.Core.Logic.{⊎-elim}
 use mathlib.Core.List.{List, [], _∷_}
 use Prim.Native.Nat.{ℕ, zero, suc, _≤_, _<_}
-use native.Mathlib.Nat.{lt-of-lt-of-le}
 use native.Mathlib.Omega.{arith}
 use lib.ListN.{length, getD, take}
-use Rattle.bits.specs.Bits.{Word, bit, octets, flipped}
-use Rattle.bits.proofs.Orders.{le-or-lt}
-use Rattle.bits.proofs.Octets.{Octets, octets-bit, octets-same, bit-octets}
+use Rattle.bits.specs.Bits.{Word, bit, octets}
+use Rattle.bits.proofs.Orders.{le-or-lt, eq-or-not}
+use Rattle.bits.proofs.Octets.{Octets, octets-bit}
 use Rattle.rules.specs.Codes.{code}
 use Rattle.rules.specs.Encoding.{codeword}
 use Rattle.answers.specs.Calls.{differing}
-use Rattle.nearest.specs.Nearest.{Found, none, list, _orElse_, firstList, fewest, turned, places, Reached, refused, found, nearestAnswer}
-use Rattle.nearest.specs.Lists.{Rising, NotAfter, Mends}
-use Rattle.nearest.proofs.Quiet.{bits-are, codeword-same}
+use Rattle.nearest.specs.Nearest.{Found, none, list, _orElse_, firstList, fewest, turned, places}
+use Rattle.nearest.specs.Nearest.{Reached, refused, found, nearestAnswer}
+use Rattle.nearest.specs.Lists.{NotAfter, Mends}
+use Rattle.nearest.proofs.Quiet.{codeword-same}
 use Rattle.nearest.proofs.Lists.{Within, within}
-use Rattle.nearest.proofs.Reaching.{nearest-searched}
+use Rattle.nearest.proofs.Reaching.{nearest-two, nearest-three, nearest-eighteen, nearest-searched}
 use Rattle.nearest.proofs.Distances.{turned-far, codeword-mends, differing-same, sixteen-bits}
 
 -- ---- the three places of a list
@@ -71,7 +71,8 @@ module _ (word : List ℕ) (reach : ℕ) (out : List ℕ) (lw : length word ≡ 
   abbrev listed : List ℕ → Reached
   listed bits = record { number = 0; least = length bits; bits = places bits; out = octets 16 (turned bits x) }
 
-  answer-cases : (P : Reached → Type 0) → (Within reach x none → P (refused 17 out)) → ((bits : List ℕ) → Within reach x (list bits) → P (listed bits)) → P answer
+  answer-cases : (P : Reached → Type 0) → (Within reach x none → P (refused 17 out))
+      → ((bits : List ℕ) → Within reach x (list bits) → P (listed bits)) → P answer
   unfolding found
   answer-cases P far close = subst P (sym (nearest-searched word reach out lw lo hr)) (go (fewest reach x) (within reach x))
     where
@@ -85,9 +86,12 @@ module _ (word : List ℕ) (reach : ℕ) (out : List ℕ) (lw : length word ≡ 
       let is : take (length bits) (places bits) ≡ bits = take-places bits three in
       record {
         reached = w .0;
-        sound = codeword-same (turned bits x) (bit (octets 16 (turned bits x))) (λ i l. sym (sixteen-bits (turned bits x) i l)) (w .1 .0 .gives);
-        apart = differing-same x (bit (octets 16 (turned bits x))) (turned bits x) (λ i l. sixteen-bits (turned bits x) i l) ∙ turned-far bits x (w .1 .0 .rising);
-        nearest = λ y is′. ⊎-elim (λ l. l) (λ l. absurd (w .2 (differing (code 1) x y) l _ (codeword-mends x y is′))) (le-or-lt (length bits) (differing (code 1) x y));
+        sound = codeword-same (turned bits x) (bit (octets 16 (turned bits x))) (λ i l. sym (sixteen-bits (turned bits x) i l))
+            (w .1 .0 .gives);
+        apart = differing-same x (bit (octets 16 (turned bits x))) (turned bits x) (λ i l. sixteen-bits (turned bits x) i l)
+            ∙ turned-far bits x (w .1 .0 .rising);
+        nearest = λ y is′. ⊎-elim (λ l. l) (λ l. absurd (w .2 (differing (code 1) x y) l _ (codeword-mends x y is′)))
+            (le-or-lt (length bits) (differing (code 1) x y));
         mends = subst (Mends (length bits) 0 128 x) (sym is) (w .1 .0);
         made = ap (λ b. octets 16 (turned b x)) (sym is);
         unused = places-past bits;
@@ -113,6 +117,29 @@ module _ (word : List ℕ) (reach : ℕ) (out : List ℕ) (lw : length word ≡ 
   pub within-found : (y : Word) → codeword (code 1) y ≡ true → differing (code 1) x y ≤ reach → answer .number ≡ 0
   within-found y is l =
       answer-cases (λ a. a .number ≡ 0) (λ w. absurd (w (differing (code 1) x y) l _ (codeword-mends x y is))) (λ bits w. refl)
+
+-- Every refusal has least number 0 and an empty list, and writes nothing.
+pub refused-empty : (word : List ℕ) (reach : ℕ) (out : List ℕ) → (nearestAnswer word reach out .number ≡ 0 → ⊥)
+    → nearestAnswer word reach out ≡ refused (nearestAnswer word reach out .number) out
+refused-empty word reach out =
+    ⊎-elim
+    (λ (lw : length word ≡ 16).
+    ⊎-elim
+    (λ (lo : length out ≡ 16).
+    ⊎-elim
+    (λ (h : reach ≤ 3). answer-cases word reach out lw lo h Empty (λ w d. refl) (λ bits w d. absurd (d refl)))
+    (λ (h : 3 < reach). empty 18 (nearest-eighteen word reach out lw lo h))
+    (le-or-lt reach 3))
+    (λ d. empty 3 (nearest-three word reach out lw d))
+    (eq-or-not (length out) 16))
+    (λ d. empty 2 (nearest-two word reach out d))
+    (eq-or-not (length word) 16)
+  where
+    Empty : Reached → Type 0
+    Empty a = (a .number ≡ 0 → ⊥) → a ≡ refused (a .number) out
+
+    empty : (k : ℕ) → nearestAnswer word reach out ≡ refused k out → Empty (nearestAnswer word reach out)
+    empty k e d = e ∙ ap (λ a. refused (a .number) out) (sym e)
 
 -- ---- a codeword
 

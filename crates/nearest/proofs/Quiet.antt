@@ -1,5 +1,5 @@
 -- Codewords of code 1 are the words that break no check; and the checks in one number. Assumes nothing.
-use mathlib.Core.Path.{_≡_, refl, sym, ap, ap₂, _∙_, subst}
+use mathlib.Core.Path.{_≡_, refl, sym, ap, ap₂, _∙_}
 use mathlib.Core.Bool.{Bool, true, false, not, _&&_, and-true, and-false, true≢false}
 use mathlib.Core.List.{List}
 use Prim.Native.Nat.{ℕ, _+_, _-_, _*_, _^_, _<_}
@@ -15,7 +15,7 @@ use Rattle.bits.proofs.Sums.{⊕-false, ⊕-eq, ⊕-self, below-at, not-true}
 use Rattle.bits.proofs.Counting.{count-none, none-counted}
 use Rattle.bits.proofs.Octets.{digit-zero}
 use Rattle.rules.specs.Codes.{code, code1, bits, checks}
-use Rattle.rules.specs.Tables.{parity16, generator16}
+use Rattle.rules.specs.Tables.{parity16}
 use Rattle.rules.specs.Checks.{covers, check, broken}
 use Rattle.rules.specs.Encoding.{encoded, lifted, sent, codeword}
 use Rattle.rules.proofs.Flips.{check-flip}
@@ -100,7 +100,8 @@ module _ (s : ℕ) (x : Word) (h : Broken s x) where
     where
       go : (b : Bool) → codeword (code 1) x ≡ b → eqb s 0 ≡ b
       go true is = eq-eqb s 0 (same-digits 64 s 0 small (lit< tt) (λ k l. h k l ∙ codeword-met x is k l ∙ sym (digit-zero 64 k)))
-      go false is = ne-eqb s 0 (λ q. true≢false (sym (met-codeword x (λ k l. sym (h k l) ∙ ap (λ z. digit 64 z k) q ∙ digit-zero 64 k)) ∙ is))
+      go false is = ne-eqb s 0 (λ q.
+          true≢false (sym (met-codeword x (λ k l. sym (h k l) ∙ ap (λ z. digit 64 z k) q ∙ digit-zero 64 k)) ∙ is))
 
   -- the column of the bit whose flip gives a codeword
   pub broken-column : s < 2 ^ 64 → (n : ℕ) → n < 128 → eqb (getD columnList n 0) s ≡ codeword (code 1) (flipped x n)
@@ -115,7 +116,8 @@ module _ (s : ℕ) (x : Word) (h : Broken s x) where
           ⊕-eq (digit 64 s k) (digit 64 (getD columnList n 0) k) (sym (turned k hk) ∙ codeword-met (flipped x n) is k hk))))
       go false is =
           ne-eqb (getD columnList n 0) s (λ q.
-          true≢false (sym (met-codeword (flipped x n) (λ k hk. turned k hk ∙ ap (λ z. digit 64 s k ⊕ digit 64 z k) q ∙ ⊕-self (digit 64 s k))) ∙ is))
+          true≢false (sym (met-codeword (flipped x n) (λ k hk.
+          turned k hk ∙ ap (λ z. digit 64 s k ⊕ digit 64 z k) q ∙ ⊕-self (digit 64 s k))) ∙ is))
 
 -- ---- the checks summed over the first bits
 
@@ -132,7 +134,8 @@ module _ (x : Word) (n s : ℕ) (h : n < 128) (part : Holds s (Partly x n)) wher
   partly-set cs e set k l =
       ap (λ z. digit 64 (bitXor s (getD z n 0)) k) e
       ∙ digit-xor 64 s (getD columnList n 0) k
-      ∙ ap₂ (λ a b. a ⊕ b) (part k l) (column-covers n k h l ∙ sym (ap (λ b. covers (code 1) k n && b) set ∙ and-true (covers (code 1) k n)))
+      ∙ ap₂ (λ a b. a ⊕ b) (part k l)
+      (column-covers n k h l ∙ sym (ap (λ b. covers (code 1) k n && b) set ∙ and-true (covers (code 1) k n)))
       ∙ ap (λ m. Partly x m k) (sym (add-one n))
 
   pub partly-clear : x n ≡ false → Holds s (Partly x (n + 1))

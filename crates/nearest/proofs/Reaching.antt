@@ -1,6 +1,6 @@
 -- The answer, case by case. Assumes nothing.
 use mathlib.Core.Path.{_≡_, refl, sym, ap, ap₂, _∙_, fun-ext}
-use mathlib.Core.Bool.{Bool, true, false, not, true≢false}
+use mathlib.Core.Bool.{true, false, not, true≢false}
 use mathlib.Core.List.{List}
 use Prim.Native.Nat.{ℕ, _≤_, _<_}
 use native.Mathlib.Nat.{zero-add}
@@ -9,7 +9,7 @@ use lib.ListN.{length}
 use borrow.Author.Tests.{eq-eqb, ne-eqb, lt-ltb, le-ltb}
 use Rattle.bits.specs.Bits.{Word, bit, octets, if_then_else_}
 use Rattle.vectors.specs.Vectors.{from}
-use Rattle.nearest.specs.Nearest.{Found, none, list, fewest, places, Reached, refused, found, nearestAnswer}
+use Rattle.nearest.specs.Nearest.{Found, none, list, Reached, refused, found, searched, nearestAnswer}
 use Rattle.nearest.specs.Answers.{held, heldTurned}
 use Rattle.nearest.specs.declared.Listed.{Listed}
 
@@ -17,12 +17,13 @@ use Rattle.nearest.specs.declared.Listed.{Listed}
 
 module _ (word : List ℕ) (reach : ℕ) (out : List ℕ) where
   abbrev searching : Reached
-  searching = found (bit word) out (fewest reach (bit word))
+  searching = searched reach (bit word) out
 
   pub nearest-two : (length word ≡ 16 → ⊥) → nearestAnswer word reach out ≡ refused 2 out
   unfolding nearestAnswer
   nearest-two d =
-      ap (λ b. if not b then refused 2 out else if not (eqb (length out) 16) then refused 3 out else if ltb 3 reach then refused 18 out else searching)
+      ap (λ b. if not b then refused 2 out else if not (eqb (length out) 16) then refused 3 out else
+      if ltb 3 reach then refused 18 out else searching)
       (ne-eqb (length word) 16 d)
 
   pub nearest-three : length word ≡ 16 → (length out ≡ 16 → ⊥) → nearestAnswer word reach out ≡ refused 3 out

@@ -2,8 +2,8 @@
 use mathlib.Core.Path.{_≡_, refl, sym, ap, ap₂, _∙_, subst}
 use mathlib.Core.Bool.{Bool, true, false, true≢false}
 use mathlib.Core.List.{List, [], _∷_}
-use Prim.Native.Nat.{ℕ, zero, suc, _+_, _-_, _*_, _^_, _≤_, _<_}
-use native.Mathlib.Numerals.{add-one, sub-one}
+use Prim.Native.Nat.{ℕ, zero, suc, _+_, _-_, _^_, _≤_, _<_}
+use native.Mathlib.Numerals.{add-one}
 use native.Mathlib.Omega.{arith}
 use lib.Bits.{bitXor}
 use lib.Dec.{eqb, lit<}
@@ -34,7 +34,8 @@ search-none left s n b x e small h =
 
 -- ---- one bit: the lowest whose column is the broken checks
 
-pub lowest-turn : (n s : ℕ) → n < 128 → lowestFrom (128 - n) n s ≡ (if eqb (getD columnList n 0) s then n else lowestFrom (128 - (n + 1)) (n + 1) s)
+pub lowest-turn : (n s : ℕ) → n < 128 → lowestFrom (128 - n) n s
+    ≡ (if eqb (getD columnList n 0) s then n else lowestFrom (128 - (n + 1)) (n + 1) s)
 unfolding lowestFrom
 lowest-turn n s h =
     let e : 128 - n ≡ suc (128 - (n + 1)) = omega arith in
@@ -58,12 +59,15 @@ one-bit (suc n) b s x small q h =
         ≡ (if eqb (if eqb (getD columnList b 0) s then b else lowestFrom n (suc b) s) 128 then none
         else list ((if eqb (getD columnList b 0) s then b else lowestFrom n (suc b) s) ∷ []))
     go true e ih =
-        sym (ap (λ t. if eqb (if t then b else lowestFrom n (suc b) s) 128 then none else list ((if t then b else lowestFrom n (suc b) s) ∷ [])) e
+        sym (ap (λ t. if eqb (if t then b else lowestFrom n (suc b) s) 128 then none else
+        list ((if t then b else lowestFrom n (suc b) s) ∷ [])) e
         ∙ ap (λ t. if t then none else list (b ∷ [])) (ne-eqb b 128 (λ p. omega arith)))
     go false e ih =
-        ih ∙ sym (ap (λ t. if eqb (if t then b else lowestFrom n (suc b) s) 128 then none else list ((if t then b else lowestFrom n (suc b) s) ∷ [])) e)
+        ih ∙ sym (ap (λ t. if eqb (if t then b else lowestFrom n (suc b) s) 128 then none else
+        list ((if t then b else lowestFrom n (suc b) s) ∷ [])) e)
 
-module _ (left s from n : ℕ) (x : Word) (one : left ≡ 1) (under : from ≤ 128) (small : s < 2 ^ 64) (lowest : n ≡ lowestFrom (128 - from) from s) (h : Broken s x) where
+module _ (left s from n : ℕ) (x : Word) (one : left ≡ 1) (under : from ≤ 128) (small : s < 2 ^ 64)
+    (lowest : n ≡ lowestFrom (128 - from) from s) (h : Broken s x) where
   alone : firstList left (128 - from) from x ≡ (if eqb n 128 then none else list (n ∷ []))
   alone =
       ap (λ l. firstList l (128 - from) from x) one
@@ -80,7 +84,8 @@ module _ (left s from n : ℕ) (x : Word) (one : left ≡ 1) (under : from ≤ 1
 -- ---- a bit chosen, and the rest searched with one flip fewer left
 
 pub search-turn : (left b : ℕ) (x : Word) → (left ≡ 0 → ⊥) → b < 128
-    → firstList left (128 - b) b x ≡ (chosen b (firstList (left - 1) (128 - (b + 1)) (b + 1) (flipped x b)) orElse firstList left (128 - (b + 1)) (b + 1) x)
+    → firstList left (128 - b) b x
+    ≡ (chosen b (firstList (left - 1) (128 - (b + 1)) (b + 1) (flipped x b)) orElse firstList left (128 - (b + 1)) (b + 1) x)
 unfolding firstList
 search-turn zero b x d h = absurd (d refl)
 search-turn (suc l) b x d h =
@@ -176,7 +181,8 @@ held-small reach x l h e = subst Small (sym e) (go (fewest reach x) (within reac
         three (suc (suc (suc k))) = lit< tt
 
 -- the bits that are still to be turned over, of a list
-pub turn-next : (bits : List ℕ) (k : ℕ) (x : Word) → k < length bits → turned (drop k bits) x ≡ turned (drop (k + 1) bits) (flipped x (getD bits k 0))
+pub turn-next : (bits : List ℕ) (k : ℕ) (x : Word) → k < length bits
+    → turned (drop k bits) x ≡ turned (drop (k + 1) bits) (flipped x (getD bits k 0))
 unfolding turned
 turn-next bits k x h = go bits k h ∙ ap (λ m. turned (drop m bits) (flipped x (getD bits k 0))) (sym (add-one k))
   where
@@ -226,7 +232,9 @@ module _ (cs : List ℕ) (n s : ℕ) (e : cs ≡ columnList) (h : n < 128) where
   pub lowest-later : (getD cs n 0 ≡ s → ⊥) → lowestFrom (128 - n) n s ≡ lowestFrom (128 - (n + 1)) (n + 1) s
   lowest-later d =
       lowest-turn n s h
-      ∙ ap (λ t. if t then n else lowestFrom (128 - (n + 1)) (n + 1) s) (ne-eqb (getD columnList n 0) s (λ q. d (ap (λ z. getD z n 0) e ∙ q)))
+      ∙ ap (λ t. if t then n else lowestFrom (128 - (n + 1)) (n + 1) s)
+      (ne-eqb (getD columnList n 0) s (λ q. d (ap (λ z. getD z n 0) e ∙ q)))
 
-pub broken-lent : (cs : List ℕ) (s n : ℕ) (x : Word) → cs ≡ columnList → n < 128 → Broken s x → Broken (bitXor s (getD cs n 0)) (flipped x n)
+pub broken-lent : (cs : List ℕ) (s n : ℕ) (x : Word) → cs ≡ columnList → n < 128 → Broken s x
+    → Broken (bitXor s (getD cs n 0)) (flipped x n)
 broken-lent cs s n x e h k = subst (λ z. Broken (bitXor s (getD z n 0)) (flipped x n)) (sym e) (broken-turned s x k n h)

@@ -3,7 +3,7 @@ use mathlib.Core.Path.{_≡_, refl, sym, ap, ap₂, _∙_, fun-ext}
 use mathlib.Core.Bool.{true}
 use mathlib.Core.Logic.{⊎-elim}
 use mathlib.Core.List.{List, [], _∷_}
-use Prim.Native.Nat.{ℕ, suc, _-_, _*_, _≤_, _<_, zero-le}
+use Prim.Native.Nat.{ℕ, suc, _-_, _≤_, _<_, zero-le}
 use native.Mathlib.Omega.{arith}
 use lib.ListN.{length}
 use Rattle.bits.specs.Bits.{Word, bit, octets, _⊕_, flipped}
@@ -12,13 +12,12 @@ use lib.Dec.{eqb}
 use Rattle.bits.proofs.Orders.{eq-or-not}
 use Rattle.bits.proofs.Octets.{Octets, octets-bit, length-octets}
 use Rattle.rules.specs.Codes.{code, bits}
-use Rattle.rules.specs.Checks.{degreeOf}
 use Rattle.rules.specs.Encoding.{codeword}
 use Rattle.rules.proofs.Flips.{flip-back}
-use Rattle.answers.specs.Calls.{Corrected, correctAnswer}
+use Rattle.answers.specs.Calls.{correctAnswer}
 use Rattle.answers.proofs.Corrections.{oneWrong, bit-one-wrong, one-back}
 use Rattle.answers.proofs.Wrong.{twoWrong}
-use Rattle.nearest.specs.Nearest.{Found, none, list, fewest, turned, Reached, found, nearestAnswer}
+use Rattle.nearest.specs.Nearest.{Found, none, list, fewest, turned, found, nearestAnswer}
 use Rattle.nearest.specs.Lists.{Mends}
 use Rattle.nearest.proofs.Quiet.{bits-are, octets-are, unsent-are}
 use Rattle.nearest.proofs.Lists.{Within, within}
@@ -53,7 +52,8 @@ module _ (w : Word) (is : codeword (code 1) w ≡ true) (b : ℕ) (hb : b < 128)
 
 flips-swap : (x : Word) (m n : ℕ) → flipped (flipped x m) n ≡ flipped (flipped x n) m
 flips-swap x m n =
-    fun-ext (λ i. ⊕-assoc (x i) (eqb i m) (eqb i n) ∙ ap (λ p. x i ⊕ p) (⊕-comm (eqb i m) (eqb i n)) ∙ sym (⊕-assoc (x i) (eqb i n) (eqb i m)))
+    fun-ext (λ i. ⊕-assoc (x i) (eqb i m) (eqb i n) ∙ ap (λ p. x i ⊕ p) (⊕-comm (eqb i m) (eqb i n))
+    ∙ sym (⊕-assoc (x i) (eqb i n) (eqb i m)))
 
 module _ (w : Word) (is : codeword (code 1) w ≡ true) (b d : ℕ) (hb : b < d) (hd : d < 128) where
   abbrev twice : Word
@@ -88,7 +88,8 @@ module _ (w : Word) (is : codeword (code 1) w ≡ true) (b d : ℕ) (hb : b < d)
         where
           first : b ≡ e → (b ≡ e) × (d ≡ f)
           first q = ⊎-elim (λ (p : d ≡ f). (q, p))
-              (λ (n : d ≡ f → ⊥). absurd (flip-two w is d f hd hf n (ap (λ y. codeword (code 1) (flipped y f)) (sym back-first ∙ ap (flipped twice) q) ∙ t)))
+              (λ (n : d ≡ f → ⊥). absurd (flip-two w is d f hd hf n
+              (ap (λ y. codeword (code 1) (flipped y f)) (sym back-first ∙ ap (flipped twice) q) ∙ t)))
               (eq-or-not d f)
 
           second : d ≡ e → (b ≡ e) × (d ≡ f)
@@ -99,12 +100,14 @@ module _ (w : Word) (is : codeword (code 1) w ≡ true) (b d : ℕ) (hb : b < d)
           third : b ≡ f → (b ≡ e) × (d ≡ f)
           third q =
               absurd (flip-two w is d e hd (omega arith) (λ p. omega arith)
-              (ap (λ y. codeword (code 1) (flipped y e)) (sym back-first ∙ ap (flipped twice) q) ∙ ap (codeword (code 1)) (flips-swap twice f e) ∙ t))
+              (ap (λ y. codeword (code 1) (flipped y e)) (sym back-first ∙ ap (flipped twice) q)
+              ∙ ap (codeword (code 1)) (flips-swap twice f e) ∙ t))
 
           fourth : d ≡ f → (b ≡ e) × (d ≡ f)
           fourth q = ⊎-elim (λ (p : b ≡ e). (p, q))
               (λ (n : b ≡ e → ⊥). absurd (flip-two w is b e hb′ (omega arith) n
-              (ap (λ y. codeword (code 1) (flipped y e)) (sym (flip-back (flipped w b) d) ∙ ap (flipped twice) q) ∙ ap (codeword (code 1)) (flips-swap twice f e) ∙ t)))
+              (ap (λ y. codeword (code 1) (flipped y e)) (sym (flip-back (flipped w b) d) ∙ ap (flipped twice) q)
+              ∙ ap (codeword (code 1)) (flips-swap twice f e) ∙ t)))
               (eq-or-not b e)
 
       go : (f : Found) → Within reach twice f → f ≡ list (b ∷ d ∷ [])
@@ -118,7 +121,8 @@ module _ (w : Word) (is : codeword (code 1) w ≡ true) (b d : ℕ) (hb : b < d)
 
 -- ---- the same of octets
 
-module _ (word out : List ℕ) (lw : length word ≡ 16) (lo : length out ≡ 16) (small : Octets word) (is : codeword (code 1) (bit word) ≡ true) where
+module _ (word out : List ℕ) (lw : length word ≡ 16) (lo : length out ≡ 16) (small : Octets word)
+    (is : codeword (code 1) (bit word) ≡ true) where
   sized : length word ≡ code 1 .wordOctets
   sized = lw ∙ sym octets-are
 
@@ -155,17 +159,19 @@ module _ (word out : List ℕ) (lw : length word ≡ 16) (lo : length out ≡ 16
           ap (λ r. r .out) one-found ∙ sym (ap (λ r. r .out) c),
         )
 
-  -- A codeword with two wrong bits and a reach of at least 2: these bits, and the codeword. (Of three wrong bits no more is claimed than what
-  -- holds of every word: whether another codeword lies at a distance of 3 is not settled here.)
+  -- A codeword with two wrong bits and a reach of at least 2: these bits, and the codeword. Of three wrong bits no more is claimed than
+  -- what holds of every word: that a codeword is found, none being nearer. Whether another lies as near is not settled here.
   pub two-found : (reach b d : ℕ) → 2 ≤ reach → reach ≤ 3 → b < d → d < 128
       → nearestAnswer (twoWrong (code 1) word b d) reach out ≡ record { number = 0; least = 2; bits = b ∷ d ∷ 0 ∷ []; out = word }
   unfolding found turned
   two-found reach b d some few hb hd =
       let w = bit word in
       let hb′ : b < 128 = omega arith in
-      nearest-searched (twoWrong (code 1) word b d) reach out (length-octets (code 1 .wordOctets) (flipped (bit (oneWrong (code 1) word b)) d) ∙ octets-are) lo few
+      nearest-searched (twoWrong (code 1) word b d) reach out
+      (length-octets (code 1 .wordOctets) (flipped (bit (oneWrong (code 1) word b)) d) ∙ octets-are) lo few
       ∙ ap (λ z. found z out (fewest reach z))
-      (bit-one-wrong (code 1) (oneWrong (code 1) word b) d (one-long b ∙ sym octets-are) (omega (arith, octets-are)) ∙ ap (λ y. flipped y d) (one-bits b hb′))
+      (bit-one-wrong (code 1) (oneWrong (code 1) word b) d (one-long b ∙ sym octets-are) (omega (arith, octets-are))
+      ∙ ap (λ y. flipped y d) (one-bits b hb′))
       ∙ ap (found (flipped (flipped w b) d) out) (twice-fewest w is b d hb hd reach some)
       ∙ ap (λ o. record { number = 0; least = 2; bits = b ∷ d ∷ 0 ∷ []; out = o })
       (ap (octets 16) (ap (λ y. flipped y d) (back-first w is b d hb hd) ∙ flip-back w d) ∙ word-back)

@@ -1,5 +1,5 @@
 -- The nearest command of code 1, by plain search: the lists of bits, the fewest flips, and the answer of the call.
-use mathlib.Core.Bool.{Bool, not}
+use mathlib.Core.Bool.{not}
 use mathlib.Core.List.{List, [], _∷_}
 use Prim.Native.Nat.{ℕ, zero, suc}
 use lib.Dec.{eqb, ltb}
@@ -24,8 +24,8 @@ abbrev pub _orElse_ : Found → Found → Found
 none orElse f = f
 list bits orElse f = list bits
 
--- The search, by choosing a bit and searching the rest with one flip fewer left. Of the lists of just so many bits, in increasing order, among
--- the n bits from bit b on, the first whose flips give a codeword: those that begin with bit b come before those that do not have it.
+-- The search, by choosing a bit and searching the rest with one flip fewer left. Of the lists of just so many bits, in increasing order,
+-- among the n bits from bit b on, the first whose flips give a codeword: those that begin with bit b come before those without it.
 unfoldable pub firstList : ℕ → ℕ → ℕ → Word → Found
 firstList zero n b x = if codeword (code 1) x then list [] else none
 firstList (suc left) zero b x = none
@@ -56,10 +56,14 @@ places bits = getD bits 0 0 ∷ getD bits 1 0 ∷ getD bits 2 0 ∷ []
 abbrev pub refused : ℕ → List ℕ → Reached
 refused number out = record { number = number; least = 0; bits = places []; out = out }
 
--- 17 if no codeword lies within the reach.
+-- What was found, or 17 if no codeword lies within the reach.
 unfoldable pub found : Word → List ℕ → Found → Reached
 found x out none = refused 17 out
 found x out (list bits) = record { number = 0; least = length bits; bits = places bits; out = octets 16 (turned bits x) }
+
+-- A word and an output of 16 octets, and a reach that is offered.
+abbrev pub searched : ℕ → Word → List ℕ → Reached
+searched reach x out = found x out (fewest reach x)
 
 -- Refusals: 2, 3, then 18 for a reach above 3, then 17.
 unfoldable pub nearestAnswer : List ℕ → ℕ → List ℕ → Reached
@@ -67,4 +71,4 @@ nearestAnswer word reach out =
     if not (eqb (length word) 16) then refused 2 out
     else if not (eqb (length out) 16) then refused 3 out
     else if ltb 3 reach then refused 18 out
-    else found (bit word) out (fewest reach (bit word))
+    else searched reach (bit word) out

@@ -1,13 +1,15 @@
-// The nearest command of code 1, by plain search: which few bits, turned over, give a codeword.
+// The nearest command of code 1, by plain search: which few bits, turned over, give a codeword. The search carries the broken checks in one
+// word, and a flip adds the bit's column to it.
 ghost use mathlib.Core.Path.{_≡_};
 ghost use mathlib.Core.List.{List};
 ghost use Prim.Native.Nat.{ℕ, _-_, _<_, _≤_};
 ghost use lib.ListN.{length, getD};
 ghost use Rattle.bits.specs.Bits.{Word, bit};
 ghost use Rattle.vectors.specs.Vectors.{wbit};
-ghost use Rattle.nearest.specs.Nearest.{none, firstList, fewest, refused, found, nearestAnswer};
+ghost use Rattle.nearest.specs.Nearest.{none, firstList, fewest, refused, searched as searchedFor, nearestAnswer};
 ghost use Rattle.nearest.specs.Answers.{columnList, Broken, lowestFrom, held, heldTurned, asReached};
 
+// The places of bits that are not used are 0.
 #[repr(C)]
 pub struct Reached {
     pub number: u8,
@@ -170,7 +172,7 @@ fn syndrome(columns: &[u64], y: &[u64]) -> u64
     s
 }
 
-// The lowest bit from a bit on that is covered by just these checks; 128 if none is.
+// The lowest bit from a bit on that is covered by just these checks; 128 if none is. Most of a search's time goes here.
 fn only(columns: &[u64], s: u64, from: usize) -> usize
     requires { ⌜ (now columns ≡ columnList) × (from ≤ 128) ⌝ }
     ensures { λ r. ⌜ (r ≤ 128) × (r ≡ lowestFrom (128 - from) from s) ⌝ }
@@ -196,7 +198,8 @@ fn no_list() -> Listed
     }
 }
 
-// The first list of so many bits from a bit on that, turned over, leave no check broken.
+// The first list of so many bits from a bit on that, turned over, leave no check broken: by choosing a bit, and searching behind it with
+// one flip fewer left.
 fn search(columns: &[u64], s: u64, from: usize, left: u8) -> Listed
     requires { ⌜ (now columns ≡ columnList) × (from ≤ 128) × (left ≤ 3) ⌝ }
     ensures { λ r. ⌜ ((x : Word) → Broken s x → r ≡ held (firstList left (128 - from) from x)) ⌝ }
@@ -263,6 +266,7 @@ fn turn(y: &mut [u64], l: Listed)
     }
 }
 
+// What a refused call gives besides its number.
 fn refused_by(number: u8) -> Reached
     ensures { λ r. ⌜ ((out : List ℕ) → asReached r out ≡ refused number out) ⌝ }
 {
@@ -273,10 +277,11 @@ fn refused_by(number: u8) -> Reached
     }
 }
 
-// A word and an output of the right length, and a reach that is offered.
+// A word and an output of the right length, and a reach that is offered. The columns are lent as a copy, since a constant is made anew
+// wherever it is read.
 fn searched(word: &[u8], reach: u8, out: &mut [u8]) -> Reached
     requires { ⌜ (length (now word) ≡ 16) × (length (now out) ≡ 16) × (reach ≤ 3) ⌝ }
-    ensures { λ r. ⌜ asReached r (now (out .exit)) ≡ found (bit (now (word .entry))) (now (out .entry)) (fewest reach (bit (now (word .entry)))) ⌝ }
+    ensures { λ r. ⌜ asReached r (now (out .exit)) ≡ searchedFor reach (bit (now (word .entry))) (now (out .entry)) ⌝ }
 {
     let columns = COLUMNS;
     let mut y = [0u64; 3];

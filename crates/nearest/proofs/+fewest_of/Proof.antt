@@ -1,6 +1,5 @@
 -- `nearest::fewest_of` meets its contract, by the reach. Assumes nothing.
 use mathlib.Core.Path.{sym, ap, _∙_}
-use native.Mathlib.Omega.{arith}
 use borrow.Author.Needs.{needs}
 use Rattle.nearest.specs.Nearest.{firstList, fewest}
 use Rattle.nearest.specs.Answers.{held}
@@ -69,7 +68,8 @@ fewest-of-returns-2 t c =
     let r = c .before in
     let a = r .before .before .before in
     λ x h.
-    held-first (fewest (a .args .reach - 1) x) (firstList (a .args .reach) 128 0 x) (r .fewest-of .result) (r .fewest-of .ensures x h) (c .if2 .taken)
+    held-first (fewest (a .args .reach - 1) x) (firstList (a .args .reach) 128 0 x)
+    (r .fewest-of .result) (r .fewest-of .ensures x h) (c .if2 .taken)
     ∙ ap held (sym (fewest-more (a .args .reach) x (r .before .if1 .left)))
 
 fewest-of-search-requires-2 : (t : ℕ) → fewest-of-lts.Need-search-requires-2 (
@@ -92,7 +92,8 @@ fewest-of-returns-3 t c =
     λ x h.
     c .search2 .ensures x h
     ∙ ap held (sym (fewest-more (a .args .reach) x (r .before .if1 .left)
-    ∙ held-else (fewest (a .args .reach - 1) x) (firstList (a .args .reach) 128 0 x) (r .fewest-of .result) (r .fewest-of .ensures x h) (c .before .if2 .left)))
+    ∙ held-else (fewest (a .args .reach - 1) x) (firstList (a .args .reach) 128 0 x)
+    (r .fewest-of .result) (r .fewest-of .ensures x h) (c .before .if2 .left)))
 
 pub +fewest-of-spec : {M : Type 1} → statement M
 +fewest-of-spec = close μ-fewest-of λ t. fewest-of-lts.spec (

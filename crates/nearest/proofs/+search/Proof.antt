@@ -6,7 +6,8 @@ use Rattle.bits.specs.Bits.{Word, flipped}
 use Rattle.nearest.specs.Nearest.{firstList}
 use Rattle.nearest.specs.Answers.{Broken, held}
 use Rattle.nearest.proofs.Lists.{long}
-use Rattle.nearest.proofs.Searching.{search-none, alone-none, alone-some, search-turn, search-end, held-chosen, held-passed, lent-long, broken-lent}
+use Rattle.nearest.proofs.Searching.{search-none, alone-none, alone-some, search-turn, search-end}
+use Rattle.nearest.proofs.Searching.{held-chosen, held-passed, lent-long, broken-lent}
 use Prim.Native.Nat.{ℕ, _+_, _-_, _≤_, _<_}
 use borrow.Fn.Kinds.{In}
 use borrow.Fn.PlainCycle.{Measures, is, falls, and}
@@ -28,7 +29,8 @@ abbrev search-below : ℕ → In 1 search-kinds.ps
 search-below t = and 1 search-kinds.ps (falls 1 search-kinds.ps _<_ μ-search t) search′.Pre
 
 abbrev search-Inv-loop : search-lts.InvT-loop
-search-Inv-loop columns s from left n₀ n = (n ≤ 128) × ((x : Word) → Broken s x → firstList left (128 - from) from x ≡ firstList left (128 - n) n x)
+search-Inv-loop columns s from left n₀ n =
+    (n ≤ 128) × ((x : Word) → Broken s x → firstList left (128 - from) from x ≡ firstList left (128 - n) n x)
 
 abbrev search-μ-loop : search-lts.MeasureT-loop
 search-μ-loop columns s from left n₀ n = 128 - n
@@ -78,7 +80,8 @@ search-returns-2 t c =
     let a = o .before .before .before .before in
     λ x h.
     c .no-list .ensures
-    ∙ alone-none (a .args .left) (a .args .s) (a .args .from) (o .only .result) x (o .before .if2 .taken) (a .pre .1 .1) (omega arith) (o .only .ensures .1) h (c .before .if3 .taken)
+    ∙ alone-none (a .args .left) (a .args .s) (a .args .from) (o .only .result) x
+    (o .before .if2 .taken) (a .pre .1 .1) (omega arith) (o .only .ensures .1) h (c .before .if3 .taken)
 
 search-cast-t13 : (t : ℕ) → search-lts.Need-cast-t13 (
   only-reads.Asked,
@@ -102,7 +105,8 @@ search-returns-3 t c =
     let o = c .before in
     let a = o .before .before .before .before in
     λ x h.
-    alone-some (a .args .left) (a .args .s) (a .args .from) (o .only .result) x (o .before .if2 .taken) (a .pre .1 .1) (omega arith) (o .only .ensures .1) h (c .if3 .left)
+    alone-some (a .args .left) (a .args .s) (a .args .from) (o .only .result) x
+    (o .before .if2 .taken) (a .pre .1 .1) (omega arith) (o .only .ensures .1) h (c .if3 .left)
 
 search-loop-holds : (t : ℕ) → search-lts.Need-loop-holds (
   only-reads.Asked,

@@ -22,7 +22,8 @@ returns-2 : tie.Need-returns-2
 returns-2 c =
     let a = c .before .before .before .before .before in
     c .refused-by2 .ensures (a .args .out .now)
-    ∙ sym (nearest-three (a .args .word .now) (a .args .reach) (a .args .out .now) (c .before .before .if1 .left) (λ q. c .before .if2 .taken q))
+    ∙ sym (nearest-three (a .args .word .now) (a .args .reach) (a .args .out .now)
+    (c .before .before .if1 .left) (λ q. c .before .if2 .taken q))
 
 refused-by-requires-3 : tie.Need-refused-by-requires-3
 refused-by-requires-3 c κs = search needs

@@ -46,7 +46,8 @@ returns c =
     let x = bit (a .args .word .now) in
     c .refused-by .ensures (a .args .out .now)
     ∙ found-none x (a .args .out .now) (fewest (a .args .reach) x) (w .fewest-of .result)
-    (w .fewest-of .ensures x (subst (Broken (s .syndrome .result)) (o .load .ensures) (s .syndrome .ensures))) (not-true (w .fewest-of .result .found) (c .before .if1 .taken))
+    (w .fewest-of .ensures x (subst (Broken (s .syndrome .result)) (o .load .ensures) (s .syndrome .ensures)))
+    (not-true (w .fewest-of .result .found) (c .before .if1 .taken))
 
 slice-aggregate-turn : tie.Need-slice-aggregate-turn
 slice-aggregate-turn c = search needs
@@ -83,7 +84,8 @@ returns-2 c =
     let y = wbit (t .turn .last .0) in
     found-list x (a .args .out .now) (fewest (a .args .reach) x) (w .fewest-of .result)
     (w .fewest-of .ensures x (subst (Broken (s .syndrome .result)) (o .load .ensures) (s .syndrome .ensures)))
-    y _ (not-false (w .fewest-of .result .found) (t .before .before .if1 .left)) (subst (λ z. heldTurned (w .fewest-of .result) z y) (o .load .ensures) (t .turn .ensures))
+    y _ (not-false (w .fewest-of .result .found) (t .before .before .if1 .left))
+    (subst (λ z. heldTurned (w .fewest-of .result) z y) (o .load .ensures) (t .turn .ensures))
     (p .store .ensures ∙ ap₂ octets (a .pre .1) (from-first y))
 
 pub searched-spec : {M : Type 1} → statement M

@@ -1,7 +1,7 @@
 -- `nearest::syndrome` meets its contract: after n turns the checks are summed over the first n bits. Assumes nothing.
-use mathlib.Core.Path.{_≡_, sym, _∙_, subst}
+use mathlib.Core.Path.{sym, _∙_, subst}
 use mathlib.Core.Logic.{⊎-elim}
-use Prim.Native.Nat.{ℕ, _+_, _-_, _≤_, _<_}
+use Prim.Native.Nat.{_+_, _-_, _≤_, _<_}
 use native.Mathlib.Omega.{arith}
 use borrow.Author.Needs.{needs}
 use Rattle.vectors.specs.Vectors.{wbit, Holds}
@@ -43,7 +43,8 @@ loop-again c =
     let set = c .before .is-set .ensures in (
       omega arith,
       ⊎-elim
-          (λ w. subst (λ z. Holds z (Partly x (l .n + 1))) (sym (w .2)) (partly-set x (l .n) (l .s) h (l .inv .1) (a .args .columns .now) (a .pre .0) (sym set ∙ w .0 .taken)))
+          (λ w. subst (λ z. Holds z (Partly x (l .n + 1))) (sym (w .2))
+          (partly-set x (l .n) (l .s) h (l .inv .1) (a .args .columns .now) (a .pre .0) (sym set ∙ w .0 .taken)))
           (λ w. subst (λ z. Holds z (Partly x (l .n + 1))) (sym (w .1)) (partly-clear x (l .n) (l .s) h (l .inv .1) (sym set ∙ w .0 .left)))
           (c .if1 .came),
     )

@@ -1,7 +1,7 @@
 -- `nearest::turn` meets its contract: the bits from place k on are still to be turned over. Assumes nothing.
-use mathlib.Core.Path.{_≡_, refl, sym, ap, _∙_}
+use mathlib.Core.Path.{_≡_, refl, sym, _∙_}
 use mathlib.Core.List.{List}
-use Prim.Native.Nat.{ℕ, _+_, _-_, _≤_, _<_}
+use Prim.Native.Nat.{ℕ, _-_, _≤_}
 use native.Mathlib.Omega.{arith}
 use lib.ListN.{length, drop}
 use borrow.Author.Needs.{needs}
@@ -13,7 +13,8 @@ use Rattle.nearest.proofs.turn.Statement.{statement}
 use Rattle.nearest.proofs.turn.Tie as tie
 
 abbrev Inv-loop : tie.InvT-loop
-Inv-loop y₀ l bits k₀ y k = (k ≤ l .count) × (length y ≡ 3) × ((bits′ : List ℕ) → l ≡ held (list bits′) → turned bits′ (wbit y₀) ≡ turned (drop k bits′) (wbit y))
+Inv-loop y₀ l bits k₀ y k =
+    (k ≤ l .count) × (length y ≡ 3) × ((bits′ : List ℕ) → l ≡ held (list bits′) → turned bits′ (wbit y₀) ≡ turned (drop k bits′) (wbit y))
 
 abbrev μ-loop : tie.MeasureT-loop
 μ-loop y₀ l bits k₀ y k = l .count - k
