@@ -1,4 +1,4 @@
--- How far codewords of code 1 are apart: no one, two, three or four flips lead from one to another. Assumes nothing.
+-- How far codewords of code 1 are apart: one to five flips never lead from one to another. Assumes nothing.
 use mathlib.Core.Path.{_≡_, refl, sym, ap, _∙_, fun-ext}
 use mathlib.Core.Bool.{Bool, true, false, _&&_, and-comm, and-true, true≢false}
 use mathlib.Core.Logic.{⊎-elim}
@@ -92,13 +92,24 @@ codeword-even x is =
 flip-odd : (x : Word) (n : ℕ) → n < 128 → sum 128 (flipped x n) ≡ sum 128 x ⊕ true
 flip-odd x n h = sum-linear 128 .plus x (λ i. eqb i n) ∙ ap (λ p. sum 128 x ⊕ p) (pick 128 n (λ i. true) h)
 
+odd-three : (w : Word) → codeword (code 1) w ≡ true → (b d e : ℕ) → b < 128 → d < 128 → e < 128
+    → sum 128 (flipped (flipped (flipped w b) d) e) ≡ true
+odd-three w is b d e hb hd he =
+    flip-odd (flipped (flipped w b) d) e he
+    ∙ ap (λ p. p ⊕ true) (flip-odd (flipped w b) d hd ∙ ap (λ p. p ⊕ true) (flip-odd w b hb ∙ ap (λ p. p ⊕ true) (codeword-even w is)))
+
 pub flip-three : (w : Word) → codeword (code 1) w ≡ true → (b d e : ℕ) → b < 128 → d < 128 → e < 128
     → codeword (code 1) (flipped (flipped (flipped w b) d) e) ≡ true → ⊥
 flip-three w is b d e hb hd he t =
-    true≢false (sym (
-    flip-odd (flipped (flipped w b) d) e he
-    ∙ ap (λ p. p ⊕ true) (flip-odd (flipped w b) d hd ∙ ap (λ p. p ⊕ true) (flip-odd w b hb ∙ ap (λ p. p ⊕ true) (codeword-even w is))))
-    ∙ codeword-even (flipped (flipped (flipped w b) d) e) t)
+    true≢false (sym (odd-three w is b d e hb hd he) ∙ codeword-even (flipped (flipped (flipped w b) d) e) t)
+
+pub flip-five : (w : Word) → codeword (code 1) w ≡ true → (b d e f g : ℕ) → b < 128 → d < 128 → e < 128 → f < 128 → g < 128
+    → codeword (code 1) (flipped (flipped (flipped (flipped (flipped w b) d) e) f) g) ≡ true → ⊥
+flip-five w is b d e f g hb hd he hf hg t =
+    let x = flipped (flipped (flipped w b) d) e in
+    true≢false (sym (flip-odd (flipped x f) g hg
+    ∙ ap (λ p. p ⊕ true) (flip-odd x f hf ∙ ap (λ p. p ⊕ true) (odd-three w is b d e hb hd he)))
+    ∙ codeword-even (flipped (flipped x f) g) t)
 
 -- ---- four flips: each bit would have all its checks in common with the three others, which are three at most; so all four would be
 -- parity bits, and those follow from the information bits

@@ -1,4 +1,4 @@
--- A codeword with one or two wrong bits. Assumes nothing.
+-- How far codewords are apart; a codeword with one or two wrong bits. Assumes nothing.
 use mathlib.Core.Path.{_≡_, refl, sym, ap, ap₂, _∙_, fun-ext}
 use mathlib.Core.Bool.{true}
 use mathlib.Core.Logic.{⊎-elim}
@@ -14,7 +14,7 @@ use Rattle.bits.proofs.Octets.{Octets, octets-bit, length-octets}
 use Rattle.rules.specs.Codes.{code, bits}
 use Rattle.rules.specs.Encoding.{codeword}
 use Rattle.rules.proofs.Flips.{flip-back}
-use Rattle.answers.specs.Calls.{correctAnswer}
+use Rattle.answers.specs.Calls.{differing, correctAnswer}
 use Rattle.answers.proofs.Corrections.{oneWrong, bit-one-wrong, one-back}
 use Rattle.answers.proofs.Wrong.{twoWrong}
 use Rattle.nearest.specs.Nearest.{Found, none, list, fewest, turned, found, nearestAnswer}
@@ -22,7 +22,37 @@ use Rattle.nearest.specs.Lists.{Mends}
 use Rattle.nearest.proofs.Quiet.{bits-are, octets-are, unsent-are}
 use Rattle.nearest.proofs.Lists.{Within, within}
 use Rattle.nearest.proofs.Reaching.{nearest-searched}
-use Rattle.nearest.proofs.Columns.{flip-one, flip-two, flip-three, flip-four}
+use Rattle.nearest.proofs.Columns.{flip-one, flip-two, flip-three, flip-four, flip-five}
+use Rattle.nearest.proofs.Distances.{setFrom, codeword-mends}
+
+-- ---- two different codewords differ in six bits or more
+
+pub codewords-apart : (x y : Word) → codeword (code 1) x ≡ true → codeword (code 1) y ≡ true → (differing (code 1) x y ≡ 0 → ⊥)
+    → 6 ≤ differing (code 1) x y
+unfolding turned
+codewords-apart x y isx isy other = go (setFrom 128 0 (λ i. x i ⊕ y i)) (codeword-mends x y isy)
+  where
+    go : (bits : List ℕ) → Mends (differing (code 1) x y) 0 128 x bits → 6 ≤ differing (code 1) x y
+    go [] m = absurd (other (sym (m .many)))
+    go (a ∷ []) m = absurd (flip-one x isx a (m .rising .1) (m .gives))
+    go (a ∷ b ∷ []) m =
+        let r = m .rising in
+        absurd (flip-two x isx a b (r .1) (r .2 .1) (λ q. omega (arith, r .2 .0)) (m .gives))
+    go (a ∷ b ∷ c ∷ []) m =
+        let r = m .rising in
+        absurd (flip-three x isx a b c (r .1) (r .2 .1) (r .2 .2 .1) (m .gives))
+    go (a ∷ b ∷ c ∷ d ∷ []) m =
+        let r = m .rising in
+        let ab = r .2 .0 in
+        let bc = r .2 .2 .0 in
+        let cd = r .2 .2 .2 .0 in
+        absurd (flip-four x isx a b c d (r .1) (r .2 .1) (r .2 .2 .1) (r .2 .2 .2 .1)
+        (λ q. omega (arith, ab)) (λ q. omega (arith, ab, bc)) (λ q. omega (arith, ab, bc, cd))
+        (λ q. omega (arith, bc)) (λ q. omega (arith, bc, cd)) (λ q. omega (arith, cd)) (m .gives))
+    go (a ∷ b ∷ c ∷ d ∷ e ∷ []) m =
+        let r = m .rising in
+        absurd (flip-five x isx a b c d e (r .1) (r .2 .1) (r .2 .2 .1) (r .2 .2 .2 .1) (r .2 .2 .2 .2 .1) (m .gives))
+    go (a ∷ b ∷ c ∷ d ∷ e ∷ f ∷ bits) m = omega (arith, m .many)
 
 -- ---- one wrong bit
 
@@ -160,7 +190,8 @@ module _ (word out : List ℕ) (lw : length word ≡ 16) (lo : length out ≡ 16
         )
 
   -- A codeword with two wrong bits and a reach of at least 2: these bits, and the codeword. Of three wrong bits no more is claimed than
-  -- what holds of every word: that a codeword is found, none being nearer. Whether another lies as near is not settled here.
+  -- what holds of every word: that a codeword is found, none being nearer. Whether two codewords differ in just six bits, so that another
+  -- may lie as near as the one sent, is not settled here.
   pub two-found : (reach b d : ℕ) → 2 ≤ reach → reach ≤ 3 → b < d → d < 128
       → nearestAnswer (twoWrong (code 1) word b d) reach out ≡ record { number = 0; least = 2; bits = b ∷ d ∷ 0 ∷ []; out = word }
   unfolding found turned
