@@ -676,20 +676,20 @@ static void nearest_cases(void)
             flip(word, a);
             for (unsigned b = 128; b-- > a + 1;) {
                 flip(word, b);
-                if (least > 1 && judge_quick(1, word, 16).yes)
+                if (least > 1 && (judge_check(1, word, 16).broken == 0))
                     least = 2, first[0] = a, first[1] = b;
                 flip(word, b);
             }
-            if (judge_quick(1, word, 16).yes)
+            if ((judge_check(1, word, 16).broken == 0))
                 least = 1, first[0] = a, first[1] = 0;
             flip(word, a);
         }
-        if (judge_quick(1, word, 16).yes)
+        if ((judge_check(1, word, 16).broken == 0))
             least = 0, first[0] = first[1] = 0;
         struct judge_reached a = judge_nearest(word, 16, 2, out, 16);
         EXPECT(least == 3 ? reached(a, 17, 0, 0, 0, 0) : reached(a, 0, least, first[0], first[1], 0));
         a = judge_nearest(word, 16, 3, out, 16);
-        EXPECT(a.number == 17 || judge_quick(1, out, 16).yes);
+        EXPECT(a.number == 17 || (judge_check(1, out, 16).broken == 0));
         EXPECT(a.number == 17 || a.least == differing(1, word, out));
         EXPECT(a.least < 2 || (a.bits[0] < a.bits[1] && (a.least < 3 || a.bits[1] < a.bits[2])));
     }
