@@ -23,6 +23,8 @@ compare: lib
 	outside/run_x86 target/outside/compare $(N) $$(( $(N) / 10 )) $(SEED)
 	outside/build_c target/outside/bch_compare outside/bch_compare.c outside/bch_judge.c
 	outside/run_x86 target/outside/bch_compare $$(( $(N) / 100 )) $(N) $(or $(SEED),1)
+	outside/build_c target/outside/nearest_compare outside/nearest_compare.c outside/nearest_judge.c outside/judge.c
+	outside/run_x86 target/outside/nearest_compare $$(( $(N) / 100 )) $(or $(SEED),1)
 
 bench: lib
 	outside/bench

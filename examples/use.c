@@ -58,6 +58,11 @@ int main(void)
            corrected.last, corrected.unlike);
     print_octets("corrected", out, WORD);
 
+    /* The same by plain search: which codeword of code 1 is nearest. */
+    pandoricchia_reached reached = pandoricchia_nearest(word, WORD, 3, out, WORD);
+    demand_done("nearest", reached.number);
+    printf("nearest: %u flips, the first of bit %u\n", reached.least, reached.bits[0]);
+
     opened = pandoricchia_open(CODE, out, WORD);
     demand_done("open", opened.number);
     print_octets("opened", out, opened.octets);

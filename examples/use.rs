@@ -55,6 +55,11 @@ fn main() {
     println!(", {} bits unlike", corrected.unlike);
     print_octets("corrected", &out);
 
+    // The same by plain search: which codeword of code 1 is nearest.
+    let reached = pandoricchia::nearest(&word, 3, &mut out);
+    demand_done("nearest", reached.number);
+    println!("nearest: {} flips, the first of bit {}", reached.least, reached.bits[0]);
+
     match pandoricchia::open(CODE, &out) {
         Ok(part) => print_octets("opened", part),
         Err(why) => demand_done("open", why.number),

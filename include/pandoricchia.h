@@ -28,7 +28,7 @@
 extern "C" {
 #endif
 
-#define PANDORICCHIA_VERSION "0.4.0"
+#define PANDORICCHIA_VERSION "0.5.0"
 
 /* The table above; for a code number that is not known until the program runs there are two calls below. */
 #define PANDORICCHIA_WORD_OCTETS_1 16
@@ -49,13 +49,13 @@ extern "C" {
 /* Measured by outside/boundary.c, not proved: encode takes some 5,400 octets, correct and step 2,500, check and open 1,900. */
 #define PANDORICCHIA_STACK_OCTETS 8192
 
-/* The number that each call returns. The lowest that applies is given, except that 5 to 8 come in the order of the run.
- * A call that returns any other number than PANDORICCHIA_DONE is refused and has written nothing. */
+/* The number that each call returns. The lowest that applies is given, except that 5 to 8 come in the order of the run, and 18
+ * before 17. A call that returns any other number than PANDORICCHIA_DONE is refused and has written nothing. */
 enum pandoricchia_number {
     PANDORICCHIA_DONE = 0,           /* done; the output, if there is one, is written whole */
     PANDORICCHIA_CODE = 1,           /* the code is not offered by this call */
     PANDORICCHIA_INPUT_LENGTH = 2,   /* the input's length differs from the table above */
-    PANDORICCHIA_OUTPUT_LENGTH = 3,  /* encode, correct, step: the output's length differs */
+    PANDORICCHIA_OUTPUT_LENGTH = 3,  /* encode, correct, step, nearest: the output's length differs */
     PANDORICCHIA_LAST_SIX = 4,       /* encode, code 4: one of the six last bits is set */
     PANDORICCHIA_STUCK = 5,          /* correct, step: checks are broken, and no bit has an excess above 0 */
     PANDORICCHIA_LIMIT = 6,          /* correct: the limit is reached */
@@ -67,6 +67,8 @@ enum pandoricchia_number {
     PANDORICCHIA_NO_BCH_WORD = 13,   /* bch_check: no codeword differs in at most one bit; detect-only: the word is none */
     PANDORICCHIA_LAST_TWO = 14,      /* open, code 5: no check is broken, but one of the last two bits is set */
     PANDORICCHIA_OTHER_PARITY = 15,  /* open, code 5: neither, but the parity is not the encoder's */
+    PANDORICCHIA_NONE_NEAR = 17,     /* nearest: no codeword lies within the reach */
+    PANDORICCHIA_REACH = 18,         /* nearest: the reach is above 3 */
     PANDORICCHIA_TOO_LONG = 20,      /* import_blocks: not whole blocks or more than 128; export_blocks: more than 64,512 octets */
     PANDORICCHIA_BLOCK_CHECK = 21,   /* import_blocks: a block's frame check */
     PANDORICCHIA_BLOCK_NUMBER = 22,  /* import_blocks: a block's number */
@@ -107,6 +109,10 @@ static inline const char *pandoricchia_text(uint8_t number)
         return "one of the last two bits set";
     case PANDORICCHIA_OTHER_PARITY:
         return "parity not the encoder's";
+    case PANDORICCHIA_NONE_NEAR:
+        return "no codeword within the reach";
+    case PANDORICCHIA_REACH:
+        return "reach above 3";
     case PANDORICCHIA_TOO_LONG:
         return "not whole blocks or more than 128; more than 64,512 octets";
     case PANDORICCHIA_BLOCK_CHECK:
@@ -176,6 +182,16 @@ typedef struct pandoricchia_stepped {
 /* Step, codes 1 to 4: one flip of correct's run. */
 pandoricchia_stepped pandoricchia_step(uint8_t code, const uint8_t *word, size_t word_len, uint8_t *out,
                                           size_t out_len);
+
+typedef struct pandoricchia_reached {
+    uint8_t number;    /* 0, 2, 3, 17 or 18 */
+    uint32_t least;    /* the fewest flips that give a codeword; 0 where the call is refused */
+    uint32_t bits[3];  /* which bits, increasing; unused places are 0 */
+} pandoricchia_reached;
+
+/* Nearest, code 1 alone: the fewest flips, up to a reach of 0 to 3, that turn the word into a codeword; of several lists of
+ * bits the first. Out is the mended word. A codeword is copied, with least 0. */
+pandoricchia_reached pandoricchia_nearest(const uint8_t *word, size_t word_len, uint8_t reach, uint8_t *out, size_t out_len);
 
 /* Telecommand transmission units, codes 1 and 3: a start sequence, codeblocks, and for code 1 a tail. */
 

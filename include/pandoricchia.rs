@@ -7,7 +7,7 @@
 //!
 //! and `rustc -L target/staticlib -l static=pandoricchia`.
 
-pub const VERSION: &str = "0.4.0";
+pub const VERSION: &str = "0.5.0";
 
 /// Octets of a word and of its information, by code number; there is no code 0.
 pub const WORD_OCTETS: [usize; 6] = [0, 16, 32, 64, 1022, 1020];
@@ -28,6 +28,8 @@ pub const NO_TAIL: u8 = 12;
 pub const NO_BCH_WORD: u8 = 13;
 pub const LAST_TWO: u8 = 14;
 pub const OTHER_PARITY: u8 = 15;
+pub const NONE_NEAR: u8 = 17;
+pub const REACH: u8 = 18;
 pub const TOO_LONG: u8 = 20;
 pub const BLOCK_CHECK: u8 = 21;
 pub const BLOCK_NUMBER: u8 = 22;
@@ -67,6 +69,14 @@ pub struct Stepped {
     pub quiet: bool,
     pub bit: u32,
     pub excess: i8,
+}
+
+#[repr(C)]
+#[derive(Clone, Copy, Debug, PartialEq, Eq)]
+pub struct Reached {
+    pub number: u8,
+    pub least: u32,
+    pub bits: [u32; 3],
 }
 
 /// A reading of a unit: `kept.number` is its number.
@@ -109,6 +119,7 @@ extern "C" {
     fn pandoricchia_open(code: u8, word: *const u8, word_len: usize) -> Opened;
     fn pandoricchia_correct(code: u8, word: *const u8, word_len: usize, limit: u16, out: *mut u8, out_len: usize) -> Corrected;
     fn pandoricchia_step(code: u8, word: *const u8, word_len: usize, out: *mut u8, out_len: usize) -> Stepped;
+    fn pandoricchia_nearest(word: *const u8, word_len: usize, reach: u8, out: *mut u8, out_len: usize) -> Reached;
     fn pandoricchia_unit_octets(code: u8, information_len: usize) -> usize;
     fn pandoricchia_write_unit(code: u8, information: *const u8, information_len: usize, out: *mut u8, out_len: usize) -> u8;
     fn pandoricchia_reader(code: u8, unit: *const u8, unit_len: usize, limit: u16) -> Reading;
@@ -143,6 +154,8 @@ pub fn text(number: u8) -> &'static str {
         NO_BCH_WORD => "no codeword differs in at most one bit; detect-only: the word is none",
         LAST_TWO => "one of the last two bits set",
         OTHER_PARITY => "parity not the encoder's",
+        NONE_NEAR => "no codeword within the reach",
+        REACH => "reach above 3",
         TOO_LONG => "not whole blocks or more than 128; more than 64,512 octets",
         BLOCK_CHECK => "a block's frame check",
         BLOCK_NUMBER => "a block's number",
@@ -199,6 +212,12 @@ pub fn correct(code: u8, word: &[u8], limit: u16, out: &mut [u8]) -> Corrected {
 #[must_use]
 pub fn step(code: u8, word: &[u8], out: &mut [u8]) -> Stepped {
     unsafe { pandoricchia_step(code, word.as_ptr(), word.len(), out.as_mut_ptr(), out.len()) }
+}
+
+/// Code 1 alone: the fewest flips, up to a reach of 0 to 3, that give a codeword, and the mended word.
+#[must_use]
+pub fn nearest(word: &[u8], reach: u8, out: &mut [u8]) -> Reached {
+    unsafe { pandoricchia_nearest(word.as_ptr(), word.len(), reach, out.as_mut_ptr(), out.len()) }
 }
 
 /// How many octets the unit of so many octets of information has; 0 where there is no unit.

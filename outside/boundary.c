@@ -82,6 +82,15 @@ static void test_null(void)
     }
 }
 
+/* Nearest takes no code number: 2 for the input, 3 for the output. */
+static void test_null_nearest(void)
+{
+    for (unsigned reach = 0; reach < 256; reach++) {
+        expect(pandoricchia_nearest(NULL, 0, (uint8_t)reach, NULL, 0).number == 2, "nearest, both NULL", reach);
+        expect(pandoricchia_nearest(word, words[1], (uint8_t)reach, NULL, 0).number == 3, "nearest, output NULL", reach);
+    }
+}
+
 /* The same answers at each of sixteen addresses. */
 static void test_addresses(void)
 {
@@ -101,6 +110,11 @@ static void test_addresses(void)
             pandoricchia_corrected mended = pandoricchia_correct(code, word + (15 - at), n, 1, out + at, n);
             expect(mended.flips == 1 && mended.unlike == 1, "correct", code);
             expect(memcmp(out + at, first, n) == 0, "correct's octets", code);
+            memset(out, 0, sizeof out);
+            pandoricchia_reached reached = {0};
+            if (code == 1)
+                reached = pandoricchia_nearest(word + (15 - at), n, 1, out + at, n);
+            expect(code != 1 || (reached.least == 1 && reached.bits[0] == 27 && memcmp(out + at, first, n) == 0), "nearest", code);
             memset(out, 0, sizeof out);
             expect(pandoricchia_step(code, word + (15 - at), n, out + at, n).number == (code == 5 ? 1 : 0), "step", code);
             expect(code == 5 || memcmp(out + at, first, n) == 0, "step's octets", code);
@@ -129,8 +143,8 @@ __attribute__((noinline)) static size_t painted_over(void)
 
 static void test_stack(void)
 {
-    static const char *names[5] = {"encode", "check", "open", "correct", "step"};
-    for (unsigned call = 0; call < 5; call++) {
+    static const char *names[] = {"encode", "check", "open", "correct", "step", "nearest"};
+    for (unsigned call = 0; call < sizeof names / sizeof names[0]; call++) {
         size_t most = 0;
         for (uint8_t code = 1; code <= 5; code++) {
             size_t n = words[code];
@@ -147,8 +161,10 @@ static void test_stack(void)
                 pandoricchia_open(code, word, n);
             else if (call == 3)
                 pandoricchia_correct(code, word, n, 1000, out, n);
-            else
+            else if (call == 4)
                 pandoricchia_step(code, word, n, out, n);
+            else
+                pandoricchia_nearest(word, words[1], 3, out, words[1]);
             size_t taken = painted_over();
             most = taken > most ? taken : most;
         }
@@ -162,6 +178,7 @@ int main(void)
     test_lengths();
     test_texts();
     test_null();
+    test_null_nearest();
     test_addresses();
     test_stack();
     printf("boundary: %u passed, %u failed\n", passed, failed);

@@ -1,8 +1,10 @@
 /* Runs the judge on document 01's cases and on what the document promises of every word.
  *
- *     cc -std=c11 -Wall -Wextra -O2 -o target/judge_test outside/judge_test.c outside/judge.c && target/judge_test
+ *     cc -std=c11 -Wall -Wextra -O2 -o target/judge_test outside/judge_test.c outside/judge.c outside/nearest_judge.c &&
+ *         target/judge_test
  */
 #include "judge.h"
+#include "nearest_judge.h"
 
 #include <stdio.h>
 #include <stdlib.h>
@@ -629,6 +631,71 @@ static void random_words(void)
     end();
 }
 
+static bool reached(struct judge_reached a, uint8_t number, uint32_t least, uint32_t b0, uint32_t b1, uint32_t b2)
+{
+    return a.number == number && a.least == least && a.bits[0] == b0 && a.bits[1] == b1 && a.bits[2] == b2;
+}
+
+static void nearest_cases(void)
+{
+    uint8_t info[8], word[16] = {0}, wrong[17], out[17], mended[16];
+
+    begin("nearest: refused in this order, and nothing written");
+    memset(out, 0x5A, sizeof out);
+    EXPECT(reached(judge_nearest(word, 15, 4, out, 17), 2, 0, 0, 0, 0));
+    EXPECT(reached(judge_nearest(word, 16, 4, out, 17), 3, 0, 0, 0, 0));
+    EXPECT(reached(judge_nearest(word, 16, 4, out, 16), 18, 0, 0, 0, 0));
+    EXPECT(reached(judge_nearest(word, 16, 255, out, 16), 18, 0, 0, 0, 0));
+    word[0] = 0x80;
+    EXPECT(reached(judge_nearest(word, 16, 0, out, 16), 17, 0, 0, 0, 0));
+    EXPECT(all_are(out, 0x5A, sizeof out));
+    end();
+
+    begin("nearest: one wrong bit, every bit, as correct mends it");
+    for (unsigned bit = 0; bit < 128; bit++) {
+        draw_codeword(1, info, word);
+        memcpy(wrong, word, 16);
+        flip(wrong, bit);
+        uint8_t reach = (uint8_t)(1 + below(3));
+        EXPECT(reached(judge_nearest(wrong, 16, reach, out, 16), 0, 1, bit, 0, 0));
+        EXPECT(memcmp(out, word, 16) == 0);
+        EXPECT(correct(1, wrong, 1, mended).flips == 1 && memcmp(out, mended, 16) == 0);
+        EXPECT(reached(judge_nearest(word, 16, (uint8_t)below(4), out, 16), 0, 0, 0, 0, 0));
+        EXPECT(memcmp(out, word, 16) == 0);
+    }
+    end();
+
+    /* Another way to the same: all lists of the same length, the last one first. */
+    begin("nearest: the fewest flips, and the first list");
+    for (unsigned turn = 0; turn < 40; turn++) {
+        draw_codeword(1, info, word);
+        for (unsigned k = turn % 6; k > 0; k--)
+            flip(word, below(128));
+        uint32_t least = 3, first[2] = {0, 0};
+        for (unsigned a = 128; a-- > 0;) {
+            flip(word, a);
+            for (unsigned b = 128; b-- > a + 1;) {
+                flip(word, b);
+                if (least > 1 && (judge_check(1, word, 16).broken == 0))
+                    least = 2, first[0] = a, first[1] = b;
+                flip(word, b);
+            }
+            if ((judge_check(1, word, 16).broken == 0))
+                least = 1, first[0] = a, first[1] = 0;
+            flip(word, a);
+        }
+        if ((judge_check(1, word, 16).broken == 0))
+            least = 0, first[0] = first[1] = 0;
+        struct judge_reached a = judge_nearest(word, 16, 2, out, 16);
+        EXPECT(least == 3 ? reached(a, 17, 0, 0, 0, 0) : reached(a, 0, least, first[0], first[1], 0));
+        a = judge_nearest(word, 16, 3, out, 16);
+        EXPECT(a.number == 17 || (judge_check(1, out, 16).broken == 0));
+        EXPECT(a.number == 17 || a.least == differing(1, word, out));
+        EXPECT(a.least < 2 || (a.bits[0] < a.bits[1] && (a.least < 3 || a.bits[1] < a.bits[2])));
+    }
+    end();
+}
+
 int main(void)
 {
     starred_cases();
@@ -639,6 +706,7 @@ int main(void)
     choices();
     inverted_blocks();
     random_words();
+    nearest_cases();
     printf("%lu passed, %lu failed\n", passed, failed);
     return failed == 0 ? EXIT_SUCCESS : EXIT_FAILURE;
 }

@@ -17,6 +17,9 @@ use Rattle.capi.proofs.pandoricchia_encode.Reads as encode-reads
 use Rattle.capi.proofs.pandoricchia_check as check
 use Rattle.capi.proofs.pandoricchia_check.Kinds as check-kinds
 use Rattle.capi.proofs.pandoricchia_check.Reads as check-reads
+use Rattle.capi.proofs.pandoricchia_nearest as nearest
+use Rattle.capi.proofs.pandoricchia_nearest.Kinds as nearest-kinds
+use Rattle.capi.proofs.pandoricchia_nearest.Reads as nearest-reads
 use Rattle.capi.proofs.pandoricchia_open as open-call
 use Rattle.capi.proofs.pandoricchia_open.Kinds as open-kinds
 use Rattle.capi.proofs.pandoricchia_open.Reads as open-reads
@@ -73,6 +76,11 @@ pub step-outcome : (κs : Lfts 2) (a : ArgsD step.signature κs) (r₁ r₂ : Re
     → step-reads.Post κs a r₁ s₁ → step-reads.Post κs a r₂ s₂ → (r₁ ≡ r₂) × (now (s₁ .1 .1 .0) ≡ now (s₂ .1 .1 .0))
 step-outcome κs a r₁ r₂ s₁ s₂ p q =
     (ap (λ x. record { number = x .number; quiet = x .quiet; bit = x .bit; excess = x .excess }) (p ∙ sym q), ap (λ x. x .out) (p ∙ sym q))
+
+pub nearest-outcome : (κs : Lfts 2) (a : ArgsD nearest.signature κs) (r₁ r₂ : ResD nearest.signature κs) (s₁ s₂ : AtExit (endedOf 2 nearest-kinds.ps nearest-kinds.r) κs)
+    → nearest-reads.Post κs a r₁ s₁ → nearest-reads.Post κs a r₂ s₂ → (r₁ ≡ r₂) × (now (s₁ .1 .1 .0) ≡ now (s₂ .1 .1 .0))
+nearest-outcome κs a r₁ r₂ s₁ s₂ p q =
+    (ap (λ x. record { number = x .number; least = x .least; bits = x .bits }) (p ∙ sym q), ap (λ x. x .out) (p ∙ sym q))
 
 pub unit-octets-outcome : (κs : Lfts 0) (a : ArgsD unit-octets.signature κs) (r₁ r₂ : ResD unit-octets.signature κs) (s₁ s₂ : AtExit (endedOf 0 unit-octets-kinds.ps unit-octets-kinds.r) κs)
     → unit-octets-reads.Post κs a r₁ s₁ → unit-octets-reads.Post κs a r₂ s₂ → r₁ ≡ r₂

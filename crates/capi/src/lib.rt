@@ -8,9 +8,12 @@ ghost use Rattle.units.specs.Answers.{asReading, asHanded};
 ghost use Rattle.bch.specs.Bch.{bchEncodeAnswer, bchCheckAnswer};
 ghost use Rattle.bch.specs.Answers.{asEncoded as asBchEncoded, asMended};
 use bch::Mended;
+ghost use Rattle.nearest.specs.Nearest.{nearestAnswer};
+ghost use Rattle.nearest.specs.Answers.{asReached};
 ghost use Rattle.blocks.specs.Blocks.{exportAnswer, exportRoom, importAnswer, importRoom};
 ghost use Rattle.blocks.specs.Answers.{asExported, asImported};
 use blocks::Imported;
+use nearest::Reached;
 use codes::Checked;
 use codes::Corrected;
 use codes::Stepped;
@@ -163,4 +166,11 @@ pub extern "C" fn pandoricchia_exported_octets(octets_len: usize) -> usize
     ensures { λ r. ⌜ r ≡ exportRoom «octets_len» ⌝ }
 {
     blocks::exported_octets(octets_len)
+}
+
+#[no_mangle]
+pub extern "C" fn pandoricchia_nearest(word: &[u8], reach: u8, out: &mut [u8]) -> Reached
+    ensures { λ r. ⌜ asReached r (now (out .exit)) ≡ nearestAnswer (now (word .entry)) reach (now (out .entry)) ⌝ }
+{
+    nearest::nearest(word, reach, out)
 }

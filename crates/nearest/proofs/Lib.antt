@@ -1,0 +1,9 @@
+pub mod Quiet
+pub mod Lists
+pub mod Searching
+pub mod Reaching
+pub mod Distances
+pub mod Promises
+pub mod Columns
+pub mod Wrong
+pub mod Outcomes

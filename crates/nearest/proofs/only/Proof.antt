@@ -1,0 +1,63 @@
+-- `nearest::only` meets its contract: no bit before n has the column. Assumes nothing.
+use mathlib.Core.Path.{_≡_, refl, sym, _∙_}
+use Prim.Native.Nat.{_-_, _≤_}
+use native.Mathlib.Omega.{arith}
+use borrow.Author.Needs.{needs}
+use Rattle.nearest.specs.Answers.{lowestFrom}
+use Rattle.nearest.proofs.Searching.{lowest-here, lowest-later, lowest-end, lent-long}
+use Rattle.nearest.proofs.only.Statement.{statement}
+use Rattle.nearest.proofs.only.Tie as tie
+
+abbrev Inv-loop : tie.InvT-loop
+Inv-loop columns s from n₀ n = (n ≤ 128) × (lowestFrom (128 - from) from s ≡ lowestFrom (128 - n) n s)
+
+abbrev μ-loop : tie.MeasureT-loop
+μ-loop columns s from n₀ n = 128 - n
+
+loop-holds : tie.Need-loop-holds Inv-loop μ-loop
+loop-holds c = (c .pre .1, refl)
+
+mul-if1 : tie.Need-mul-if1 Inv-loop μ-loop
+mul-if1 c = search needs
+
+shared-slice-read-if1 : tie.Need-shared-slice-read-if1 Inv-loop μ-loop
+shared-slice-read-if1 c = lent-long _ _ (c .before .before .before .pre .0) (omega arith)
+
+returns : tie.Need-returns Inv-loop μ-loop
+returns c =
+    let l = c .before .before .before .loop in
+    let a = c .before .before .before .before in
+    (omega arith, sym (l .inv .1 ∙ lowest-here (a .args .columns .now) (l .n) (a .args .s) (a .pre .0) (omega arith) (c .if1 .taken)))
+
+add-n : tie.Need-add-n Inv-loop μ-loop
+add-n c = search needs
+
+loop-less : tie.Need-loop-less Inv-loop μ-loop
+loop-less c = search needs
+
+loop-again : tie.Need-loop-again Inv-loop μ-loop
+loop-again c =
+    let l = c .before .before .before .loop in
+    let a = c .before .before .before .before in
+    (omega arith, l .inv .1 ∙ lowest-later (a .args .columns .now) (l .n) (a .args .s) (a .pre .0) (omega arith) (λ q. c .if1 .left q))
+
+returns-2 : tie.Need-returns-2 Inv-loop μ-loop
+returns-2 c =
+    let l = c .before .loop in
+    let a = c .before .before in
+    (omega arith, lowest-end (l .n) (a .args .s) (omega arith) ∙ sym (l .inv .1))
+
+pub only-spec : {M : Type 1} → statement M
+only-spec =
+    tie.close
+    (tie.spec
+    Inv-loop
+    μ-loop
+    loop-holds
+    mul-if1
+    shared-slice-read-if1
+    returns
+    add-n
+    loop-less
+    loop-again
+    returns-2)
