@@ -1,0 +1,72 @@
+-- `taker::search`: a call on the whole part goes on as a call on the rest. Assumes nothing.
+use mathlib.Core.Path.{_≡_, refl, sym, ap, ap₂, _∙_, subst}
+use mathlib.Core.List.{List}
+use Prim.Native.Nat.{ℕ, suc, _+_, _-_, _≤_, _<_}
+use native.Mathlib.Numerals.{add-one}
+use native.Mathlib.Omega.{arith}
+use lib.ListN.{length, getD, drop}
+use lib.Seq.{drop-cons}
+use Rattle.taker.specs.Taking.{standing, takenFrom}
+use Rattle.taker.proofs.Laws.{search-step}
+use borrow.Author.Needs.{needs}
+use Rattle.taker.proofs.search.Statement.{statement}
+use Rattle.taker.proofs.search.Tie as tie
+
+abbrev Inv-loop : tie.InvT-loop
+Inv-loop place part m₀ i₀ m i =
+    (i ≤ length part) × (m < 1024)
+    × ((limit : ℕ) → (octets : List ℕ) → takenFrom 0 (standing place limit octets) part ≡ takenFrom i (standing m limit octets) (drop i part))
+
+abbrev μ-loop : tie.MeasureT-loop
+μ-loop place part m₀ i₀ m i = length part - i
+
+loop-holds : tie.Need-loop-holds Inv-loop μ-loop
+loop-holds c = (omega arith, c .before .pre, λ limit octets. refl)
+
+returns : tie.Need-returns Inv-loop μ-loop
+returns c = let h = c .before .before .loop in ((h .inv .1, h .inv .0, λ few. absurd (omega arith)), h .inv .2)
+
+shared-slice-read-matched : tie.Need-shared-slice-read-matched Inv-loop μ-loop
+shared-slice-read-matched c = search needs
+
+matched-requires : tie.Need-matched-requires Inv-loop μ-loop
+matched-requires c κs = omega arith
+
+add-i : tie.Need-add-i Inv-loop μ-loop
+add-i c = search needs
+
+loop-less : tie.Need-loop-less Inv-loop μ-loop
+loop-less c = search needs
+
+loop-again : tie.Need-loop-again Inv-loop μ-loop
+loop-again c =
+    let h = c .before .before .before .before .loop in
+    let part = c .before .before .before .before .before .before .args .part .now in
+    let here : h .i < length part = omega arith in
+    let few : h .m < 4 = omega arith in (
+      omega arith,
+      omega (arith, c .matched .ensures .1),
+      λ limit octets.
+          h .inv .2 limit octets
+          ∙ ap (takenFrom (h .i) (standing (h .m) limit octets)) (drop-cons part (h .i) 0 here)
+          ∙ search-step limit (h .i) (h .m) octets (getD part (h .i) 0) (drop (suc (h .i)) part) few
+          ∙ ap₂ (λ i m. takenFrom i (standing m limit octets) (drop i part)) (sym (add-one (h .i))) (sym (c .matched .ensures .0)),
+    )
+
+returns-2 : tie.Need-returns-2 Inv-loop μ-loop
+returns-2 c = let h = c .before .loop in ((h .inv .1, h .inv .0, λ few. omega arith), h .inv .2)
+
+pub search-spec : {M : Type 1} → statement M
+search-spec =
+    tie.close
+    (tie.spec
+    Inv-loop
+    μ-loop
+    loop-holds
+    returns
+    shared-slice-read-matched
+    matched-requires
+    add-i
+    loop-less
+    loop-again
+    returns-2)

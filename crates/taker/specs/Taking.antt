@@ -1,0 +1,74 @@
+-- The taker: a state that every octet moves on, and one call on a part of the stream.
+use mathlib.Core.Bool.{Bool, true, false}
+use mathlib.Core.List.{List, [], _∷_}
+use Prim.Native.Nat.{ℕ, zero, suc, _-_}
+use lib.Dec.{eqb, ltb}
+use lib.ListN.{getD, set, replicate}
+use Rattle.bits.specs.Bits.{if_then_else_}
+use Rattle.answers.specs.Calls.{Corrected, refusedCorrect}
+use Rattle.telemetry.specs.Telemetry.{telemetry}
+use Rattle.taker.specs.Stream.{marker, answered}
+
+-- A taker: its limit; its place, 0 to 3 for so many octets of the marker that are matched, or 4 and the octets held of the word;
+-- and room for a word's octets, of which those held stand in front.
+pub record Taker : Type 0 where
+  pub place : ℕ
+  pub limit : ℕ
+  pub octets : List ℕ
+
+abbrev pub standing : ℕ → ℕ → List ℕ → Taker
+standing place limit octets = record { place = place; limit = limit; octets = octets }
+
+abbrev pub newTaker : ℕ → Taker
+newTaker limit = standing 0 limit (replicate 1020 0)
+
+-- After m octets of the marker and one more, so many are matched: the longest front of the marker that what was searched ends with.
+-- No end of a front is a front of the marker itself, so that is one octet more, or the octet alone, or none (`matched-longest`).
+abbrev pub matched : ℕ → ℕ → ℕ
+matched m octet =
+    if eqb octet (getD marker m 0) then suc m
+    else if eqb octet 0x1A then 1
+    else 0
+
+-- The taker after one octet more, which completes no word.
+abbrev pub moved : Taker → ℕ → Taker
+moved s octet =
+    if ltb (s .place) 4 then standing (matched (s .place) octet) (s .limit) (s .octets)
+    else standing (suc (s .place)) (s .limit) (set (s .octets) (s .place - 4) octet)
+
+-- The octets of the word that an octet more completes.
+abbrev pub whole : Taker → ℕ → List ℕ
+whole s octet = set (s .octets) 1019 octet
+
+-- The search begins again after a word, taken or refused.
+abbrev pub after : Taker → ℕ → Taker
+after s octet = standing 0 (s .limit) (whole s octet)
+
+-- A call's answer: the moved taker, how many octets it took, whether a word is complete, and correct's numbers with the word.
+pub record Taken : Type 0 where
+  pub next : Taker
+  pub taken : ℕ
+  pub complete : Bool
+  pub corrected : Corrected
+
+-- Where no word is complete, all numbers are 0 and the word is all zeros.
+abbrev pub waiting : ℕ → Taker → Taken
+waiting taken s = record { next = s; taken = taken; complete = false; corrected = refusedCorrect (replicate 1020 0) 0 }
+
+abbrev pub completed : ℕ → ℕ → List ℕ → Taken
+completed taken limit octets =
+    record { next = standing 0 limit octets; taken = taken; complete = true; corrected = answered telemetry limit octets }
+
+-- One call goes on until a word is complete or the part is used up; so many octets were taken before.
+unfoldable pub takenFrom : ℕ → Taker → List ℕ → Taken
+takenFrom taken s [] = waiting taken s
+takenFrom taken s (octet ∷ part) =
+    if eqb (s .place) 1023 then completed (suc taken) (s .limit) (whole s octet)
+    else takenFrom (suc taken) (moved s octet) part
+
+-- A place past 1023, which no call gives, is read as 0: such a taker searches.
+abbrev pub readPlace : ℕ → ℕ
+readPlace place = if ltb place 1024 then place else 0
+
+unfoldable pub takeAnswer : Taker → List ℕ → Taken
+takeAnswer s part = takenFrom 0 (standing (readPlace (s .place)) (s .limit) (s .octets)) part
