@@ -16,7 +16,7 @@ marker = 0x1A ∷ 0xCF ∷ 0xFC ∷ 0x1D ∷ []
 abbrev pub begins : List ℕ → List ℕ → Bool
 begins [] octets = true
 begins (a ∷ front) [] = false
-begins (a ∷ front) (b ∷ octets) = eqb a b && begins front octets
+begins (a ∷ front) (b ∷ octets) = eqb b a && begins front octets
 
 -- A word begins here: the marker, and then the 1020 octets that are taken.
 abbrev pub framed : List ℕ → Bool

@@ -7,7 +7,7 @@ use lib.ListN.{getD, set, replicate}
 use Rattle.bits.specs.Bits.{if_then_else_}
 use Rattle.answers.specs.Calls.{Corrected, refusedCorrect}
 use Rattle.telemetry.specs.Telemetry.{telemetry}
-use Rattle.taker.specs.Stream.{marker, answered}
+use Rattle.taker.specs.Stream.{Found, marker, answered}
 
 -- A taker: its limit; its place, 0 to 3 for so many octets of the marker that are matched, or 4 and the octets held of the word;
 -- and room for a word's octets, of which those held stand in front.
@@ -43,6 +43,14 @@ whole s octet = set (s .octets) 1019 octet
 -- The search begins again after a word, taken or refused.
 abbrev pub after : Taker → ℕ → Taker
 after s octet = standing 0 (s .limit) (whole s octet)
+
+-- The words that a taker gives octet by octet of the rest of a stream, which begins at octet number `at`.
+unfoldable pub givenFrom : Taker → ℕ → List ℕ → List Found
+givenFrom s at [] = []
+givenFrom s at (octet ∷ rest) =
+    if eqb (s .place) 1023
+    then (record { offset = suc at - 1020; corrected = answered telemetry (s .limit) (whole s octet) } ∷ givenFrom (after s octet) (suc at) rest)
+    else givenFrom (moved s octet) (suc at) rest
 
 -- A call's answer: the moved taker, how many octets it took, whether a word is complete, and correct's numbers with the word.
 pub record Taken : Type 0 where

@@ -1,0 +1,33 @@
+-- Any two outcomes that one call's statement allows are equal: theorems over the contracts themselves, as the source has them.
+use mathlib.Core.Path.{_≡_, _∙_, sym, ap}
+use contract.Lifetimes.{Lfts}
+use borrow.Fn.World.{ArgsD, ResD}
+use borrow.Fn.Kinds.{endedOf}
+use denote.Triple.Clauses.{AtExit}
+use Rattle.answers.specs.Calls.{Corrected}
+use Rattle.codes.specs.declared.Corrected.{Corrected as Numbers}
+use Rattle.taker.proofs.Taker.new as new
+use Rattle.taker.proofs.Taker.new.Kinds as new-kinds
+use Rattle.taker.proofs.Taker.new.Reads as new-reads
+use Rattle.taker.proofs.Taker.take as take
+use Rattle.taker.proofs.Taker.take.Kinds as take-kinds
+use Rattle.taker.proofs.Taker.take.Reads as take-reads
+
+-- a record of numbers from the answer that it stands for
+abbrev numbers : Corrected → Numbers
+numbers r = record { number = r .number; flips = r .flips; first = r .first; last = r .last; unlike = r .unlike }
+
+pub new-outcome : (κs : Lfts 0) (a : ArgsD new.signature κs) (r₁ r₂ : ResD new.signature κs) (s₁ s₂ : AtExit (endedOf 0 new-kinds.ps new-kinds.r) κs)
+    → new-reads.Post κs a r₁ s₁ → new-reads.Post κs a r₂ s₂ → r₁ ≡ r₂
+new-outcome κs a r₁ r₂ s₁ s₂ p q = ap (λ x. record { place = x .place; limit = x .limit; octets = x .octets }) (p ∙ sym q)
+
+pub take-outcome : (κs : Lfts 1) (a : ArgsD take.signature κs) (r₁ r₂ : ResD take.signature κs) (s₁ s₂ : AtExit (endedOf 1 take-kinds.ps take-kinds.r) κs)
+    → take-reads.Post κs a r₁ s₁ → take-reads.Post κs a r₂ s₂ → r₁ ≡ r₂
+take-outcome κs a r₁ r₂ s₁ s₂ p q =
+    ap (λ x. record {
+      next = record { place = x .next .place; limit = x .next .limit; octets = x .next .octets };
+      taken = x .taken;
+      complete = x .complete;
+      corrected = numbers (x .corrected);
+      word = x .corrected .out;
+    }) (p ∙ sym q)
