@@ -66,6 +66,31 @@ fn matched(m: usize, octet: u8) -> usize
     if octet == 0x1D { 4 } else { 0 }
 }
 
+// The next place from `from` on where the marker's first octet stands, or the end of the part.
+fn skip(part: &[u8], from: usize) -> usize
+    requires { ⌜ from ≤ length (now part) ⌝ }
+    ensures { λ r. ⌜ (from ≤ r) × (r ≤ length (now (part .entry))) ⌝ }
+    ensures { λ r. ⌜ ((limit : ℕ) → (octets : List ℕ) → takenFrom from (standing 0 limit octets) (drop from (now (part .entry))) ≡ takenFrom r (standing 0 limit octets) (drop r (now (part .entry)))) ⌝ }
+{
+    let mut i = from;
+    while i < part.len() {
+        if part[i] == 0x1A {
+            return i;
+        }
+        i += 1;
+    }
+    i
+}
+
+// The same where nothing is matched; else the next octet counts, whatever it is.
+fn jump(m: usize, part: &[u8], from: usize) -> usize
+    requires { ⌜ from ≤ length (now part) ⌝ }
+    ensures { λ r. ⌜ (from ≤ r) × (r ≤ length (now (part .entry))) ⌝ }
+    ensures { λ r. ⌜ ((limit : ℕ) → (octets : List ℕ) → takenFrom from (standing m limit octets) (drop from (now (part .entry))) ≡ takenFrom r (standing m limit octets) (drop r (now (part .entry)))) ⌝ }
+{
+    if m == 0 { skip(part, from) } else { from }
+}
+
 // Searches a part until the marker is whole or the part is used up. A taker that holds octets of a word searches nothing.
 fn search(place: usize, part: &[u8]) -> Searched
     requires { ⌜ place < 1024 ⌝ }
@@ -78,8 +103,12 @@ fn search(place: usize, part: &[u8]) -> Searched
         if m > 3 {
             return Searched { place: m, at: i };
         }
-        m = matched(m, part[i]);
-        i += 1;
+        let at = jump(m, part, i);
+        if at >= part.len() {
+            return Searched { place: m, at: at };
+        }
+        m = matched(m, part[at]);
+        i = at + 1;
     }
     Searched { place: m, at: i }
 }

@@ -26,6 +26,16 @@ loop-holds c = (omega arith, c .before .pre, λ limit octets. refl)
 returns : tie.Need-returns Inv-loop μ-loop
 returns c = let h = c .before .before .loop in ((h .inv .1, h .inv .0, λ few. absurd (omega arith)), h .inv .2)
 
+jump-requires : tie.Need-jump-requires Inv-loop μ-loop
+jump-requires c κs = c .before .before .loop .inv .0
+
+returns-2 : tie.Need-returns-2 Inv-loop μ-loop
+returns-2 c =
+    let h = c .before .before .before .before .loop in
+    let j = c .before .jump in
+    let j1 = j .ensures .0 .1 in
+    ((h .inv .1, j1, λ few. omega (arith, j1)), λ limit octets. h .inv .2 limit octets ∙ j .ensures .1 limit octets)
+
 shared-slice-read-matched : tie.Need-shared-slice-read-matched Inv-loop μ-loop
 shared-slice-read-matched c = search needs
 
@@ -33,28 +43,29 @@ matched-requires : tie.Need-matched-requires Inv-loop μ-loop
 matched-requires c κs = omega arith
 
 add-i : tie.Need-add-i Inv-loop μ-loop
-add-i c = search needs
+add-i c = omega arith
 
 loop-less : tie.Need-loop-less Inv-loop μ-loop
-loop-less c = search needs
+loop-less c = omega (arith, c .before .before .before .jump .ensures .0 .0)
 
 loop-again : tie.Need-loop-again Inv-loop μ-loop
 loop-again c =
-    let h = c .before .before .before .before .loop in
-    let part = c .before .before .before .before .before .before .args .part .now in
-    let here : h .i < length part = omega arith in
+    let h = c .before .before .before .before .before .before .loop in
+    let j = c .before .before .before .jump in
+    let part = c .before .before .before .before .before .before .before .before .args .part .now in
+    let here : j .result < length part = omega arith in
     let few : h .m < 4 = omega arith in (
       omega arith,
       omega (arith, c .matched .ensures .1),
       λ limit octets.
-          h .inv .2 limit octets
-          ∙ ap (takenFrom (h .i) (standing (h .m) limit octets)) (drop-cons part (h .i) 0 here)
-          ∙ search-step limit (h .i) (h .m) octets (getD part (h .i) 0) (drop (suc (h .i)) part) few
-          ∙ ap₂ (λ i m. takenFrom i (standing m limit octets) (drop i part)) (sym (add-one (h .i))) (sym (c .matched .ensures .0)),
+          h .inv .2 limit octets ∙ j .ensures .1 limit octets
+          ∙ ap (takenFrom (j .result) (standing (h .m) limit octets)) (drop-cons part (j .result) 0 here)
+          ∙ search-step limit (j .result) (h .m) octets (getD part (j .result) 0) (drop (suc (j .result)) part) few
+          ∙ ap₂ (λ i m. takenFrom i (standing m limit octets) (drop i part)) (sym (add-one (j .result))) (sym (c .matched .ensures .0)),
     )
 
-returns-2 : tie.Need-returns-2 Inv-loop μ-loop
-returns-2 c = let h = c .before .loop in ((h .inv .1, h .inv .0, λ few. omega arith), h .inv .2)
+returns-3 : tie.Need-returns-3 Inv-loop μ-loop
+returns-3 c = let h = c .before .loop in ((h .inv .1, h .inv .0, λ few. omega arith), h .inv .2)
 
 pub search-spec : {M : Type 1} → statement M
 search-spec =
@@ -64,9 +75,11 @@ search-spec =
     μ-loop
     loop-holds
     returns
+    jump-requires
+    returns-2
     shared-slice-read-matched
     matched-requires
     add-i
     loop-less
     loop-again
-    returns-2)
+    returns-3)
