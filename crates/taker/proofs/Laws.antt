@@ -30,11 +30,12 @@ four P a b c d (suc (suc (suc (suc m)))) h = absurd (omega arith)
 
 -- ---- the octets matched
 
-pub matched-goes : (m o : ℕ) → o ≡ getD marker m 0 → matched m o ≡ suc m
-matched-goes m o e = if-is (eqb o (getD marker m 0)) (suc m) (if eqb o 0x1A then 1 else 0) (eq-eqb o (getD marker m 0) e)
-
+-- the marker's first octet counts, whatever was matched before it
 pub matched-anew : (m : ℕ) → m < 4 → matched m 0x1A ≡ 1
 matched-anew = four (λ m. matched m 0x1A ≡ 1) refl refl refl refl
+
+pub matched-goes : (m o : ℕ) → o ≡ getD marker m 0 → matched m o ≡ suc m
+matched-goes m o e = if-is (eqb o (getD marker m 0)) (suc m) (if eqb o 0x1A then 1 else 0) (eq-eqb o (getD marker m 0) e)
 
 pub matched-none : (m o : ℕ) → (o ≡ getD marker m 0 → ⊥) → (o ≡ 0x1A → ⊥) → matched m o ≡ 0
 matched-none m o d d′ =

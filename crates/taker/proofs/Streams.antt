@@ -32,6 +32,12 @@ module _ (g : Generator) (limit : ℕ) where
   found-skip (suc skip) at (o ∷ octets) h =
       found-skip skip (suc at) octets (omega arith) ∙ ap (λ z. foundFrom g limit 0 z (drop skip octets)) (suc-add at skip ∙ sym (add-suc at skip))
 
+  -- an octet at which a word begins: 1023 more belong to it
+  found-taken : (at o : ℕ) (rest : List ℕ) → framed (o ∷ rest) ≡ true
+      → foundFrom g limit 0 at (o ∷ rest) ≡ record { offset = at + 4; corrected = answered g limit (take 1020 (drop 4 (o ∷ rest))) } ∷ foundFrom g limit 1023 (suc at) rest
+  unfolding foundFrom
+  found-taken at o rest e = ap (λ b. if b then (record { offset = at + 4; corrected = answered g limit (take 1020 (drop 4 (o ∷ rest))) } ∷ foundFrom g limit 1023 (suc at) rest) else foundFrom g limit 0 (suc at) rest) e
+
   -- an octet at which no word begins
   pub found-next : (at o : ℕ) (rest : List ℕ) → framed (o ∷ rest) ≡ false → foundFrom g limit 0 at (o ∷ rest) ≡ foundFrom g limit 0 (suc at) rest
   unfolding foundFrom
@@ -55,8 +61,7 @@ module _ (g : Generator) (limit : ℕ) where
       let whole : List ℕ = marker ++ (word ++ rest) in
       let long : length (word ++ rest) ≡ 1020 + length rest = length-append word rest ∙ ap (λ z. z + length rest) e in
       let four : suc (suc (suc (suc at))) + 1020 ≡ at + 1024 = omega arith in
-      if-is (framed whole) (record { offset = at + 4; corrected = answered g limit (take 1020 (word ++ rest)) } ∷ foundFrom g limit 1020 (suc (suc (suc (suc at)))) (word ++ rest))
-      (foundFrom g limit 0 (suc at) (0xCF ∷ 0xFC ∷ 0x1D ∷ word ++ rest)) (le-leb 1024 (length whole) (omega arith))
+      found-taken at 0x1A (0xCF ∷ 0xFC ∷ 0x1D ∷ word ++ rest) (le-leb 1024 (length whole) (omega arith))
       ∙ ap₂ (λ w r. record { offset = at + 4; corrected = answered g limit w } ∷ r) (take-at word rest 1020 e)
       (found-skip 1020 (suc (suc (suc (suc at)))) (word ++ rest) (omega arith) ∙ ap₂ (foundFrom g limit 0) four (drop-at word rest 1020 e))
 

@@ -1,9 +1,10 @@
 -- The taker: a state that every octet moves on, and one call on a part of the stream.
+use mathlib.Core.Path.{_≡_}
 use mathlib.Core.Bool.{Bool, true, false}
 use mathlib.Core.List.{List, [], _∷_}
 use Prim.Native.Nat.{ℕ, zero, suc, _-_}
 use lib.Dec.{eqb, ltb}
-use lib.ListN.{getD, set, replicate}
+use lib.ListN.{getD, set, drop, replicate}
 use Rattle.bits.specs.Bits.{if_then_else_}
 use Rattle.answers.specs.Calls.{Corrected, refusedCorrect}
 use Rattle.telemetry.specs.Telemetry.{telemetry}
@@ -80,3 +81,8 @@ readPlace place = if ltb place 1024 then place else 0
 
 unfoldable pub takeAnswer : Taker → List ℕ → Taken
 takeAnswer s part = takenFrom 0 (standing (readPlace (s .place)) (s .limit) (s .octets)) part
+
+-- What the search ensures: a call that is at place m with i octets of a part behind it goes on as one at place m′ with i′.
+abbrev pub GoesOn : List ℕ → ℕ → ℕ → ℕ → ℕ → Type 0
+GoesOn part i m i′ m′ =
+    (limit : ℕ) → (octets : List ℕ) → takenFrom i (standing m limit octets) (drop i part) ≡ takenFrom i′ (standing m′ limit octets) (drop i′ part)

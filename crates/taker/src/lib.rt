@@ -1,12 +1,12 @@
 // The taker of telemetry: words of code 5 out of a stream of octets that comes in parts.
 ghost use mathlib.Core.Path.{_≡_};
-ghost use mathlib.Core.List.{List, []};
-ghost use Prim.Native.Nat.{ℕ, _+_, _-_, _<_, _≤_};
-ghost use lib.ListN.{length, drop, replicate};
+ghost use mathlib.Core.List.{[]};
+ghost use Prim.Native.Nat.{_+_, _<_, _≤_};
+ghost use lib.ListN.{length, replicate};
 ghost use lib.Seq.{sets};
 ghost use Rattle.answers.specs.Calls.{refusedCorrect};
 ghost use Rattle.codes.specs.Answers.{asCorrected};
-ghost use Rattle.taker.specs.Taking.{standing, newTaker, matched as matchedBy, waiting as waitingOf, completed as completedOf, takenFrom, readPlace, takeAnswer};
+ghost use Rattle.taker.specs.Taking.{standing, newTaker, matched as matchedBy, waiting as waitingOf, completed as completedOf, readPlace, takeAnswer, GoesOn};
 ghost use Rattle.taker.specs.Answers.{asTaker, asTaken};
 use codes::Corrected;
 
@@ -70,7 +70,7 @@ fn matched(m: usize, octet: u8) -> usize
 fn skip(part: &[u8], from: usize) -> usize
     requires { ⌜ from ≤ length (now part) ⌝ }
     ensures { λ r. ⌜ (from ≤ r) × (r ≤ length (now (part .entry))) ⌝ }
-    ensures { λ r. ⌜ ((limit : ℕ) → (octets : List ℕ) → takenFrom from (standing 0 limit octets) (drop from (now (part .entry))) ≡ takenFrom r (standing 0 limit octets) (drop r (now (part .entry)))) ⌝ }
+    ensures { λ r. ⌜ GoesOn (now (part .entry)) from 0 r 0 ⌝ }
 {
     let mut i = from;
     while i < part.len() {
@@ -86,7 +86,7 @@ fn skip(part: &[u8], from: usize) -> usize
 fn jump(m: usize, part: &[u8], from: usize) -> usize
     requires { ⌜ from ≤ length (now part) ⌝ }
     ensures { λ r. ⌜ (from ≤ r) × (r ≤ length (now (part .entry))) ⌝ }
-    ensures { λ r. ⌜ ((limit : ℕ) → (octets : List ℕ) → takenFrom from (standing m limit octets) (drop from (now (part .entry))) ≡ takenFrom r (standing m limit octets) (drop r (now (part .entry)))) ⌝ }
+    ensures { λ r. ⌜ GoesOn (now (part .entry)) from m r m ⌝ }
 {
     if m == 0 { skip(part, from) } else { from }
 }
@@ -95,7 +95,7 @@ fn jump(m: usize, part: &[u8], from: usize) -> usize
 fn search(place: usize, part: &[u8]) -> Searched
     requires { ⌜ place < 1024 ⌝ }
     ensures { λ r. ⌜ (r .place < 1024) × (r .at ≤ length (now (part .entry))) × (r .place < 4 → r .at ≡ length (now (part .entry))) ⌝ }
-    ensures { λ r. ⌜ ((limit : ℕ) → (octets : List ℕ) → takenFrom 0 (standing place limit octets) (now (part .entry)) ≡ takenFrom (r .at) (standing (r .place) limit octets) (drop (r .at) (now (part .entry)))) ⌝ }
+    ensures { λ r. ⌜ GoesOn (now (part .entry)) 0 place (r .at) (r .place) ⌝ }
 {
     let mut m = place;
     let mut i: usize = 0;
@@ -163,8 +163,8 @@ fn completed(taken: usize, limit: u16, octets: [u8; 1020]) -> Taken
 {
     let mut received = octets;
     telemetry::randomise_word(&mut received);
-    let mut word = zeros();
-    let corrected = codes::correct(5, &received, limit, &mut word);
+    let mut mended = zeros();
+    let corrected = codes::correct(5, &received, limit, &mut mended);
     let next = Taker {
         place: 0,
         limit: limit,
@@ -175,7 +175,7 @@ fn completed(taken: usize, limit: u16, octets: [u8; 1020]) -> Taken
         taken: taken,
         complete: true,
         corrected: corrected,
-        word: word,
+        word: mended,
     }
 }
 

@@ -6,7 +6,7 @@ use native.Mathlib.Numerals.{add-one}
 use native.Mathlib.Omega.{arith}
 use lib.ListN.{length, getD, drop}
 use lib.Seq.{drop-cons}
-use Rattle.taker.specs.Taking.{standing, takenFrom}
+use Rattle.taker.specs.Taking.{standing, takenFrom, GoesOn}
 use Rattle.taker.proofs.Laws.{search-step}
 use borrow.Author.Needs.{needs}
 use Rattle.taker.proofs.search.Statement.{statement}
@@ -15,7 +15,7 @@ use Rattle.taker.proofs.search.Tie as tie
 abbrev Inv-loop : tie.InvT-loop
 Inv-loop place part m₀ i₀ m i =
     (i ≤ length part) × (m < 1024)
-    × ((limit : ℕ) → (octets : List ℕ) → takenFrom 0 (standing place limit octets) part ≡ takenFrom i (standing m limit octets) (drop i part))
+    × GoesOn part 0 place i m
 
 abbrev μ-loop : tie.MeasureT-loop
 μ-loop place part m₀ i₀ m i = length part - i

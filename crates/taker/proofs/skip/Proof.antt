@@ -6,7 +6,7 @@ use native.Mathlib.Numerals.{add-one}
 use native.Mathlib.Omega.{arith}
 use lib.ListN.{length, getD, drop}
 use lib.Seq.{drop-cons}
-use Rattle.taker.specs.Taking.{standing, takenFrom}
+use Rattle.taker.specs.Taking.{standing, takenFrom, GoesOn}
 use Rattle.taker.proofs.Laws.{search-step, matched-none}
 use borrow.Author.Needs.{needs}
 use Rattle.taker.proofs.skip.Statement.{statement}
@@ -15,7 +15,7 @@ use Rattle.taker.proofs.skip.Tie as tie
 abbrev Inv-loop : tie.InvT-loop
 Inv-loop part from i₀ i =
     (from ≤ i) × (i ≤ length part)
-    × ((limit : ℕ) → (octets : List ℕ) → takenFrom from (standing 0 limit octets) (drop from part) ≡ takenFrom i (standing 0 limit octets) (drop i part))
+    × GoesOn part from 0 i 0
 
 abbrev μ-loop : tie.MeasureT-loop
 μ-loop part from i₀ i = length part - i
