@@ -1,10 +1,11 @@
-// Randomising of telemetry words: the sequence, begun anew for each word, added to its octets in place.
+// Randomising of telemetry words: an edition's sequence, begun anew for each word, added to its octets in place.
 ghost use mathlib.Core.Path.{_≡_};
-ghost use lib.ListN.{length};
+ghost use Prim.Native.Nat.{_≤_};
+ghost use lib.ListN.{length, take};
 ghost use Rattle.randomiser.specs.Randomiser.{randomised};
-ghost use Rattle.telemetry.specs.Telemetry.{telemetry};
+ghost use Rattle.telemetry.specs.Telemetry.{telemetry, second, newer, generatorOf, Begins};
 
-// The octets of the sequence, which come again after 255: four times in a word.
+// The octets of the first sequence, which come again after 255: four times in a word.
 const SEQUENCE: [u8; 255] = [
     0xFF,
     0x48,
@@ -263,8 +264,148 @@ const SEQUENCE: [u8; 255] = [
     0x58,
 ];
 
-// Randomises a word of 1020 octets in place, or takes it off again.
-pub fn randomise_word(word: &mut [u8])
+// The first octets of the second sequence. Octet i is the sum of those 24 and 136 places before it.
+const START: [u8; 136] = [
+    0x1C,
+    0x71,
+    0xB9,
+    0x1B,
+    0xA9,
+    0xBA,
+    0x84,
+    0x57,
+    0xB4,
+    0xBC,
+    0x50,
+    0x54,
+    0xBF,
+    0xD0,
+    0x55,
+    0x40,
+    0x2F,
+    0x49,
+    0x31,
+    0x96,
+    0x52,
+    0x98,
+    0x2C,
+    0xD6,
+    0xCF,
+    0x98,
+    0x6A,
+    0x9F,
+    0xCC,
+    0xD5,
+    0x4F,
+    0x99,
+    0x95,
+    0x60,
+    0xD0,
+    0xA4,
+    0xF6,
+    0x82,
+    0x3C,
+    0xDA,
+    0x54,
+    0xF3,
+    0x42,
+    0x3E,
+    0x6C,
+    0x8E,
+    0xEB,
+    0x23,
+    0x17,
+    0x7E,
+    0x43,
+    0xC7,
+    0xDA,
+    0xB5,
+    0x45,
+    0xE6,
+    0x6F,
+    0x11,
+    0x15,
+    0x2D,
+    0x2F,
+    0x79,
+    0xA3,
+    0xC4,
+    0x5A,
+    0xB4,
+    0xBA,
+    0x19,
+    0x73,
+    0x60,
+    0xAC,
+    0x36,
+    0x86,
+    0xC3,
+    0x27,
+    0x93,
+    0xEE,
+    0x08,
+    0xEA,
+    0x4D,
+    0xCC,
+    0xB0,
+    0xF9,
+    0x76,
+    0xA9,
+    0x8A,
+    0x16,
+    0x05,
+    0xBC,
+    0x90,
+    0xC6,
+    0x9B,
+    0x03,
+    0x28,
+    0x93,
+    0xE9,
+    0x65,
+    0x5F,
+    0x59,
+    0x9C,
+    0x29,
+    0xF0,
+    0x16,
+    0x3F,
+    0xF5,
+    0xAA,
+    0xAF,
+    0x33,
+    0x31,
+    0xAC,
+    0x1B,
+    0xA2,
+    0x45,
+    0x7E,
+    0xFD,
+    0x1C,
+    0xE2,
+    0xD4,
+    0xEC,
+    0xF4,
+    0xEB,
+    0x19,
+    0x5E,
+    0x44,
+    0x2A,
+    0x6F,
+    0xE8,
+    0x31,
+    0xCD,
+    0xAD,
+    0x4F,
+    0x30,
+    0xB1,
+    0xAD,
+    0xE4,
+    0x5D,
+];
+
+// The first sequence, added to a word of 1020 octets in place.
+fn add_first(word: &mut [u8])
     requires { ⌜ length (now word) ≡ 1020 ⌝ }
     ensures { λ _. ⌜ now (word .exit) ≡ randomised telemetry 0 (now (word .entry)) ⌝ }
 {
@@ -273,5 +414,65 @@ pub fn randomise_word(word: &mut [u8])
         let end = at + 255;
         randomiser::add(&mut word[at..end], &SEQUENCE, 0);
         at = end;
+    }
+}
+
+fn buffer() -> [u8; 1020]
+    ensures { λ r. ⌜ 1020 ≡ length r ⌝ }
+{
+    [0; 1020]
+}
+
+// The first octets of the second sequence, laid into longer ones.
+fn lay(octets: &mut [u8], start: &[u8])
+    requires { ⌜ length (now start) ≤ length (now octets) ⌝ }
+    ensures { λ _. ⌜ take (length (now (start .entry))) (now (octets .exit)) ≡ now (start .entry) ⌝ }
+{
+    let mut i: usize = 0;
+    while i < start.len() {
+        octets[i] = start[i];
+        i += 1;
+    }
+}
+
+// The others, each from two before it.
+fn extend(octets: &mut [u8])
+    requires { ⌜ (136 ≤ length (now octets)) × Begins 136 (now octets) ⌝ }
+    ensures { λ _. ⌜ Begins (length (now (octets .entry))) (now (octets .exit)) ⌝ }
+{
+    let mut i: usize = 136;
+    while i < octets.len() {
+        octets[i] = octets[i - 24] ^ octets[i - 136];
+        i += 1;
+    }
+}
+
+// The second sequence, added to a word of 1020 octets in place.
+fn add_second(word: &mut [u8])
+    requires { ⌜ length (now word) ≡ 1020 ⌝ }
+    ensures { λ _. ⌜ now (word .exit) ≡ randomised second 0 (now (word .entry)) ⌝ }
+{
+    let mut sequence = buffer();
+    lay(&mut sequence, &START);
+    extend(&mut sequence);
+    randomiser::add(word, &sequence, 0);
+}
+
+// Whether an edition has the second sequence.
+fn is_newer(edition: u8) -> bool
+    ensures { λ r. ⌜ r ≡ newer edition ⌝ }
+{
+    edition == 4 || edition == 5
+}
+
+// Randomises a word of 1020 octets in place as an edition has it, or takes it off again.
+pub fn randomise_word(edition: u8, word: &mut [u8])
+    requires { ⌜ length (now word) ≡ 1020 ⌝ }
+    ensures { λ _. ⌜ now (word .exit) ≡ randomised (generatorOf edition) 0 (now (word .entry)) ⌝ }
+{
+    if is_newer(edition) {
+        add_second(word);
+    } else {
+        add_first(word);
     }
 }
