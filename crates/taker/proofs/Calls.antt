@@ -11,9 +11,8 @@ use lib.Seq.{drop-length}
 use borrow.Author.Tests.{lt-ltb, ltb-true, ltb-false, eqb-true, eqb-false}
 use Rattle.bits.specs.Bits.{if_then_else_}
 use Rattle.answers.specs.Calls.{refusedCorrect}
-use Rattle.telemetry.specs.Telemetry.{telemetry}
-use Rattle.taker.specs.Stream.{marker, answered, Found}
-use Rattle.taker.specs.Taking.{Taker, Taken, standing, matched, moved, whole, after, givenFrom, waiting, completed, takenFrom, readPlace, takeAnswer}
+use Rattle.taker.specs.Stream.{marker, Found}
+use Rattle.taker.specs.Taking.{Taker, Taken, answeredBy, standing, matched, moved, whole, after, givenFrom, waiting, completed, takenFrom, readPlace, takeAnswer}
 use Rattle.taker.proofs.Laws.{if-is, if-isnt, matched-le}
 
 -- the word of a call that ended so many octets into the stream
@@ -31,21 +30,21 @@ pub record Went (n : ℕ) (s : Taker) (part : List ℕ) (r : Taken) : Type 0 whe
   pub anew : r .complete ≡ true → r .next .place ≡ 0
   pub zeros : r .complete ≡ false → r .corrected ≡ refusedCorrect (replicate 1020 0) 0
   pub stands : s .place < 1024 → r .next .place < 1024
-  pub limit : r .next .limit ≡ s .limit
+  pub told : r .next .told ≡ s .told
   pub on : (at : ℕ) (rest : List ℕ) → givenFrom s at (part ++ rest) ≡ wordsOf r (at + k) ++ givenFrom (r .next) (at + k) (drop k part ++ rest)
 
 moved-stands : (s : Taker) (o : ℕ) → s .place < 1024 → (s .place ≡ 1023 → ⊥) → moved s o .place < 1024
 moved-stands s o h d = go (ltb (s .place) 4) refl
   where
     go : (b : Bool) → ltb (s .place) 4 ≡ b
-        → (if b then standing (matched (s .place) o) (s .limit) (s .octets) else standing (suc (s .place)) (s .limit) (set (s .octets) (s .place - 4) o)) .place < 1024
+        → (if b then standing (matched (s .place) o) (s .told) (s .octets) else standing (suc (s .place)) (s .told) (set (s .octets) (s .place - 4) o)) .place < 1024
     go true e = omega (arith, matched-le (s .place) o (ltb-true (s .place) 4 e))
     go false e = omega arith
 
-moved-limit : (s : Taker) (o : ℕ) → moved s o .limit ≡ s .limit
-moved-limit s o = go (ltb (s .place) 4)
+moved-told : (s : Taker) (o : ℕ) → moved s o .told ≡ s .told
+moved-told s o = go (ltb (s .place) 4)
   where
-    go : (b : Bool) → (if b then standing (matched (s .place) o) (s .limit) (s .octets) else standing (suc (s .place)) (s .limit) (set (s .octets) (s .place - 4) o)) .limit ≡ s .limit
+    go : (b : Bool) → (if b then standing (matched (s .place) o) (s .told) (s .octets) else standing (suc (s .place)) (s .told) (set (s .octets) (s .place - 4) o)) .told ≡ s .told
     go true = refl
     go false = refl
 
@@ -62,16 +61,16 @@ moves n s o part r e w = record {
   anew = w .anew;
   zeros = w .zeros;
   stands = λ h. w .stands (moved-stands s o h (eqb-false (s .place) 1023 e));
-  limit = w .limit ∙ moved-limit s o;
+  told = w .told ∙ moved-told s o;
   on = λ at rest.
       let q : suc at + w .k ≡ at + suc (w .k) = omega arith in
       if-isnt (eqb (s .place) 1023)
-      (record { offset = suc at - 1020; corrected = answered telemetry (s .limit) (whole s o) } ∷ givenFrom (after s o) (suc at) (part ++ rest)) (givenFrom (moved s o) (suc at) (part ++ rest)) e
+      (record { offset = suc at - 1020; corrected = answeredBy (s .told) (whole s o) } ∷ givenFrom (after s o) (suc at) (part ++ rest)) (givenFrom (moved s o) (suc at) (part ++ rest)) e
       ∙ w .on (suc at) rest ∙ ap (λ z. wordsOf r z ++ givenFrom (r .next) z (drop (w .k) part ++ rest)) q;
 }
 
 -- the octet that completes one
-ends : (n : ℕ) (s : Taker) (o : ℕ) (part : List ℕ) → eqb (s .place) 1023 ≡ true → Went n s (o ∷ part) (completed (suc n) (s .limit) (whole s o))
+ends : (n : ℕ) (s : Taker) (o : ℕ) (part : List ℕ) → eqb (s .place) 1023 ≡ true → Went n s (o ∷ part) (completed (suc n) (s .told) (whole s o))
 unfolding givenFrom
 ends n s o part e = record {
   k = 1;
@@ -83,12 +82,12 @@ ends n s o part e = record {
   anew = λ _. refl;
   zeros = λ c. absurd (subst T c tt);
   stands = λ h. omega arith;
-  limit = refl;
+  told = refl;
   on = λ at rest.
       let q : suc at ≡ at + 1 = omega arith in
       if-is (eqb (s .place) 1023)
-      (record { offset = suc at - 1020; corrected = answered telemetry (s .limit) (whole s o) } ∷ givenFrom (after s o) (suc at) (part ++ rest)) (givenFrom (moved s o) (suc at) (part ++ rest)) e
-      ∙ ap (λ z. record { offset = z - 1020; corrected = answered telemetry (s .limit) (whole s o) } ∷ givenFrom (after s o) z (part ++ rest)) q;
+      (record { offset = suc at - 1020; corrected = answeredBy (s .told) (whole s o) } ∷ givenFrom (after s o) (suc at) (part ++ rest)) (givenFrom (moved s o) (suc at) (part ++ rest)) e
+      ∙ ap (λ z. record { offset = z - 1020; corrected = answeredBy (s .told) (whole s o) } ∷ givenFrom (after s o) z (part ++ rest)) q;
 }
 
 pub went : (part : List ℕ) (n : ℕ) (s : Taker) → Went n s part (takenFrom n s part)
@@ -103,20 +102,20 @@ went [] n s = record {
   anew = λ c. absurd (subst T (sym c) tt);
   zeros = λ _. refl;
   stands = λ h. h;
-  limit = refl;
+  told = refl;
   on = λ at rest. ap (λ z. givenFrom s z rest) (sym (add-zero at));
 }
 went (o ∷ part) n s = go (eqb (s .place) 1023) refl (went part (suc n) (moved s o))
   where
     go : (b : Bool) → eqb (s .place) 1023 ≡ b → Went (suc n) (moved s o) part (takenFrom (suc n) (moved s o) part)
-        → Went n s (o ∷ part) (if b then completed (suc n) (s .limit) (whole s o) else takenFrom (suc n) (moved s o) part)
+        → Went n s (o ∷ part) (if b then completed (suc n) (s .told) (whole s o) else takenFrom (suc n) (moved s o) part)
     go true e w = ends n s o part e
     go false e w = moves n s o part (takenFrom (suc n) (moved s o) part) e w
 
 -- ---- a call
 
 abbrev pub asRead : Taker → Taker
-asRead s = standing (readPlace (s .place)) (s .limit) (s .octets)
+asRead s = standing (readPlace (s .place)) (s .told) (s .octets)
 
 pub read-stands : (p : ℕ) → readPlace p < 1024
 read-stands p = go (ltb p 1024) refl
@@ -127,7 +126,7 @@ read-stands p = go (ltb p 1024) refl
 
 -- a taker that a call gave is read as it is
 pub read-is : (s : Taker) → s .place < 1024 → asRead s ≡ s
-read-is s h = ap (λ z. standing z (s .limit) (s .octets)) (if-is (ltb (s .place) 1024) (s .place) 0 (lt-ltb (s .place) 1024 h))
+read-is s h = ap (λ z. standing z (s .told) (s .octets)) (if-is (ltb (s .place) 1024) (s .place) 0 (lt-ltb (s .place) 1024 h))
 
 module _ (s : Taker) (part : List ℕ) where
   took : Went 0 (asRead s) part (takeAnswer s part)
@@ -148,12 +147,12 @@ module _ (s : Taker) (part : List ℕ) where
   pub taken-some : 0 < length part → 0 < takeAnswer s part .taken
   taken-some h = omega (arith, took-k, took .some h)
 
-  -- the moved taker is one that is read as it is, under the same limit
+  -- the moved taker is one that is read as it is, told the same
   pub next-stands : takeAnswer s part .next .place < 1024
   next-stands = took .stands (read-stands (s .place))
 
-  pub next-limit : takeAnswer s part .next .limit ≡ s .limit
-  next-limit = took .limit
+  pub next-told : takeAnswer s part .next .told ≡ s .told
+  next-told = took .told
 
   -- after a word the search begins again
   pub next-searches : takeAnswer s part .complete ≡ true → takeAnswer s part .next .place ≡ 0

@@ -12,7 +12,7 @@ use borrow.Author.Tests.{lt-ltb, le-ltb, eq-eqb, ne-eqb}
 use Rattle.bits.specs.Bits.{if_then_else_}
 use Rattle.answers.specs.Calls.{Corrected}
 use Rattle.taker.specs.Stream.{marker}
-use Rattle.taker.specs.Taking.{Taker, Taken, standing, matched, moved, waiting, completed, takenFrom, readPlace, takeAnswer}
+use Rattle.taker.specs.Taking.{Told, Taker, Taken, standing, matched, moved, waiting, completed, takenFrom, readPlace, takeAnswer}
 
 pub if-is : {A : Type 0} (b : Bool) (x y : A) → b ≡ true → (if b then x else y) ≡ x
 if-is b x y e = ap (λ z. if z then x else y) e
@@ -52,34 +52,34 @@ matched-le m o h = go (eqb o (getD marker m 0)) (eqb o 0x1A)
 
 -- ---- octet by octet
 
-module _ (limit : ℕ) where
-  pub moved-search : (m : ℕ) (ys : List ℕ) (o : ℕ) → m < 4 → moved (standing m limit ys) o ≡ standing (matched m o) limit ys
-  moved-search m ys o h = if-is (ltb m 4) (standing (matched m o) limit ys) (standing (suc m) limit (set ys (m - 4) o)) (lt-ltb m 4 h)
+module _ (told : Told) where
+  pub moved-search : (m : ℕ) (ys : List ℕ) (o : ℕ) → m < 4 → moved (standing m told ys) o ≡ standing (matched m o) told ys
+  moved-search m ys o h = if-is (ltb m 4) (standing (matched m o) told ys) (standing (suc m) told (set ys (m - 4) o)) (lt-ltb m 4 h)
 
-  pub moved-hold : (p : ℕ) (ys : List ℕ) (o : ℕ) → 4 ≤ p → moved (standing p limit ys) o ≡ standing (suc p) limit (set ys (p - 4) o)
-  moved-hold p ys o h = if-isnt (ltb p 4) (standing (matched p o) limit ys) (standing (suc p) limit (set ys (p - 4) o)) (le-ltb p 4 h)
+  pub moved-hold : (p : ℕ) (ys : List ℕ) (o : ℕ) → 4 ≤ p → moved (standing p told ys) o ≡ standing (suc p) told (set ys (p - 4) o)
+  moved-hold p ys o h = if-isnt (ltb p 4) (standing (matched p o) told ys) (standing (suc p) told (set ys (p - 4) o)) (le-ltb p 4 h)
 
   pub search-step : (n m : ℕ) (ys : List ℕ) (o : ℕ) (rest : List ℕ) → m < 4
-      → takenFrom n (standing m limit ys) (o ∷ rest) ≡ takenFrom (suc n) (standing (matched m o) limit ys) rest
+      → takenFrom n (standing m told ys) (o ∷ rest) ≡ takenFrom (suc n) (standing (matched m o) told ys) rest
   unfolding takenFrom
   search-step n m ys o rest h =
-      if-isnt (eqb m 1023) (completed (suc n) limit (set ys 1019 o)) (takenFrom (suc n) (moved (standing m limit ys) o) rest) (ne-eqb m 1023 (λ e. absurd (omega arith)))
+      if-isnt (eqb m 1023) (completed (suc n) told (set ys 1019 o)) (takenFrom (suc n) (moved (standing m told ys) o) rest) (ne-eqb m 1023 (λ e. absurd (omega arith)))
       ∙ ap (λ s. takenFrom (suc n) s rest) (moved-search m ys o h)
 
   pub hold-step : (n p : ℕ) (ys : List ℕ) (o : ℕ) (rest : List ℕ) → 4 ≤ p → p < 1023
-      → takenFrom n (standing p limit ys) (o ∷ rest) ≡ takenFrom (suc n) (standing (suc p) limit (set ys (p - 4) o)) rest
+      → takenFrom n (standing p told ys) (o ∷ rest) ≡ takenFrom (suc n) (standing (suc p) told (set ys (p - 4) o)) rest
   unfolding takenFrom
   hold-step n p ys o rest h h′ =
-      if-isnt (eqb p 1023) (completed (suc n) limit (set ys 1019 o)) (takenFrom (suc n) (moved (standing p limit ys) o) rest) (ne-eqb p 1023 (λ e. absurd (omega arith)))
+      if-isnt (eqb p 1023) (completed (suc n) told (set ys 1019 o)) (takenFrom (suc n) (moved (standing p told ys) o) rest) (ne-eqb p 1023 (λ e. absurd (omega arith)))
       ∙ ap (λ s. takenFrom (suc n) s rest) (moved-hold p ys o h)
 
   pub last-step : (n p : ℕ) (ys : List ℕ) (o : ℕ) (rest : List ℕ) → p ≡ 1023
-      → takenFrom n (standing p limit ys) (o ∷ rest) ≡ completed (suc n) limit (set ys (p - 4) o)
+      → takenFrom n (standing p told ys) (o ∷ rest) ≡ completed (suc n) told (set ys (p - 4) o)
   unfolding takenFrom
   last-step n p ys o rest e =
       let q : 1019 ≡ p - 4 = omega arith in
-      if-is (eqb p 1023) (completed (suc n) limit (set ys 1019 o)) (takenFrom (suc n) (moved (standing p limit ys) o) rest) (eq-eqb p 1023 e)
-      ∙ ap (λ z. completed (suc n) limit (set ys z o)) q
+      if-is (eqb p 1023) (completed (suc n) told (set ys 1019 o)) (takenFrom (suc n) (moved (standing p told ys) o) rest) (eq-eqb p 1023 e)
+      ∙ ap (λ z. completed (suc n) told (set ys z o)) q
 
   -- ---- by runs
 
@@ -87,24 +87,24 @@ module _ (limit : ℕ) where
   less p h = omega arith
 
   pub hold-run : (xs rest : List ℕ) (n p : ℕ) (ys : List ℕ) → 4 ≤ p → p + length xs ≤ 1023
-      → takenFrom n (standing p limit ys) (xs ++ rest) ≡ takenFrom (n + length xs) (standing (p + length xs) limit (sets ys (p - 4) xs)) rest
-  hold-run [] rest n p ys h h′ = ap₂ (λ a b. takenFrom a (standing b limit ys) rest) (sym (add-zero n)) (sym (add-zero p))
+      → takenFrom n (standing p told ys) (xs ++ rest) ≡ takenFrom (n + length xs) (standing (p + length xs) told (sets ys (p - 4) xs)) rest
+  hold-run [] rest n p ys h h′ = ap₂ (λ a b. takenFrom a (standing b told ys) rest) (sym (add-zero n)) (sym (add-zero p))
   hold-run (o ∷ xs) rest n p ys h h′ =
       hold-step n p ys o (xs ++ rest) h (omega arith)
       ∙ hold-run xs rest (suc n) (suc p) (set ys (p - 4) o) (omega arith) (omega arith)
-      ∙ ap (λ z. takenFrom (suc n + length xs) (standing (suc p + length xs) limit (sets (set ys (p - 4) o) z xs)) rest) (less p h)
-      ∙ ap₂ (λ a b. takenFrom a (standing b limit (sets (set ys (p - 4) o) (suc (p - 4)) xs)) rest)
+      ∙ ap (λ z. takenFrom (suc n + length xs) (standing (suc p + length xs) told (sets (set ys (p - 4) o) z xs)) rest) (less p h)
+      ∙ ap₂ (λ a b. takenFrom a (standing b told (sets (set ys (p - 4) o) (suc (p - 4)) xs)) rest)
       (suc-add n (length xs) ∙ sym (add-suc n (length xs))) (suc-add p (length xs) ∙ sym (add-suc p (length xs)))
 
   pub last-run : (xs rest : List ℕ) (n p : ℕ) (ys : List ℕ) → 4 ≤ p → p < 1024 → p + length xs ≡ 1024
-      → takenFrom n (standing p limit ys) (xs ++ rest) ≡ completed (n + length xs) limit (sets ys (p - 4) xs)
+      → takenFrom n (standing p told ys) (xs ++ rest) ≡ completed (n + length xs) told (sets ys (p - 4) xs)
   last-run [] rest n p ys h h′ e = absurd (omega arith)
-  last-run (o ∷ []) rest n p ys h h′ e = let q : suc n ≡ n + 1 = omega arith in last-step n p ys o rest (omega arith) ∙ ap (λ z. completed z limit (set ys (p - 4) o)) q
+  last-run (o ∷ []) rest n p ys h h′ e = let q : suc n ≡ n + 1 = omega arith in last-step n p ys o rest (omega arith) ∙ ap (λ z. completed z told (set ys (p - 4) o)) q
   last-run (o ∷ a ∷ xs) rest n p ys h h′ e =
       hold-step n p ys o (a ∷ xs ++ rest) h (omega arith)
       ∙ last-run (a ∷ xs) rest (suc n) (suc p) (set ys (p - 4) o) (omega arith) (omega arith) (omega arith)
-      ∙ ap (λ z. completed (suc n + length (a ∷ xs)) limit (sets (set ys (p - 4) o) z (a ∷ xs))) (less p h)
-      ∙ ap (λ z. completed z limit (sets ys (p - 4) (o ∷ a ∷ xs))) (suc-add n (length (a ∷ xs)) ∙ sym (add-suc n (length (a ∷ xs))))
+      ∙ ap (λ z. completed (suc n + length (a ∷ xs)) told (sets (set ys (p - 4) o) z (a ∷ xs))) (less p h)
+      ∙ ap (λ z. completed z told (sets ys (p - 4) (o ∷ a ∷ xs))) (suc-add n (length (a ∷ xs)) ∙ sym (add-suc n (length (a ∷ xs))))
 
 -- one octet more put behind the others
 pub sets-snoc : (xs ys : List ℕ) (h o : ℕ) → sets ys h (xs ++ (o ∷ [])) ≡ set (sets ys h xs) (h + length xs) o
@@ -123,31 +123,31 @@ used-up n s part = ap (takenFrom n s) (drop-length part)
 
 -- ---- a call, once its search is done: the place then, and so many octets of the part that were searched
 
-module _ (limit : ℕ) (ys part : List ℕ) (place at : ℕ) (within : at ≤ length part) where
-  pub call-waits : at ≡ length part → takenFrom at (standing place limit ys) (drop at part) ≡ waiting at (standing place limit ys)
-  call-waits e = ap (λ z. takenFrom at (standing place limit ys) (drop z part)) e ∙ used-up at (standing place limit ys) part
+module _ (told : Told) (ys part : List ℕ) (place at : ℕ) (within : at ≤ length part) where
+  pub call-waits : at ≡ length part → takenFrom at (standing place told ys) (drop at part) ≡ waiting at (standing place told ys)
+  call-waits e = ap (λ z. takenFrom at (standing place told ys) (drop z part)) e ∙ used-up at (standing place told ys) part
 
   -- what is left does not complete the word
   pub call-holds : 4 ≤ place → length part - at < 1024 - place
-      → takenFrom at (standing place limit ys) (drop at part)
-      ≡ waiting (length part) (standing (place + (length part - at)) limit (sets ys (place - 4) (take (length part - at) (drop at part))))
+      → takenFrom at (standing place told ys) (drop at part)
+      ≡ waiting (length part) (standing (place + (length part - at)) told (sets ys (place - 4) (take (length part - at) (drop at part))))
   unfolding takenFrom
   call-holds h few =
       let e : length (drop at part) ≡ length part - at = length-drop at part in
       let all : at + length (drop at part) ≡ length part = omega arith in
-      ap (takenFrom at (standing place limit ys)) (sym (append-nil (drop at part)))
-      ∙ hold-run limit (drop at part) [] at place ys h (omega arith)
-      ∙ ap₂ (λ a b. waiting a (standing (place + b) limit (sets ys (place - 4) (drop at part)))) all e
-      ∙ ap (λ z. waiting (length part) (standing (place + (length part - at)) limit (sets ys (place - 4) z))) (sym (take-all (length part - at) (drop at part) (omega arith)))
+      ap (takenFrom at (standing place told ys)) (sym (append-nil (drop at part)))
+      ∙ hold-run told (drop at part) [] at place ys h (omega arith)
+      ∙ ap₂ (λ a b. waiting a (standing (place + b) told (sets ys (place - 4) (drop at part)))) all e
+      ∙ ap (λ z. waiting (length part) (standing (place + (length part - at)) told (sets ys (place - 4) z))) (sym (take-all (length part - at) (drop at part) (omega arith)))
 
   -- what is left completes it
   pub call-completes : 4 ≤ place → place < 1024 → 1024 - place ≤ length part - at
-      → takenFrom at (standing place limit ys) (drop at part)
-      ≡ completed (at + (1024 - place)) limit (sets ys (place - 4) (take (at + (1024 - place) - at) (drop at part)))
+      → takenFrom at (standing place told ys) (drop at part)
+      ≡ completed (at + (1024 - place)) told (sets ys (place - 4) (take (at + (1024 - place) - at) (drop at part)))
   call-completes h h′ enough =
       let m : at + (1024 - place) - at ≡ 1024 - place = omega arith in
       let xs : List ℕ = take (at + (1024 - place) - at) (drop at part) in
       let long : length xs ≡ 1024 - place = length-take-le (at + (1024 - place) - at) (drop at part) (omega (arith, length-drop at part)) ∙ m in
-      ap (takenFrom at (standing place limit ys)) (sym (take-append-drop (at + (1024 - place) - at) (drop at part)))
-      ∙ last-run limit xs (drop (at + (1024 - place) - at) (drop at part)) at place ys h h′ (omega arith)
-      ∙ ap (λ z. completed (at + z) limit (sets ys (place - 4) xs)) long
+      ap (takenFrom at (standing place told ys)) (sym (take-append-drop (at + (1024 - place) - at) (drop at part)))
+      ∙ last-run told xs (drop (at + (1024 - place) - at) (drop at part)) at place ys h h′ (omega arith)
+      ∙ ap (λ z. completed (at + z) told (sets ys (place - 4) xs)) long

@@ -12,10 +12,8 @@ use lib.Seq.{sets, sets-eq, length-take-le, take-suc, take-at, drop-at, drop-len
 use borrow.Author.Tests.{lt-leb, le-leb, eqb-true, eqb-false, eq-eqb, ne-eqb}
 use Rattle.bits.specs.Bits.{if_then_else_}
 use Rattle.randomiser.specs.Randomiser.{Generator}
-use Rattle.telemetry.specs.Telemetry.{telemetry}
 use Rattle.taker.specs.Stream.{marker, begins, framed, answered, Found, foundFrom, found}
-use Rattle.taker.specs.Taking.{Taker, standing, newTaker, matched, moved, whole, after, givenFrom}
-use Rattle.taker.proofs.Laws.{if-is, if-isnt, four, matched-goes, matched-anew, matched-none, moved-search, moved-hold}
+use Rattle.taker.proofs.Laws.{if-isnt, four}
 
 and-isnt : (a b : Bool) → b ≡ false → (a && b) ≡ false
 and-isnt true b e = e

@@ -6,16 +6,24 @@ ghost use lib.ListN.{length, replicate};
 ghost use lib.Seq.{sets};
 ghost use Rattle.answers.specs.Calls.{refusedCorrect};
 ghost use Rattle.codes.specs.Answers.{asCorrected};
-ghost use Rattle.taker.specs.Taking.{standing, newTaker, matched as matchedBy, waiting as waitingOf, completed as completedOf, readPlace, takeAnswer, GoesOn};
-ghost use Rattle.taker.specs.Answers.{asTaker, asTaken};
+ghost use Rattle.taker.specs.Taking.{tell, standing, freshTaker, newTaker, takerForAnswer, matched as matchedBy, waiting as waitingOf, completed as completedOf, readPlace, takeAnswer, GoesOn};
+ghost use Rattle.taker.specs.Answers.{asTaker, asMade, asTaken};
 use codes::Corrected;
 
-// A taker between two parts: its place (octets of the marker matched, or 4 and the octets held of the word), its limit, and the octets.
+// A taker between two parts: its place (octets of the marker matched, or 4 and the octets held of the word), what it was told, the octets.
 #[repr(C)]
 pub struct Taker {
     pub place: usize,
+    pub edition: u8,
     pub limit: u16,
     pub octets: [u8; 1020],
+}
+
+// A taker for an edition, and 19 where that is not known.
+#[repr(C)]
+pub struct Made {
+    pub number: u8,
+    pub taker: Taker,
 }
 
 // A call's answer: the moved taker, the octets taken, whether a word is complete, correct's numbers and the word.
@@ -138,11 +146,12 @@ fn none() -> Corrected
     }
 }
 
-fn waiting(taken: usize, place: usize, limit: u16, octets: [u8; 1020]) -> Taken
-    ensures { λ r. ⌜ asTaken r ≡ waitingOf taken (standing place limit octets) ⌝ }
+fn waiting(taken: usize, place: usize, edition: u8, limit: u16, octets: [u8; 1020]) -> Taken
+    ensures { λ r. ⌜ asTaken r ≡ waitingOf taken (standing place (tell edition limit) octets) ⌝ }
 {
     let next = Taker {
         place: place,
+        edition: edition,
         limit: limit,
         octets: octets,
     };
@@ -158,15 +167,16 @@ fn waiting(taken: usize, place: usize, limit: u16, octets: [u8; 1020]) -> Taken
 }
 
 // A whole word: derandomised, corrected and handed out.
-fn completed(taken: usize, limit: u16, octets: [u8; 1020]) -> Taken
-    ensures { λ r. ⌜ asTaken r ≡ completedOf taken limit octets ⌝ }
+fn completed(taken: usize, edition: u8, limit: u16, octets: [u8; 1020]) -> Taken
+    ensures { λ r. ⌜ asTaken r ≡ completedOf taken (tell edition limit) octets ⌝ }
 {
     let mut received = octets;
-    telemetry::randomise_word(&mut received);
+    telemetry::randomise_word(edition, &mut received);
     let mut mended = zeros();
     let corrected = codes::correct(5, &received, limit, &mut mended);
     let next = Taker {
         place: 0,
+        edition: edition,
         limit: limit,
         octets: octets,
     };
@@ -179,16 +189,41 @@ fn completed(taken: usize, limit: u16, octets: [u8; 1020]) -> Taken
     }
 }
 
+fn fresh(edition: u8, limit: u16) -> Taker
+    ensures { λ r. ⌜ asTaker r ≡ freshTaker (tell edition limit) ⌝ }
+{
+    let octets = zeros();
+    Taker {
+        place: 0,
+        edition: edition,
+        limit: limit,
+        octets: octets,
+    }
+}
+
 impl Taker {
-    // A taker at the start of a stream, under a limit.
+    // A taker at the start of a stream, under a limit, for the old sequence.
     pub fn new(limit: u16) -> Self
         ensures { λ r. ⌜ asTaker r ≡ newTaker limit ⌝ }
     {
-        let octets = zeros();
-        Self {
-            place: 0,
-            limit: limit,
-            octets: octets,
+        fresh(0, limit)
+    }
+
+    // The same for an edition: 0 where none is stated, or 1 to 5.
+    pub fn told(edition: u8, limit: u16) -> Made
+        ensures { λ r. ⌜ asMade r ≡ takerForAnswer edition limit ⌝ }
+    {
+        if edition > 5 {
+            let old = fresh(0, limit);
+            return Made {
+                number: 19,
+                taker: old,
+            };
+        }
+        let taker = fresh(edition, limit);
+        Made {
+            number: 0,
+            taker: taker,
         }
     }
 
@@ -196,22 +231,23 @@ impl Taker {
     pub fn take(self, part: &[u8]) -> Taken
         ensures { λ r. ⌜ asTaken r ≡ takeAnswer (asTaker self) (now (part .entry)) ⌝ }
     {
+        let edition = self.edition;
         let limit = self.limit;
         let mut octets = self.octets;
         let searched = search(read_place(self.place), part);
         let place = searched.place;
         let at = searched.at;
         if place < 4 {
-            return waiting(at, place, limit, octets);
+            return waiting(at, place, edition, limit, octets);
         }
         let room = 1024 - place;
         let left = part.len() - at;
         if left < room {
             hold(&mut octets, place - 4, &part[at..]);
-            return waiting(part.len(), place + left, limit, octets);
+            return waiting(part.len(), place + left, edition, limit, octets);
         }
         let end = at + room;
         hold(&mut octets, place - 4, &part[at..end]);
-        completed(end, limit, octets)
+        completed(end, edition, limit, octets)
     }
 }

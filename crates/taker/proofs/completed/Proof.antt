@@ -4,7 +4,7 @@ use mathlib.Core.Bool.{true}
 use borrow.Author.Needs.{needs}
 use Rattle.answers.specs.Calls.{correctAnswer}
 use Rattle.taker.specs.Stream.{answered}
-use Rattle.taker.specs.Taking.{standing}
+use Rattle.taker.specs.Taking.{tell, standing}
 use Rattle.taker.proofs.completed.Statement.{statement}
 use Rattle.taker.proofs.completed.Tie as tie
 
@@ -30,7 +30,7 @@ returns : tie.Need-returns
 unfolding answered
 returns c =
     let a = c .before .before .before .before .before .before .before .before .args in
-    ap (λ r. record { next = standing 0 (a .limit) (a .octets); taken = a .taken; complete = true; corrected = r })
+    ap (λ r. record { next = standing 0 (tell (a .edition) (a .limit)) (a .octets); taken = a .taken; complete = true; corrected = r })
     (c .before .correct .ensures ∙ ap₂ (λ x y. correctAnswer 5 x (a .limit) y)
     (c .before .before .before .before .before .before .randomise-word .ensures) (sym (c .before .before .before .before .zeros .ensures)))
 

@@ -21,7 +21,7 @@ abbrev μ-loop : tie.MeasureT-loop
 μ-loop place part m₀ i₀ m i = length part - i
 
 loop-holds : tie.Need-loop-holds Inv-loop μ-loop
-loop-holds c = (omega arith, c .before .pre, λ limit octets. refl)
+loop-holds c = (omega arith, c .before .pre, λ told octets. refl)
 
 returns : tie.Need-returns Inv-loop μ-loop
 returns c = let h = c .before .before .loop in ((h .inv .1, h .inv .0, λ few. absurd (omega arith)), h .inv .2)
@@ -34,7 +34,7 @@ returns-2 c =
     let h = c .before .before .before .before .loop in
     let j = c .before .jump in
     let j1 = j .ensures .0 .1 in
-    ((h .inv .1, j1, λ few. omega (arith, j1)), λ limit octets. h .inv .2 limit octets ∙ j .ensures .1 limit octets)
+    ((h .inv .1, j1, λ few. omega (arith, j1)), λ told octets. h .inv .2 told octets ∙ j .ensures .1 told octets)
 
 shared-slice-read-matched : tie.Need-shared-slice-read-matched Inv-loop μ-loop
 shared-slice-read-matched c = search needs
@@ -57,11 +57,11 @@ loop-again c =
     let few : h .m < 4 = omega arith in (
       omega arith,
       omega (arith, c .matched .ensures .1),
-      λ limit octets.
-          h .inv .2 limit octets ∙ j .ensures .1 limit octets
-          ∙ ap (takenFrom (j .result) (standing (h .m) limit octets)) (drop-cons part (j .result) 0 here)
-          ∙ search-step limit (j .result) (h .m) octets (getD part (j .result) 0) (drop (suc (j .result)) part) few
-          ∙ ap₂ (λ i m. takenFrom i (standing m limit octets) (drop i part)) (sym (add-one (j .result))) (sym (c .matched .ensures .0)),
+      λ told octets.
+          h .inv .2 told octets ∙ j .ensures .1 told octets
+          ∙ ap (takenFrom (j .result) (standing (h .m) told octets)) (drop-cons part (j .result) 0 here)
+          ∙ search-step told (j .result) (h .m) octets (getD part (j .result) 0) (drop (suc (j .result)) part) few
+          ∙ ap₂ (λ i m. takenFrom i (standing m told octets) (drop i part)) (sym (add-one (j .result))) (sym (c .matched .ensures .0)),
     )
 
 returns-3 : tie.Need-returns-3 Inv-loop μ-loop

@@ -21,7 +21,7 @@ abbrev μ-loop : tie.MeasureT-loop
 μ-loop part from i₀ i = length part - i
 
 loop-holds : tie.Need-loop-holds Inv-loop μ-loop
-loop-holds c = (omega arith, search needs, λ limit octets. refl)
+loop-holds c = (omega arith, search needs, λ told octets. refl)
 
 shared-slice-read-if1 : tie.Need-shared-slice-read-if1 Inv-loop μ-loop
 shared-slice-read-if1 c = search needs
@@ -42,11 +42,11 @@ loop-again c =
     let here : h .i < length part = omega arith in (
       omega arith,
       omega arith,
-      λ limit octets.
-          h .inv .2 limit octets
-          ∙ ap (takenFrom (h .i) (standing 0 limit octets)) (drop-cons part (h .i) 0 here)
-          ∙ search-step limit (h .i) 0 octets (getD part (h .i) 0) (drop (suc (h .i)) part) (omega arith)
-          ∙ ap₂ (λ i m. takenFrom i (standing m limit octets) (drop i part)) (sym (add-one (h .i))) (matched-none 0 (getD part (h .i) 0) (c .if1 .left) (c .if1 .left)),
+      λ told octets.
+          h .inv .2 told octets
+          ∙ ap (takenFrom (h .i) (standing 0 told octets)) (drop-cons part (h .i) 0 here)
+          ∙ search-step told (h .i) 0 octets (getD part (h .i) 0) (drop (suc (h .i)) part) (omega arith)
+          ∙ ap₂ (λ i m. takenFrom i (standing m told octets) (drop i part)) (sym (add-one (h .i))) (matched-none 0 (getD part (h .i) 0) (c .if1 .left) (c .if1 .left)),
     )
 
 returns-2 : tie.Need-returns-2 Inv-loop μ-loop

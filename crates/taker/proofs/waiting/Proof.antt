@@ -5,7 +5,7 @@ use mathlib.Core.List.{List}
 use Prim.Native.Nat.{ℕ}
 use borrow.Author.Needs.{needs}
 use Rattle.answers.specs.Calls.{Corrected}
-use Rattle.taker.specs.Taking.{standing}
+use Rattle.taker.specs.Taking.{tell, standing}
 use Rattle.taker.proofs.Laws.{withWord}
 use Rattle.taker.proofs.waiting.Statement.{statement}
 use Rattle.taker.proofs.waiting.Tie as tie
@@ -19,7 +19,7 @@ none-requires c κs = search needs
 returns : tie.Need-returns
 returns c =
     let a = c .before .before .args in
-    ap₂ (λ r word. record { next = standing (a .place) (a .limit) (a .octets); taken = a .taken; complete = false; corrected = withWord r word })
+    ap₂ (λ r word. record { next = standing (a .place) (tell (a .edition) (a .limit)) (a .octets); taken = a .taken; complete = false; corrected = withWord r word })
     (c .none .ensures) (sym (c .before .zeros .ensures))
 
 pub waiting-spec : {M : Type 1} → statement M
