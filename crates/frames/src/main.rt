@@ -1,4 +1,5 @@
 // Takes the words of code 5 out of a telemetry stream: two octets limit, then the stream to its end. Prints a line for each word.
+// The first argument is the edition; without it the old sequence stays.
 ghost use Prim.Native.Nat.{_+_, _≤_, _<_};
 ghost use lib.ListN.{length};
 ghost use Rattle.io.specs.Counts.{Counts};
@@ -114,8 +115,7 @@ fn go_on(s: Standing, part: &mut [u8]) -> Standing {
 }
 
 // Part after part.
-fn stream(limit: u16, part: &mut [u8]) {
-    let taker = Taker::new(limit);
+fn stream(taker: Taker, part: &mut [u8]) {
     let mut s = Standing {
         taker: taker,
         taken: 0,
@@ -138,16 +138,44 @@ fn limit_of(high: u8, low: u8) -> u16 {
     256 * high as u16 + low as u16
 }
 
-fn main() {
-    if !write(b"word offset answer flips first last unlike\n") {
-        return;
+// An edition is one digit; anything else is one that is not known.
+fn edition_of(text: &[u8]) -> u8 {
+    if text.len() != 1 {
+        return 255;
     }
+    let digit = text[0];
+    if digit < 48 {
+        return 255;
+    }
+    digit - 48
+}
+
+// The edition of the first argument, 0 where there is none.
+fn edition() -> u8 {
+    if os::arg_count() < 2 {
+        return 0;
+    }
+    let mut text = [0u8; 8];
+    let n = os::arg(1, &mut text);
+    edition_of(&text[..n])
+}
+
+fn main() {
     let mut head = [0u8; 2];
     let n = io::read_full(STDIN_FILENO, &mut head);
     if n < 2 {
         io::write_all(STDERR_FILENO, b"frames: no limit of two octets\n");
         return;
     }
+    let made = Taker::told(edition(), limit_of(head[0], head[1]));
+    if made.number != 0 {
+        io::write_all(STDERR_FILENO, b"frames: an edition that is not known\n");
+        return;
+    }
+    if !write(b"word offset answer flips first last unlike\n") {
+        return;
+    }
     let mut part = io::large_buffer();
-    stream(limit_of(head[0], head[1]), &mut part);
+    let taker = made.taker;
+    stream(taker, &mut part);
 }

@@ -19,9 +19,12 @@ use Rattle.answers.proofs.Corrections.{codeword-back}
 use Rattle.randomiser.specs.Randomiser.{Generator, randomised}
 use Rattle.randomiser.proofs.Randomising.{length-randomised, randomised-twice}
 use Rattle.taker.specs.Stream.{marker, begins, answered, Found, foundFrom, found}
-use Rattle.taker.specs.Taking.{matched}
+use Rattle.telemetry.specs.Telemetry.{generatorOf}
+use Rattle.taker.specs.Taking.{Told, freshTaker, matched}
 use Rattle.taker.proofs.Laws.{four, if-isnt}
 use Rattle.taker.proofs.Streams.{found-word}
+use Rattle.taker.proofs.Calls.{joined, calls, asked}
+use Rattle.taker.proofs.Same.{cut-as-found}
 
 -- a codeword of code 5
 pub record IsCodeword (word : List ℕ) : Type 0 where
@@ -64,6 +67,13 @@ module _ (g : Generator) (limit : ℕ) where
   -- the words come back, each with 0 flips, whatever the limit
   pub sent-back : (words : List (List ℕ)) → AllCodewords words → found g limit (sent g words) ≡ backFrom 0 words
   sent-back words all = sent-from words all 0
+
+-- so a taker that is told the edition hands them out, however the stream is cut
+pub cut-back : (told : Told) (words : List (List ℕ)) → AllCodewords words → (parts : List (List ℕ)) → joined parts ≡ sent (generatorOf (told .edition)) words
+    → (n : ℕ) → calls parts < n → asked n (freshTaker told) 0 [] parts ≡ backFrom 0 words
+cut-back told words all parts e n enough =
+    let g = generatorOf (told .edition) in
+    cut-as-found told parts n enough ∙ ap (found g (told .limit)) e ∙ sent-back g (told .limit) words all
 
 -- ---- a refused word is not handed out
 

@@ -7,13 +7,10 @@ use Rattle.frames.proofs.stream.Statement.{statement}
 use Rattle.frames.proofs.stream.Tie as tie
 
 abbrev Inv-loop : tie.InvT-loop
-Inv-loop limit part₀ s₀ parts₀ part s parts = (parts ≤ 0x8000000000000000) × (length part ≡ length part₀)
+Inv-loop part₀ s₀ parts₀ part s parts = (parts ≤ 0x8000000000000000) × (length part ≡ length part₀)
 
 abbrev μ-loop : tie.MeasureT-loop
-μ-loop limit part₀ s₀ parts₀ part s parts = 0x8000000000000000 - parts
-
-new-requires : tie.Need-new-requires Inv-loop μ-loop
-new-requires c κs = search needs
+μ-loop part₀ s₀ parts₀ part s parts = 0x8000000000000000 - parts
 
 loop-holds : tie.Need-loop-holds Inv-loop μ-loop
 loop-holds c = search needs
@@ -48,7 +45,6 @@ stream-spec =
     (tie.spec
     Inv-loop
     μ-loop
-    new-requires
     loop-holds
     go-on-requires
     same-length
