@@ -165,7 +165,8 @@ walked-at g (suc n) m (suc i) h =
     ∙ ap (λ z. number 8 (λ k. getD (register g z) k false)) e
 
 -- the octets of a sequence whose register holds eight bits or more
-pub walked-octets : (g : Generator) → 8 ≤ length (g .first) → (m n : ℕ) → n < m → getD (walked (g .powers) m (g .first)) n 0 ≡ sequenceOctet g n
+pub walked-octets : (g : Generator) → 8 ≤ length (g .first) → (m n : ℕ) → n < m → getD (walked (g .powers) m (g .first)) n 0
+    ≡ sequenceOctet g n
 unfolding register
 walked-octets g eight m n h =
     walked-at g m 0 n h
@@ -173,7 +174,8 @@ walked-octets g eight m n h =
     (λ k l. ap (λ z. getD (register g z) k false) (zero-add (8 * n)) ∙ register-at g (omega arith) (8 * n) k (omega arith))
 
 -- a sequence whose register is the first one again after p bits: its octets come again after p octets
-pub octet-again : (g : Generator) → 0 < length (g .first) → (p : ℕ) → register g p ≡ g .first → (n times : ℕ) → sequenceOctet g (n + times * p) ≡ sequenceOctet g n
+pub octet-again : (g : Generator) → 0 < length (g .first) → (p : ℕ) → register g p ≡ g .first → (n times : ℕ)
+    → sequenceOctet g (n + times * p) ≡ sequenceOctet g n
 octet-again g some p e n times = number-same 8 (λ k. sequence g (8 * (n + times * p) + k)) (λ k. sequence g (8 * n + k)) (λ k l.
     let w : 8 * (n + times * p) + k ≡ 8 * n + k + 8 * times * p = omega (arith, mul-assoc 8 times p) in
     ap (λ z. getD (register g z) 0 false) w ∙ ap (λ r. getD r 0 false) (again-times g some p e (8 * times) (8 * n + k)))

@@ -1,8 +1,8 @@
 // Randomising: the telecommand sequence, added to octets in place.
 ghost use mathlib.Core.Path.{_≡_};
-ghost use Prim.Native.Nat.{ℕ, _+_, _≤_, _<_};
-ghost use lib.ListN.{length, getD};
-ghost use Rattle.randomiser.specs.Randomiser.{Generator, sequenceOctet, telecommand, randomised};
+ghost use Prim.Native.Nat.{_+_, _≤_};
+ghost use lib.ListN.{length};
+ghost use Rattle.randomiser.specs.Randomiser.{telecommand, randomised, Added};
 
 // The octets of the telecommand sequence, which come again after 255; 64 more, so that a codeblock is done without a test for the end.
 const TELECOMMAND: [u8; 319] = [
@@ -330,7 +330,7 @@ const TELECOMMAND: [u8; 319] = [
 // The octets of a sequence from `from` on, added to as many octets.
 pub fn add(octets: &mut [u8], sequence: &[u8], from: usize)
     requires { ⌜ from + length (now octets) ≤ length (now sequence) ⌝ }
-    ensures { λ _. ⌜ ((g : Generator) → (used : ℕ) → ((i : ℕ) → i < length (now (octets .entry)) → getD (now (sequence .entry)) (from + i) 0 ≡ sequenceOctet g (used + i)) → now (octets .exit) ≡ randomised g used (now (octets .entry))) ⌝ }
+    ensures { λ _. ⌜ Added (now (sequence .entry)) from (now (octets .entry)) (now (octets .exit)) ⌝ }
 {
     let mut i = 0;
     while i < octets.len() {

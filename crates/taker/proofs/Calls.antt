@@ -12,7 +12,8 @@ use borrow.Author.Tests.{lt-ltb, ltb-true, ltb-false, eqb-true, eqb-false}
 use Rattle.bits.specs.Bits.{if_then_else_}
 use Rattle.answers.specs.Calls.{refusedCorrect}
 use Rattle.taker.specs.Stream.{marker, Found}
-use Rattle.taker.specs.Taking.{Taker, Taken, answeredBy, standing, matched, moved, whole, after, givenFrom, waiting, completed, takenFrom, readPlace, takeAnswer}
+use Rattle.taker.specs.Taking.{Taker, Taken, answeredBy, standing, matched, moved, whole, after, givenFrom, waiting, completed}
+use Rattle.taker.specs.Taking.{takenFrom, readPlace, takeAnswer}
 use Rattle.taker.proofs.Laws.{if-is, if-isnt, matched-le}
 
 -- the word of a call that ended so many octets into the stream
@@ -31,25 +32,29 @@ pub record Went (n : ℕ) (s : Taker) (part : List ℕ) (r : Taken) : Type 0 whe
   pub zeros : r .complete ≡ false → r .corrected ≡ refusedCorrect (replicate 1020 0) 0
   pub stands : s .place < 1024 → r .next .place < 1024
   pub told : r .next .told ≡ s .told
-  pub on : (at : ℕ) (rest : List ℕ) → givenFrom s at (part ++ rest) ≡ wordsOf r (at + k) ++ givenFrom (r .next) (at + k) (drop k part ++ rest)
+  pub on : (at : ℕ) (rest : List ℕ) → givenFrom s at (part ++ rest) ≡ wordsOf r (at + k) ++ givenFrom (r .next) (at + k)
+      (drop k part ++ rest)
 
 moved-stands : (s : Taker) (o : ℕ) → s .place < 1024 → (s .place ≡ 1023 → ⊥) → moved s o .place < 1024
 moved-stands s o h d = go (ltb (s .place) 4) refl
   where
     go : (b : Bool) → ltb (s .place) 4 ≡ b
-        → (if b then standing (matched (s .place) o) (s .told) (s .octets) else standing (suc (s .place)) (s .told) (set (s .octets) (s .place - 4) o)) .place < 1024
+        → (if b then standing (matched (s .place) o) (s .told) (s .octets) else standing (suc (s .place)) (s .told)
+        (set (s .octets) (s .place - 4) o)) .place < 1024
     go true e = omega (arith, matched-le (s .place) o (ltb-true (s .place) 4 e))
     go false e = omega arith
 
 moved-told : (s : Taker) (o : ℕ) → moved s o .told ≡ s .told
 moved-told s o = go (ltb (s .place) 4)
   where
-    go : (b : Bool) → (if b then standing (matched (s .place) o) (s .told) (s .octets) else standing (suc (s .place)) (s .told) (set (s .octets) (s .place - 4) o)) .told ≡ s .told
+    go : (b : Bool) → (if b then standing (matched (s .place) o) (s .told) (s .octets) else standing (suc (s .place)) (s .told)
+        (set (s .octets) (s .place - 4) o)) .told ≡ s .told
     go true = refl
     go false = refl
 
 -- one octet that completes no word
-moves : (n : ℕ) (s : Taker) (o : ℕ) (part : List ℕ) (r : Taken) → eqb (s .place) 1023 ≡ false → Went (suc n) (moved s o) part r → Went n s (o ∷ part) r
+moves : (n : ℕ) (s : Taker) (o : ℕ) (part : List ℕ) (r : Taken) → eqb (s .place) 1023 ≡ false → Went (suc n) (moved s o) part r
+    → Went n s (o ∷ part) r
 unfolding givenFrom
 moves n s o part r e w = record {
   k = suc (w .k);
@@ -65,12 +70,14 @@ moves n s o part r e w = record {
   on = λ at rest.
       let q : suc at + w .k ≡ at + suc (w .k) = omega arith in
       if-isnt (eqb (s .place) 1023)
-      (record { offset = suc at - 1020; corrected = answeredBy (s .told) (whole s o) } ∷ givenFrom (after s o) (suc at) (part ++ rest)) (givenFrom (moved s o) (suc at) (part ++ rest)) e
+      (record { offset = suc at - 1020; corrected = answeredBy (s .told) (whole s o) } ∷ givenFrom (after s o) (suc at) (part ++ rest))
+      (givenFrom (moved s o) (suc at) (part ++ rest)) e
       ∙ w .on (suc at) rest ∙ ap (λ z. wordsOf r z ++ givenFrom (r .next) z (drop (w .k) part ++ rest)) q;
 }
 
 -- the octet that completes one
-ends : (n : ℕ) (s : Taker) (o : ℕ) (part : List ℕ) → eqb (s .place) 1023 ≡ true → Went n s (o ∷ part) (completed (suc n) (s .told) (whole s o))
+ends : (n : ℕ) (s : Taker) (o : ℕ) (part : List ℕ) → eqb (s .place) 1023 ≡ true
+    → Went n s (o ∷ part) (completed (suc n) (s .told) (whole s o))
 unfolding givenFrom
 ends n s o part e = record {
   k = 1;
@@ -86,7 +93,8 @@ ends n s o part e = record {
   on = λ at rest.
       let q : suc at ≡ at + 1 = omega arith in
       if-is (eqb (s .place) 1023)
-      (record { offset = suc at - 1020; corrected = answeredBy (s .told) (whole s o) } ∷ givenFrom (after s o) (suc at) (part ++ rest)) (givenFrom (moved s o) (suc at) (part ++ rest)) e
+      (record { offset = suc at - 1020; corrected = answeredBy (s .told) (whole s o) } ∷ givenFrom (after s o) (suc at) (part ++ rest))
+      (givenFrom (moved s o) (suc at) (part ++ rest)) e
       ∙ ap (λ z. record { offset = z - 1020; corrected = answeredBy (s .told) (whole s o) } ∷ givenFrom (after s o) z (part ++ rest)) q;
 }
 
@@ -168,7 +176,8 @@ module _ (s : Taker) (part : List ℕ) where
   -- the call and what follows it give what the taker gives octet by octet
   pub goes-on : s .place < 1024 → (at : ℕ) (rest : List ℕ)
       → givenFrom s at (part ++ rest)
-      ≡ wordsOf (takeAnswer s part) (at + takeAnswer s part .taken) ++ givenFrom (takeAnswer s part .next) (at + takeAnswer s part .taken) (drop (takeAnswer s part .taken) part ++ rest)
+      ≡ wordsOf (takeAnswer s part) (at + takeAnswer s part .taken) ++ givenFrom (takeAnswer s part .next) (at + takeAnswer s part .taken)
+      (drop (takeAnswer s part .taken) part ++ rest)
   goes-on h at rest =
       ap (λ z. givenFrom z at (part ++ rest)) (sym (read-is s h)) ∙ took .on at rest
       ∙ ap (λ z. wordsOf (takeAnswer s part) (at + z) ++ givenFrom (takeAnswer s part .next) (at + z) (drop z part ++ rest)) (sym took-k)
@@ -194,7 +203,8 @@ asked (suc n) s at part [] =
     wordsOf r (at + r .taken) ++ (if r .complete then asked n (r .next) (at + r .taken) (drop (r .taken) part) [] else [])
 asked (suc n) s at part (more ∷ parts) =
     let r = takeAnswer s part in
-    wordsOf r (at + r .taken) ++ (if r .complete then asked n (r .next) (at + r .taken) (drop (r .taken) part) (more ∷ parts) else asked n (r .next) (at + r .taken) more parts)
+    wordsOf r (at + r .taken) ++ (if r .complete then asked n (r .next) (at + r .taken) (drop (r .taken) part) (more ∷ parts) else asked n
+    (r .next) (at + r .taken) more parts)
 
 -- More calls than octets and parts are enough.
 unfoldable pub calls : List (List ℕ) → ℕ
@@ -211,32 +221,41 @@ asked-given zero s at part parts h few = absurd (omega arith)
 asked-given (suc n) s at part [] h few =
     let r = takeAnswer s part in
     let end = at + r .taken in
-    ap (λ z. wordsOf r end ++ z) (go (r .complete) refl (λ e. asked-given n (r .next) end (drop (r .taken) part) [] (next-stands s part) (omega (arith, taken-done s part e))))
+    ap (λ z. wordsOf r end ++ z) (go (r .complete) refl (λ e. asked-given n (r .next) end (drop (r .taken) part) [] (next-stands s part)
+    (omega (arith, taken-done s part e))))
     ∙ sym (goes-on s part h at [])
   where
     go : (b : Bool) → takeAnswer s part .complete ≡ b
-        → (takeAnswer s part .complete ≡ true → asked n (takeAnswer s part .next) (at + takeAnswer s part .taken) (drop (takeAnswer s part .taken) part) []
+        → (takeAnswer s part .complete ≡ true → asked n (takeAnswer s part .next) (at + takeAnswer s part .taken)
+        (drop (takeAnswer s part .taken) part) []
         ≡ givenFrom (takeAnswer s part .next) (at + takeAnswer s part .taken) (drop (takeAnswer s part .taken) part ++ []))
         → (if b then asked n (takeAnswer s part .next) (at + takeAnswer s part .taken) (drop (takeAnswer s part .taken) part) [] else [])
         ≡ givenFrom (takeAnswer s part .next) (at + takeAnswer s part .taken) (drop (takeAnswer s part .taken) part ++ [])
     go true e again = again e
     go false e again =
-        sym (ap (λ z. givenFrom (takeAnswer s part .next) (at + takeAnswer s part .taken) (z ++ [])) (dropped part (takeAnswer s part .taken) (taken-all s part e)))
+        sym (ap (λ z. givenFrom (takeAnswer s part .next) (at + takeAnswer s part .taken) (z ++ []))
+        (dropped part (takeAnswer s part .taken) (taken-all s part e)))
 asked-given (suc n) s at part (more ∷ parts) h few =
     let r = takeAnswer s part in
     let end = at + r .taken in
-    ap (λ z. wordsOf r end ++ z) (go (r .complete) refl (λ e. asked-given n (r .next) end (drop (r .taken) part) (more ∷ parts) (next-stands s part) (omega (arith, taken-done s part e)))
+    ap (λ z. wordsOf r end ++ z) (go (r .complete) refl (λ e. asked-given n (r .next) end (drop (r .taken) part) (more ∷ parts)
+    (next-stands s part) (omega (arith, taken-done s part e)))
     (asked-given n (r .next) end more parts (next-stands s part) (omega arith)))
     ∙ sym (goes-on s part h at (more ++ joined parts))
   where
     go : (b : Bool) → takeAnswer s part .complete ≡ b
-        → (takeAnswer s part .complete ≡ true → asked n (takeAnswer s part .next) (at + takeAnswer s part .taken) (drop (takeAnswer s part .taken) part) (more ∷ parts)
-        ≡ givenFrom (takeAnswer s part .next) (at + takeAnswer s part .taken) (drop (takeAnswer s part .taken) part ++ (more ++ joined parts)))
-        → asked n (takeAnswer s part .next) (at + takeAnswer s part .taken) more parts ≡ givenFrom (takeAnswer s part .next) (at + takeAnswer s part .taken) (more ++ joined parts)
+        → (takeAnswer s part .complete ≡ true → asked n (takeAnswer s part .next) (at + takeAnswer s part .taken)
+        (drop (takeAnswer s part .taken) part) (more ∷ parts)
+        ≡ givenFrom (takeAnswer s part .next) (at + takeAnswer s part .taken)
+        (drop (takeAnswer s part .taken) part ++ (more ++ joined parts)))
+        → asked n (takeAnswer s part .next) (at + takeAnswer s part .taken) more parts
+        ≡ givenFrom (takeAnswer s part .next) (at + takeAnswer s part .taken) (more ++ joined parts)
         → (if b then asked n (takeAnswer s part .next) (at + takeAnswer s part .taken) (drop (takeAnswer s part .taken) part) (more ∷ parts)
         else asked n (takeAnswer s part .next) (at + takeAnswer s part .taken) more parts)
-        ≡ givenFrom (takeAnswer s part .next) (at + takeAnswer s part .taken) (drop (takeAnswer s part .taken) part ++ (more ++ joined parts))
+        ≡ givenFrom (takeAnswer s part .next) (at + takeAnswer s part .taken)
+        (drop (takeAnswer s part .taken) part ++ (more ++ joined parts))
     go true e again next = again e
     go false e again next =
         next
-        ∙ sym (ap (λ z. givenFrom (takeAnswer s part .next) (at + takeAnswer s part .taken) (z ++ (more ++ joined parts))) (dropped part (takeAnswer s part .taken) (taken-all s part e)))
+        ∙ sym (ap (λ z. givenFrom (takeAnswer s part .next) (at + takeAnswer s part .taken) (z ++ (more ++ joined parts)))
+        (dropped part (takeAnswer s part .taken) (taken-all s part e)))

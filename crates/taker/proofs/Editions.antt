@@ -19,17 +19,20 @@ module _ (edition limit : ℕ) where
   -- an edition that is known is told
   pub made-known : edition ≤ 5 → takerForAnswer edition limit ≡ record { number = 0; taker = freshTaker (tell edition limit) }
   unfolding takerForAnswer
-  made-known h = if-is (known edition) (record { number = 0; taker = freshTaker (tell edition limit) }) (record { number = 19; taker = newTaker limit }) (le-leb edition 5 h)
+  made-known h = if-is (known edition) (record { number = 0; taker = freshTaker (tell edition limit) })
+      (record { number = 19; taker = newTaker limit }) (le-leb edition 5 h)
 
   -- any other is 19, with a fresh state for the old sequence
   pub made-unknown : 5 < edition → takerForAnswer edition limit ≡ record { number = 19; taker = newTaker limit }
   unfolding takerForAnswer
-  made-unknown h = if-isnt (known edition) (record { number = 0; taker = freshTaker (tell edition limit) }) (record { number = 19; taker = newTaker limit }) (lt-leb edition 5 h)
+  made-unknown h = if-isnt (known edition) (record { number = 0; taker = freshTaker (tell edition limit) })
+      (record { number = 19; taker = newTaker limit }) (lt-leb edition 5 h)
 
   -- the older editions keep the old sequence
   pub older-sequence : edition ≤ 3 → generatorOf edition ≡ telemetry
   older-sequence h =
-      ap₂ (λ a b. if a || b then second else telemetry) (ne-eqb edition 4 (λ e. absurd (omega arith))) (ne-eqb edition 5 (λ e. absurd (omega arith)))
+      ap₂ (λ a b. if a || b then second else telemetry) (ne-eqb edition 4 (λ e. absurd (omega arith)))
+      (ne-eqb edition 5 (λ e. absurd (omega arith)))
 
   -- so a taker that is told one gives what one that is told none gives
   pub older-alike : edition ≤ 3 → (parts : List (List ℕ)) (n : ℕ) → calls parts < n

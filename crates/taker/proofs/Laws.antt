@@ -63,14 +63,16 @@ module _ (told : Told) where
       → takenFrom n (standing m told ys) (o ∷ rest) ≡ takenFrom (suc n) (standing (matched m o) told ys) rest
   unfolding takenFrom
   search-step n m ys o rest h =
-      if-isnt (eqb m 1023) (completed (suc n) told (set ys 1019 o)) (takenFrom (suc n) (moved (standing m told ys) o) rest) (ne-eqb m 1023 (λ e. absurd (omega arith)))
+      if-isnt (eqb m 1023) (completed (suc n) told (set ys 1019 o)) (takenFrom (suc n) (moved (standing m told ys) o) rest)
+      (ne-eqb m 1023 (λ e. absurd (omega arith)))
       ∙ ap (λ s. takenFrom (suc n) s rest) (moved-search m ys o h)
 
   pub hold-step : (n p : ℕ) (ys : List ℕ) (o : ℕ) (rest : List ℕ) → 4 ≤ p → p < 1023
       → takenFrom n (standing p told ys) (o ∷ rest) ≡ takenFrom (suc n) (standing (suc p) told (set ys (p - 4) o)) rest
   unfolding takenFrom
   hold-step n p ys o rest h h′ =
-      if-isnt (eqb p 1023) (completed (suc n) told (set ys 1019 o)) (takenFrom (suc n) (moved (standing p told ys) o) rest) (ne-eqb p 1023 (λ e. absurd (omega arith)))
+      if-isnt (eqb p 1023) (completed (suc n) told (set ys 1019 o)) (takenFrom (suc n) (moved (standing p told ys) o) rest)
+      (ne-eqb p 1023 (λ e. absurd (omega arith)))
       ∙ ap (λ s. takenFrom (suc n) s rest) (moved-hold p ys o h)
 
   pub last-step : (n p : ℕ) (ys : List ℕ) (o : ℕ) (rest : List ℕ) → p ≡ 1023
@@ -99,7 +101,8 @@ module _ (told : Told) where
   pub last-run : (xs rest : List ℕ) (n p : ℕ) (ys : List ℕ) → 4 ≤ p → p < 1024 → p + length xs ≡ 1024
       → takenFrom n (standing p told ys) (xs ++ rest) ≡ completed (n + length xs) told (sets ys (p - 4) xs)
   last-run [] rest n p ys h h′ e = absurd (omega arith)
-  last-run (o ∷ []) rest n p ys h h′ e = let q : suc n ≡ n + 1 = omega arith in last-step n p ys o rest (omega arith) ∙ ap (λ z. completed z told (set ys (p - 4) o)) q
+  last-run (o ∷ []) rest n p ys h h′ e = let q : suc n ≡ n + 1 = omega arith in last-step n p ys o rest (omega arith)
+      ∙ ap (λ z. completed z told (set ys (p - 4) o)) q
   last-run (o ∷ a ∷ xs) rest n p ys h h′ e =
       hold-step n p ys o (a ∷ xs ++ rest) h (omega arith)
       ∙ last-run (a ∷ xs) rest (suc n) (suc p) (set ys (p - 4) o) (omega arith) (omega arith) (omega arith)
@@ -110,7 +113,8 @@ module _ (told : Told) where
 pub sets-snoc : (xs ys : List ℕ) (h o : ℕ) → sets ys h (xs ++ (o ∷ [])) ≡ set (sets ys h xs) (h + length xs) o
 sets-snoc [] ys h o = ap (λ z. set ys z o) (sym (add-zero h))
 sets-snoc (x ∷ xs) ys h o =
-    sets-snoc xs (set ys h x) (suc h) o ∙ ap (λ z. set (sets (set ys h x) (suc h) xs) z o) (suc-add h (length xs) ∙ sym (add-suc h (length xs)))
+    sets-snoc xs (set ys h x) (suc h) o ∙ ap (λ z. set (sets (set ys h x) (suc h) xs) z o)
+    (suc-add h (length xs) ∙ sym (add-suc h (length xs)))
 
 -- correct's numbers with another output
 abbrev pub withWord : Corrected → List ℕ → Corrected
@@ -138,7 +142,8 @@ module _ (told : Told) (ys part : List ℕ) (place at : ℕ) (within : at ≤ le
       ap (takenFrom at (standing place told ys)) (sym (append-nil (drop at part)))
       ∙ hold-run told (drop at part) [] at place ys h (omega arith)
       ∙ ap₂ (λ a b. waiting a (standing (place + b) told (sets ys (place - 4) (drop at part)))) all e
-      ∙ ap (λ z. waiting (length part) (standing (place + (length part - at)) told (sets ys (place - 4) z))) (sym (take-all (length part - at) (drop at part) (omega arith)))
+      ∙ ap (λ z. waiting (length part) (standing (place + (length part - at)) told (sets ys (place - 4) z)))
+      (sym (take-all (length part - at) (drop at part) (omega arith)))
 
   -- what is left completes it
   pub call-completes : 4 ≤ place → place < 1024 → 1024 - place ≤ length part - at
@@ -147,7 +152,8 @@ module _ (told : Told) (ys part : List ℕ) (place at : ℕ) (within : at ≤ le
   call-completes h h′ enough =
       let m : at + (1024 - place) - at ≡ 1024 - place = omega arith in
       let xs : List ℕ = take (at + (1024 - place) - at) (drop at part) in
-      let long : length xs ≡ 1024 - place = length-take-le (at + (1024 - place) - at) (drop at part) (omega (arith, length-drop at part)) ∙ m in
+      let long : length xs ≡ 1024 - place = length-take-le (at + (1024 - place) - at) (drop at part) (omega (arith, length-drop at part))
+      ∙ m in
       ap (takenFrom at (standing place told ys)) (sym (take-append-drop (at + (1024 - place) - at) (drop at part)))
       ∙ last-run told xs (drop (at + (1024 - place) - at) (drop at part)) at place ys h h′ (omega arith)
       ∙ ap (λ z. completed (at + z) told (sets ys (place - 4) xs)) long

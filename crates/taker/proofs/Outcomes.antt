@@ -25,15 +25,18 @@ numbers r = record { number = r .number; flips = r .flips; first = r .first; las
 abbrev taker : Taker → TakerState
 taker x = record { place = x .place; edition = x .told .edition; limit = x .told .limit; octets = x .octets }
 
-pub new-outcome : (κs : Lfts 0) (a : ArgsD new.signature κs) (r₁ r₂ : ResD new.signature κs) (s₁ s₂ : AtExit (endedOf 0 new-kinds.ps new-kinds.r) κs)
+pub new-outcome : (κs : Lfts 0) (a : ArgsD new.signature κs) (r₁ r₂ : ResD new.signature κs)
+    (s₁ s₂ : AtExit (endedOf 0 new-kinds.ps new-kinds.r) κs)
     → new-reads.Post κs a r₁ s₁ → new-reads.Post κs a r₂ s₂ → r₁ ≡ r₂
 new-outcome κs a r₁ r₂ s₁ s₂ p q = ap (λ x. taker x) (p ∙ sym q)
 
-pub told-outcome : (κs : Lfts 0) (a : ArgsD told.signature κs) (r₁ r₂ : ResD told.signature κs) (s₁ s₂ : AtExit (endedOf 0 told-kinds.ps told-kinds.r) κs)
+pub told-outcome : (κs : Lfts 0) (a : ArgsD told.signature κs) (r₁ r₂ : ResD told.signature κs)
+    (s₁ s₂ : AtExit (endedOf 0 told-kinds.ps told-kinds.r) κs)
     → told-reads.Post κs a r₁ s₁ → told-reads.Post κs a r₂ s₂ → r₁ ≡ r₂
 told-outcome κs a r₁ r₂ s₁ s₂ p q = ap (λ x. record { number = x .number; taker = taker (x .taker) }) (p ∙ sym q)
 
-pub take-outcome : (κs : Lfts 1) (a : ArgsD take.signature κs) (r₁ r₂ : ResD take.signature κs) (s₁ s₂ : AtExit (endedOf 1 take-kinds.ps take-kinds.r) κs)
+pub take-outcome : (κs : Lfts 1) (a : ArgsD take.signature κs) (r₁ r₂ : ResD take.signature κs)
+    (s₁ s₂ : AtExit (endedOf 1 take-kinds.ps take-kinds.r) κs)
     → take-reads.Post κs a r₁ s₁ → take-reads.Post κs a r₂ s₂ → r₁ ≡ r₂
 take-outcome κs a r₁ r₂ s₁ s₂ p q =
     ap (λ x. record {

@@ -62,14 +62,16 @@ module _ (g : Generator) (limit : ℕ) where
   sent-from [] all at = refl
   sent-from (word ∷ words) all at =
       found-word g limit at (randomised g 0 word) (sent g words) (length-randomised g 0 word ∙ all .0 .long)
-      ∙ ap₂ (λ r rest. record { offset = at + 4; corrected = r } ∷ rest) (answered-back word (all .0)) (sent-from words (all .1) (at + 1024))
+      ∙ ap₂ (λ r rest. record { offset = at + 4; corrected = r } ∷ rest) (answered-back word (all .0))
+      (sent-from words (all .1) (at + 1024))
 
   -- the words come back, each with 0 flips, whatever the limit
   pub sent-back : (words : List (List ℕ)) → AllCodewords words → found g limit (sent g words) ≡ backFrom 0 words
   sent-back words all = sent-from words all 0
 
 -- so a taker that is told the edition hands them out, however the stream is cut
-pub cut-back : (told : Told) (words : List (List ℕ)) → AllCodewords words → (parts : List (List ℕ)) → joined parts ≡ sent (generatorOf (told .edition)) words
+pub cut-back : (told : Told) (words : List (List ℕ)) → AllCodewords words → (parts : List (List ℕ)) → joined parts
+    ≡ sent (generatorOf (told .edition)) words
     → (n : ℕ) → calls parts < n → asked n (freshTaker told) 0 [] parts ≡ backFrom 0 words
 cut-back told words all parts e n enough =
     let g = generatorOf (told .edition) in
@@ -77,7 +79,8 @@ cut-back told words all parts e n enough =
 
 -- ---- a refused word is not handed out
 
-pub refused-zeros : (g : Generator) (limit : ℕ) (octets : List ℕ) → (answered g limit octets .number ≡ 0 → ⊥) → answered g limit octets .out ≡ replicate 1020 0
+pub refused-zeros : (g : Generator) (limit : ℕ) (octets : List ℕ) → (answered g limit octets .number ≡ 0 → ⊥)
+    → answered g limit octets .out ≡ replicate 1020 0
 unfolding answered ranCorrect
 refused-zeros g limit octets =
     let out : List ℕ = replicate 1020 0 in
@@ -97,23 +100,28 @@ longest (suc k) seen = if begins (take (suc k) marker) (drop (length seen - suc 
 pub matched-longest : (m : ℕ) → m < 4 → (o : ℕ) → longest 4 (take m marker ++ (o ∷ [])) ≡ matched m o
 matched-longest =
     four (λ m. (o : ℕ) → longest 4 (take m marker ++ (o ∷ [])) ≡ matched m o)
-    (λ o. zeroth (eqb o 0x1A)) (λ o. first (eqb o 0xCF) (eqb o 0x1A)) (λ o. second (eqb o 0xFC) (eqb o 0x1A)) (λ o. third (eqb o 0x1D) (eqb o 0x1A))
+    (λ o. zeroth (eqb o 0x1A)) (λ o. first (eqb o 0xCF) (eqb o 0x1A)) (λ o. second (eqb o 0xFC) (eqb o 0x1A))
+    (λ o. third (eqb o 0x1D) (eqb o 0x1A))
   where
-    zeroth : (b : Bool) → _≡_ {A = ℕ} (if b && false then 4 else if b && false then 3 else if b && false then 2 else if b && true then 1 else 0) (if b then 1 else if b then 1 else 0)
+    zeroth : (b : Bool) → _≡_ {A = ℕ} (if b && false then 4 else if b && false then 3 else if b && false then 2 else if b && true then 1
+        else 0) (if b then 1 else if b then 1 else 0)
     zeroth true = refl
     zeroth false = refl
 
-    first : (a b : Bool) → _≡_ {A = ℕ} (if a && false then 4 else if a && false then 3 else if a && true then 2 else if b && true then 1 else 0) (if a then 2 else if b then 1 else 0)
+    first : (a b : Bool) → _≡_ {A = ℕ} (if a && false then 4 else if a && false then 3 else if a && true then 2 else if b && true then 1
+        else 0) (if a then 2 else if b then 1 else 0)
     first true b = refl
     first false true = refl
     first false false = refl
 
-    second : (a b : Bool) → _≡_ {A = ℕ} (if a && false then 4 else if a && true then 3 else if false then 2 else if b && true then 1 else 0) (if a then 3 else if b then 1 else 0)
+    second : (a b : Bool) → _≡_ {A = ℕ} (if a && false then 4 else if a && true then 3 else if false then 2 else if b && true then 1 else
+        0) (if a then 3 else if b then 1 else 0)
     second true b = refl
     second false true = refl
     second false false = refl
 
-    third : (a b : Bool) → _≡_ {A = ℕ} (if a && true then 4 else if false then 3 else if false then 2 else if b && true then 1 else 0) (if a then 4 else if b then 1 else 0)
+    third : (a b : Bool) → _≡_ {A = ℕ} (if a && true then 4 else if false then 3 else if false then 2 else if b && true then 1 else 0)
+        (if a then 4 else if b then 1 else 0)
     third true b = refl
     third false true = refl
     third false false = refl

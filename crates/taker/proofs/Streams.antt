@@ -7,7 +7,8 @@ use native.Mathlib.Nat.{add-zero, zero-add, add-suc, suc-add, lt-of-not-le}
 use native.Mathlib.Decide.{decLt}
 use native.Mathlib.Omega.{arith}
 use lib.Dec.{eqb, leb, ltb}
-use lib.ListN.{length, getD, set, take, drop, replicate, length-append, length-drop, length-take, length-replicate, take-append-drop, drop-of-length-le}
+use lib.ListN.{length, getD, set, take, drop, replicate, length-append, length-drop, length-take, length-replicate, take-append-drop}
+use lib.ListN.{drop-of-length-le}
 use lib.Seq.{sets, sets-eq, length-take-le, take-suc, take-at, drop-at, drop-length}
 use borrow.Author.Tests.{lt-leb, le-leb, eqb-true, eqb-false, eq-eqb, ne-eqb}
 use Rattle.bits.specs.Bits.{if_then_else_}
@@ -23,24 +24,30 @@ and-isnt false b e = refl
 
 module _ (g : Generator) (limit : ℕ) where
   -- octets that are not searched
-  pub found-skip : (skip at : ℕ) (octets : List ℕ) → skip ≤ length octets → foundFrom g limit skip at octets ≡ foundFrom g limit 0 (at + skip) (drop skip octets)
+  pub found-skip : (skip at : ℕ) (octets : List ℕ) → skip ≤ length octets → foundFrom g limit skip at octets
+      ≡ foundFrom g limit 0 (at + skip) (drop skip octets)
   unfolding foundFrom
   found-skip zero at octets h = ap (λ z. foundFrom g limit 0 z octets) (sym (add-zero at))
   found-skip (suc skip) at [] h = absurd (omega arith)
   found-skip (suc skip) at (o ∷ octets) h =
-      found-skip skip (suc at) octets (omega arith) ∙ ap (λ z. foundFrom g limit 0 z (drop skip octets)) (suc-add at skip ∙ sym (add-suc at skip))
+      found-skip skip (suc at) octets (omega arith) ∙ ap (λ z. foundFrom g limit 0 z (drop skip octets))
+      (suc-add at skip ∙ sym (add-suc at skip))
 
   -- an octet at which a word begins: 1023 more belong to it
   found-taken : (at o : ℕ) (rest : List ℕ) → framed (o ∷ rest) ≡ true
-      → foundFrom g limit 0 at (o ∷ rest) ≡ record { offset = at + 4; corrected = answered g limit (take 1020 (drop 4 (o ∷ rest))) } ∷ foundFrom g limit 1023 (suc at) rest
+      → foundFrom g limit 0 at (o ∷ rest) ≡ record { offset = at + 4; corrected = answered g limit (take 1020 (drop 4 (o ∷ rest))) }
+      ∷ foundFrom g limit 1023 (suc at) rest
   unfolding foundFrom
-  found-taken at o rest e = ap (λ b. if b then (record { offset = at + 4; corrected = answered g limit (take 1020 (drop 4 (o ∷ rest))) } ∷ foundFrom g limit 1023 (suc at) rest) else foundFrom g limit 0 (suc at) rest) e
+  found-taken at o rest e = ap (λ b. if b then (record { offset = at + 4; corrected = answered g limit (take 1020 (drop 4 (o ∷ rest))) }
+      ∷ foundFrom g limit 1023 (suc at) rest) else foundFrom g limit 0 (suc at) rest) e
 
   -- an octet at which no word begins
-  pub found-next : (at o : ℕ) (rest : List ℕ) → framed (o ∷ rest) ≡ false → foundFrom g limit 0 at (o ∷ rest) ≡ foundFrom g limit 0 (suc at) rest
+  pub found-next : (at o : ℕ) (rest : List ℕ) → framed (o ∷ rest) ≡ false → foundFrom g limit 0 at (o ∷ rest)
+      ≡ foundFrom g limit 0 (suc at) rest
   unfolding foundFrom
   found-next at o rest e =
-      if-isnt (framed (o ∷ rest)) (record { offset = at + 4; corrected = answered g limit (take 1020 (drop 4 (o ∷ rest))) } ∷ foundFrom g limit 1023 (suc at) rest)
+      if-isnt (framed (o ∷ rest)) (record { offset = at + 4; corrected = answered g limit (take 1020 (drop 4 (o ∷ rest))) } ∷ foundFrom g
+      limit 1023 (suc at) rest)
       (foundFrom g limit 0 (suc at) rest) e
 
   -- too few octets for a word
@@ -53,7 +60,8 @@ module _ (g : Generator) (limit : ℕ) where
 
   -- a word, and the search again from the first octet after it
   pub found-word : (at : ℕ) (word rest : List ℕ) → length word ≡ 1020
-      → foundFrom g limit 0 at (marker ++ (word ++ rest)) ≡ record { offset = at + 4; corrected = answered g limit word } ∷ foundFrom g limit 0 (at + 1024) rest
+      → foundFrom g limit 0 at (marker ++ (word ++ rest)) ≡ record { offset = at + 4; corrected = answered g limit word } ∷ foundFrom g
+      limit 0 (at + 1024) rest
   unfolding foundFrom
   found-word at word rest e =
       let whole : List ℕ = marker ++ (word ++ rest) in
@@ -68,21 +76,26 @@ module _ (g : Generator) (limit : ℕ) where
       → foundFrom g limit 0 at (take m marker ++ (o ∷ rest)) ≡ foundFrom g limit 0 (m + at) (o ∷ rest)
   unfolding foundFrom
   found-failed =
-      four (λ m. (at o : ℕ) (rest : List ℕ) → (o ≡ getD marker m 0 → ⊥) → foundFrom g limit 0 at (take m marker ++ (o ∷ rest)) ≡ foundFrom g limit 0 (m + at) (o ∷ rest))
+      four (λ m. (at o : ℕ) (rest : List ℕ) → (o ≡ getD marker m 0 → ⊥) → foundFrom g limit 0 at (take m marker ++ (o ∷ rest))
+      ≡ foundFrom g limit 0 (m + at) (o ∷ rest))
       (λ at o rest d. ap (λ z. foundFrom g limit 0 z (o ∷ rest)) (sym (zero-add at)))
       (λ at o rest d.
       let e : suc at ≡ 1 + at = omega arith in
-      found-next at 0x1A (o ∷ rest) (ap (λ z. z && begins (0xFC ∷ 0x1D ∷ []) rest && leb 1024 (length (0x1A ∷ o ∷ rest))) (ne-eqb o 0xCF d)) ∙ ap (λ z. foundFrom g limit 0 z (o ∷ rest)) e)
+      found-next at 0x1A (o ∷ rest) (ap (λ z. z && begins (0xFC ∷ 0x1D ∷ []) rest && leb 1024 (length (0x1A ∷ o ∷ rest)))
+      (ne-eqb o 0xCF d)) ∙ ap (λ z. foundFrom g limit 0 z (o ∷ rest)) e)
       (λ at o rest d.
       let e : suc (suc at) ≡ 2 + at = omega arith in
-      found-next at 0x1A (0xCF ∷ o ∷ rest) (ap (λ z. z && begins (0x1D ∷ []) rest && leb 1024 (length (0x1A ∷ 0xCF ∷ o ∷ rest))) (ne-eqb o 0xFC d)) ∙ ap (λ z. foundFrom g limit 0 z (o ∷ rest)) e)
+      found-next at 0x1A (0xCF ∷ o ∷ rest) (ap (λ z. z && begins (0x1D ∷ []) rest && leb 1024 (length (0x1A ∷ 0xCF ∷ o ∷ rest)))
+      (ne-eqb o 0xFC d)) ∙ ap (λ z. foundFrom g limit 0 z (o ∷ rest)) e)
       (λ at o rest d.
       let e : suc (suc (suc at)) ≡ 3 + at = omega arith in
-      found-next at 0x1A (0xCF ∷ 0xFC ∷ o ∷ rest) (ap (λ z. z && true && leb 1024 (length (0x1A ∷ 0xCF ∷ 0xFC ∷ o ∷ rest))) (ne-eqb o 0x1D d)) ∙ ap (λ z. foundFrom g limit 0 z (o ∷ rest)) e)
+      found-next at 0x1A (0xCF ∷ 0xFC ∷ o ∷ rest) (ap (λ z. z && true && leb 1024 (length (0x1A ∷ 0xCF ∷ 0xFC ∷ o ∷ rest)))
+      (ne-eqb o 0x1D d)) ∙ ap (λ z. foundFrom g limit 0 z (o ∷ rest)) e)
 
   -- a marker that begins inside a failed match is found
   pub found-inside : (m : ℕ) → m < 4 → (at : ℕ) (word rest : List ℕ) → length word ≡ 1020
-      → foundFrom g limit 0 at (take m marker ++ (marker ++ (word ++ rest))) ≡ record { offset = m + at + 4; corrected = answered g limit word } ∷ foundFrom g limit 0 (m + at + 1024) rest
+      → foundFrom g limit 0 at (take m marker ++ (marker ++ (word ++ rest)))
+      ≡ record { offset = m + at + 4; corrected = answered g limit word } ∷ foundFrom g limit 0 (m + at + 1024) rest
   found-inside zero h at word rest e =
       found-word at word rest e
       ∙ ap (λ z. record { offset = z + 4; corrected = answered g limit word } ∷ foundFrom g limit 0 (z + 1024) rest) (sym (zero-add at))

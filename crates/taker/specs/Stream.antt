@@ -31,6 +31,10 @@ pub record Found : Type 0 where
   pub offset : ℕ
   pub corrected : Corrected
 
+-- The word behind the marker that begins here, at octet number `at`.
+abbrev pub wordAt : Generator → ℕ → ℕ → List ℕ → Found
+wordAt g limit at octets = record { offset = at + 4; corrected = answered g limit (take 1020 (drop 4 octets)) }
+
 -- The words in the rest of a stream that begins at octet number `at`. Its first `skip` octets belong to a word already: they are
 -- not searched, and the search starts afresh at the first octet after the word. A marker that begins inside a failed match is found,
 -- since every other octet is tried as the first of a marker.
@@ -39,7 +43,7 @@ foundFrom g limit skip at [] = []
 foundFrom g limit (suc skip) at (octet ∷ rest) = foundFrom g limit skip (suc at) rest
 foundFrom g limit zero at (octet ∷ rest) =
     if framed (octet ∷ rest)
-    then (record { offset = at + 4; corrected = answered g limit (take 1020 (drop 4 (octet ∷ rest))) } ∷ foundFrom g limit 1023 (suc at) rest)
+    then (wordAt g limit at (octet ∷ rest) ∷ foundFrom g limit 1023 (suc at) rest)
     else foundFrom g limit zero (suc at) rest
 
 -- The words of a stream, in their order.

@@ -111,4 +111,5 @@ takeAnswer s part = takenFrom 0 (standing (readPlace (s .place)) (s .told) (s .o
 -- What the search ensures: a call that is at place m with i octets of a part behind it goes on as one at place m′ with i′.
 abbrev pub GoesOn : List ℕ → ℕ → ℕ → ℕ → ℕ → Type 0
 GoesOn part i m i′ m′ =
-    (told : Told) → (octets : List ℕ) → takenFrom i (standing m told octets) (drop i part) ≡ takenFrom i′ (standing m′ told octets) (drop i′ part)
+    (told : Told) → (octets : List ℕ) → takenFrom i (standing m told octets) (drop i part)
+    ≡ takenFrom i′ (standing m′ told octets) (drop i′ part)

@@ -6,7 +6,8 @@ ghost use lib.ListN.{length, replicate};
 ghost use lib.Seq.{sets};
 ghost use Rattle.answers.specs.Calls.{refusedCorrect};
 ghost use Rattle.codes.specs.Answers.{asCorrected};
-ghost use Rattle.taker.specs.Taking.{tell, standing, freshTaker, newTaker, takerForAnswer, matched as matchedBy, waiting as waitingOf, completed as completedOf, readPlace, takeAnswer, GoesOn};
+ghost use Rattle.taker.specs.Taking.{tell, standing, freshTaker, newTaker, takerForAnswer, matched as matchedBy, readPlace, GoesOn};
+ghost use Rattle.taker.specs.Taking.{waiting as waitingOf, completed as completedOf, takeAnswer};
 ghost use Rattle.taker.specs.Answers.{asTaker, asMade, asTaken};
 use codes::Corrected;
 

@@ -3,7 +3,8 @@ use mathlib.Core.Path.{_≡_, refl, sym, ap, ap₂, _∙_, subst}
 use mathlib.Core.Bool.{Bool, true, false, not, _&&_}
 use mathlib.Core.List.{List, [], _∷_, _++_}
 use Prim.Native.Nat.{ℕ, zero, suc, _+_, _-_, _*_, _/_, _%_, _^_, _≤_, _<_}
-use native.Mathlib.Nat.{add-zero, zero-add, add-suc, suc-add, add-comm, add-assoc, lt-of-not-le, div-add-mod', mod-lt, suc-mul, zero-mul, mul-comm, mul-le-mul, mul-mod-left}
+use native.Mathlib.Nat.{add-zero, zero-add, add-suc, suc-add, add-comm, add-assoc, lt-of-not-le, div-add-mod', mod-lt, suc-mul, zero-mul}
+use native.Mathlib.Nat.{mul-comm, mul-le-mul, mul-mod-left}
 use borrow.Author.Tests.{eqb-false}
 use native.Mathlib.Decide.{decLt}
 use native.Mathlib.Omega.{arith}
@@ -49,7 +50,8 @@ module _ (s : Word) where
   eval-plus [] b n = refl
   eval-plus (x ∷ a) [] n = sym (⊕-false (times x (s n) ⊕ eval s a (suc n)))
   eval-plus (x ∷ a) (y ∷ b) n =
-      ap₂ (λ p q. p ⊕ q) (times-plus x y (s n)) (eval-plus a b (suc n)) ∙ swap (times x (s n)) (times y (s n)) (eval s a (suc n)) (eval s b (suc n))
+      ap₂ (λ p q. p ⊕ q) (times-plus x y (s n)) (eval-plus a b (suc n))
+      ∙ swap (times x (s n)) (times y (s n)) (eval s a (suc n)) (eval s b (suc n))
 
   eval-scale : (x : Bool) (a : List Bool) (n : ℕ) → eval s (scale x a) n ≡ times x (eval s a n)
   eval-scale true a n = refl
@@ -81,10 +83,13 @@ module _ (s : Word) where
   eval-alike : (a b : List Bool) → T (alike a b) → (n : ℕ) → eval s a n ≡ eval s b n
   eval-alike [] [] t n = refl
   eval-alike [] (y ∷ b) t n =
-      sym (ap₂ (λ p q. p ⊕ q) (zero-times y (s n) (and-l (not y) (alike [] b) t)) (sym (eval-alike [] b (and-r (not y) (alike [] b) t) (suc n))))
-  eval-alike (x ∷ a) [] t n = ap₂ (λ p q. p ⊕ q) (zero-times x (s n) (and-l (not x) (alike a []) t)) (eval-alike a [] (and-r (not x) (alike a []) t) (suc n))
+      sym (ap₂ (λ p q. p ⊕ q) (zero-times y (s n) (and-l (not y) (alike [] b) t))
+      (sym (eval-alike [] b (and-r (not y) (alike [] b) t) (suc n))))
+  eval-alike (x ∷ a) [] t n = ap₂ (λ p q. p ⊕ q) (zero-times x (s n) (and-l (not x) (alike a []) t))
+      (eval-alike a [] (and-r (not x) (alike a []) t) (suc n))
   eval-alike (x ∷ a) (y ∷ b) t n =
-      ap₂ (λ p q. times p (s n) ⊕ q) (equal x y (and-l (not (x ⊕ y)) (alike a b) t)) (eval-alike a b (and-r (not (x ⊕ y)) (alike a b) t) (suc n))
+      ap₂ (λ p q. times p (s n) ⊕ q) (equal x y (and-l (not (x ⊕ y)) (alike a b) t))
+      (eval-alike a b (and-r (not (x ⊕ y)) (alike a b) t) (suc n))
 
   eval-mul : (b a : List Bool) (n : ℕ) → eval s (mul b a) n ≡ eval (eval s a) b n
   eval-mul [] a n = refl
@@ -115,7 +120,8 @@ eval-shift s (x ∷ a) n e =
 -- x^17 + x^14 + 1
 abbrev rule : List Bool
 rule =
-    true ∷ false ∷ false ∷ false ∷ false ∷ false ∷ false ∷ false ∷ false ∷ false ∷ false ∷ false ∷ false ∷ false ∷ true ∷ false ∷ false ∷ true ∷ []
+    true ∷ false ∷ false ∷ false ∷ false ∷ false ∷ false ∷ false ∷ false ∷ false ∷ false ∷ false ∷ false ∷ false ∷ true ∷ false ∷ false
+    ∷ true ∷ []
 
 -- Division by it, found by trial: what comes of it is tested, so nobody has to believe it.
 pub record Divided : Type 0 where
@@ -150,7 +156,8 @@ module _ (s : Word) (lags : (n : ℕ) → s (n + 17) ≡ s (n + 14) ⊕ s n) whe
   rule-none : (n : ℕ) → eval s rule n ≡ false
   rule-none n =
       let e : suc (suc (suc (suc (suc (suc (suc (suc (suc (suc (suc (suc (suc (suc n))))))))))))) ≡ n + 14 = omega arith in
-      let e′ : suc (suc (suc (suc (suc (suc (suc (suc (suc (suc (suc (suc (suc (suc (suc (suc (suc n)))))))))))))))) ≡ n + 17 = omega arith in
+      let e′ : suc (suc (suc (suc (suc (suc (suc (suc (suc (suc (suc (suc (suc (suc (suc (suc (suc n))))))))))))))))
+      ≡ n + 17 = omega arith in
       ap₂ (λ p q. s n ⊕ (s p ⊕ (s q ⊕ false))) e e′
       ∙ ap (λ z. s n ⊕ (s (n + 14) ⊕ (z ⊕ false))) (lags n)
       ∙ go (s n) (s (n + 14))
@@ -184,7 +191,8 @@ module _ (s : Word) (lags : (n : ℕ) → s (n + 17) ≡ s (n + 14) ⊕ s n) whe
   moves-on (suc k) e a t h n =
       let d = squared a in
       let t1 = alike (mul a a) (plus (d .rest) (mul (d .quotient) rule)) in
-      moves-on k (e + e) (d .rest) (and-r t1 (tested k (d .rest)) t) (moves-twice e a (d .quotient) (d .rest) (and-l t1 (tested k (d .rest)) t) h) n
+      moves-on k (e + e) (d .rest) (and-r t1 (tested k (d .rest)) t) (moves-twice e a (d .quotient) (d .rest)
+      (and-l t1 (tested k (d .rest)) t) h) n
 
   one : Moves s 1 (false ∷ true ∷ [])
   unfolding Moves
@@ -228,7 +236,8 @@ small-factor p q two few e =
     let i = p - 2 in
     let w : i + 2 ≡ p = omega arith in
     let d : 131071 % p ≡ 0 = ap (λ z. z % p) (sym e) ∙ mul-mod-left q p in
-    eqb-false (131071 % (i + 2)) 0 (not-true (eqb (131071 % (i + 2)) 0) (below-at 361 (λ k. not (eqb (131071 % (k + 2)) 0)) undivided i (omega arith)))
+    eqb-false (131071 % (i + 2)) 0 (not-true (eqb (131071 % (i + 2)) 0)
+    (below-at 361 (λ k. not (eqb (131071 % (k + 2)) 0)) undivided i (omega arith)))
     (ap (λ z. 131071 % z) w ∙ d)
 
 no-factor : (p q : ℕ) → 2 ≤ p → 2 ≤ q → q * p ≡ 131071 → ⊥
@@ -267,7 +276,8 @@ module _ (s : Word) where
       let q = 131071 / p in
       let split : r + q * p ≡ 131071 = omega (arith, div-add-mod' 131071 p) in
       let small : r < p = mod-lt 131071 some in
-      go split (decLt 0 r) (decLt 1 p) (λ l. least b r (omega arith) l (omega arith) whole (period-less p r q is (λ n. ap (λ z. s (n + z)) split ∙ whole n)) not-one)
+      go split (decLt 0 r) (decLt 1 p) (λ l. least b r (omega arith) l (omega arith) whole
+      (period-less p r q is (λ n. ap (λ z. s (n + z)) split ∙ whole n)) not-one)
     where
       go : 131071 % p + 131071 / p * p ≡ 131071 → Dec (0 < 131071 % p) → Dec (1 < p) → (0 < 131071 % p → ⊥) → ⊥
       go split (yes l) d again = again l

@@ -69,7 +69,8 @@ second-far : (n : ℕ) → sequence second (n + 1088) ≡ sequence second (n + 8
 unfolding Lags
 second-far =
     let s = sequence second in
-    lags-twice s 544 448 (lags-twice s 272 224 (lags-twice s 136 112 (lags-twice s 68 56 (lags-twice s 34 28 (lags-twice s 17 14 second-next)))))
+    lags-twice s 544 448 (lags-twice s 272 224 (lags-twice s 136 112 (lags-twice s 68 56
+    (lags-twice s 34 28 (lags-twice s 17 14 second-next)))))
 
 -- ---- octet by octet
 
@@ -77,14 +78,16 @@ pub second-octet : (k : ℕ) → sequenceOctet second (k + 136) ≡ bitXor (sequ
 second-octet k =
     same-digits 8 (sequenceOctet second (k + 136)) (bitXor (sequenceOctet second (k + 112)) (sequenceOctet second k))
     (number-lt 8 (λ i. sequence second (8 * (k + 136) + i)))
-    (xor-lt 8 (sequenceOctet second (k + 112)) (sequenceOctet second k) (number-lt 8 (λ i. sequence second (8 * (k + 112) + i))) (number-lt 8 (λ i. sequence second (8 * k + i))))
+    (xor-lt 8 (sequenceOctet second (k + 112)) (sequenceOctet second k) (number-lt 8 (λ i. sequence second (8 * (k + 112) + i)))
+    (number-lt 8 (λ i. sequence second (8 * k + i))))
     (λ i l.
     let e1 : 8 * (k + 136) + i ≡ 8 * k + i + 1088 = omega arith in
     let e2 : 8 * k + i + 896 ≡ 8 * (k + 112) + i = omega arith in
     digit-number 8 (λ i. sequence second (8 * (k + 136) + i)) i l
     ∙ ap (sequence second) e1 ∙ second-far (8 * k + i) ∙ ap (λ z. sequence second z ⊕ sequence second (8 * k + i)) e2
     ∙ sym (digit-xor 8 (sequenceOctet second (k + 112)) (sequenceOctet second k) i
-    ∙ ap₂ (λ a b. a ⊕ b) (digit-number 8 (λ i. sequence second (8 * (k + 112) + i)) i l) (digit-number 8 (λ i. sequence second (8 * k + i)) i l)))
+    ∙ ap₂ (λ a b. a ⊕ b) (digit-number 8 (λ i. sequence second (8 * (k + 112) + i)) i l)
+    (digit-number 8 (λ i. sequence second (8 * k + i)) i l)))
 
 pub start-octet : (i : ℕ) → i < 136 → getD (walked (second .powers) 136 (second .first)) i 0 ≡ sequenceOctet second i
 start-octet i h = walked-octets second second-some 136 i h

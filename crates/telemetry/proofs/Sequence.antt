@@ -20,7 +20,8 @@ unfolding telemetry
 telemetry-some = omega arith
 
 -- it starts FF 48 0E C0 9A
-pub telemetry-starts : (sequenceOctet telemetry 0 ∷ sequenceOctet telemetry 1 ∷ sequenceOctet telemetry 2 ∷ sequenceOctet telemetry 3 ∷ sequenceOctet telemetry 4 ∷ [])
+pub telemetry-starts : (sequenceOctet telemetry 0 ∷ sequenceOctet telemetry 1 ∷ sequenceOctet telemetry 2 ∷ sequenceOctet telemetry 3
+    ∷ sequenceOctet telemetry 4 ∷ [])
     ≡ 0xFF ∷ 0x48 ∷ 0x0E ∷ 0xC0 ∷ 0x9A ∷ []
 unfolding register telemetry number
 telemetry-starts = refl

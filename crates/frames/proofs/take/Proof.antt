@@ -10,7 +10,8 @@ use Rattle.taker.proofs.Calls.{taken-some, taken-within}
 use Rattle.frames.proofs.take.Statement.{statement}
 use Rattle.frames.proofs.take.Tie as tie
 
-taken-is : (s : Taker) (part : List ℕ) (taken : ℕ) → taken ≡ takeAnswer s part .taken → 0 < length part → (0 < taken) × (taken ≤ length part)
+taken-is : (s : Taker) (part : List ℕ) (taken : ℕ) → taken ≡ takeAnswer s part .taken → 0 < length part → (0 < taken)
+    × (taken ≤ length part)
 taken-is s part taken e h = (subst (λ z. 0 < z) (sym e) (taken-some s part h), subst (λ z. z ≤ length part) (sym e) (taken-within s part))
 
 take-requires : tie.Need-take-requires
@@ -22,7 +23,8 @@ wrapping-add-u64-requires c κs = search needs
 returns : tie.Need-returns
 returns c =
     let t = c .before .before .before .before .before in
-    taken-is (asTaker (t .before .before .before .args .s .taker)) (t .before .before .before .args .part .now) (t .take .result .taken) (ap (λ z. z .taken) (t .take .ensures)) (t .before .before .before .pre)
+    taken-is (asTaker (t .before .before .before .args .s .taker)) (t .before .before .before .args .part .now) (t .take .result .taken)
+    (ap (λ z. z .taken) (t .take .ensures)) (t .before .before .before .pre)
 
 wrapping-sub-u64-requires : tie.Need-wrapping-sub-u64-requires
 wrapping-sub-u64-requires c κs = search needs
@@ -36,7 +38,8 @@ wrapping-add-u64-requires-2 c κs = search needs
 returns-2 : tie.Need-returns-2
 returns-2 c =
     let t = c .before .before .before .before .before .before .before .before in
-    taken-is (asTaker (t .before .before .before .args .s .taker)) (t .before .before .before .args .part .now) (t .take .result .taken) (ap (λ z. z .taken) (t .take .ensures)) (t .before .before .before .pre)
+    taken-is (asTaker (t .before .before .before .args .s .taker)) (t .before .before .before .args .part .now) (t .take .result .taken)
+    (ap (λ z. z .taken) (t .take .ensures)) (t .before .before .before .pre)
 
 pub take-spec : {M : Type 1} → statement M
 take-spec =

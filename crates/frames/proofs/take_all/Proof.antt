@@ -37,19 +37,40 @@ add-at : tie.Need-add-at Inv-loop μ-loop
 add-at c =
     let h = c .before .before .before .before .before .before .loop in
     let part = c .before .before .before .before .before .before .before .before .args .part .now in
-    omega (arith, c .before .take .ensures .0, c .before .take .ensures .1, length-take (length part - h .at) (drop (h .at) part), length-drop (h .at) part)
+    omega (
+      arith,
+      c .before .take .ensures .0,
+      c .before .take .ensures .1,
+      length-take (length part - h .at)
+          (drop (h .at) part),
+      length-drop (h .at) part,
+    )
 
 loop-less : tie.Need-loop-less Inv-loop μ-loop
 loop-less c =
     let h = c .before .before .before .before .before .before .loop in
     let part = c .before .before .before .before .before .before .before .before .args .part .now in
-    omega (arith, c .before .take .ensures .0, c .before .take .ensures .1, length-take (length part - h .at) (drop (h .at) part), length-drop (h .at) part)
+    omega (
+      arith,
+      c .before .take .ensures .0,
+      c .before .take .ensures .1,
+      length-take (length part - h .at)
+          (drop (h .at) part),
+      length-drop (h .at) part,
+    )
 
 loop-again : tie.Need-loop-again Inv-loop μ-loop
 loop-again c =
     let h = c .before .before .before .before .before .before .loop in
     let part = c .before .before .before .before .before .before .before .before .args .part .now in
-    omega (arith, c .before .take .ensures .0, c .before .take .ensures .1, length-take (length part - h .at) (drop (h .at) part), length-drop (h .at) part)
+    omega (
+      arith,
+      c .before .take .ensures .0,
+      c .before .take .ensures .1,
+      length-take (length part - h .at)
+          (drop (h .at) part),
+      length-drop (h .at) part,
+    )
 
 returns-2 : tie.Need-returns-2 Inv-loop μ-loop
 returns-2 c = search needs

@@ -13,7 +13,8 @@ use Rattle.randomiser.proofs.add.Tie as tie
 abbrev Inv-loop : tie.InvT-loop
 Inv-loop octets₀ sequence from i₀ octets i =
     (i ≤ length octets₀) × (length octets ≡ length octets₀)
-    × ((g : Generator) → (used : ℕ) → ((j : ℕ) → j < length octets₀ → getD sequence (from + j) 0 ≡ sequenceOctet g (used + j)) → octets ≡ randomised g used (take i octets₀) ++ drop i octets₀)
+    × ((g : Generator) → (used : ℕ) → ((j : ℕ) → j < length octets₀ → getD sequence (from + j) 0 ≡ sequenceOctet g (used + j)) → octets
+    ≡ randomised g used (take i octets₀) ++ drop i octets₀)
 
 abbrev μ-loop : tie.MeasureT-loop
 μ-loop octets₀ sequence from i₀ octets i = length octets₀ - i
@@ -46,7 +47,9 @@ loop-again c =
     let a = c .before .before .before .before in (
       omega arith,
       simp length-set (h .inv .1),
-      λ g used known. randomised-more g used (a .args .octets .now) (h .octets) (h .i) (getD (a .args .sequence .now) (a .args .from + h .i) 0) (omega arith) (c .slice-known .given (h .i) .fits) (h .inv .2 g used known)
+      λ g used known. randomised-more g used (a .args .octets .now) (h .octets) (h .i)
+          (getD (a .args .sequence .now) (a .args .from + h .i) 0) (omega arith) (c .slice-known .given (h .i) .fits)
+          (h .inv .2 g used known)
           (known (h .i) (omega arith)),
     )
 

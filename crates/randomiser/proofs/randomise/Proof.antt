@@ -22,7 +22,8 @@ returns : tie.Need-returns
 unfolding number telecommand
 returns c =
     let a = c .before .before .before .before .before .before .args in
-    c .before .before .add .ensures telecommand (a .used) (λ i l. telecommand-octets (a .used % 255 + i) (omega arith) ∙ telecommand-place (a .used) i)
+    c .before .before .add .ensures telecommand (a .used) (λ i l. telecommand-octets (a .used % 255 + i) (omega arith)
+    ∙ telecommand-place (a .used) i)
 
 pub randomise-spec : {M : Type 1} → statement M
 randomise-spec = tie.close (tie.spec slice-aggregate-add add-requires same-length returns)

@@ -44,7 +44,8 @@ loop-again c =
       omega arith,
       simp length-set (h .inv .1),
       ap (λ z. set z (a .held + h .i) (getD part (h .i) 0)) (h .inv .2)
-          ∙ ap (λ z. set (sets (a .octets .now) (a .held) (take (h .i) part)) (a .held + z) (getD part (h .i) 0)) (sym (length-take-le (h .i) part (omega arith)))
+          ∙ ap (λ z. set (sets (a .octets .now) (a .held) (take (h .i) part)) (a .held + z) (getD part (h .i) 0))
+          (sym (length-take-le (h .i) part (omega arith)))
           ∙ sym (sets-snoc (take (h .i) part) (a .octets .now) (a .held) (getD part (h .i) 0))
           ∙ ap (sets (a .octets .now) (a .held)) (sym (ap (λ z. take z part) (add-one (h .i)) ∙ take-suc part (h .i) 0 here)),
     )

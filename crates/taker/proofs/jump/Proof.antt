@@ -10,8 +10,11 @@ skip-requires c κs = search needs
 
 returns : tie.Need-returns
 returns c =
-    let a = c .before .before .before .args in
-    (c .skip .ensures .0, subst (λ z. GoesOn (a .part .now) (a .from) z (c .skip .result) z) (sym (c .before .if1 .taken)) (c .skip .ensures .1))
+    let a = c .before .before .before .args in (
+      c .skip .ensures .0,
+      subst (λ z. GoesOn (a .part .now) (a .from) z (c .skip .result) z) (sym (c .before .if1 .taken))
+          (c .skip .ensures .1),
+    )
 
 returns-2 : tie.Need-returns-2
 returns-2 c = search needs

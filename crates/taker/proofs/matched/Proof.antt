@@ -19,10 +19,18 @@ returns : tie.Need-returns
 returns c = let a = c .before in (sym (ap (λ z. matched (a .args .m) z) (c .if1 .taken) ∙ matched-anew (a .args .m) (a .pre)), omega arith)
 
 returns-2 : tie.Need-returns-2
-returns-2 c = let a = c .before .before .args in (none 0 (a .m) (a .octet) (c .if2 .taken) (c .before .if1 .left) (c .before .if1 .left), omega arith)
+returns-2 c = let a = c .before .before .args in (
+  none 0 (a .m) (a .octet) (c .if2 .taken) (c .before .if1 .left)
+      (c .before .if1 .left),
+  omega arith,
+)
 
 returns-3 : tie.Need-returns-3
-returns-3 c = let a = c .before .before .before .before .args in (goes 1 (a .m) (a .octet) (c .before .if3 .taken) (c .if4 .taken), omega arith)
+returns-3 c = let a = c .before .before .before .before .args in (
+  goes 1 (a .m) (a .octet) (c .before .if3 .taken)
+      (c .if4 .taken),
+  omega arith,
+)
 
 returns-4 : tie.Need-returns-4
 returns-4 c =
@@ -30,7 +38,8 @@ returns-4 c =
     (none 1 (a .m) (a .octet) (c .before .if3 .taken) (c .if4 .left) (c .before .before .before .if1 .left), omega arith)
 
 returns-5 : tie.Need-returns-5
-returns-5 c = let a = c .before .before .before .before .before .args in (goes 2 (a .m) (a .octet) (c .before .if5 .taken) (c .if6 .taken), omega arith)
+returns-5 c = let a = c .before .before .before .before .before .args in
+    (goes 2 (a .m) (a .octet) (c .before .if5 .taken) (c .if6 .taken), omega arith)
 
 returns-6 : tie.Need-returns-6
 returns-6 c =

@@ -46,7 +46,8 @@ loop-again c =
           h .inv .2 told octets
           ∙ ap (takenFrom (h .i) (standing 0 told octets)) (drop-cons part (h .i) 0 here)
           ∙ search-step told (h .i) 0 octets (getD part (h .i) 0) (drop (suc (h .i)) part) (omega arith)
-          ∙ ap₂ (λ i m. takenFrom i (standing m told octets) (drop i part)) (sym (add-one (h .i))) (matched-none 0 (getD part (h .i) 0) (c .if1 .left) (c .if1 .left)),
+          ∙ ap₂ (λ i m. takenFrom i (standing m told octets) (drop i part)) (sym (add-one (h .i)))
+          (matched-none 0 (getD part (h .i) 0) (c .if1 .left) (c .if1 .left)),
     )
 
 returns-2 : tie.Need-returns-2 Inv-loop μ-loop

@@ -19,7 +19,13 @@ none-requires c κs = search needs
 returns : tie.Need-returns
 returns c =
     let a = c .before .before .args in
-    ap₂ (λ r word. record { next = standing (a .place) (tell (a .edition) (a .limit)) (a .octets); taken = a .taken; complete = false; corrected = withWord r word })
+    ap₂ (λ r word. record {
+      next = standing (a .place) (tell (a .edition) (a .limit))
+          (a .octets);
+      taken = a .taken;
+      complete = false;
+      corrected = withWord r word;
+    })
     (c .none .ensures) (sym (c .before .zeros .ensures))
 
 pub waiting-spec : {M : Type 1} → statement M

@@ -16,7 +16,8 @@ use Rattle.telemetry.proofs.add_first.Statement.{statement}
 use Rattle.telemetry.proofs.add_first.Tie as tie
 
 abbrev Inv-loop : tie.InvT-loop
-Inv-loop word₀ at₀ t4 word at = (at ≡ at / 255 * 255) × (at ≤ 1020) × (length word ≡ 1020) × (word ≡ randomised telemetry 0 (take at word₀) ++ drop at word₀)
+Inv-loop word₀ at₀ t4 word at = (at ≡ at / 255 * 255) × (at ≤ 1020) × (length word ≡ 1020)
+    × (word ≡ randomised telemetry 0 (take at word₀) ++ drop at word₀)
 
 abbrev μ-loop : tie.MeasureT-loop
 μ-loop word₀ at₀ t4 word at = 1020 - at
@@ -56,12 +57,14 @@ loop-again c =
     let new = c .before .before .add .last .0 in
     let m : h .at + 255 - h .at ≡ 255 = omega arith in
     let more : h .at + 255 ≤ length o = omega arith in
-    let long : length (take (h .at + 255 - h .at) (drop (h .at) (h .word))) ≤ 255 = omega (arith, length-take (h .at + 255 - h .at) (drop (h .at) (h .word))) in
+    let long : length (take (h .at + 255 - h .at) (drop (h .at) (h .word))) ≤ 255 = omega
+    (arith, length-take (h .at + 255 - h .at) (drop (h .at) (h .word))) in
     let sum : putMid (h .at) (h .at + 255 - h .at) (h .word) new ≡ randomised telemetry 0 (take (h .at + 255) o) ++ drop (h .at + 255) o =
     ap (λ z. putMid (h .at) z (h .word) new) m
     ∙ more-done telemetry o (h .word) new (h .at) 255 more (h .inv .3)
     (c .before .before .add .ensures telemetry (h .at) (λ i l.
-    let e : h .at / 255 * 255 + (0 + i) ≡ h .at + i = omega (arith, h .inv .0) in table-octet (h .at / 255) (0 + i) (omega arith) ∙ ap (sequenceOctet telemetry) e)
+    let e : h .at / 255 * 255 + (0 + i) ≡ h .at + i = omega (arith, h .inv .0) in table-octet (h .at / 255) (0 + i) (omega arith)
+    ∙ ap (sequenceOctet telemetry) e)
     ∙ ap (λ z. randomised telemetry (h .at) (take z (drop (h .at) (h .word)))) m) in (
       omega arith,
       omega arith,

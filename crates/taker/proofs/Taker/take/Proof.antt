@@ -10,7 +10,8 @@ use Rattle.taker.proofs.Laws.{call-waits, call-holds, call-completes}
 use Rattle.taker.proofs.Taker.take.Statement.{statement}
 use Rattle.taker.proofs.Taker.take.Tie as tie
 
-begun : (p place : ℕ) (told : Told) (ys part : List ℕ) → place ≡ readPlace p → takeAnswer (standing p told ys) part ≡ takenFrom 0 (standing place told ys) part
+begun : (p place : ℕ) (told : Told) (ys part : List ℕ) → place ≡ readPlace p → takeAnswer (standing p told ys) part
+    ≡ takenFrom 0 (standing place told ys) part
 unfolding takeAnswer
 begun p place told ys part e = ap (λ z. takenFrom 0 (standing z told ys) part) (sym e)
 
@@ -28,9 +29,11 @@ returns c =
     let f = c .before .before in
     let a = f .before .before .before .before .args in
     let r = f .search .result in
-    c .waiting .ensures ∙ sym (begun (a .self .place) (f .before .read-place .result) (tell (a .self .edition) (a .self .limit)) (a .self .octets) (a .part .now) (f .before .read-place .ensures .0)
+    c .waiting .ensures ∙ sym (begun (a .self .place) (f .before .read-place .result) (tell (a .self .edition) (a .self .limit))
+    (a .self .octets) (a .part .now) (f .before .read-place .ensures .0)
     ∙ f .search .ensures .1 (tell (a .self .edition) (a .self .limit)) (a .self .octets)
-    ∙ call-waits (tell (a .self .edition) (a .self .limit)) (a .self .octets) (a .part .now) (r .place) (r .at) (f .search .ensures .0 .1) (f .search .ensures .0 .2 (c .before .if1 .taken)))
+    ∙ call-waits (tell (a .self .edition) (a .self .limit)) (a .self .octets) (a .part .now) (r .place) (r .at) (f .search .ensures .0 .1)
+    (f .search .ensures .0 .2 (c .before .if1 .taken)))
 
 sub-room : tie.Need-sub-room
 sub-room c = search needs
@@ -70,10 +73,13 @@ returns-2 c =
     let a = f .before .before .before .before .args in
     let r = f .search .result in
     c .waiting2 .ensures
-    ∙ ap (λ z. waiting (length (a .part .now)) (standing (r .place + (length (a .part .now) - r .at)) (tell (a .self .edition) (a .self .limit)) z)) (c .before .before .hold .ensures)
-    ∙ sym (begun (a .self .place) (f .before .read-place .result) (tell (a .self .edition) (a .self .limit)) (a .self .octets) (a .part .now) (f .before .read-place .ensures .0)
+    ∙ ap (λ z. waiting (length (a .part .now)) (standing (r .place + (length (a .part .now) - r .at))
+    (tell (a .self .edition) (a .self .limit)) z)) (c .before .before .hold .ensures)
+    ∙ sym (begun (a .self .place) (f .before .read-place .result) (tell (a .self .edition) (a .self .limit)) (a .self .octets)
+    (a .part .now) (f .before .read-place .ensures .0)
     ∙ f .search .ensures .1 (tell (a .self .edition) (a .self .limit)) (a .self .octets)
-    ∙ call-holds (tell (a .self .edition) (a .self .limit)) (a .self .octets) (a .part .now) (r .place) (r .at) (f .search .ensures .0 .1) (c .before .before .before .before .before .before .if1 .left) (c .before .before .before .before .before .if2 .taken))
+    ∙ call-holds (tell (a .self .edition) (a .self .limit)) (a .self .octets) (a .part .now) (r .place) (r .at) (f .search .ensures .0 .1)
+    (c .before .before .before .before .before .before .if1 .left) (c .before .before .before .before .before .if2 .taken))
 
 add-end : tie.Need-add-end
 add-end c = search needs
@@ -108,9 +114,11 @@ returns-3 c =
     let r = f .search .result in
     c .completed .ensures
     ∙ ap (λ z. completed (r .at + (1024 - r .place)) (tell (a .self .edition) (a .self .limit)) z) (c .before .before .hold2 .ensures)
-    ∙ sym (begun (a .self .place) (f .before .read-place .result) (tell (a .self .edition) (a .self .limit)) (a .self .octets) (a .part .now) (f .before .read-place .ensures .0)
+    ∙ sym (begun (a .self .place) (f .before .read-place .result) (tell (a .self .edition) (a .self .limit)) (a .self .octets)
+    (a .part .now) (f .before .read-place .ensures .0)
     ∙ f .search .ensures .1 (tell (a .self .edition) (a .self .limit)) (a .self .octets)
-    ∙ call-completes (tell (a .self .edition) (a .self .limit)) (a .self .octets) (a .part .now) (r .place) (r .at) (f .search .ensures .0 .1) (c .before .before .before .before .before .before .if1 .left) (f .search .ensures .0 .0)
+    ∙ call-completes (tell (a .self .edition) (a .self .limit)) (a .self .octets) (a .part .now) (r .place) (r .at)
+    (f .search .ensures .0 .1) (c .before .before .before .before .before .before .if1 .left) (f .search .ensures .0 .0)
     (c .before .before .before .before .before .if2 .left))
 
 pub take-spec : {M : Type 1} → statement M
