@@ -34,6 +34,7 @@ fn line(index: u64, offset: u64, r: codes::Corrected) -> bool {
     put(r.first as u64);
     put(r.last as u64);
     put(r.unlike as u64);
+    put(r.lowest as u64);
     write(b"\n")
 }
 
@@ -172,7 +173,7 @@ fn main() {
         io::write_all(STDERR_FILENO, b"frames: an edition that is not known\n");
         return;
     }
-    if !write(b"word offset answer flips first last unlike\n") {
+    if !write(b"word offset answer flips first last unlike lowest\n") {
         return;
     }
     let mut part = io::large_buffer();

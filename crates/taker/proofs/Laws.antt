@@ -118,7 +118,15 @@ sets-snoc (x ∷ xs) ys h o =
 
 -- correct's numbers with another output
 abbrev pub withWord : Corrected → List ℕ → Corrected
-withWord r word = record { number = r .number; flips = r .flips; first = r .first; last = r .last; unlike = r .unlike; out = word }
+withWord r word = record {
+  number = r .number;
+  flips = r .flips;
+  first = r .first;
+  last = r .last;
+  unlike = r .unlike;
+  lowest = r .lowest;
+  out = word;
+}
 
 -- a part that is used up
 pub used-up : (n : ℕ) (s : Taker) (part : List ℕ) → takenFrom n s (drop (length part) part) ≡ waiting n s

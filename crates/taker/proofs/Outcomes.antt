@@ -20,7 +20,7 @@ use Rattle.taker.proofs.Taker.take.Reads as take-reads
 
 -- a record of numbers from the answer that it stands for
 abbrev numbers : Corrected → Numbers
-numbers r = record { number = r .number; flips = r .flips; first = r .first; last = r .last; unlike = r .unlike }
+numbers r = record { number = r .number; flips = r .flips; first = r .first; last = r .last; unlike = r .unlike; lowest = r .lowest }
 
 abbrev taker : Taker → TakerState
 taker x = record { place = x .place; edition = x .told .edition; limit = x .told .limit; octets = x .octets }

@@ -9,7 +9,7 @@ use lib.Dec.{T, eqb}
 use lib.ListN.{length, getD, take, drop, replicate, length-replicate}
 use Rattle.bits.specs.Bits.{bit, if_then_else_}
 use Rattle.bits.proofs.Octets.{Octets}
-use Rattle.rules.specs.Codes.{code, code5}
+use Rattle.rules.specs.Codes.{code, code5, checks}
 use Rattle.rules.specs.Encoding.{codeword, lifted, written}
 use Rattle.rules.specs.Flipping.{byExcess, run}
 use Rattle.answers.specs.Calls.{Corrected, judged, ranCorrect, correctAnswer}
@@ -41,9 +41,9 @@ unfoldable pub sent : Generator → List (List ℕ) → List ℕ
 sent g [] = []
 sent g (word ∷ words) = marker ++ (randomised g 0 word ++ sent g words)
 
--- Each word as it was, with 0 flips.
+-- Each word as it was, with 0 flips; no check is broken, so the lowest is their number.
 abbrev pub unchanged : List ℕ → Corrected
-unchanged word = record { number = 0; flips = 0; first = 0; last = 0; unlike = 0; out = word }
+unchanged word = record { number = 0; flips = 0; first = 0; last = 0; unlike = 0; lowest = checks (code 5); out = word }
 
 unfoldable pub backFrom : ℕ → List (List ℕ) → List Found
 backFrom at [] = []

@@ -144,6 +144,7 @@ fn none() -> Corrected
         first: 0,
         last: 0,
         unlike: 0,
+        lowest: 0,
     }
 }
 
