@@ -161,11 +161,21 @@ fn edition() -> u8 {
     edition_of(&text[..n])
 }
 
+// Why there is no limit, in one line on standard error.
+fn no_limit() {
+    let mut more = [0u8; 1];
+    if libc::read(STDIN_FILENO, &mut more) < 0 {
+        os::fail(b"frames: standard input");
+        return;
+    }
+    io::write_all(STDERR_FILENO, b"frames: no limit of two octets\n");
+}
+
 fn main() {
     let mut head = [0u8; 2];
     let n = io::read_full(STDIN_FILENO, &mut head);
     if n < 2 {
-        io::write_all(STDERR_FILENO, b"frames: no limit of two octets\n");
+        no_limit();
         return;
     }
     let made = Taker::told(edition(), limit_of(head[0], head[1]));

@@ -7,7 +7,9 @@ use native.Mathlib.Omega.{arith}
 use lib.Dec.{eqb, leb}
 use borrow.Author.Tests.{le-leb, lt-leb, ne-eqb}
 use Rattle.bits.specs.Bits.{if_then_else_}
-use Rattle.randomiser.specs.Randomiser.{Generator}
+use Rattle.bits.proofs.Octets.{Octets}
+use Rattle.randomiser.specs.Randomiser.{randomised}
+use Rattle.randomiser.proofs.Randomising.{randomised-twice}
 use Rattle.telemetry.specs.Telemetry.{telemetry, second, known, generatorOf}
 use Rattle.taker.specs.Stream.{found}
 use Rattle.taker.specs.Taking.{Made, tell, freshTaker, newTaker, takerForAnswer}
@@ -49,3 +51,8 @@ none-stated limit = refl
 -- issues 4 and 5 have the second sequence
 pub newer-sequence : (generatorOf 4 ≡ second) × (generatorOf 5 ≡ second)
 newer-sequence = (refl, refl)
+
+-- randomising twice gives the first octets back, whatever the edition
+pub twice-back : (edition : ℕ) (octets : List ℕ) → Octets octets → randomised (generatorOf edition) 0
+    (randomised (generatorOf edition) 0 octets) ≡ octets
+twice-back edition = randomised-twice (generatorOf edition) 0
