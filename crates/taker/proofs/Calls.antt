@@ -1,17 +1,17 @@
 -- Calls on the parts of a stream: however it is cut, they give the words that the taker gives octet by octet.
-use mathlib.Core.Path.{_≡_, refl, sym, ap, ap₂, _∙_, subst}
+use mathlib.Core.Path.{_≡_, refl, sym, ap, _∙_, subst}
 use mathlib.Core.Bool.{Bool, true, false}
-use mathlib.Core.List.{List, [], _∷_, _++_, append-nil, append-assoc}
+use mathlib.Core.List.{List, [], _∷_, _++_}
 use Prim.Native.Nat.{ℕ, zero, suc, _+_, _-_, _≤_, _<_}
-use native.Mathlib.Nat.{add-zero, zero-add, add-suc, suc-add, add-assoc}
+use native.Mathlib.Nat.{add-zero, zero-add}
 use native.Mathlib.Omega.{arith}
 use lib.Dec.{T, eqb, ltb}
-use lib.ListN.{length, getD, set, drop, replicate, length-drop}
+use lib.ListN.{length, set, drop, replicate, length-drop}
 use lib.Seq.{drop-length}
-use borrow.Author.Tests.{lt-ltb, ltb-true, ltb-false, eqb-true, eqb-false}
+use borrow.Author.Tests.{lt-ltb, ltb-true, eqb-false}
 use Rattle.bits.specs.Bits.{if_then_else_}
 use Rattle.answers.specs.Calls.{refusedCorrect}
-use Rattle.taker.specs.Stream.{marker, Found}
+use Rattle.taker.specs.Stream.{Found}
 use Rattle.taker.specs.Taking.{Taker, Taken, answeredBy, standing, matched, moved, whole, after, givenFrom, waiting, completed}
 use Rattle.taker.specs.Taking.{takenFrom, readPlace, takeAnswer}
 use Rattle.taker.proofs.Laws.{if-is, if-isnt, matched-le}

@@ -1,10 +1,9 @@
 -- A taker that is told an edition.
 use mathlib.Core.Path.{_≡_, refl, sym, ap, ap₂, _∙_}
-use mathlib.Core.Bool.{Bool, true, false, _||_}
+use mathlib.Core.Bool.{_||_}
 use mathlib.Core.List.{List, []}
 use Prim.Native.Nat.{ℕ, _≤_, _<_}
 use native.Mathlib.Omega.{arith}
-use lib.Dec.{eqb, leb}
 use borrow.Author.Tests.{le-leb, lt-leb, ne-eqb}
 use Rattle.bits.specs.Bits.{if_then_else_}
 use Rattle.bits.proofs.Octets.{Octets}
@@ -12,7 +11,7 @@ use Rattle.randomiser.specs.Randomiser.{randomised}
 use Rattle.randomiser.proofs.Randomising.{randomised-twice}
 use Rattle.telemetry.specs.Telemetry.{telemetry, second, known, generatorOf}
 use Rattle.taker.specs.Stream.{found}
-use Rattle.taker.specs.Taking.{Made, tell, freshTaker, newTaker, takerForAnswer}
+use Rattle.taker.specs.Taking.{tell, freshTaker, newTaker, takerForAnswer}
 use Rattle.taker.proofs.Laws.{if-is, if-isnt}
 use Rattle.taker.proofs.Calls.{joined, calls, asked}
 use Rattle.taker.proofs.Same.{cut-as-found}

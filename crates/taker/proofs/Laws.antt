@@ -1,9 +1,9 @@
 -- A call octet by octet, and by runs of octets.
-use mathlib.Core.Path.{_≡_, refl, sym, ap, ap₂, _∙_, subst}
+use mathlib.Core.Path.{_≡_, refl, sym, ap, ap₂, _∙_}
 use mathlib.Core.Bool.{Bool, true, false}
 use mathlib.Core.List.{List, [], _∷_, _++_, append-nil}
 use Prim.Native.Nat.{ℕ, zero, suc, _+_, _-_, _≤_, _<_}
-use native.Mathlib.Nat.{add-zero, add-suc, suc-add, not-suc-le-zero}
+use native.Mathlib.Nat.{add-zero, add-suc, suc-add}
 use native.Mathlib.Omega.{arith}
 use lib.Dec.{eqb, ltb}
 use lib.ListN.{length, getD, set, take, drop, length-drop, take-append-drop}
@@ -12,7 +12,7 @@ use borrow.Author.Tests.{lt-ltb, le-ltb, eq-eqb, ne-eqb}
 use Rattle.bits.specs.Bits.{if_then_else_}
 use Rattle.answers.specs.Calls.{Corrected}
 use Rattle.taker.specs.Stream.{marker}
-use Rattle.taker.specs.Taking.{Told, Taker, Taken, standing, matched, moved, waiting, completed, takenFrom, readPlace, takeAnswer}
+use Rattle.taker.specs.Taking.{Told, Taker, standing, matched, moved, waiting, completed, takenFrom}
 
 pub if-is : {A : Type 0} (b : Bool) (x y : A) → b ≡ true → (if b then x else y) ≡ x
 if-is b x y e = ap (λ z. if z then x else y) e

@@ -1,21 +1,19 @@
 -- The taker gives the words of the stream.
 use mathlib.Core.Path.{_≡_, refl, sym, ap, ap₂, _∙_, subst}
 use mathlib.Core.Bool.{Bool, true, false, _&&_}
-use mathlib.Core.List.{List, [], _∷_, _++_, append-nil, append-assoc}
+use mathlib.Core.List.{List, [], _∷_, _++_, append-nil}
 use Prim.Native.Nat.{ℕ, zero, suc, _+_, _-_, _≤_, _<_}
 use native.Mathlib.Nat.{zero-add, suc-add, lt-of-not-le}
 use native.Mathlib.Decide.{decLt}
 use native.Mathlib.Omega.{arith}
 use lib.Dec.{eqb, leb}
-use lib.ListN.{length, getD, set, take, drop, replicate, length-append, length-drop, length-take, length-replicate, take-append-drop}
-use lib.ListN.{drop-of-length-le}
-use lib.Seq.{sets, sets-eq, length-sets, length-take-le, take-suc, append-snoc, drop-length}
+use lib.ListN.{length, getD, take, drop, replicate, length-append, length-drop, length-take, length-replicate, take-append-drop}
+use lib.Seq.{sets, sets-eq, length-take-le, take-suc, append-snoc, drop-length}
 use borrow.Author.Tests.{eqb-true, eqb-false, ne-eqb}
-use Rattle.bits.specs.Bits.{if_then_else_}
 use Rattle.randomiser.specs.Randomiser.{Generator}
 use Rattle.telemetry.specs.Telemetry.{generatorOf}
-use Rattle.taker.specs.Stream.{marker, begins, Found, foundFrom, found}
-use Rattle.taker.specs.Taking.{Told, Taker, tell, standing, freshTaker, newTaker, answeredBy, matched, moved, whole, after, waiting}
+use Rattle.taker.specs.Stream.{marker, begins, foundFrom, found}
+use Rattle.taker.specs.Taking.{Told, standing, freshTaker, answeredBy, matched, moved, whole, after, waiting}
 use Rattle.taker.specs.Taking.{completed, givenFrom, takenFrom}
 use Rattle.taker.proofs.Laws.{if-isnt, matched-goes, matched-anew, matched-none, moved-search, hold-run, last-run}
 use Rattle.taker.proofs.Streams.{found-short, found-word, found-failed, found-next}

@@ -1,19 +1,17 @@
 -- The words of a stream, and those that the taker gives octet by octet: they are the same.
-use mathlib.Core.Path.{_≡_, refl, sym, ap, ap₂, _∙_, subst}
+use mathlib.Core.Path.{_≡_, refl, sym, ap, ap₂, _∙_}
 use mathlib.Core.Bool.{Bool, true, false, _&&_}
-use mathlib.Core.List.{List, [], _∷_, _++_, append-nil, append-assoc}
+use mathlib.Core.List.{List, [], _∷_, _++_}
 use Prim.Native.Nat.{ℕ, zero, suc, _+_, _-_, _≤_, _<_}
-use native.Mathlib.Nat.{add-zero, zero-add, add-suc, suc-add, lt-of-not-le}
-use native.Mathlib.Decide.{decLt}
+use native.Mathlib.Nat.{add-zero, zero-add, add-suc, suc-add}
 use native.Mathlib.Omega.{arith}
-use lib.Dec.{eqb, leb, ltb}
-use lib.ListN.{length, getD, set, take, drop, replicate, length-append, length-drop, length-take, length-replicate, take-append-drop}
-use lib.ListN.{drop-of-length-le}
-use lib.Seq.{sets, sets-eq, length-take-le, take-suc, take-at, drop-at, drop-length}
-use borrow.Author.Tests.{lt-leb, le-leb, eqb-true, eqb-false, eq-eqb, ne-eqb}
+use lib.Dec.{leb}
+use lib.ListN.{length, getD, take, drop, length-append}
+use lib.Seq.{take-at, drop-at}
+use borrow.Author.Tests.{lt-leb, le-leb, ne-eqb}
 use Rattle.bits.specs.Bits.{if_then_else_}
 use Rattle.randomiser.specs.Randomiser.{Generator}
-use Rattle.taker.specs.Stream.{marker, begins, framed, answered, Found, foundFrom, found}
+use Rattle.taker.specs.Stream.{marker, begins, framed, answered, foundFrom, found}
 use Rattle.taker.proofs.Laws.{if-isnt, four}
 
 and-isnt : (a b : Bool) → b ≡ false → (a && b) ≡ false

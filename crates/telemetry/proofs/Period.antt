@@ -1,15 +1,15 @@
 -- The second sequence comes again after 131,071 bits, and after no fewer: from its rule, by powers of x.
 use mathlib.Core.Path.{_≡_, refl, sym, ap, ap₂, _∙_, subst}
 use mathlib.Core.Bool.{Bool, true, false, not, _&&_}
-use mathlib.Core.List.{List, [], _∷_, _++_}
+use mathlib.Core.List.{List, [], _∷_}
 use Prim.Native.Nat.{ℕ, zero, suc, _+_, _-_, _*_, _/_, _%_, _^_, _≤_, _<_}
-use native.Mathlib.Nat.{add-zero, zero-add, add-suc, suc-add, add-comm, add-assoc, lt-of-not-le, div-add-mod', mod-lt, suc-mul, zero-mul}
+use native.Mathlib.Nat.{suc-add, add-assoc, lt-of-not-le, div-add-mod', mod-lt, suc-mul, zero-mul}
 use native.Mathlib.Nat.{mul-comm, mul-le-mul, mul-mod-left}
 use borrow.Author.Tests.{eqb-false}
 use native.Mathlib.Decide.{decLt}
 use native.Mathlib.Omega.{arith}
 use lib.Dec.{T, eqb}
-use lib.ListN.{length, getD, take}
+use lib.ListN.{getD, take}
 use Rattle.bits.specs.Bits.{Word, below, _⊕_}
 use Rattle.bits.proofs.Sums.{⊕-assoc, ⊕-comm, ⊕-self, ⊕-false, and-l, and-r, not-true, below-at}
 use Rattle.randomiser.specs.Randomiser.{register, sequence}

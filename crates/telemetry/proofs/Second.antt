@@ -1,21 +1,21 @@
 -- The second sequence.
-use mathlib.Core.Path.{_≡_, refl, sym, ap, ap₂, _∙_, subst}
-use mathlib.Core.Bool.{Bool, true, false, not, _&&_}
-use mathlib.Core.List.{List, [], _∷_, _++_}
-use Prim.Native.Nat.{ℕ, zero, suc, _+_, _-_, _*_, _/_, _%_, _^_, _≤_, _<_}
-use native.Mathlib.Nat.{add-zero, zero-add, add-suc, suc-add, add-comm, add-assoc, lt-of-not-le}
+use mathlib.Core.Path.{_≡_, refl, sym, ap, ap₂, _∙_}
+use mathlib.Core.Bool.{Bool, true, false}
+use mathlib.Core.List.{List, [], _∷_}
+use Prim.Native.Nat.{ℕ, _+_, _-_, _*_, _≤_, _<_}
+use native.Mathlib.Nat.{add-zero, lt-of-not-le}
 use native.Mathlib.Decide.{decLt}
 use native.Mathlib.Omega.{arith}
 use lib.Bits.{bitXor, xor-lt}
-use lib.Dec.{T, eqb}
+use lib.Dec.{T}
 use lib.ListN.{length, getD, set}
 use lib.Seq.{getD-set-same, getD-set-other}
-use Rattle.bits.specs.Bits.{Word, number, digit, _⊕_}
-use Rattle.bits.proofs.Sums.{⊕-assoc, ⊕-comm, ⊕-self, ⊕-false}
+use Rattle.bits.specs.Bits.{Word, number, _⊕_}
+use Rattle.bits.proofs.Sums.{⊕-false}
 use Rattle.bits.proofs.Octets.{digit-number, number-lt}
 use Rattle.vectors.proofs.Places.{digit-xor, same-digits}
-use Rattle.randomiser.specs.Randomiser.{Generator, register, sequence, sequenceOctet}
-use Rattle.randomiser.proofs.Sequences.{within, walked, walked-octets, sequence-next, sequence-first, number-same}
+use Rattle.randomiser.specs.Randomiser.{register, sequence, sequenceOctet}
+use Rattle.randomiser.proofs.Sequences.{within, walked, walked-octets, sequence-next}
 use Rattle.telemetry.specs.Telemetry.{second, Begins}
 
 pub second-within : T (within (second .powers) (length (second .first)))

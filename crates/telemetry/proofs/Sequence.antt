@@ -1,13 +1,13 @@
 -- The telemetry sequence.
 use mathlib.Core.Path.{_≡_, refl, sym, ap, _∙_}
 use mathlib.Core.Bool.{false}
-use mathlib.Core.List.{List, [], _∷_, _++_}
+use mathlib.Core.List.{[], _∷_}
 use Prim.Native.Nat.{ℕ, _+_, _*_, _≤_, _<_}
 use native.Mathlib.Omega.{arith}
 use lib.Dec.{T}
-use lib.ListN.{length, getD, take, drop}
+use lib.ListN.{length, getD}
 use Rattle.bits.specs.Bits.{number}
-use Rattle.randomiser.specs.Randomiser.{Generator, register, sequence, sequenceOctet, randomised}
+use Rattle.randomiser.specs.Randomiser.{register, sequence, sequenceOctet}
 use Rattle.randomiser.proofs.Sequences.{within, walked, walked-octets, octet-again, comes-again}
 use Rattle.telemetry.specs.Telemetry.{telemetry}
 

@@ -1,6 +1,6 @@
 -- `frames::stream`: part after part. Assumes the kit's contracts of reading and writing.
 use mathlib.Core.Path.{_≡_}
-use Prim.Native.Nat.{ℕ, _-_, _≤_}
+use Prim.Native.Nat.{_-_, _≤_}
 use lib.ListN.{length}
 use borrow.Author.Needs.{needs}
 use Rattle.frames.proofs.stream.Statement.{statement}

@@ -1,5 +1,5 @@
 -- `frames::take_all`: each call leaves less of the part. Assumes the kit's contracts of reading and writing.
-use Prim.Native.Nat.{ℕ, _-_, _≤_}
+use Prim.Native.Nat.{_-_, _≤_}
 use native.Mathlib.Omega.{arith}
 use lib.ListN.{length, take, drop, length-take, length-drop}
 use borrow.Author.Needs.{needs}

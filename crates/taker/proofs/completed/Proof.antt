@@ -1,5 +1,5 @@
 -- `taker::completed`: derandomised, corrected into zeros, handed out. Assumes nothing.
-use mathlib.Core.Path.{_≡_, refl, sym, ap, ap₂, _∙_}
+use mathlib.Core.Path.{sym, ap, ap₂, _∙_}
 use mathlib.Core.Bool.{true}
 use borrow.Author.Needs.{needs}
 use Rattle.answers.specs.Calls.{correctAnswer}

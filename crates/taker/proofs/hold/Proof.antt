@@ -1,13 +1,11 @@
 -- `taker::hold`: the octets so far are in their places. Assumes nothing.
-use mathlib.Core.Path.{_≡_, refl, sym, ap, ap₂, _∙_}
-use mathlib.Core.List.{List, [], _∷_, _++_}
-use Prim.Native.Nat.{ℕ, suc, _+_, _-_, _≤_, _<_}
+use mathlib.Core.Path.{_≡_, refl, sym, ap, _∙_}
+use Prim.Native.Nat.{_+_, _-_, _≤_, _<_}
 use native.Mathlib.Numerals.{add-one}
 use native.Mathlib.Omega.{arith}
 use lib.ListN.{length, getD, take, set, length-set}
-use lib.Seq.{sets, length-sets, take-suc, take-length, length-take-le}
+use lib.Seq.{sets, take-suc, take-length, length-take-le}
 use Rattle.taker.proofs.Laws.{sets-snoc}
-use borrow.Author.Needs.{needs}
 use Rattle.taker.proofs.hold.Statement.{statement}
 use Rattle.taker.proofs.hold.Tie as tie
 

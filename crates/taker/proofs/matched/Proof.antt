@@ -1,5 +1,5 @@
 -- `taker::matched`: the marker's next octet, or its first, or none. Assumes nothing.
-use mathlib.Core.Path.{_≡_, sym, ap, ap₂, _∙_, subst}
+use mathlib.Core.Path.{_≡_, sym, ap, _∙_}
 use native.Mathlib.Omega.{arith}
 use Prim.Native.Nat.{ℕ, suc}
 use lib.ListN.{getD}

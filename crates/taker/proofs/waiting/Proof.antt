@@ -1,10 +1,7 @@
 -- `taker::waiting`: zeros beside the taker. Assumes nothing.
 use mathlib.Core.Path.{sym, ap₂}
 use mathlib.Core.Bool.{false}
-use mathlib.Core.List.{List}
-use Prim.Native.Nat.{ℕ}
 use borrow.Author.Needs.{needs}
-use Rattle.answers.specs.Calls.{Corrected}
 use Rattle.taker.specs.Taking.{tell, standing}
 use Rattle.taker.proofs.Laws.{withWord}
 use Rattle.taker.proofs.waiting.Statement.{statement}

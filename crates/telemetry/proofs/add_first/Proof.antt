@@ -1,7 +1,7 @@
 -- `telemetry::add_first`: what is done so far is randomised, and the rest is as it was. Assumes nothing.
-use mathlib.Core.Path.{_≡_, refl, sym, ap, ap₂, _∙_}
-use mathlib.Core.List.{List, _++_, append-nil}
-use Prim.Native.Nat.{ℕ, _≤_, _<_, _-_, _+_, _*_, _/_}
+use mathlib.Core.Path.{_≡_, refl, ap, ap₂, _∙_}
+use mathlib.Core.List.{_++_, append-nil}
+use Prim.Native.Nat.{_≤_, _-_, _+_, _*_, _/_}
 use native.Mathlib.Omega.{arith}
 use lib.ListN.{length, take, drop, length-take}
 use lib.Seq.{take-length, drop-length}

@@ -1,13 +1,11 @@
 -- `telemetry::add_second`: the sequence worked out, then added. Assumes nothing.
-use mathlib.Core.Path.{_≡_, refl, sym, ap, _∙_}
-use Prim.Native.Nat.{ℕ, _+_}
+use mathlib.Core.Path.{_≡_, sym, ap, _∙_}
+use Prim.Native.Nat.{_+_}
 use native.Mathlib.Omega.{arith}
-use native.Mathlib.Nat.{zero-add}
 use lib.ListN.{length, getD}
 use lib.Seq.{getD-take}
 use borrow.Author.Needs.{needs}
 use Rattle.bits.specs.Bits.{number}
-use Rattle.randomiser.specs.Randomiser.{sequenceOctet}
 use Rattle.telemetry.specs.Telemetry.{second}
 use Rattle.telemetry.proofs.Second.{start-octet}
 use Rattle.telemetry.proofs.add_second.Statement.{statement}

@@ -1,10 +1,8 @@
 -- `telemetry::extend`: each octet is the sum of two before it. Assumes nothing.
-use mathlib.Core.Path.{_≡_, refl, sym, ap, ap₂, _∙_}
-use mathlib.Core.List.{List}
-use Prim.Native.Nat.{ℕ, _+_, _-_, _≤_, _<_}
+use mathlib.Core.Path.{_≡_, refl}
+use Prim.Native.Nat.{_-_, _≤_}
 use native.Mathlib.Omega.{arith}
-use lib.Bits.{bitXor}
-use lib.ListN.{length, getD, set, length-set}
+use lib.ListN.{length, length-set}
 use Rattle.telemetry.specs.Telemetry.{Begins}
 use Rattle.telemetry.proofs.Second.{one-more}
 use Rattle.telemetry.proofs.extend.Statement.{statement}

@@ -1,5 +1,5 @@
 -- `telemetry::randomise_word`: the edition's sequence is added. Assumes nothing.
-use mathlib.Core.Path.{_≡_, sym, ap, _∙_}
+use mathlib.Core.Path.{sym, ap, _∙_}
 use borrow.Author.Needs.{needs}
 use Rattle.bits.specs.Bits.{if_then_else_}
 use Rattle.randomiser.specs.Randomiser.{randomised}

@@ -1,5 +1,5 @@
 -- `taker::Taker::told`: an edition that is known, or 19. Assumes nothing.
-use mathlib.Core.Path.{_≡_, sym, ap, _∙_}
+use mathlib.Core.Path.{sym, ap, _∙_}
 use borrow.Author.Needs.{needs}
 use Rattle.taker.proofs.Editions.{made-known, made-unknown}
 use Rattle.taker.proofs.Taker.told.Statement.{statement}
