@@ -1,5 +1,6 @@
 // The reason behind each line of the bench log. Reads what wordbench reads: one octet code, two octets limit, then words to the end.
-// Under a word's line stand its flips, with bit, excess and broken checks left, and for refusal 5 the bit of greatest excess.
+// Under a word's line stand its flips, with bit, excess and broken checks left, for refusal 5 the bit of greatest excess, and for a
+// refused word of code 1 the codeword that is nearest.
 ghost use mathlib.Core.Path.{_≡_};
 ghost use Prim.Native.Nat.{_≤_};
 ghost use lib.ListN.{length};
@@ -92,10 +93,45 @@ fn put_reason(a: lists::Listed) -> bool {
     put_end()
 }
 
+fn put_bit(n: u32) {
+    put(n as u64);
+}
+
+// How many flips lead to the nearest codeword, and their bits.
+fn put_reached(r: nearest::Reached) -> bool {
+    let bits = r.bits;
+    io::write_all(STDOUT_FILENO, b"  nearest");
+    put(r.least as u64);
+    if r.least > 0 {
+        put_bit(bits[0]);
+    }
+    if r.least > 1 {
+        put_bit(bits[1]);
+    }
+    if r.least > 2 {
+        put_bit(bits[2]);
+    }
+    put_end()
+}
+
+// For a word of code 1 whose run stuck or came to its limit: the nearest codeword within three flips, or that there is none.
+fn put_nearest(code: u8, word: &[u8], a: lists::Listed) -> bool {
+    if code != 1 || a.number < 5 || a.number > 6 {
+        return true;
+    }
+    let mut out = [0u8; 16];
+    let r = nearest::nearest(word, 3, &mut out);
+    if r.number == 0 {
+        return put_reached(r);
+    }
+    io::write_all(STDOUT_FILENO, b"  nearest none");
+    put_end()
+}
+
 // A word's line, its flips and the reason: whether they are written.
 fn explain(index: u64, code: u8, limit: u16, word: &[u8]) -> bool {
     let l = lists::gather(code, word, limit, PLACES);
-    put_line(index, l.answer) && put_flips(l) && put_reason(l.answer)
+    put_line(index, l.answer) && put_flips(l) && put_reason(l.answer) && put_nearest(code, word, l.answer)
 }
 
 // Word after word; the last may be short, and is refused.
