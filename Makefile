@@ -28,4 +28,3 @@ compare: lib
 
 bench: lib
 	outside/bench
-	outside/units_bench

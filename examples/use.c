@@ -58,6 +58,13 @@ int main(void)
            corrected.last, corrected.unlike);
     print_octets("corrected", out, WORD);
 
+    /* The run's flips, one by one. */
+    pandoricchia_fliprecord table[LIMIT];
+    pandoricchia_listed listed = pandoricchia_list(CODE, word, WORD, LIMIT, table, LIMIT);
+    demand_done("list", listed.number);
+    for (uint32_t k = 0; k < listed.flips; k++)
+        printf("list: bit %u, of excess %d, leaves %u\n", table[k].bit, table[k].excess, table[k].left);
+
     /* The same by plain search: which codeword of code 1 is nearest. */
     pandoricchia_reached reached = pandoricchia_nearest(word, WORD, 3, out, WORD);
     demand_done("nearest", reached.number);

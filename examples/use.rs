@@ -55,6 +55,14 @@ fn main() {
     println!(", {} bits unlike", corrected.unlike);
     print_octets("corrected", &out);
 
+    // The run's flips, one by one.
+    let mut table = [pandoricchia::FlipRecord::default(); LIMIT as usize];
+    let listed = pandoricchia::list(CODE, &word, LIMIT, &mut table);
+    demand_done("list", listed.number);
+    for record in &table[..listed.flips as usize] {
+        println!("list: bit {}, of excess {}, leaves {}", record.bit, record.excess, record.left);
+    }
+
     // The same by plain search: which codeword of code 1 is nearest.
     let reached = pandoricchia::nearest(&word, 3, &mut out);
     demand_done("nearest", reached.number);

@@ -15,7 +15,8 @@
  *
  * A pointer whose length is 0 may be NULL: nothing is read or written through it. Octets may lie at any address.
  * The library keeps no state and allocates nothing: calls may run in any threads at once, each on its own output.
- * A call takes less than PANDORICCHIA_STACK_OCTETS of stack. The archive asks for memcpy and memset, and nothing else.
+ * A call takes less than PANDORICCHIA_STACK_OCTETS of stack, list less than PANDORICCHIA_LIST_STACK_OCTETS. The archive asks
+ * for memcpy and memset, and nothing else.
  */
 #ifndef PANDORICCHIA_H
 #define PANDORICCHIA_H
@@ -28,7 +29,7 @@
 extern "C" {
 #endif
 
-#define PANDORICCHIA_VERSION "0.5.0"
+#define PANDORICCHIA_VERSION "0.6.0"
 
 /* The table above; for a code number that is not known until the program runs there are two calls below. */
 #define PANDORICCHIA_WORD_OCTETS_1 16
@@ -48,20 +49,23 @@ extern "C" {
 
 /* Measured by outside/boundary.c, not proved: encode takes some 5,400 octets, correct and step 2,500, check and open 1,900. */
 #define PANDORICCHIA_STACK_OCTETS 8192
+#define PANDORICCHIA_LIST_STACK_OCTETS 65536
 
 /* The number that each call returns. The lowest that applies is given, except that 5 to 8 come in the order of the run, and 18
- * before 17. A call that returns any other number than PANDORICCHIA_DONE is refused and has written nothing. */
+ * before 17. A call that returns any other number than PANDORICCHIA_DONE is refused and has written nothing, but for list,
+ * which writes its records with 5 to 8 too. */
 enum pandoricchia_number {
     PANDORICCHIA_DONE = 0,           /* done; the output, if there is one, is written whole */
     PANDORICCHIA_CODE = 1,           /* the code is not offered by this call */
     PANDORICCHIA_INPUT_LENGTH = 2,   /* the input's length differs from the table above */
     PANDORICCHIA_OUTPUT_LENGTH = 3,  /* encode, correct, step, nearest: the output's length differs */
     PANDORICCHIA_LAST_SIX = 4,       /* encode, code 4: one of the six last bits is set */
-    PANDORICCHIA_STUCK = 5,          /* correct, step: checks are broken, and no bit has an excess above 0 */
-    PANDORICCHIA_LIMIT = 6,          /* correct: the limit is reached */
+    PANDORICCHIA_STUCK = 5,          /* correct, list, step: checks are broken, and no bit has an excess above 0 */
+    PANDORICCHIA_LIMIT = 6,          /* correct, list: the limit is reached */
     PANDORICCHIA_UNSENT = 7,         /* never given: no run sets a bit that is not sent */
-    PANDORICCHIA_PARITY = 8,         /* correct, codes 4 and 5: quiet, but the parity is not the encoder's */
+    PANDORICCHIA_PARITY = 8,         /* correct, list, codes 4 and 5: quiet, but the parity is not the encoder's */
     PANDORICCHIA_BROKEN = 9,         /* open: a check is broken */
+    PANDORICCHIA_PLACES = 10,        /* list: the run has more flips than the table has places */
     PANDORICCHIA_NO_START = 11,      /* reader: the whole start sequence is not there */
     PANDORICCHIA_NO_TAIL = 12,       /* reader: what follows is not one or more whole codeblocks and the tail */
     PANDORICCHIA_NO_BCH_WORD = 13,   /* bch_check: no codeword differs in at most one bit; detect-only: the word is none */
@@ -99,6 +103,8 @@ static inline const char *pandoricchia_text(uint8_t number)
         return "quiet, parity not the encoder's";
     case PANDORICCHIA_BROKEN:
         return "a check is broken";
+    case PANDORICCHIA_PLACES:
+        return "more flips than the table has places";
     case PANDORICCHIA_NO_START:
         return "the whole start is not there";
     case PANDORICCHIA_NO_TAIL:
@@ -171,6 +177,29 @@ typedef struct pandoricchia_corrected {
  * lowest. */
 pandoricchia_corrected pandoricchia_correct(uint8_t code, const uint8_t *word, size_t word_len, uint16_t limit,
                                             uint8_t *out, size_t out_len);
+
+typedef struct pandoricchia_fliprecord {
+    uint32_t bit;   /* the bit that was flipped; of code 5 in the run's numbering, 18 to 8175 */
+    int8_t excess;  /* its excess, 1 to 5 */
+    uint32_t left;  /* broken checks after the flip */
+} pandoricchia_fliprecord;
+
+typedef struct pandoricchia_listed {
+    uint8_t number;  /* 0 to 2, 5 to 8 or 10 */
+    uint32_t flips;  /* from here to lowest as correct gives them */
+    uint32_t first;
+    uint32_t last;
+    uint32_t unlike;
+    uint32_t lowest;
+    uint32_t bit;    /* refusal 5: the lowest bit of greatest excess, of those that may be flipped; else 0 */
+    int8_t excess;   /* refusal 5: that excess, 0 or below; else 0 */
+} pandoricchia_listed;
+
+/* List: correct's run, with a record for each flip in the table, on 0 and on 5 to 8 alike; records past the list stay as they
+ * were. table_len counts records. Refusals 1, 2 and 10 return all other values as 0 and write no record. A table of as many
+ * places as the limit, or as there are broken checks (half of them in codes 4 and 5), is never refused by 10. */
+pandoricchia_listed pandoricchia_list(uint8_t code, const uint8_t *word, size_t word_len, uint16_t limit,
+                                      pandoricchia_fliprecord *table, size_t table_len);
 
 typedef struct pandoricchia_stepped {
     uint8_t number;  /* 0 to 3 or 5 */

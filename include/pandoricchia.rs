@@ -7,7 +7,7 @@
 //!
 //! and `rustc -L target/staticlib -l static=pandoricchia`.
 
-pub const VERSION: &str = "0.5.0";
+pub const VERSION: &str = "0.6.0";
 
 /// Octets of a word and of its information, by code number; there is no code 0.
 pub const WORD_OCTETS: [usize; 6] = [0, 16, 32, 64, 1022, 1020];
@@ -23,6 +23,7 @@ pub const LIMIT: u8 = 6;
 pub const UNSENT: u8 = 7;
 pub const PARITY: u8 = 8;
 pub const BROKEN: u8 = 9;
+pub const PLACES: u8 = 10;
 pub const NO_START: u8 = 11;
 pub const NO_TAIL: u8 = 12;
 pub const NO_BCH_WORD: u8 = 13;
@@ -60,6 +61,28 @@ pub struct Corrected {
     pub last: u32,
     pub unlike: u32,
     pub lowest: u32,
+}
+
+/// A flip of the run: its bit (of code 5 in the run's numbering), its excess, and the broken checks left after it.
+#[repr(C)]
+#[derive(Clone, Copy, Debug, Default, PartialEq, Eq)]
+pub struct FlipRecord {
+    pub bit: u32,
+    pub excess: i8,
+    pub left: u32,
+}
+
+#[repr(C)]
+#[derive(Clone, Copy, Debug, PartialEq, Eq)]
+pub struct Listed {
+    pub number: u8,
+    pub flips: u32,
+    pub first: u32,
+    pub last: u32,
+    pub unlike: u32,
+    pub lowest: u32,
+    pub bit: u32,
+    pub excess: i8,
 }
 
 #[repr(C)]
@@ -118,6 +141,7 @@ extern "C" {
     fn pandoricchia_check(code: u8, word: *const u8, word_len: usize) -> Checked;
     fn pandoricchia_open(code: u8, word: *const u8, word_len: usize) -> Opened;
     fn pandoricchia_correct(code: u8, word: *const u8, word_len: usize, limit: u16, out: *mut u8, out_len: usize) -> Corrected;
+    fn pandoricchia_list(code: u8, word: *const u8, word_len: usize, limit: u16, table: *mut FlipRecord, table_len: usize) -> Listed;
     fn pandoricchia_step(code: u8, word: *const u8, word_len: usize, out: *mut u8, out_len: usize) -> Stepped;
     fn pandoricchia_nearest(word: *const u8, word_len: usize, reach: u8, out: *mut u8, out_len: usize) -> Reached;
     fn pandoricchia_unit_octets(code: u8, information_len: usize) -> usize;
@@ -149,6 +173,7 @@ pub fn text(number: u8) -> &'static str {
         UNSENT => "an unsent bit became 1",
         PARITY => "quiet, parity not the encoder's",
         BROKEN => "a check is broken",
+        PLACES => "more flips than the table has places",
         NO_START => "the whole start is not there",
         NO_TAIL => "what follows is not one or more whole codeblocks and the tail",
         NO_BCH_WORD => "no codeword differs in at most one bit; detect-only: the word is none",
@@ -206,6 +231,12 @@ pub fn open(code: u8, word: &[u8]) -> Result<&[u8], Unopened> {
 #[must_use]
 pub fn correct(code: u8, word: &[u8], limit: u16, out: &mut [u8]) -> Corrected {
     unsafe { pandoricchia_correct(code, word.as_ptr(), word.len(), limit, out.as_mut_ptr(), out.len()) }
+}
+
+/// Correct's run, with a record for each flip in the table; for number 5 the greatest excess and the lowest bit that has it.
+#[must_use]
+pub fn list(code: u8, word: &[u8], limit: u16, table: &mut [FlipRecord]) -> Listed {
+    unsafe { pandoricchia_list(code, word.as_ptr(), word.len(), limit, table.as_mut_ptr(), table.len()) }
 }
 
 /// One flip of correct's run.

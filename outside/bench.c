@@ -36,6 +36,7 @@ static uint64_t draw(void)
 }
 
 static uint8_t information[WORDS][LONGEST], word[WORDS][LONGEST], out[LONGEST];
+static struct judge_fliprecord table[LONGEST];
 static unsigned long flips;
 
 static void prepare(uint8_t code, const char *wrong)
@@ -77,6 +78,10 @@ static unsigned long ask(unsigned who, char call, uint8_t code, unsigned w)
         return who == 0   ? pandoricchia_check(code, x, l).broken
                : who == 1 ? judge_check(code, x, l).broken
                           : fast_check(code, x, l).broken;
+    case 'l':
+        return who == 0   ? pandoricchia_list(code, x, l, 65535, (pandoricchia_fliprecord *)table, LONGEST).flips
+               : who == 1 ? judge_list(code, x, l, 65535, table, LONGEST).flips
+                          : fast_list(code, x, l, 65535, table, LONGEST).flips;
     case 'o':
         return who == 0   ? pandoricchia_open(code, x, l).octets
                : who == 1 ? judge_open(code, x, l).octets

@@ -54,12 +54,14 @@ static void test_lengths(void)
     }
 }
 
+/* Every number to the last has a text, but for those that no call gives. */
 static void test_texts(void)
 {
     const char *none = pandoricchia_text(255);
-    for (unsigned number = 0; number <= PANDORICCHIA_BROKEN; number++)
-        expect(strcmp(pandoricchia_text((uint8_t)number), none) != 0, "no text for a number", number);
-    expect(strcmp(pandoricchia_text(PANDORICCHIA_BROKEN + 1), none) == 0, "a text for no number", 0);
+    for (unsigned number = 0; number <= 255; number++) {
+        int given = number <= PANDORICCHIA_BLOCK_COUNT && number != 16 && number != 19;
+        expect((strcmp(pandoricchia_text((uint8_t)number), none) != 0) == given, "a text for each number and for no other", number);
+    }
 }
 
 /* No code has a length of 0, so such a call is refused: 1 where the code is not offered, 2 for the input, 3 for the output. */
@@ -77,6 +79,8 @@ static void test_null(void)
         expect(opened.number == (code == 4 ? 1 : input) && opened.octets == 0, "open, NULL", code);
         expect(pandoricchia_correct(c, NULL, 0, 9, NULL, 0).number == input, "correct, both NULL", code);
         expect(pandoricchia_correct(c, word, long_word, 9, NULL, 0).number == output, "correct, output NULL", code);
+        expect(pandoricchia_list(c, NULL, 0, 9, NULL, 0).number == input, "list, both NULL", code);
+        expect(pandoricchia_list(c, word, long_word, 0, NULL, 0).number != 10, "list, table NULL", code);
         expect(pandoricchia_step(c, NULL, 0, NULL, 0).number == (code == 5 ? 1 : input), "step, both NULL", code);
         expect(pandoricchia_step(c, word, long_word, NULL, 0).number == (code == 5 ? 1 : output), "step, output NULL", code);
     }
@@ -110,6 +114,9 @@ static void test_addresses(void)
             pandoricchia_corrected mended = pandoricchia_correct(code, word + (15 - at), n, 1, out + at, n);
             expect(mended.flips == 1 && mended.unlike == 1, "correct", code);
             expect(memcmp(out + at, first, n) == 0, "correct's octets", code);
+            pandoricchia_fliprecord flips[2] = {{9, 9, 9}, {9, 9, 9}};
+            expect(pandoricchia_list(code, word + (15 - at), n, 9, flips, 2).flips == 1, "list", code);
+            expect(flips[0].bit == (code == 5 ? 45 : 27) && flips[0].left == 0 && flips[1].bit == 9, "list's records", code);
             memset(out, 0, sizeof out);
             pandoricchia_reached reached = {0};
             if (code == 1)
@@ -123,7 +130,7 @@ static void test_addresses(void)
 }
 
 /* The stack that a call takes: what lies below is painted, and the deepest octet that was painted over is looked for. */
-enum { DEEP = 65536, PAINT = 0xA5 };
+enum { DEEP = 262144, PAINT = 0xA5 };
 
 __attribute__((noinline)) static void paint(void)
 {
@@ -143,7 +150,8 @@ __attribute__((noinline)) static size_t painted_over(void)
 
 static void test_stack(void)
 {
-    static const char *names[] = {"encode", "check", "open", "correct", "step", "nearest"};
+    static pandoricchia_fliprecord table[PANDORICCHIA_MOST_WORD_OCTETS];
+    static const char *names[] = {"encode", "check", "open", "correct", "step", "list", "nearest"};
     for (unsigned call = 0; call < sizeof names / sizeof names[0]; call++) {
         size_t most = 0;
         for (uint8_t code = 1; code <= 5; code++) {
@@ -163,13 +171,15 @@ static void test_stack(void)
                 pandoricchia_correct(code, word, n, 1000, out, n);
             else if (call == 4)
                 pandoricchia_step(code, word, n, out, n);
+            else if (call == 5)
+                pandoricchia_list(code, word, n, 1000, table, PANDORICCHIA_MOST_WORD_OCTETS);
             else
                 pandoricchia_nearest(word, words[1], 3, out, words[1]);
             size_t taken = painted_over();
             most = taken > most ? taken : most;
         }
         printf("boundary: stack of %s: %zu octets\n", names[call], most);
-        expect(most < PANDORICCHIA_STACK_OCTETS, "more stack than the header says", call);
+        expect(most < (call == 5 ? PANDORICCHIA_LIST_STACK_OCTETS : PANDORICCHIA_STACK_OCTETS), "more stack than the header says", call);
     }
 }
 

@@ -13,6 +13,7 @@
 #include "pandoricchia.h"
 
 #include <inttypes.h>
+#include <stddef.h>
 #include <stdio.h>
 #include <stdlib.h>
 #include <string.h>
@@ -28,6 +29,13 @@ pandoricchia_checked pandoricchia_check(uint8_t code, const uint8_t *word, size_
 {
     struct judge_checked a = judge_check(code, word, len);
     return (pandoricchia_checked){a.number, a.broken, a.lowest};
+}
+
+pandoricchia_listed pandoricchia_list(uint8_t code, const uint8_t *word, size_t len, uint16_t limit,
+                                      pandoricchia_fliprecord *table, size_t places)
+{
+    struct judge_listed a = judge_list(code, word, len, limit, (struct judge_fliprecord *)table, places);
+    return (pandoricchia_listed){a.number, a.flips, a.first, a.last, a.unlike, a.lowest, a.bit, a.excess};
 }
 
 pandoricchia_opened pandoricchia_open(uint8_t code, const uint8_t *word, size_t len)
@@ -50,11 +58,11 @@ pandoricchia_stepped pandoricchia_step(uint8_t code, const uint8_t *word, size_t
 }
 #endif
 
-enum call { ENCODE, CHECK, OPEN, CORRECT, STEP, CALLS };
+enum call { ENCODE, CHECK, OPEN, CORRECT, STEP, LIST, CALLS };
 
-static const char *const call_names[CALLS] = {"encode", "check", "open", "correct", "step"};
+static const char *const call_names[CALLS] = {"encode", "check", "open", "correct", "step", "list"};
 
-enum { VALUES = 5 };
+enum { VALUES = 7 };
 
 /* What an answer's values are, besides the number. */
 static const char *const value_names[CALLS][VALUES] = {
@@ -63,6 +71,7 @@ static const char *const value_names[CALLS][VALUES] = {
     {"lowest", "octets"},
     {"flips", "first", "last", "unlike", "lowest"},
     {"quiet", "bit", "excess"},
+    {"flips", "first", "last", "unlike", "lowest", "bit", "excess"},
 };
 
 static const size_t word_octets[] = {0, 16, 32, 64, 1022, 1020};
@@ -76,7 +85,8 @@ enum {
     LENGTHS = LONGEST + 16,               /* lengths are tried from 0 to here, */
     FAR = 65536,                          /* and the right ones once more with this added */
     GUARD = 16,                           /* octets before and after a buffer that nobody may touch */
-    ROOM = 2 * GUARD + 8 + FAR + LENGTHS
+    ROOM = 2 * GUARD + 8 + FAR + LENGTHS,
+    RECORD = sizeof(pandoricchia_fliprecord)
 };
 
 struct question {
@@ -115,6 +125,11 @@ static struct answer ask_judge(const struct question *q, const uint8_t *input, u
         a = (struct answer){r.number, {r.flips, r.first, r.last, r.unlike, r.lowest}};
         break;
     }
+    case LIST: {
+        struct judge_listed r = judge_list(q->code, input, q->len, q->limit, (struct judge_fliprecord *)out, q->out_len / RECORD);
+        a = (struct answer){r.number, {r.flips, r.first, r.last, r.unlike, r.lowest, r.bit, r.excess}};
+        break;
+    }
     default: {
         struct judge_stepped r = judge_step(q->code, input, q->len, out, q->out_len);
         a = (struct answer){r.number, {r.quiet, r.bit, r.excess}};
@@ -143,6 +158,11 @@ static struct answer ask_library(const struct question *q, const uint8_t *input,
     case CORRECT: {
         pandoricchia_corrected r = pandoricchia_correct(q->code, input, q->len, q->limit, out, q->out_len);
         a = (struct answer){r.number, {r.flips, r.first, r.last, r.unlike, r.lowest}};
+        break;
+    }
+    case LIST: {
+        pandoricchia_listed r = pandoricchia_list(q->code, input, q->len, q->limit, (pandoricchia_fliprecord *)out, q->out_len / RECORD);
+        a = (struct answer){r.number, {r.flips, r.first, r.last, r.unlike, r.lowest, r.bit, r.excess}};
         break;
     }
     default: {
@@ -212,7 +232,7 @@ static void fail(const char *what, const struct question *q, const struct answer
 {
     printf("%s, code %u: %s\n", call_names[q->call], q->code, what);
     print_octets("input", q->input, q->len);
-    if (q->call == CORRECT)
+    if (q->call == CORRECT || q->call == LIST)
         printf("  limit %u\n", q->limit);
     print_answer("judge", q, judge);
     print_answer("library", q, library);
@@ -225,12 +245,22 @@ static void fail(const char *what, const struct question *q, const struct answer
     exit(EXIT_FAILURE);
 }
 
+/* What lies between the fields of the records that were written is nobody's. */
+static void clear_gaps(uint8_t *table, size_t records)
+{
+    for (size_t k = 0; k < records; k++) {
+        size_t from = offsetof(pandoricchia_fliprecord, excess) + 1;
+        memset(table + k * RECORD + from, 0, offsetof(pandoricchia_fliprecord, left) - from);
+    }
+}
+
 /* Asks both, and stops at a difference. Buffers begin at any address, and between guards; what the output holds before
  * is random, so an octet that one side writes and the other does not shows. */
 static void compare(const struct question *q, struct tally *tally)
 {
-    static uint8_t given[ROOM], lent[ROOM], before[ROOM], judge_room[ROOM], library_room[ROOM];
-    size_t in_at = GUARD + below(8), out_at = GUARD + below(8);
+    static uint8_t given[ROOM], lent[ROOM], before[ROOM];
+    static _Alignas(8) uint8_t judge_room[ROOM], library_room[ROOM];
+    size_t in_at = GUARD + below(8), out_at = GUARD + (q->call == LIST ? 4 * below(2) : below(8));
     size_t in_room = in_at + q->len + GUARD, out_room = out_at + q->out_len + GUARD;
 
     draw_octets(given, in_at);
@@ -244,6 +274,10 @@ static void compare(const struct question *q, struct tally *tally)
     struct answer judge = ask_judge(q, given + in_at, judge_room + out_at);
     struct answer library = ask_library(q, lent + in_at, library_room + out_at);
 
+    if (q->call == LIST && judge.value[0] == library.value[0]) {
+        clear_gaps(judge_room + out_at, (size_t)judge.value[0]);
+        clear_gaps(library_room + out_at, (size_t)judge.value[0]);
+    }
     const char *what = NULL;
     if (judge.number != library.number || memcmp(judge.value, library.value, sizeof judge.value) != 0)
         what = "the answers differ";
@@ -271,7 +305,7 @@ static size_t input_octets(enum call call, uint8_t code)
 
 static size_t output_octets(enum call call, uint8_t code)
 {
-    return call == CHECK || call == OPEN ? 0 : word_octets[code];
+    return call == CHECK || call == OPEN || call == LIST ? 0 : word_octets[code];
 }
 
 static void draw_info(uint8_t code, uint8_t *info)
@@ -506,6 +540,38 @@ static uint16_t draw_limit(uint8_t code, const uint8_t *word, unsigned wrong)
     }
 }
 
+static uint32_t flips_of(const struct question *q)
+{
+    static struct judge_fliprecord table[LONGEST];
+    return judge_list(q->code, q->input, q->len, q->limit, table, LONGEST).flips;
+}
+
+/* Octets of a table: without a place, one short, just enough, what a bound says, or more. */
+static size_t draw_table(const struct question *q)
+{
+    uint32_t flips, first;
+    switch (below(8)) {
+    case 0:
+        return 0;
+    case 1:
+        flips = flips_of(q);
+        return RECORD * (flips > 0 ? flips - 1 : 0);
+    case 2:
+        return RECORD * (size_t)flips_of(q);
+    case 3:
+        first = judge_check(q->code, q->input, q->len).broken;
+        return RECORD * (size_t)(q->code <= 3 ? first : first / 2);
+    case 4:
+        return RECORD * (size_t)(q->limit < LONGEST ? q->limit : LONGEST);
+    case 5:
+        return RECORD * (size_t)below(20);
+    case 6:
+        return RECORD * (size_t)(flips_of(q) + below(9));
+    default:
+        return RECORD * (size_t)LONGEST;
+    }
+}
+
 static void compare_drawn(enum call call, uint8_t code, struct tally *tally)
 {
     uint8_t input[LONGEST];
@@ -526,8 +592,10 @@ static void compare_drawn(enum call call, uint8_t code, struct tally *tally)
             invert_parity(code, input);
     } else {
         unsigned wrong = draw_word(code, input);
-        if (call == CORRECT)
+        if (call == CORRECT || call == LIST)
             q.limit = draw_limit(code, input, wrong);
+        if (call == LIST)
+            q.out_len = draw_table(&q);
     }
     compare(&q, tally);
 }
@@ -542,6 +610,8 @@ static void compare_lengths(enum call call, uint8_t code, struct tally *tally)
         size_t length = len < LENGTHS ? len : FAR + input_octets(call, code);
         size_t out_length = len < LENGTHS ? len : FAR + output_octets(call, code);
         struct question q = {call, code, input, length, (uint16_t)below(4), output_octets(call, code)};
+        if (call == LIST)
+            q.out_len = RECORD * below(9);
         compare(&q, tally);
         if (!has_output)
             continue;
@@ -562,6 +632,8 @@ static void compare_numbers(enum call call, struct tally *tally)
             draw_octets(input, sizeof input);
             struct question q = {call, (uint8_t)code, input, input_octets(call, lengths), (uint16_t)below(65536),
                                  output_octets(call, lengths)};
+            if (call == LIST)
+                q.out_len = RECORD * below(300);
             compare(&q, tally);
         }
     }

@@ -415,6 +415,54 @@ struct judge_corrected fast_correct(uint8_t code, const uint8_t *word, size_t le
     return answer;
 }
 
+/* The run with a record of each flip; the reason for a refusal 5 stands in a place of its own. */
+static uint8_t run_listed(uint64_t *y, uint64_t *s, const uint16_t *h, struct shape sh, unsigned from, uint16_t limit,
+                          uint32_t *flips, struct judge_fliprecord *list, struct judge_fliprecord *reason)
+{
+    for (*flips = 0;; ++*flips) {
+        if (quiet(s, sh))
+            return 0;
+        struct best best = choose(s, h, sh, from);
+        if (best.score <= 8) {
+            *reason = (struct judge_fliprecord){best.bit, (int8_t)(best.score - 8), 0};
+            return 5;
+        }
+        if (*flips >= limit)
+            return 6;
+        flip(y, s, h, sh, best.bit);
+        list[*flips] = (struct judge_fliprecord){best.bit, (int8_t)(best.score - 8), broken(s, sh)};
+    }
+}
+
+struct judge_listed fast_list(uint8_t code, const uint8_t *word, size_t len, uint16_t limit, struct judge_fliprecord *table,
+                              size_t places)
+{
+    struct judge_listed answer = {0};
+    answer.number = !offered(code) ? 1 : len != word_octets[code] ? 2 : 0;
+    if (answer.number != 0)
+        return answer;
+    uint64_t y[HELD], s[SYNDROME];
+    struct judge_fliprecord list[1022], reason = {0, 0, 0};
+    take(code, word, len, y);
+#define LIST(h, steps, sh, lead)     \
+    syndrome(y, h, sh, s);           \
+    answer.first = broken(s, sh);    \
+    answer.lowest = lowest(s, sh);   \
+    answer.number = run_listed(y, s, h, sh, code == 5 ? 18 : 0, limit, &answer.flips, list, &reason); \
+    answer.last = broken(s, sh)
+    FOR_CODE(code, LIST)
+    if (answer.flips > places)
+        return (struct judge_listed){.number = 10};
+    if (answer.flips != 0)
+        answer.unlike = unlike(code, word, len, y);
+    if (answer.number == 0 && code >= 4 && !own_parity(y))
+        answer.number = 8;
+    answer.bit = reason.bit;
+    answer.excess = reason.excess;
+    memcpy(table, list, answer.flips * sizeof *table);
+    return answer;
+}
+
 struct judge_stepped fast_step(uint8_t code, const uint8_t *word, size_t len, uint8_t *out, size_t out_len)
 {
     struct judge_stepped answer = {0};

@@ -13,6 +13,9 @@ struct judge_opened fast_open(uint8_t code, const uint8_t *word, size_t len);
 struct judge_corrected fast_correct(uint8_t code, const uint8_t *word, size_t len, uint16_t limit, uint8_t *out,
                                     size_t out_len);
 
+struct judge_listed fast_list(uint8_t code, const uint8_t *word, size_t len, uint16_t limit, struct judge_fliprecord *table,
+                              size_t places);
+
 struct judge_stepped fast_step(uint8_t code, const uint8_t *word, size_t len, uint8_t *out, size_t out_len);
 
 #endif

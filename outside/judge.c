@@ -473,6 +473,55 @@ struct judge_corrected judge_correct(uint8_t code, const uint8_t *word, size_t l
     return answer;
 }
 
+/* The run once more, with a record of each flip. No run has more flips than there are checks. */
+struct judge_listed judge_list(uint8_t code, const uint8_t *word, size_t len, uint16_t limit, struct judge_fliprecord *table,
+                               size_t places)
+{
+    struct judge_listed answer = {0};
+    if (!offered(code)) {
+        answer.number = 1;
+        return answer;
+    }
+    const struct code *c = code_of(code);
+    if (len != c->word_octets) {
+        answer.number = 2;
+        return answer;
+    }
+    unsigned char received[MOST_BITS], x[MOST_BITS], broken[MOST_CHECKS];
+    struct judge_fliprecord list[MOST_CHECKS];
+    lift(c, word, c->bits, received);
+    memcpy(x, received, c->bits);
+    answer.first = answer.last = check_all(c, x, broken);
+    answer.lowest = lowest_broken(c, broken);
+    while (answer.last > 0) {
+        int excess;
+        unsigned bit = choose(c, broken, &excess);
+        if (excess <= 0) {
+            answer.number = 5;
+            answer.bit = bit;
+            answer.excess = (int8_t)excess;
+            break;
+        }
+        if (answer.flips == limit) {
+            answer.number = 6;
+            break;
+        }
+        if (answer.flips == c->checks)
+            abort();
+        x[bit] ^= 1;
+        answer.last = check_all(c, x, broken);
+        list[answer.flips++] = (struct judge_fliprecord){bit, (int8_t)excess, answer.last};
+    }
+    if (answer.flips > places)
+        return (struct judge_listed){.number = 10};
+    if (answer.number == 0)
+        answer.number = refused_quiet(code, c, x);
+    answer.unlike = count_unlike(c, received, x);
+    for (uint32_t k = 0; k < answer.flips; k++)
+        table[k] = list[k];
+    return answer;
+}
+
 struct judge_stepped judge_step(uint8_t code, const uint8_t *word, size_t len, uint8_t *out, size_t out_len)
 {
     struct judge_stepped answer = {0};

@@ -24,6 +24,20 @@ struct judge_corrected {
     uint32_t flips, first, last, unlike, lowest;
 };
 
+/* A flip of the run: its bit, its excess, and the broken checks left after it. */
+struct judge_fliprecord {
+    uint32_t bit;
+    int8_t excess;
+    uint32_t left;
+};
+
+/* Correct's numbers, then the reason for a refusal 5. */
+struct judge_listed {
+    uint8_t number;
+    uint32_t flips, first, last, unlike, lowest, bit;
+    int8_t excess;
+};
+
 struct judge_stepped {
     uint8_t number;
     bool quiet;
@@ -39,6 +53,9 @@ struct judge_opened judge_open(uint8_t code, const uint8_t *word, size_t len);
 
 struct judge_corrected judge_correct(uint8_t code, const uint8_t *word, size_t len, uint16_t limit, uint8_t *out,
                                      size_t out_len);
+
+struct judge_listed judge_list(uint8_t code, const uint8_t *word, size_t len, uint16_t limit, struct judge_fliprecord *table,
+                               size_t places);
 
 struct judge_stepped judge_step(uint8_t code, const uint8_t *word, size_t len, uint8_t *out, size_t out_len);
 

@@ -612,6 +612,114 @@ static void bounds(uint8_t code, const uint8_t *word, uint16_t limit)
     EXPECT((s.number == 5) == (a.number == 5));
 }
 
+/* Every number but 10 with none other, and no record written. */
+static bool listed_refused(struct judge_listed a, uint8_t number)
+{
+    return a.number == number && a.flips == 0 && a.first == 0 && a.last == 0 && a.unlike == 0 && a.lowest == 0 && a.bit == 0
+           && a.excess == 0;
+}
+
+enum { PLACES = 1024 };
+
+static bool untouched(const struct judge_fliprecord *table, size_t from)
+{
+    for (size_t k = from; k < PLACES; k++)
+        if (table[k].bit != 77 || table[k].excess != -77 || table[k].left != 7777)
+            return false;
+    return true;
+}
+
+static void fill_table(struct judge_fliprecord *table)
+{
+    for (size_t k = 0; k < PLACES; k++)
+        table[k] = (struct judge_fliprecord){77, -77, 7777};
+}
+
+/* The word as code 4 has it, where every bit of code 5's run has a place. */
+static uint8_t whole(uint8_t code, const uint8_t *word, uint8_t *full)
+{
+    memset(full, 0, MOST_OCTETS);
+    for (unsigned bit = 0; bit < covered_bits[code]; bit++)
+        if (bit_of(word, bit))
+            flip(full, code == 5 ? bit + 18 : bit);
+    return code == 5 ? 4 : code;
+}
+
+/* Its numbers are correct's; following the list gives the run's word, with each record's broken checks left and its excess
+ * as the fall; the reason is the greatest excess of a bit that may be flipped, and the lowest bit that has it. */
+static void lists(uint8_t code, const uint8_t *word, uint16_t limit)
+{
+    static struct judge_fliprecord table[PLACES];
+    size_t len = word_octets[code];
+    uint8_t out[MOST_OCTETS], full[MOST_OCTETS], step[MOST_OCTETS];
+    struct judge_corrected a = correct(code, word, limit, out);
+    fill_table(table);
+    struct judge_listed l = judge_list(code, word, len, limit, table, a.flips);
+    EXPECT(l.number == a.number && l.flips == a.flips && l.first == a.first && l.last == a.last && l.unlike == a.unlike
+           && l.lowest == a.lowest);
+    EXPECT(untouched(table, a.flips));
+    EXPECT(l.number == 5 || (l.bit == 0 && l.excess == 0));
+    uint8_t over = whole(code, word, full);
+    uint32_t left = a.first;
+    for (uint32_t k = 0; k < a.flips; k++) {
+        EXPECT(code != 5 || table[k].bit >= 18);
+        flip(full, table[k].bit);
+        EXPECT(table[k].left == judge_check(over, full, word_octets[over]).broken);
+        EXPECT(table[k].excess > 0 && left == table[k].left + (uint32_t)table[k].excess);
+        left = table[k].left;
+    }
+    EXPECT(left == a.last);
+    if (a.number == 0)
+        EXPECT(whole(code, out, step) == over && memcmp(full, step, word_octets[over]) == 0);
+    if (l.number == 5) {
+        int greatest = -99;
+        unsigned best = 0;
+        for (unsigned bit = code == 5 ? 18 : 0; bit < covered_bits[code] + (code == 5 ? 18 : 0); bit++) {
+            flip(full, bit);
+            int excess = (int)a.last - (int)judge_check(over, full, word_octets[over]).broken;
+            flip(full, bit);
+            if (excess > greatest)
+                greatest = excess, best = bit;
+        }
+        EXPECT(l.bit == best && l.excess == greatest && greatest <= 0);
+    }
+    if (a.flips > 0) {
+        fill_table(table);
+        EXPECT(listed_refused(judge_list(code, word, len, limit, table, below(a.flips)), 10));
+        EXPECT(untouched(table, 0));
+    }
+}
+
+static void listed_words(void)
+{
+    begin("the list of the run");
+    static struct judge_fliprecord table[PLACES];
+    uint8_t info[MOST_OCTETS], word[MOST_OCTETS] = {0};
+    fill_table(table);
+    EXPECT(listed_refused(judge_list(0, word, 16, 9, table, 9), 1));
+    EXPECT(listed_refused(judge_list(6, word, 16, 9, table, 9), 1));
+    EXPECT(listed_refused(judge_list(1, word, 15, 9, table, 9), 2));
+    word[0] = 0x80;
+    EXPECT(listed_refused(judge_list(1, word, 16, 1, table, 0), 10));
+    EXPECT(judge_list(1, word, 16, 0, NULL, 0).number == 6);
+    EXPECT(untouched(table, 0));
+    struct judge_listed l = judge_list(1, word, 16, 9, table, 1);
+    EXPECT(l.number == 0 && l.flips == 1 && l.first == 5 && l.last == 0 && l.unlike == 1 && l.lowest == 0);
+    EXPECT(table[0].bit == 0 && table[0].excess == 5 && table[0].left == 0 && untouched(table, 1));
+    for (uint8_t code = 1; code <= 5; code++)
+        for (unsigned turn = code <= 3 ? 300 : 12; turn > 0; turn--) {
+            if (turn % 3 == 0) {
+                draw_octets(word, word_octets[code]);
+            } else {
+                draw_codeword(code, info, word);
+                for (unsigned k = below(code <= 3 ? 12 : 41); k > 0; k--)
+                    flip(word, below(covered_bits[code]));
+            }
+            lists(code, word, (uint16_t)(turn % 2 ? 65535 : below(8)));
+        }
+    end();
+}
+
 static void random_words(void)
 {
     begin("the run's bounds on random words");
@@ -706,6 +814,7 @@ int main(void)
     choices();
     inverted_blocks();
     random_words();
+    listed_words();
     nearest_cases();
     printf("%lu passed, %lu failed\n", passed, failed);
     return failed == 0 ? EXIT_SUCCESS : EXIT_FAILURE;

@@ -142,8 +142,8 @@ module _ (n : ℕ) (word : List ℕ) (limit : ℕ) (out : List ℕ) where
 abbrev pub nearEarthed : ℕ → Bool
 nearEarthed n = leb 4 n && leb n 5
 
-two : (P : ℕ → Type 0) → P 4 → P 5 → (n : ℕ) → T (nearEarthed n) → P n
-two P p4 p5 n t = go n (leb→le 4 n (and-l (leb 4 n) (leb n 5) t)) (leb→le n 5 (and-r (leb 4 n) (leb n 5) t))
+pub near-two : (P : ℕ → Type 0) → P 4 → P 5 → (n : ℕ) → T (nearEarthed n) → P n
+near-two P p4 p5 n t = go n (leb→le 4 n (and-l (leb 4 n) (leb n 5) t)) (leb→le n 5 (and-r (leb 4 n) (leb n 5) t))
   where
     go : (n : ℕ) → 4 ≤ n → n ≤ 5 → P n
     go zero l h = absurd (omega arith)
@@ -155,12 +155,12 @@ two P p4 p5 n t = go n (leb→le 4 n (and-l (leb 4 n) (leb n 5) t)) (leb→le n 
     go (suc (suc (suc (suc (suc (suc n)))))) l h = absurd (omega arith)
 
 pub near-offered : (n : ℕ) → T (nearEarthed n) → T (offered n)
-near-offered = two (λ n. T (offered n)) tt tt
+near-offered = near-two (λ n. T (offered n)) tt tt
 
 -- every bit has four checks
 pub near-degree : (n : ℕ) → T (nearEarthed n) → (k : ℕ) → k < bits (code n) → degreeOf (code n) k ≡ 4
 unfolding code code4 code5
-near-degree = two (λ n. (k : ℕ) → k < bits (code n) → degreeOf (code n) k ≡ 4) (near-four 1022 895 0) (near-four 1020 892 18)
+near-degree = near-two (λ n. (k : ℕ) → k < bits (code n) → degreeOf (code n) k ≡ 4) (near-four 1022 895 0) (near-four 1020 892 18)
 
 module _ (n : ℕ) (near : T (nearEarthed n)) (word : List ℕ) (limit : ℕ) (out : List ℕ) where
   even : (k : ℕ) → k < bits (code n) → (h : ℕ) × (degreeOf (code n) k ≡ 2 * h)

@@ -9,3 +9,4 @@ pub mod Steps
 pub mod Refusals
 pub mod Cases
 pub mod Unlike
+pub mod Lists

@@ -2,6 +2,8 @@
 ghost use mathlib.Core.Path.{_≡_};
 ghost use lib.ListN.{length};
 ghost use Rattle.answers.specs.Calls.{wordOctetsAnswer, informationOctetsAnswer, encodeAnswer, checkAnswer, openAnswer, correctAnswer, stepAnswer};
+ghost use Rattle.answers.specs.Lists.{listAnswer};
+ghost use Rattle.lists.specs.Answers.{asEntries, asListed};
 ghost use Rattle.codes.specs.Answers.{asEncoded, asChecked, asCorrected, asStepped};
 ghost use Rattle.units.specs.Units.{unitOctets, writeAnswer, readerAnswer, readAnswer};
 ghost use Rattle.units.specs.Answers.{asReading, asHanded};
@@ -22,6 +24,8 @@ use taker::Taker;
 use codes::Checked;
 use codes::Corrected;
 use codes::Stepped;
+use lists::FlipRecord;
+use lists::Listed;
 use units::Handed;
 use units::Reading;
 
@@ -93,6 +97,19 @@ pub extern "C" fn pandoricchia_correct(
     ensures { λ r. ⌜ asCorrected r (now (out .exit)) ≡ correctAnswer code (now (word .entry)) limit (now (out .entry)) ⌝ }
 {
     codes::correct(code, word, limit, out)
+}
+
+// The run's list, a record for each flip, into the caller's table.
+#[no_mangle]
+pub extern "C" fn pandoricchia_list(
+    code: u8,
+    word: &[u8],
+    limit: u16,
+    table: &mut [FlipRecord],
+) -> Listed
+    ensures { λ r. ⌜ asListed r (now (table .exit)) ≡ listAnswer code (now (word .entry)) limit (asEntries (now (table .entry))) ⌝ }
+{
+    lists::list(code, word, limit, table)
 }
 
 #[no_mangle]

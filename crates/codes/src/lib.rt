@@ -183,7 +183,7 @@ pub fn open<'a>(code: u8, word: &'a [u8], number: &mut u8, lowest: &mut u32) -> 
 }
 
 // In how many bits the word at the end of a run differs from the received one: in none, where no flip was made.
-fn unlike_after(o: Offer, word: &[u8], y: &[u64], flips: u32) -> u32
+pub fn unlike_after(o: Offer, word: &[u8], y: &[u64], flips: u32) -> u32
     requires { ⌜ Known o × (length (now word) ≡ o .word) × (length (now y) ≡ 130) ⌝ }
     ensures { λ r. ⌜ ((n : ℕ) → offered n ≡ true → o ≡ offerOf n → EndsAt (codeOf n) (bit (now (word .entry))) (wbit (now (y .entry))) flips → r ≡ differing (codeOf n) (lifted (codeOf n) (bit (now (word .entry)))) (wbit (now (y .entry)))) ⌝ }
 {

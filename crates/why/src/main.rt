@@ -1,0 +1,173 @@
+// The reason behind each line of the bench log. Reads what wordbench reads: one octet code, two octets limit, then words to the end.
+// Under a word's line stand its flips, with bit, excess and broken checks left, for refusal 5 the bit of greatest excess, and for a
+// refused word of code 1 the codeword that is nearest.
+ghost use mathlib.Core.Path.{_≡_};
+ghost use Prim.Native.Nat.{_≤_};
+ghost use lib.ListN.{length};
+use libc::STDIN_FILENO;
+use libc::STDOUT_FILENO;
+
+// No run of any code has more flips than this.
+const PLACES: usize = 511;
+
+fn word_buffer() -> [u8; 1022]
+    ensures { λ r. ⌜ 1022 ≡ length r ⌝ }
+{
+    [0; 1022]
+}
+
+// After the last octet: if reading fails there, that is said.
+fn ended() {
+    let mut more = [0u8; 1];
+    let got = libc::read(STDIN_FILENO, &mut more);
+    if got < 0 {
+        os::fail(b"why: standard input");
+    }
+}
+
+// A number behind a space.
+fn put(n: u64) {
+    io::write_all(STDOUT_FILENO, b" ");
+    io::print_decimal(STDOUT_FILENO, n);
+}
+
+// The same of a signed one.
+fn put_signed(n: i8) {
+    if n < 0 {
+        io::write_all(STDOUT_FILENO, b" -");
+        io::print_decimal(STDOUT_FILENO, (0 - n as i64) as u64);
+    } else {
+        put(n as u64);
+    }
+}
+
+// The end of a line: whether the line is written. If not, that is said.
+fn put_end() -> bool {
+    if io::write_all(STDOUT_FILENO, b"\n") {
+        return true;
+    }
+    os::fail(b"why: standard output");
+    false
+}
+
+// A word's line, as the bench logs it.
+fn put_line(index: u64, a: lists::Listed) -> bool {
+    io::print_decimal(STDOUT_FILENO, index);
+    put(a.number as u64);
+    put(a.flips as u64);
+    put(a.first as u64);
+    put(a.last as u64);
+    put(a.unlike as u64);
+    put_end()
+}
+
+fn put_flip(r: lists::FlipRecord) -> bool {
+    io::write_all(STDOUT_FILENO, b"  flip");
+    put(r.bit as u64);
+    put_signed(r.excess);
+    put(r.left as u64);
+    put_end()
+}
+
+fn put_flips(l: lists::Listing) -> bool
+    requires { ⌜ l .flips ≤ 511 ⌝ }
+{
+    let mut i: usize = 0;
+    while i < l.flips {
+        if !put_flip(lists::record_at(l, i)) {
+            return false;
+        }
+        i += 1;
+    }
+    true
+}
+
+// The greatest excess and the lowest bit that has it, where no bit has one above 0.
+fn put_reason(a: lists::Listed) -> bool {
+    if a.number != 5 {
+        return true;
+    }
+    io::write_all(STDOUT_FILENO, b"  stuck");
+    put(a.bit as u64);
+    put_signed(a.excess);
+    put_end()
+}
+
+fn put_bit(n: u32) {
+    put(n as u64);
+}
+
+// How many flips lead to the nearest codeword, and their bits.
+fn put_reached(r: nearest::Reached) -> bool {
+    let bits = r.bits;
+    io::write_all(STDOUT_FILENO, b"  nearest");
+    put(r.least as u64);
+    if r.least > 0 {
+        put_bit(bits[0]);
+    }
+    if r.least > 1 {
+        put_bit(bits[1]);
+    }
+    if r.least > 2 {
+        put_bit(bits[2]);
+    }
+    put_end()
+}
+
+// For a word of code 1 whose run stuck or came to its limit: the nearest codeword within three flips, or that there is none.
+fn put_nearest(code: u8, word: &[u8], a: lists::Listed) -> bool {
+    if code != 1 || a.number < 5 || a.number > 6 {
+        return true;
+    }
+    let mut out = [0u8; 16];
+    let r = nearest::nearest(word, 3, &mut out);
+    if r.number == 0 {
+        return put_reached(r);
+    }
+    io::write_all(STDOUT_FILENO, b"  nearest none");
+    put_end()
+}
+
+// A word's line, its flips and the reason: whether they are written.
+fn explain(index: u64, code: u8, limit: u16, word: &[u8]) -> bool {
+    let l = lists::gather(code, word, limit, PLACES);
+    put_line(index, l.answer) && put_flips(l) && put_reason(l.answer) && put_nearest(code, word, l.answer)
+}
+
+// Word after word; the last may be short, and is refused.
+fn words(code: u8, limit: u16, word: &mut [u8]) {
+    let mut index: u64 = 0;
+    while index < 0x8000000000000000 {
+        let n = io::read_full(STDIN_FILENO, word);
+        if n == 0 || !explain(index, code, limit, &word[..n]) {
+            return;
+        }
+        if n < word.len() {
+            return;
+        }
+        index += 1;
+    }
+}
+
+// The limit, high octet first.
+fn limit_of(high: u8, low: u8) -> u16 {
+    256 * high as u16 + low as u16
+}
+
+fn main() {
+    io::write_all(STDOUT_FILENO, b"word answer flips first last unlike");
+    if !put_end() {
+        return;
+    }
+    let mut head = [0u8; 3];
+    let n = io::read_full(STDIN_FILENO, &mut head);
+    if n < 3 || !offer::is_offered(head[0]) {
+        explain(0, 0, 0, b"");
+        ended();
+        return;
+    }
+    let mut word = word_buffer();
+    let size = lines::word_octets(head[0]);
+    words(head[0], limit_of(head[1], head[2]), &mut word[..size]);
+    ended();
+}
