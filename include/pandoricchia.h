@@ -15,8 +15,8 @@
  *
  * A pointer whose length is 0 may be NULL: nothing is read or written through it. Octets may lie at any address.
  * The library keeps no state and allocates nothing: calls may run in any threads at once, each on its own output.
- * A call takes less than PANDORICCHIA_STACK_OCTETS of stack, list less than PANDORICCHIA_LIST_STACK_OCTETS. The archive asks
- * for memcpy and memset, and nothing else.
+ * A call takes less than PANDORICCHIA_STACK_OCTETS of stack, list less than PANDORICCHIA_LIST_STACK_OCTETS, take less than
+ * PANDORICCHIA_TAKE_STACK_OCTETS. The archive asks for memcpy and memset, and nothing else.
  */
 #ifndef PANDORICCHIA_H
 #define PANDORICCHIA_H
@@ -29,7 +29,7 @@
 extern "C" {
 #endif
 
-#define PANDORICCHIA_VERSION "0.6.0"
+#define PANDORICCHIA_VERSION "0.7.0"
 
 /* The table above; for a code number that is not known until the program runs there are two calls below. */
 #define PANDORICCHIA_WORD_OCTETS_1 16
@@ -47,9 +47,11 @@ extern "C" {
 #define PANDORICCHIA_MOST_WORD_OCTETS 1022
 #define PANDORICCHIA_MOST_INFORMATION_OCTETS 895
 
-/* Measured by outside/boundary.c, not proved: encode takes some 5,400 octets, correct and step 2,500, check and open 1,900. */
+/* Measured by outside/boundary.c, not proved: take takes some 8,000 octets, correct 2,800, encode 2,600, step 2,500, check and open
+ * 2,200. */
 #define PANDORICCHIA_STACK_OCTETS 8192
 #define PANDORICCHIA_LIST_STACK_OCTETS 65536
+#define PANDORICCHIA_TAKE_STACK_OCTETS 16384
 
 /* The number that each call returns. The lowest that applies is given, except that 5 to 8 come in the order of the run, and 18
  * before 17. A call that returns any other number than PANDORICCHIA_DONE is refused and has written nothing, but for list,
@@ -254,6 +256,31 @@ typedef struct pandoricchia_handed {
  * length, which ends nothing. 5 or 6 ends the reading, and is answered again and again, as none is after the last. */
 pandoricchia_handed pandoricchia_read(pandoricchia_reading state, const uint8_t *unit, size_t unit_len, uint8_t *out,
                                       size_t out_len);
+
+/* Telemetry straight from the receiver, code 5: words out of a stream of octets that comes in parts. */
+
+/* A taker between two parts of the stream. A type may not have a function's name here. */
+typedef struct pandoricchia_taking {
+    size_t place;     /* octets of the marker that are matched, 0 to 3, or 4 and the octets held of the word */
+    uint8_t edition;  /* 0: the old sequence */
+    uint16_t limit;
+    uint8_t octets[1020];
+} pandoricchia_taking;
+
+/* A taker at the start of a stream, that corrects under the limit. */
+pandoricchia_taking pandoricchia_taker(uint16_t limit);
+
+typedef struct pandoricchia_taken {
+    pandoricchia_taking next;          /* the taker from here on: hand it in with the next part */
+    size_t taken;                      /* octets of the part that were taken: all, unless a word is complete */
+    bool complete;                     /* a word is complete */
+    pandoricchia_corrected corrected;  /* correct's numbers for it; all 0 where none is */
+    uint8_t word[1020];                /* the corrected word; all zeros where it is refused, or none is complete */
+} pandoricchia_taken;
+
+/* Take: finds the marker 1A CF FC 1D at an octet boundary, takes 1020 octets, removes the randomiser and corrects. Goes on until a
+ * word is complete or the part is used up; what was not taken of a part is brought again. No refusals of its own. */
+pandoricchia_taken pandoricchia_take(pandoricchia_taking state, const uint8_t *part, size_t part_len);
 
 /* The older BCH words, BCH (63,56) by CCSDS 231.0-B: 7 octets of information, then seven inverted parity bits and one
  * zero fill bit, 8 octets in all. These calls take no code number. */

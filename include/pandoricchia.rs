@@ -7,7 +7,7 @@
 //!
 //! and `rustc -L target/staticlib -l static=pandoricchia`.
 
-pub const VERSION: &str = "0.6.0";
+pub const VERSION: &str = "0.7.0";
 
 /// Octets of a word and of its information, by code number; there is no code 0.
 pub const WORD_OCTETS: [usize; 6] = [0, 16, 32, 64, 1022, 1020];
@@ -112,6 +112,26 @@ pub struct Reading {
     pub place: usize,
 }
 
+/// A taker between two parts of a stream.
+#[repr(C)]
+#[derive(Clone, Copy, Debug, PartialEq, Eq)]
+pub struct Taker {
+    pub place: usize,
+    pub edition: u8,
+    pub limit: u16,
+    pub octets: [u8; 1020],
+}
+
+#[repr(C)]
+#[derive(Clone, Copy, Debug, PartialEq, Eq)]
+pub struct Taken {
+    pub next: Taker,
+    pub taken: usize,
+    pub complete: bool,
+    pub corrected: Corrected,
+    pub word: [u8; 1020],
+}
+
 #[repr(C)]
 #[derive(Clone, Copy, Debug, PartialEq, Eq)]
 pub struct Mended {
@@ -148,6 +168,8 @@ extern "C" {
     fn pandoricchia_write_unit(code: u8, information: *const u8, information_len: usize, out: *mut u8, out_len: usize) -> u8;
     fn pandoricchia_reader(code: u8, unit: *const u8, unit_len: usize, limit: u16) -> Reading;
     fn pandoricchia_read(state: Reading, unit: *const u8, unit_len: usize, out: *mut u8, out_len: usize) -> Handed;
+    fn pandoricchia_taker(limit: u16) -> Taker;
+    fn pandoricchia_take(state: Taker, part: *const u8, part_len: usize) -> Taken;
     fn pandoricchia_bch_encode(information: *const u8, information_len: usize, word: *mut u8, word_len: usize) -> u8;
     fn pandoricchia_bch_check(detect_only: bool, word: *const u8, word_len: usize, out: *mut u8, out_len: usize) -> Mended;
     fn pandoricchia_import_blocks(blocks: *const u8, blocks_len: usize, out: *mut u8, out_len: usize) -> Imported;
@@ -283,6 +305,20 @@ impl Reader<'_> {
         let handed = unsafe { pandoricchia_read(self.state, self.unit.as_ptr(), self.unit.len(), out.as_mut_ptr(), out.len()) };
         self.state = handed.next;
         handed
+    }
+}
+
+/// A taker at the start of a telemetry stream, that corrects under the limit.
+#[must_use]
+pub fn taker(limit: u16) -> Taker {
+    unsafe { pandoricchia_taker(limit) }
+}
+
+impl Taker {
+    /// Goes on with a part of the stream until a word is complete or the part is used up; the rest is to be brought again.
+    #[must_use]
+    pub fn take(self, part: &[u8]) -> Taken {
+        unsafe { pandoricchia_take(self, part.as_ptr(), part.len()) }
     }
 }
 

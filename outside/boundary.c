@@ -95,6 +95,18 @@ static void test_null_nearest(void)
     }
 }
 
+/* A part without octets changes nothing. */
+static void test_null_part(void)
+{
+    pandoricchia_taking state = pandoricchia_taker(7);
+    pandoricchia_taken taken = pandoricchia_take(state, NULL, 0);
+    expect(taken.taken == 0 && !taken.complete && taken.corrected.number == 0, "take, NULL", 5);
+    expect(taken.next.place == 0 && taken.next.edition == 0 && taken.next.limit == 7, "take, NULL: the taker", 5);
+    taken = pandoricchia_take(state, (const uint8_t *)"\x1A\xCF", 2);
+    state = pandoricchia_take(taken.next, NULL, 0).next;
+    expect(taken.taken == 2 && state.place == taken.next.place, "take, NULL between two parts", 5);
+}
+
 /* The same answers at each of sixteen addresses. */
 static void test_addresses(void)
 {
@@ -151,7 +163,10 @@ __attribute__((noinline)) static size_t painted_over(void)
 static void test_stack(void)
 {
     static pandoricchia_fliprecord table[PANDORICCHIA_MOST_WORD_OCTETS];
-    static const char *names[] = {"encode", "check", "open", "correct", "step", "list", "nearest"};
+    static pandoricchia_taking whole;
+    whole.place = 4;
+    whole.limit = 1000;
+    static const char *names[] = {"encode", "check", "open", "correct", "step", "list", "take", "nearest"};
     for (unsigned call = 0; call < sizeof names / sizeof names[0]; call++) {
         size_t most = 0;
         for (uint8_t code = 1; code <= 5; code++) {
@@ -173,13 +188,16 @@ static void test_stack(void)
                 pandoricchia_step(code, word, n, out, n);
             else if (call == 5)
                 pandoricchia_list(code, word, n, 1000, table, PANDORICCHIA_MOST_WORD_OCTETS);
+            else if (call == 6)
+                pandoricchia_take(whole, word, n);
             else
                 pandoricchia_nearest(word, words[1], 3, out, words[1]);
             size_t taken = painted_over();
             most = taken > most ? taken : most;
         }
         printf("boundary: stack of %s: %zu octets\n", names[call], most);
-        expect(most < (call == 5 ? PANDORICCHIA_LIST_STACK_OCTETS : PANDORICCHIA_STACK_OCTETS), "more stack than the header says", call);
+        size_t room = call == 5 ? PANDORICCHIA_LIST_STACK_OCTETS : call == 6 ? PANDORICCHIA_TAKE_STACK_OCTETS : PANDORICCHIA_STACK_OCTETS;
+        expect(most < room, "more stack than the header says", call);
     }
 }
 
@@ -189,6 +207,7 @@ int main(void)
     test_texts();
     test_null();
     test_null_nearest();
+    test_null_part();
     test_addresses();
     test_stack();
     printf("boundary: %u passed, %u failed\n", passed, failed);

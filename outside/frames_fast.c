@@ -1,0 +1,64 @@
+/* The marker is searched without going back, in noise by its first octet alone; a word's octets are copied by runs; the sequence
+ * is a constant that is added by 64-bit words. */
+#include "frames_fast.h"
+#include "fast.h"
+
+#include <string.h>
+
+/* Worked out once, at the first word; some octets more, to be read by words. */
+static uint8_t sequence[JUDGE_FRAME_OCTETS + 4];
+
+static void randomise(uint8_t *octets)
+{
+    if (sequence[0] == 0)
+        judge_randomise(sequence, JUDGE_FRAME_OCTETS);
+    size_t k = 0;
+    for (; k + 8 <= JUDGE_FRAME_OCTETS; k += 8) {
+        uint64_t v, s;
+        memcpy(&v, octets + k, 8);
+        memcpy(&s, sequence + k, 8);
+        v ^= s;
+        memcpy(octets + k, &v, 8);
+    }
+    for (; k < JUDGE_FRAME_OCTETS; k++)
+        octets[k] ^= sequence[k];
+}
+
+/* Octets of the marker matched after one octet more. */
+static inline size_t matched(size_t m, uint8_t octet)
+{
+    static const uint8_t marker[4] = {0x1A, 0xCF, 0xFC, 0x1D};
+    return octet == marker[m] ? m + 1 : octet == 0x1A ? 1 : 0;
+}
+
+/* The next place where the marker's first octet stands, or the end of the part. */
+static inline size_t skip(const uint8_t *part, size_t at, size_t len)
+{
+    while (at < len && part[at] != 0x1A)
+        at++;
+    return at;
+}
+
+struct fast_taken fast_take(struct fast_taker state, const uint8_t *part, size_t len)
+{
+    struct fast_taken answer = {.next = state};
+    size_t at = 0, place = state.place < 1024 ? state.place : 0;
+    while (place < 4 && at < len) {
+        if (place == 0 && (at = skip(part, at, len)) == len)
+            break;
+        place = matched(place, part[at++]);
+    }
+    size_t left = place < 4 ? 0 : 1024 - place, run = len - at < left ? len - at : left;
+    if (run > 0)
+        memcpy(answer.next.octets + (place - 4), part + at, run);
+    answer.taken = at + run;
+    answer.complete = place >= 4 && run == left;
+    answer.next.place = answer.complete ? 0 : place + run;
+    if (answer.complete) {
+        uint8_t received[JUDGE_FRAME_OCTETS];
+        memcpy(received, answer.next.octets, sizeof received);
+        randomise(received);
+        answer.corrected = fast_correct(5, received, sizeof received, state.limit, answer.word, sizeof answer.word);
+    }
+    return answer;
+}
