@@ -29,7 +29,7 @@
 extern "C" {
 #endif
 
-#define PANDORICCHIA_VERSION "0.7.0"
+#define PANDORICCHIA_VERSION "0.8.0"
 
 /* The table above; for a code number that is not known until the program runs there are two calls below. */
 #define PANDORICCHIA_WORD_OCTETS_1 16
@@ -75,6 +75,7 @@ enum pandoricchia_number {
     PANDORICCHIA_OTHER_PARITY = 15,  /* open, code 5: neither, but the parity is not the encoder's */
     PANDORICCHIA_NONE_NEAR = 17,     /* nearest: no codeword lies within the reach */
     PANDORICCHIA_REACH = 18,         /* nearest: the reach is above 3 */
+    PANDORICCHIA_EDITION = 19,       /* taker_for: the edition is not known */
     PANDORICCHIA_TOO_LONG = 20,      /* import_blocks: not whole blocks or more than 128; export_blocks: more than 64,512 octets */
     PANDORICCHIA_BLOCK_CHECK = 21,   /* import_blocks: a block's frame check */
     PANDORICCHIA_BLOCK_NUMBER = 22,  /* import_blocks: a block's number */
@@ -121,6 +122,8 @@ static inline const char *pandoricchia_text(uint8_t number)
         return "no codeword within the reach";
     case PANDORICCHIA_REACH:
         return "reach above 3";
+    case PANDORICCHIA_EDITION:
+        return "edition not known";
     case PANDORICCHIA_TOO_LONG:
         return "not whole blocks or more than 128; more than 64,512 octets";
     case PANDORICCHIA_BLOCK_CHECK:
@@ -262,13 +265,22 @@ pandoricchia_handed pandoricchia_read(pandoricchia_reading state, const uint8_t 
 /* A taker between two parts of the stream. A type may not have a function's name here. */
 typedef struct pandoricchia_taking {
     size_t place;     /* octets of the marker that are matched, 0 to 3, or 4 and the octets held of the word */
-    uint8_t edition;  /* 0: the old sequence */
+    uint8_t edition;  /* 4 and 5 have the second randomiser, any other the old one */
     uint16_t limit;
     uint8_t octets[1020];
 } pandoricchia_taking;
 
-/* A taker at the start of a stream, that corrects under the limit. */
+/* A taker at the start of a stream, that corrects under the limit; no edition is stated, so the old randomiser stays. */
 pandoricchia_taking pandoricchia_taker(uint16_t limit);
+
+typedef struct pandoricchia_made {
+    uint8_t number;  /* 0 or 19 */
+    pandoricchia_taking taker;
+} pandoricchia_made;
+
+/* The same for an edition, which is the issue number of CCSDS 131.0-B: 1, 2 and 3 have the old randomiser, as 0 has, which is not
+ * stated; 4 and 5 have the second one. Any other is refused by 19, with a taker at the start for the old one. */
+pandoricchia_made pandoricchia_taker_for(uint8_t edition, uint16_t limit);
 
 typedef struct pandoricchia_taken {
     pandoricchia_taking next;          /* the taker from here on: hand it in with the next part */

@@ -7,7 +7,7 @@
 //!
 //! and `rustc -L target/staticlib -l static=pandoricchia`.
 
-pub const VERSION: &str = "0.7.0";
+pub const VERSION: &str = "0.8.0";
 
 /// Octets of a word and of its information, by code number; there is no code 0.
 pub const WORD_OCTETS: [usize; 6] = [0, 16, 32, 64, 1022, 1020];
@@ -31,6 +31,7 @@ pub const LAST_TWO: u8 = 14;
 pub const OTHER_PARITY: u8 = 15;
 pub const NONE_NEAR: u8 = 17;
 pub const REACH: u8 = 18;
+pub const EDITION: u8 = 19;
 pub const TOO_LONG: u8 = 20;
 pub const BLOCK_CHECK: u8 = 21;
 pub const BLOCK_NUMBER: u8 = 22;
@@ -122,6 +123,14 @@ pub struct Taker {
     pub octets: [u8; 1020],
 }
 
+/// A taker for an edition, with its number.
+#[repr(C)]
+#[derive(Clone, Copy, Debug, PartialEq, Eq)]
+pub struct Made {
+    pub number: u8,
+    pub taker: Taker,
+}
+
 #[repr(C)]
 #[derive(Clone, Copy, Debug, PartialEq, Eq)]
 pub struct Taken {
@@ -169,6 +178,7 @@ extern "C" {
     fn pandoricchia_reader(code: u8, unit: *const u8, unit_len: usize, limit: u16) -> Reading;
     fn pandoricchia_read(state: Reading, unit: *const u8, unit_len: usize, out: *mut u8, out_len: usize) -> Handed;
     fn pandoricchia_taker(limit: u16) -> Taker;
+    fn pandoricchia_taker_for(edition: u8, limit: u16) -> Made;
     fn pandoricchia_take(state: Taker, part: *const u8, part_len: usize) -> Taken;
     fn pandoricchia_bch_encode(information: *const u8, information_len: usize, word: *mut u8, word_len: usize) -> u8;
     fn pandoricchia_bch_check(detect_only: bool, word: *const u8, word_len: usize, out: *mut u8, out_len: usize) -> Mended;
@@ -203,6 +213,7 @@ pub fn text(number: u8) -> &'static str {
         OTHER_PARITY => "parity not the encoder's",
         NONE_NEAR => "no codeword within the reach",
         REACH => "reach above 3",
+        EDITION => "edition not known",
         TOO_LONG => "not whole blocks or more than 128; more than 64,512 octets",
         BLOCK_CHECK => "a block's frame check",
         BLOCK_NUMBER => "a block's number",
@@ -312,6 +323,12 @@ impl Reader<'_> {
 #[must_use]
 pub fn taker(limit: u16) -> Taker {
     unsafe { pandoricchia_taker(limit) }
+}
+
+/// The same for an edition, 0 to 5. Any other has number 19, and a taker for the old sequence.
+#[must_use]
+pub fn taker_for(edition: u8, limit: u16) -> Made {
+    unsafe { pandoricchia_taker_for(edition, limit) }
 }
 
 impl Taker {

@@ -95,6 +95,16 @@ static void test_null_nearest(void)
     }
 }
 
+/* The known editions, and a limit that is kept with the others too. */
+static void test_editions(void)
+{
+    for (unsigned edition = 0; edition < 256; edition++) {
+        pandoricchia_made made = pandoricchia_taker_for((uint8_t)edition, 7);
+        expect(made.number == (edition < 6 ? PANDORICCHIA_DONE : PANDORICCHIA_EDITION), "taker_for", edition);
+        expect(made.taker.edition == (edition < 6 ? edition : 0) && made.taker.limit == 7, "taker_for: the taker", edition);
+    }
+}
+
 /* A part without octets changes nothing. */
 static void test_null_part(void)
 {
@@ -166,7 +176,8 @@ static void test_stack(void)
     static pandoricchia_taking whole;
     whole.place = 4;
     whole.limit = 1000;
-    static const char *names[] = {"encode", "check", "open", "correct", "step", "list", "take", "nearest"};
+    whole.edition = 5;
+    static const char *names[] = {"encode", "check", "open", "correct", "step", "list", "take", "taker_for", "nearest"};
     for (unsigned call = 0; call < sizeof names / sizeof names[0]; call++) {
         size_t most = 0;
         for (uint8_t code = 1; code <= 5; code++) {
@@ -190,6 +201,8 @@ static void test_stack(void)
                 pandoricchia_list(code, word, n, 1000, table, PANDORICCHIA_MOST_WORD_OCTETS);
             else if (call == 6)
                 pandoricchia_take(whole, word, n);
+            else if (call == 7)
+                pandoricchia_taker_for(code, 1000);
             else
                 pandoricchia_nearest(word, words[1], 3, out, words[1]);
             size_t taken = painted_over();
@@ -207,6 +220,7 @@ int main(void)
     test_texts();
     test_null();
     test_null_nearest();
+    test_editions();
     test_null_part();
     test_addresses();
     test_stack();

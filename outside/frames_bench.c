@@ -1,9 +1,9 @@
 /* The taker of the library and the same algorithm in C, to be counted.
  *
- *     frames_bench WHO WHAT WRONG TURNS    WHO is library or fast; WHAT noise, frame or correct
+ *     frames_bench WHO WHAT WRONG TURNS    WHO is library or fast; WHAT noise, frame, newer or correct
  *
- * A turn takes 65,536 octets of noise without the beginning of a marker, or a marked word with so many wrong bits; or it corrects
- * that word alone.
+ * A turn takes 65,536 octets of noise without the beginning of a marker, or a marked word with so many wrong bits, by the old
+ * sequence or by the newer; or it corrects that word alone.
  */
 #include "fast.h"
 #include "frames_fast.h"
@@ -23,6 +23,7 @@ int main(int argc, char **argv)
     if (argc != 5)
         return 2;
     bool fast = strcmp(argv[1], "fast") == 0, noise = strcmp(argv[2], "noise") == 0, correct = strcmp(argv[2], "correct") == 0;
+    uint8_t edition = strcmp(argv[2], "newer") == 0 ? 5 : 0;
     uint8_t information[892];
     unsigned long sum = 0;
     for (size_t i = 0; i < sizeof information; i++)
@@ -32,12 +33,12 @@ int main(int argc, char **argv)
         word[97 * (unsigned)k + 5] ^= 0x10;
     memcpy(part, marker, 4);
     memcpy(part + 4, word, WORD);
-    judge_randomise(part + 4, WORD);
+    judge_randomise(edition, part + 4, WORD);
     size_t len = noise ? NOISE : FRAME;
     for (size_t i = 0; noise && i < NOISE; i++)
         part[i] = (uint8_t)(i * i * 131 + 13 * i + 3) == 0x1A ? 0x55 : (uint8_t)(i * i * 131 + 13 * i + 3);
-    pandoricchia_taking taker = pandoricchia_taker(65535);
-    struct fast_taker other = {.limit = 65535};
+    pandoricchia_taking taker = pandoricchia_taker_for(edition, 65535).taker;
+    struct fast_taker other = {.edition = edition, .limit = 65535};
     for (unsigned long turns = strtoul(argv[4], NULL, 10); turns > 0; turns--) {
         if (correct && fast) {
             sum += fast_correct(5, word, WORD, 65535, out, WORD).flips;

@@ -5,7 +5,8 @@
  *
  * STREAMS is how many streams are drawn, each cut in several ways. A stream has noise, marked words with and without wrong
  * bits, words that are refused, markers inside words, inside failed matches and cut short, words without room between them,
- * and trailing octets. Of each call the octets taken, the mark, the numbers and all octets of the word are held to what must be.
+ * and trailing octets; each is randomised by an edition. Of each call the octets taken, the mark, the numbers and all octets of
+ * the word are held to what must be. Takers for every edition, and states that no call gives, are tried first.
  */
 #include "frames_judge.h"
 #include "pandoricchia.h"
@@ -49,14 +50,14 @@ static void fail(const char *what, size_t at, size_t part)
 }
 
 /* A marked word: randomised, and spoilt in so many bits. */
-static size_t put_word(uint8_t *at, unsigned wrong)
+static size_t put_word(uint8_t *at, uint8_t edition, unsigned wrong)
 {
     uint8_t information[892];
     draw_octets(information, sizeof information);
     judge_encode(5, information, sizeof information, at + 4, WORD);
     if (below(3) == 0) /* a marker inside the word as it is sent: wrong bits, and no marker */
         memcpy(at + 4 + below(WORD - 3), marker, 4);
-    judge_randomise(at + 4, WORD);
+    judge_randomise(edition, at + 4, WORD);
     if (below(3) == 0)
         memcpy(at + 4 + below(WORD - 3), marker, 4);
     for (; wrong > 0; wrong--)
@@ -83,7 +84,7 @@ static size_t put_failed(uint8_t *at)
     return len;
 }
 
-static size_t draw_stream(uint8_t *stream)
+static size_t draw_stream(uint8_t *stream, uint8_t edition)
 {
     size_t len = 0;
     for (size_t frames = below(MOST_FRAMES - 1); frames > 0; frames--) {
@@ -91,11 +92,11 @@ static size_t draw_stream(uint8_t *stream)
             len += put_noise(stream + len, below(40));
         for (size_t k = below(4); k > 0; k--)
             len += put_failed(stream + len);
-        len += put_word(stream + len, (unsigned)(below(6) == 0 ? 400 : below(4) == 0 ? below(30) : below(3)));
+        len += put_word(stream + len, edition, (unsigned)(below(6) == 0 ? 400 : below(4) == 0 ? below(30) : below(3)));
     }
     len += put_noise(stream + len, below(30));
     if (below(3) == 0) { /* a last word that is cut short */
-        put_word(stream + len, 0);
+        put_word(stream + len, edition, 0);
         len += below(FRAME);
     }
     return len;
@@ -127,10 +128,10 @@ static bool same_numbers(struct judge_corrected j, pandoricchia_corrected l)
 }
 
 /* Takes the stream in parts, and holds each call to the judge's list of words. */
-static void take_in_parts(const uint8_t *stream, size_t len, uint16_t limit, const struct judge_frame *frame, size_t frames, unsigned kind)
+static void take_in_parts(const uint8_t *stream, size_t len, pandoricchia_taking taker, const struct judge_frame *frame,
+                          size_t frames, unsigned kind)
 {
     static uint8_t part[STREAM];
-    pandoricchia_taking taker = pandoricchia_taker(limit);
     size_t at = 0, found = 0;
     for (unsigned idle = 0; at < len || idle < 2;) {
         size_t n = draw_part(kind, len - at);
@@ -156,7 +157,7 @@ static void take_in_parts(const uint8_t *stream, size_t len, uint16_t limit, con
             found++;
             words++;
         }
-        if (r.next.limit != limit || r.next.edition != taker.edition)
+        if (r.next.limit != taker.limit || r.next.edition != taker.edition)
             fail("another limit or edition", at, n);
         at += r.taken;
         size_t begun = found < frames && at >= frame[found].offset ? frame[found].offset : at;
@@ -170,20 +171,59 @@ static void take_in_parts(const uint8_t *stream, size_t len, uint16_t limit, con
         fail("words are missed", at, 0);
 }
 
+static bool fresh(pandoricchia_taking taker, uint8_t edition, uint16_t limit)
+{
+    return taker.place == 0 && taker.edition == edition && taker.limit == limit && zero(taker.octets, WORD);
+}
+
+/* Each of the 256 editions: its number, and the state that comes with it. */
+static void make_takers(void)
+{
+    for (unsigned edition = 0; edition < 256; edition++) {
+        uint16_t limit = (uint16_t)draw();
+        pandoricchia_made made = pandoricchia_taker_for((uint8_t)edition, limit);
+        if (made.number != judge_edition((uint8_t)edition) || !fresh(made.taker, made.number == 0 ? (uint8_t)edition : 0, limit))
+            fail("another taker for an edition", edition, 0);
+        if (!fresh(pandoricchia_taker(limit), 0, limit))
+            fail("another taker without an edition", edition, 0);
+        calls += 2;
+    }
+}
+
+/* States that no call gives: a place past a word's end is read as 0, and an edition that is not known has the old sequence. */
+static void take_handmade(void)
+{
+    static const size_t places[] = {1024, 1025, 2044, 65536, (size_t)1 << 32, SIZE_MAX};
+    static uint8_t part[FRAME];
+    static struct judge_frame frame;
+    for (unsigned edition = 0; edition < 256; edition++)
+        for (size_t k = 0; k < sizeof places / sizeof places[0]; k++) {
+            pandoricchia_taking taker = {.place = places[k], .edition = (uint8_t)edition, .limit = 9};
+            draw_octets(taker.octets, WORD);
+            put_word(part, (uint8_t)edition, (unsigned)below(3));
+            judge_frame(part, FRAME, 0, (uint8_t)edition, 9, &frame);
+            take_in_parts(part, FRAME, taker, &frame, 1, edition % 2 ? 0 : 3);
+        }
+}
+
 int main(int argc, char **argv)
 {
     static uint8_t stream[STREAM];
     static struct judge_frame frame[MOST_FRAMES];
     unsigned long most = argc > 1 ? strtoul(argv[1], NULL, 10) : 40;
     seed = state = argc > 2 ? strtoull(argv[2], NULL, 10) : 1;
+    make_takers();
+    take_handmade();
     for (; streams < most; streams++) {
         uint16_t limit = (uint16_t)(below(3) == 0 ? below(3) : below(40));
-        size_t len = draw_stream(stream), frames = 0;
-        for (size_t at = 0; judge_frame(stream, len, at, limit, &frame[frames]); frames++)
+        uint8_t edition = (uint8_t)below(6), told = below(8) == 0 ? (uint8_t)below(256) : edition;
+        size_t len = draw_stream(stream, edition), frames = 0;
+        pandoricchia_taking taker = pandoricchia_taker_for(told, limit).taker;
+        for (size_t at = 0; judge_frame(stream, len, at, told, limit, &frame[frames]); frames++)
             at = frame[frames].offset + WORD;
         for (unsigned kind = 0; kind < 6; kind++)
             if (kind != 1 || streams % 8 == 0)
-                take_in_parts(stream, len, limit, frame, frames, kind);
+                take_in_parts(stream, len, taker, frame, frames, kind);
     }
     printf("frames: %lu calls on %lu streams, %lu words compared, no difference; numbers", calls, streams, words);
     for (unsigned k = 0; k < 256; k++)

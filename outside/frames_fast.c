@@ -1,17 +1,29 @@
-/* The marker is searched without going back, in noise by its first octet alone; a word's octets are copied by runs; the sequence
- * is a constant that is added by 64-bit words. */
+/* The marker is searched without going back, in noise by its first octet alone; a word's octets are copied by runs; a sequence is
+ * added by 64-bit words. The first is a constant; of the second the first 136 octets are, and the others come from two before. */
 #include "frames_fast.h"
 #include "fast.h"
 
 #include <string.h>
 
-/* Worked out once, at the first word; some octets more, to be read by words. */
-static uint8_t sequence[JUDGE_FRAME_OCTETS + 4];
+enum { START = 136 };
 
-static void randomise(uint8_t *octets)
+/* Worked out once, at the first word. */
+static uint8_t old[JUDGE_FRAME_OCTETS], start[START];
+
+static void randomise(uint8_t edition, uint8_t *octets)
 {
-    if (sequence[0] == 0)
-        judge_randomise(sequence, JUDGE_FRAME_OCTETS);
+    bool newer = edition == 4 || edition == 5;
+    if (old[0] == 0) {
+        judge_randomise(0, old, sizeof old);
+        judge_randomise(5, start, sizeof start);
+    }
+    uint8_t second[JUDGE_FRAME_OCTETS];
+    if (newer) {
+        memcpy(second, start, START);
+        for (size_t i = START; i < sizeof second; i++)
+            second[i] = second[i - 24] ^ second[i - START];
+    }
+    const uint8_t *sequence = newer ? second : old;
     size_t k = 0;
     for (; k + 8 <= JUDGE_FRAME_OCTETS; k += 8) {
         uint64_t v, s;
@@ -57,7 +69,7 @@ struct fast_taken fast_take(struct fast_taker state, const uint8_t *part, size_t
     if (answer.complete) {
         uint8_t received[JUDGE_FRAME_OCTETS];
         memcpy(received, answer.next.octets, sizeof received);
-        randomise(received);
+        randomise(state.edition, received);
         answer.corrected = fast_correct(5, received, sizeof received, state.limit, answer.word, sizeof answer.word);
     }
     return answer;

@@ -6,6 +6,7 @@
 
 struct fast_taker {
     size_t place;  /* octets of the marker that are matched, or 4 and the octets held */
+    uint8_t edition;
     uint16_t limit;
     uint8_t octets[JUDGE_FRAME_OCTETS];
 };

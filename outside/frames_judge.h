@@ -14,9 +14,12 @@ struct judge_frame {
 
 /* The first word whose marker begins at an octet from `from` on and that is whole in the stream. The search for the next one
  * begins at the first octet after the word. */
-bool judge_frame(const uint8_t *stream, size_t len, size_t from, uint16_t limit, struct judge_frame *frame);
+bool judge_frame(const uint8_t *stream, size_t len, size_t from, uint8_t edition, uint16_t limit, struct judge_frame *frame);
 
-/* The randomiser's sequence from its beginning, added to octets. */
-void judge_randomise(uint8_t *octets, size_t len);
+/* The number of an edition: 0, or 19 where it is not known. */
+uint8_t judge_edition(uint8_t edition);
+
+/* The sequence that an edition prints, from its beginning, added to octets. */
+void judge_randomise(uint8_t edition, uint8_t *octets, size_t len);
 
 #endif
