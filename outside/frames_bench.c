@@ -1,9 +1,9 @@
 /* The taker of the library and the same algorithm in C, to be counted.
  *
- *     frames_bench WHO WHAT WRONG TURNS    WHO is library or fast; WHAT noise, frame, newer or correct
+ *     frames_bench WHO WHAT WRONG TURNS    WHO is library or fast; WHAT noise, begun, frame, newer or correct
  *
- * A turn takes 65,536 octets of noise without the beginning of a marker, or a marked word with so many wrong bits, by the old
- * sequence or by the newer; or it corrects that word alone.
+ * A turn takes 65,536 octets: noise, drawn evenly, or 1A alone, of which each begins a marker that fails at the next; or a marked
+ * word with so many wrong bits, by the old sequence or by the newer; or it corrects that word alone.
  */
 #include "fast.h"
 #include "frames_fast.h"
@@ -22,7 +22,8 @@ int main(int argc, char **argv)
 {
     if (argc != 5)
         return 2;
-    bool fast = strcmp(argv[1], "fast") == 0, noise = strcmp(argv[2], "noise") == 0, correct = strcmp(argv[2], "correct") == 0;
+    bool fast = strcmp(argv[1], "fast") == 0, correct = strcmp(argv[2], "correct") == 0;
+    bool begun = strcmp(argv[2], "begun") == 0, noise = begun || strcmp(argv[2], "noise") == 0;
     uint8_t edition = strcmp(argv[2], "newer") == 0 ? 5 : 0;
     uint8_t information[892];
     unsigned long sum = 0;
@@ -35,8 +36,11 @@ int main(int argc, char **argv)
     memcpy(part + 4, word, WORD);
     judge_randomise(edition, part + 4, WORD);
     size_t len = noise ? NOISE : FRAME;
-    for (size_t i = 0; noise && i < NOISE; i++)
-        part[i] = (uint8_t)(i * i * 131 + 13 * i + 3) == 0x1A ? 0x55 : (uint8_t)(i * i * 131 + 13 * i + 3);
+    uint64_t drawn = 1;
+    for (size_t i = 0; noise && i < NOISE; i++) {
+        drawn = drawn * 6364136223846793005 + 1442695040888963407;
+        part[i] = begun ? 0x1A : (uint8_t)(drawn >> 56);
+    }
     pandoricchia_taking taker = pandoricchia_taker_for(edition, 65535).taker;
     struct fast_taker other = {.edition = edition, .limit = 65535};
     for (unsigned long turns = strtoul(argv[4], NULL, 10); turns > 0; turns--) {
