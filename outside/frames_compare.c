@@ -53,8 +53,11 @@ static void fail(const char *what, size_t at, size_t part)
 static size_t put_word(uint8_t *at, uint8_t edition, unsigned wrong)
 {
     uint8_t information[892];
+    bool parity = below(8) == 0;
     draw_octets(information, sizeof information);
     judge_encode(5, information, sizeof information, at + 4, WORD);
+    for (size_t bit = 7136; bit < 7136 + 511 && parity; bit++) /* quiet, but not the encoder's parity */
+        at[4 + bit / 8] ^= (uint8_t)(0x80 >> bit % 8);
     if (below(3) == 0) /* a marker inside the word as it is sent: wrong bits, and no marker */
         memcpy(at + 4 + below(WORD - 3), marker, 4);
     judge_randomise(edition, at + 4, WORD);
