@@ -15,8 +15,8 @@
  *
  * A pointer whose length is 0 may be NULL: nothing is read or written through it. Octets may lie at any address.
  * The library keeps no state and allocates nothing: calls may run in any threads at once, each on its own output.
- * A call takes less than PANDORICCHIA_STACK_OCTETS of stack, list less than PANDORICCHIA_LIST_STACK_OCTETS. The archive asks
- * for memcpy and memset, and nothing else.
+ * A call takes less than PANDORICCHIA_STACK_OCTETS of stack, list less than PANDORICCHIA_LIST_STACK_OCTETS, take less than
+ * PANDORICCHIA_TAKE_STACK_OCTETS. The archive asks for memcpy and memset, and nothing else.
  */
 #ifndef PANDORICCHIA_H
 #define PANDORICCHIA_H
@@ -29,7 +29,7 @@
 extern "C" {
 #endif
 
-#define PANDORICCHIA_VERSION "0.6.0"
+#define PANDORICCHIA_VERSION "0.8.0"
 
 /* The table above; for a code number that is not known until the program runs there are two calls below. */
 #define PANDORICCHIA_WORD_OCTETS_1 16
@@ -47,9 +47,11 @@ extern "C" {
 #define PANDORICCHIA_MOST_WORD_OCTETS 1022
 #define PANDORICCHIA_MOST_INFORMATION_OCTETS 895
 
-/* Measured by outside/boundary.c, not proved: encode takes some 5,400 octets, correct and step 2,500, check and open 1,900. */
+/* Measured by outside/boundary.c, not proved: take takes some 8,000 octets, correct 2,800, encode 2,600, step 2,500, check and open
+ * 2,200. */
 #define PANDORICCHIA_STACK_OCTETS 8192
 #define PANDORICCHIA_LIST_STACK_OCTETS 65536
+#define PANDORICCHIA_TAKE_STACK_OCTETS 16384
 
 /* The number that each call returns. The lowest that applies is given, except that 5 to 8 come in the order of the run, and 18
  * before 17. A call that returns any other number than PANDORICCHIA_DONE is refused and has written nothing, but for list,
@@ -73,6 +75,7 @@ enum pandoricchia_number {
     PANDORICCHIA_OTHER_PARITY = 15,  /* open, code 5: neither, but the parity is not the encoder's */
     PANDORICCHIA_NONE_NEAR = 17,     /* nearest: no codeword lies within the reach */
     PANDORICCHIA_REACH = 18,         /* nearest: the reach is above 3 */
+    PANDORICCHIA_EDITION = 19,       /* taker_for: the edition is not known */
     PANDORICCHIA_TOO_LONG = 20,      /* import_blocks: not whole blocks or more than 128; export_blocks: more than 64,512 octets */
     PANDORICCHIA_BLOCK_CHECK = 21,   /* import_blocks: a block's frame check */
     PANDORICCHIA_BLOCK_NUMBER = 22,  /* import_blocks: a block's number */
@@ -119,6 +122,8 @@ static inline const char *pandoricchia_text(uint8_t number)
         return "no codeword within the reach";
     case PANDORICCHIA_REACH:
         return "reach above 3";
+    case PANDORICCHIA_EDITION:
+        return "edition not known";
     case PANDORICCHIA_TOO_LONG:
         return "not whole blocks or more than 128; more than 64,512 octets";
     case PANDORICCHIA_BLOCK_CHECK:
@@ -254,6 +259,40 @@ typedef struct pandoricchia_handed {
  * length, which ends nothing. 5 or 6 ends the reading, and is answered again and again, as none is after the last. */
 pandoricchia_handed pandoricchia_read(pandoricchia_reading state, const uint8_t *unit, size_t unit_len, uint8_t *out,
                                       size_t out_len);
+
+/* Telemetry straight from the receiver, code 5: words out of a stream of octets that comes in parts. */
+
+/* A taker between two parts of the stream. A type may not have a function's name here. */
+typedef struct pandoricchia_taking {
+    size_t place;     /* octets of the marker that are matched, 0 to 3, or 4 and the octets held of the word */
+    uint8_t edition;  /* 4 and 5 have the second randomiser, any other the old one */
+    uint16_t limit;
+    uint8_t octets[1020];
+} pandoricchia_taking;
+
+/* A taker at the start of a stream, that corrects under the limit; no edition is stated, so the old randomiser stays. */
+pandoricchia_taking pandoricchia_taker(uint16_t limit);
+
+typedef struct pandoricchia_made {
+    uint8_t number;  /* 0 or 19 */
+    pandoricchia_taking taker;
+} pandoricchia_made;
+
+/* The same for an edition, which is the issue number of CCSDS 131.0-B: 1, 2 and 3 have the old randomiser, as 0 has, which is not
+ * stated; 4 and 5 have the second one. Any other is refused by 19, with a taker at the start for the old one. */
+pandoricchia_made pandoricchia_taker_for(uint8_t edition, uint16_t limit);
+
+typedef struct pandoricchia_taken {
+    pandoricchia_taking next;          /* the taker from here on: hand it in with the next part */
+    size_t taken;                      /* octets of the part that were taken: all, unless a word is complete */
+    bool complete;                     /* a word is complete */
+    pandoricchia_corrected corrected;  /* correct's numbers for it; all 0 where none is */
+    uint8_t word[1020];                /* the corrected word; all zeros where it is refused, or none is complete */
+} pandoricchia_taken;
+
+/* Take: finds the marker 1A CF FC 1D at an octet boundary, takes 1020 octets, removes the randomiser and corrects. Goes on until a
+ * word is complete or the part is used up; what was not taken of a part is brought again. No refusals of its own. */
+pandoricchia_taken pandoricchia_take(pandoricchia_taking state, const uint8_t *part, size_t part_len);
 
 /* The older BCH words, BCH (63,56) by CCSDS 231.0-B: 7 octets of information, then seven inverted parity bits and one
  * zero fill bit, 8 octets in all. These calls take no code number. */

@@ -7,7 +7,7 @@
 //!
 //! and `rustc -L target/staticlib -l static=pandoricchia`.
 
-pub const VERSION: &str = "0.6.0";
+pub const VERSION: &str = "0.8.0";
 
 /// Octets of a word and of its information, by code number; there is no code 0.
 pub const WORD_OCTETS: [usize; 6] = [0, 16, 32, 64, 1022, 1020];
@@ -31,6 +31,7 @@ pub const LAST_TWO: u8 = 14;
 pub const OTHER_PARITY: u8 = 15;
 pub const NONE_NEAR: u8 = 17;
 pub const REACH: u8 = 18;
+pub const EDITION: u8 = 19;
 pub const TOO_LONG: u8 = 20;
 pub const BLOCK_CHECK: u8 = 21;
 pub const BLOCK_NUMBER: u8 = 22;
@@ -112,6 +113,34 @@ pub struct Reading {
     pub place: usize,
 }
 
+/// A taker between two parts of a stream.
+#[repr(C)]
+#[derive(Clone, Copy, Debug, PartialEq, Eq)]
+pub struct Taker {
+    pub place: usize,
+    pub edition: u8,
+    pub limit: u16,
+    pub octets: [u8; 1020],
+}
+
+/// A taker for an edition, with its number.
+#[repr(C)]
+#[derive(Clone, Copy, Debug, PartialEq, Eq)]
+pub struct Made {
+    pub number: u8,
+    pub taker: Taker,
+}
+
+#[repr(C)]
+#[derive(Clone, Copy, Debug, PartialEq, Eq)]
+pub struct Taken {
+    pub next: Taker,
+    pub taken: usize,
+    pub complete: bool,
+    pub corrected: Corrected,
+    pub word: [u8; 1020],
+}
+
 #[repr(C)]
 #[derive(Clone, Copy, Debug, PartialEq, Eq)]
 pub struct Mended {
@@ -148,6 +177,9 @@ extern "C" {
     fn pandoricchia_write_unit(code: u8, information: *const u8, information_len: usize, out: *mut u8, out_len: usize) -> u8;
     fn pandoricchia_reader(code: u8, unit: *const u8, unit_len: usize, limit: u16) -> Reading;
     fn pandoricchia_read(state: Reading, unit: *const u8, unit_len: usize, out: *mut u8, out_len: usize) -> Handed;
+    fn pandoricchia_taker(limit: u16) -> Taker;
+    fn pandoricchia_taker_for(edition: u8, limit: u16) -> Made;
+    fn pandoricchia_take(state: Taker, part: *const u8, part_len: usize) -> Taken;
     fn pandoricchia_bch_encode(information: *const u8, information_len: usize, word: *mut u8, word_len: usize) -> u8;
     fn pandoricchia_bch_check(detect_only: bool, word: *const u8, word_len: usize, out: *mut u8, out_len: usize) -> Mended;
     fn pandoricchia_import_blocks(blocks: *const u8, blocks_len: usize, out: *mut u8, out_len: usize) -> Imported;
@@ -181,6 +213,7 @@ pub fn text(number: u8) -> &'static str {
         OTHER_PARITY => "parity not the encoder's",
         NONE_NEAR => "no codeword within the reach",
         REACH => "reach above 3",
+        EDITION => "edition not known",
         TOO_LONG => "not whole blocks or more than 128; more than 64,512 octets",
         BLOCK_CHECK => "a block's frame check",
         BLOCK_NUMBER => "a block's number",
@@ -283,6 +316,26 @@ impl Reader<'_> {
         let handed = unsafe { pandoricchia_read(self.state, self.unit.as_ptr(), self.unit.len(), out.as_mut_ptr(), out.len()) };
         self.state = handed.next;
         handed
+    }
+}
+
+/// A taker at the start of a telemetry stream, that corrects under the limit.
+#[must_use]
+pub fn taker(limit: u16) -> Taker {
+    unsafe { pandoricchia_taker(limit) }
+}
+
+/// The same for an edition, 0 to 5. Any other has number 19, and a taker for the old sequence.
+#[must_use]
+pub fn taker_for(edition: u8, limit: u16) -> Made {
+    unsafe { pandoricchia_taker_for(edition, limit) }
+}
+
+impl Taker {
+    /// Goes on with a part of the stream until a word is complete or the part is used up; the rest is to be brought again.
+    #[must_use]
+    pub fn take(self, part: &[u8]) -> Taken {
+        unsafe { pandoricchia_take(self, part.as_ptr(), part.len()) }
     }
 }
 

@@ -59,7 +59,7 @@ static void test_texts(void)
 {
     const char *none = pandoricchia_text(255);
     for (unsigned number = 0; number <= 255; number++) {
-        int given = number <= PANDORICCHIA_BLOCK_COUNT && number != 16 && number != 19;
+        int given = number <= PANDORICCHIA_BLOCK_COUNT && number != 16;
         expect((strcmp(pandoricchia_text((uint8_t)number), none) != 0) == given, "a text for each number and for no other", number);
     }
 }
@@ -93,6 +93,28 @@ static void test_null_nearest(void)
         expect(pandoricchia_nearest(NULL, 0, (uint8_t)reach, NULL, 0).number == 2, "nearest, both NULL", reach);
         expect(pandoricchia_nearest(word, words[1], (uint8_t)reach, NULL, 0).number == 3, "nearest, output NULL", reach);
     }
+}
+
+/* The known editions, and a limit that is kept with the others too. */
+static void test_editions(void)
+{
+    for (unsigned edition = 0; edition < 256; edition++) {
+        pandoricchia_made made = pandoricchia_taker_for((uint8_t)edition, 7);
+        expect(made.number == (edition < 6 ? PANDORICCHIA_DONE : PANDORICCHIA_EDITION), "taker_for", edition);
+        expect(made.taker.edition == (edition < 6 ? edition : 0) && made.taker.limit == 7, "taker_for: the taker", edition);
+    }
+}
+
+/* A part without octets changes nothing. */
+static void test_null_part(void)
+{
+    pandoricchia_taking state = pandoricchia_taker(7);
+    pandoricchia_taken taken = pandoricchia_take(state, NULL, 0);
+    expect(taken.taken == 0 && !taken.complete && taken.corrected.number == 0, "take, NULL", 5);
+    expect(taken.next.place == 0 && taken.next.edition == 0 && taken.next.limit == 7, "take, NULL: the taker", 5);
+    taken = pandoricchia_take(state, (const uint8_t *)"\x1A\xCF", 2);
+    state = pandoricchia_take(taken.next, NULL, 0).next;
+    expect(taken.taken == 2 && state.place == taken.next.place, "take, NULL between two parts", 5);
 }
 
 /* The same answers at each of sixteen addresses. */
@@ -151,7 +173,11 @@ __attribute__((noinline)) static size_t painted_over(void)
 static void test_stack(void)
 {
     static pandoricchia_fliprecord table[PANDORICCHIA_MOST_WORD_OCTETS];
-    static const char *names[] = {"encode", "check", "open", "correct", "step", "list", "nearest"};
+    static pandoricchia_taking whole;
+    whole.place = 4;
+    whole.limit = 1000;
+    whole.edition = 5;
+    static const char *names[] = {"encode", "check", "open", "correct", "step", "list", "take", "taker_for", "nearest"};
     for (unsigned call = 0; call < sizeof names / sizeof names[0]; call++) {
         size_t most = 0;
         for (uint8_t code = 1; code <= 5; code++) {
@@ -173,13 +199,18 @@ static void test_stack(void)
                 pandoricchia_step(code, word, n, out, n);
             else if (call == 5)
                 pandoricchia_list(code, word, n, 1000, table, PANDORICCHIA_MOST_WORD_OCTETS);
+            else if (call == 6)
+                pandoricchia_take(whole, word, n);
+            else if (call == 7)
+                pandoricchia_taker_for(code, 1000);
             else
                 pandoricchia_nearest(word, words[1], 3, out, words[1]);
             size_t taken = painted_over();
             most = taken > most ? taken : most;
         }
         printf("boundary: stack of %s: %zu octets\n", names[call], most);
-        expect(most < (call == 5 ? PANDORICCHIA_LIST_STACK_OCTETS : PANDORICCHIA_STACK_OCTETS), "more stack than the header says", call);
+        size_t room = call == 5 ? PANDORICCHIA_LIST_STACK_OCTETS : call == 6 ? PANDORICCHIA_TAKE_STACK_OCTETS : PANDORICCHIA_STACK_OCTETS;
+        expect(most < room, "more stack than the header says", call);
     }
 }
 
@@ -189,6 +220,8 @@ int main(void)
     test_texts();
     test_null();
     test_null_nearest();
+    test_editions();
+    test_null_part();
     test_addresses();
     test_stack();
     printf("boundary: %u passed, %u failed\n", passed, failed);

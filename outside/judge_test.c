@@ -1,8 +1,9 @@
 /* Runs the judge on document 01's cases and on what the document promises of every word.
  *
- *     cc -std=c11 -Wall -Wextra -O2 -o target/judge_test outside/judge_test.c outside/judge.c outside/nearest_judge.c &&
- *         target/judge_test
+ *     cc -std=c11 -Wall -Wextra -O2 -o target/judge_test outside/judge_test.c outside/judge.c outside/nearest_judge.c \
+ *         outside/frames_judge.c && target/judge_test
  */
+#include "frames_judge.h"
 #include "judge.h"
 #include "nearest_judge.h"
 
@@ -804,6 +805,71 @@ static void nearest_cases(void)
     end();
 }
 
+/* A marked and randomised word at a place of a stream. */
+static void put_frame(uint8_t *at, const uint8_t *word)
+{
+    memcpy(at, "\x1A\xCF\xFC\x1D", 4);
+    memcpy(at + 4, word, 1020);
+    judge_randomise(0, at + 4, 1020);
+}
+
+static void telemetry(void)
+{
+    static uint8_t stream[4 * 1024 + 8];
+    uint8_t info[MOST_OCTETS], word[MOST_OCTETS], other[MOST_OCTETS], octets[600] = {0};
+    struct judge_frame f;
+
+    begin("telemetry: the first sequence");
+    for (unsigned edition = 0; edition < 4; edition++) {
+        judge_randomise((uint8_t)edition, octets, sizeof octets);
+        EXPECT(memcmp(octets, "\xFF\x48\x0E\xC0\x9A", 5) == 0);
+        EXPECT(memcmp(octets, octets + 255, sizeof octets - 255) == 0);
+        judge_randomise((uint8_t)edition, octets, sizeof octets);
+        EXPECT(all_are(octets, 0, sizeof octets));
+    }
+    end();
+
+    begin("telemetry: the second sequence");
+    /* Its period is 131,071 bits, so 131,071 octets; a prime, so that no shorter one divides it. */
+    static uint8_t longer[131071 + 600];
+    judge_randomise(4, longer, sizeof longer);
+    EXPECT(memcmp(longer, "\x1C\x71\xB9\x1B\xA9\xBA\x84\x57", 8) == 0);
+    EXPECT(memcmp(longer, longer + 131071, 600) == 0);
+    EXPECT(memcmp(longer, longer + 255, 600) != 0);
+    judge_randomise(5, longer, sizeof longer);
+    EXPECT(all_are(longer, 0, sizeof longer));
+    end();
+
+    begin("telemetry: editions");
+    for (unsigned edition = 0; edition < 256; edition++)
+        EXPECT(judge_edition((uint8_t)edition) == (edition < 6 ? 0 : 19));
+    end();
+
+    begin("telemetry: words of a stream");
+    draw_codeword(5, info, word);
+    draw_codeword(5, info, other);
+    put_frame(stream + 3, word);
+    put_frame(stream + 3 + 1024, other);
+    flip(stream + 3 + 1024 + 4, 99);
+    /* A marker that begins inside a failed match. */
+    memcpy(stream, "\x1A\xCF\xFC", 3);
+    EXPECT(judge_frame(stream, sizeof stream, 0, 0, 1, &f) && f.offset == 7 && are(f.corrected, 0, 0, 0, 0, 0, 1022));
+    EXPECT(memcmp(f.word, word, 1020) == 0);
+    EXPECT(judge_frame(stream, sizeof stream, f.offset + 1020, 0, 1, &f) && f.offset == 1031 && f.corrected.flips == 1);
+    EXPECT(memcmp(f.word, other, 1020) == 0);
+    EXPECT(!judge_frame(stream, sizeof stream, f.offset + 1020, 0, 1, &f));
+    /* Refused, and so all zeros. */
+    EXPECT(judge_frame(stream, sizeof stream, 1027, 0, 0, &f) && f.corrected.number == 6 && f.corrected.first == 4);
+    EXPECT(all_are(f.word, 0, 1020));
+    /* One octet short; a word whose octets have a marker in them. */
+    EXPECT(!judge_frame(stream, 3 + 1023, 0, 0, 1, &f));
+    EXPECT(judge_frame(stream, 3 + 1024, 0, 0, 1, &f));
+    memcpy(stream + 500, "\x1A\xCF\xFC\x1D", 4);
+    EXPECT(judge_frame(stream, sizeof stream, 0, 0, 65535, &f) && f.offset == 7);
+    EXPECT(judge_frame(stream, sizeof stream, f.offset + 1020, 0, 1, &f) && f.offset == 1031);
+    end();
+}
+
 int main(void)
 {
     starred_cases();
@@ -816,6 +882,7 @@ int main(void)
     random_words();
     listed_words();
     nearest_cases();
+    telemetry();
     printf("%lu passed, %lu failed\n", passed, failed);
     return failed == 0 ? EXIT_SUCCESS : EXIT_FAILURE;
 }

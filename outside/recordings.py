@@ -1,4 +1,5 @@
-"""Recordings for the bench program, the same ones every time. The judge, built as a shared object, encodes and corrects."""
+"""Recordings for the bench program and streams for frames, the same ones every time. The judge, built as a shared object,
+encodes and corrects."""
 import ctypes
 import os
 import shutil
@@ -160,3 +161,33 @@ def shortened(word):
 
 def recording(code, limit, words):
     return bytes([code]) + limit.to_bytes(2, "big") + b"".join(words)
+
+
+MARKER = bytes([0x1A, 0xCF, 0xFC, 0x1D])
+
+
+def sequence(octets, edition=0):
+    """An edition's randomiser from its beginning: x^8 + x^7 + x^5 + x^3 + 1 from all ones; in issues 4 and 5 x^17 + x^14 + 1."""
+    newer = edition in (4, 5)
+    bits = [int(bit) for bit in ("00011100011100011" if newer else "11111111")]
+    while len(bits) < 8 * octets:
+        bits.append(bits[-3] ^ bits[-17] if newer else bits[-1] ^ bits[-3] ^ bits[-5] ^ bits[-8])
+    return int("".join(map(str, bits[: 8 * octets])), 2).to_bytes(octets, "big")
+
+
+def frame(word, edition=0):
+    """A word of code 5 as it comes in a stream: the marker, and the word randomised."""
+    return MARKER + bytes(a ^ b for a, b in zip(word, sequence(len(word), edition)))
+
+
+def mixed_stream(judge, frames, seed, edition=0):
+    """Noise, markers that begin inside failed matches, clean, spoilt and refused words, one with a marker in its octets, a cut one."""
+    words, source = Words(judge, 5, seed), Source(seed + 1000)
+    made = []
+    for k in range(frames):
+        made.append(source.octets(source.below(30)))
+        made.append(MARKER[: source.below(4)])
+        kind = k % 5
+        sent = frame(words.wrong((0, 1, 4, 60, 0)[kind]), edition)
+        made.append(sent if kind != 4 else sent[:300] + MARKER + sent[304:])
+    return b"".join(made) + source.octets(11) + frame(words.quiet(), edition)[:500]

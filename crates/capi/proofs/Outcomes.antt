@@ -17,6 +17,17 @@ use Rattle.capi.proofs.pandoricchia_encode.Reads as encode-reads
 use Rattle.capi.proofs.pandoricchia_check as check
 use Rattle.capi.proofs.pandoricchia_check.Kinds as check-kinds
 use Rattle.capi.proofs.pandoricchia_check.Reads as check-reads
+use Rattle.taker.specs.Taking.{Taker as TakerAnswer}
+use Rattle.taker.specs.declared.Taker.{Taker}
+use Rattle.capi.proofs.pandoricchia_taker as taker
+use Rattle.capi.proofs.pandoricchia_taker.Kinds as taker-kinds
+use Rattle.capi.proofs.pandoricchia_taker.Reads as taker-reads
+use Rattle.capi.proofs.pandoricchia_taker_for as taker-for
+use Rattle.capi.proofs.pandoricchia_taker_for.Kinds as taker-for-kinds
+use Rattle.capi.proofs.pandoricchia_taker_for.Reads as taker-for-reads
+use Rattle.capi.proofs.pandoricchia_take as take
+use Rattle.capi.proofs.pandoricchia_take.Kinds as take-kinds
+use Rattle.capi.proofs.pandoricchia_take.Reads as take-reads
 use Rattle.capi.proofs.pandoricchia_nearest as nearest
 use Rattle.capi.proofs.pandoricchia_nearest.Kinds as nearest-kinds
 use Rattle.capi.proofs.pandoricchia_nearest.Reads as nearest-reads
@@ -93,6 +104,22 @@ write-unit-outcome κs a r₁ r₂ s₁ s₂ p q = (ap (λ x. x .number) (p ∙ 
 -- A record of numbers from the answer that it stands for.
 abbrev numbers : Corrected → Numbers
 numbers r = record { number = r .number; flips = r .flips; first = r .first; last = r .last; unlike = r .unlike; lowest = r .lowest }
+
+abbrev takerState : TakerAnswer → Taker
+takerState x = record { place = x .place; edition = x .told .edition; limit = x .told .limit; octets = x .octets }
+
+pub taker-outcome : (κs : Lfts 0) (a : ArgsD taker.signature κs) (r₁ r₂ : ResD taker.signature κs) (s₁ s₂ : AtExit (endedOf 0 taker-kinds.ps taker-kinds.r) κs)
+    → taker-reads.Post κs a r₁ s₁ → taker-reads.Post κs a r₂ s₂ → r₁ ≡ r₂
+taker-outcome κs a r₁ r₂ s₁ s₂ p q = ap (λ x. takerState x) (p ∙ sym q)
+
+pub taker-for-outcome : (κs : Lfts 0) (a : ArgsD taker-for.signature κs) (r₁ r₂ : ResD taker-for.signature κs) (s₁ s₂ : AtExit (endedOf 0 taker-for-kinds.ps taker-for-kinds.r) κs)
+    → taker-for-reads.Post κs a r₁ s₁ → taker-for-reads.Post κs a r₂ s₂ → r₁ ≡ r₂
+taker-for-outcome κs a r₁ r₂ s₁ s₂ p q = ap (λ x. record { number = x .number; taker = takerState (x .taker) }) (p ∙ sym q)
+
+pub take-outcome : (κs : Lfts 1) (a : ArgsD take.signature κs) (r₁ r₂ : ResD take.signature κs) (s₁ s₂ : AtExit (endedOf 1 take-kinds.ps take-kinds.r) κs)
+    → take-reads.Post κs a r₁ s₁ → take-reads.Post κs a r₂ s₂ → r₁ ≡ r₂
+take-outcome κs a r₁ r₂ s₁ s₂ p q =
+    ap (λ x. record { next = takerState (x .next); taken = x .taken; complete = x .complete; corrected = numbers (x .corrected); word = x .corrected .out }) (p ∙ sym q)
 
 pub reader-outcome : (κs : Lfts 1) (a : ArgsD reader.signature κs) (r₁ r₂ : ResD reader.signature κs) (s₁ s₂ : AtExit (endedOf 1 reader-kinds.ps reader-kinds.r) κs)
     → reader-reads.Post κs a r₁ s₁ → reader-reads.Post κs a r₂ s₂ → r₁ ≡ r₂

@@ -12,10 +12,15 @@ ghost use Rattle.bch.specs.Answers.{asEncoded as asBchEncoded, asMended};
 use bch::Mended;
 ghost use Rattle.nearest.specs.Nearest.{nearestAnswer};
 ghost use Rattle.nearest.specs.Answers.{asReached};
+ghost use Rattle.taker.specs.Taking.{newTaker, takerForAnswer, takeAnswer};
+ghost use Rattle.taker.specs.Answers.{asTaker, asMade, asTaken};
 ghost use Rattle.blocks.specs.Blocks.{exportAnswer, exportRoom, importAnswer, importRoom};
 ghost use Rattle.blocks.specs.Answers.{asExported, asImported};
 use blocks::Imported;
 use nearest::Reached;
+use taker::Made;
+use taker::Taken;
+use taker::Taker;
 use codes::Checked;
 use codes::Corrected;
 use codes::Stepped;
@@ -190,4 +195,25 @@ pub extern "C" fn pandoricchia_nearest(word: &[u8], reach: u8, out: &mut [u8]) -
     ensures { λ r. ⌜ asReached r (now (out .exit)) ≡ nearestAnswer (now (word .entry)) reach (now (out .entry)) ⌝ }
 {
     nearest::nearest(word, reach, out)
+}
+
+#[no_mangle]
+pub extern "C" fn pandoricchia_taker(limit: u16) -> Taker
+    ensures { λ r. ⌜ asTaker r ≡ newTaker limit ⌝ }
+{
+    Taker::new(limit)
+}
+
+#[no_mangle]
+pub extern "C" fn pandoricchia_taker_for(edition: u8, limit: u16) -> Made
+    ensures { λ r. ⌜ asMade r ≡ takerForAnswer edition limit ⌝ }
+{
+    Taker::told(edition, limit)
+}
+
+#[no_mangle]
+pub extern "C" fn pandoricchia_take(state: Taker, part: &[u8]) -> Taken
+    ensures { λ r. ⌜ asTaken r ≡ takeAnswer (asTaker state) (now (part .entry)) ⌝ }
+{
+    state.take(part)
 }

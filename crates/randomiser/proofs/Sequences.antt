@@ -3,7 +3,7 @@ use mathlib.Core.Path.{_≡_, refl, sym, ap, ap₂, _∙_, subst}
 use mathlib.Core.Bool.{Bool, true, false, not, _&&_}
 use mathlib.Core.List.{List, [], _∷_, _++_}
 use Prim.Native.Nat.{ℕ, zero, suc, _+_, _-_, _*_, _%_, _/_, _≤_, _<_}
-use native.Mathlib.Nat.{add-zero, zero-add, add-suc, suc-add, add-comm, add-assoc, suc-mul, mod-add-mod, div-add-mod'}
+use native.Mathlib.Nat.{add-zero, zero-add, add-suc, suc-add, add-comm, add-assoc, mul-assoc, suc-mul, mod-add-mod, div-add-mod'}
 use native.Mathlib.Omega.{arith}
 use lib.Dec.{T, eqb, ltb, leb, ltb→lt}
 use lib.ListN.{length, getD, drop, take, replicate, length-append, length-drop, List·getD-append}
@@ -164,12 +164,25 @@ walked-at g (suc n) m (suc i) h =
     walked-at g n (suc (suc (suc (suc (suc (suc (suc (suc m)))))))) i (omega arith)
     ∙ ap (λ z. number 8 (λ k. getD (register g z) k false)) e
 
+-- the octets of a sequence whose register holds eight bits or more
+pub walked-octets : (g : Generator) → 8 ≤ length (g .first) → (m n : ℕ) → n < m → getD (walked (g .powers) m (g .first)) n 0
+    ≡ sequenceOctet g n
+unfolding register
+walked-octets g eight m n h =
+    walked-at g m 0 n h
+    ∙ number-same 8 (λ k. getD (register g (0 + 8 * n)) k false) (λ k. sequence g (8 * n + k))
+    (λ k l. ap (λ z. getD (register g z) k false) (zero-add (8 * n)) ∙ register-at g (omega arith) (8 * n) k (omega arith))
+
+-- a sequence whose register is the first one again after p bits: its octets come again after p octets
+pub octet-again : (g : Generator) → 0 < length (g .first) → (p : ℕ) → register g p ≡ g .first → (n times : ℕ)
+    → sequenceOctet g (n + times * p) ≡ sequenceOctet g n
+octet-again g some p e n times = number-same 8 (λ k. sequence g (8 * (n + times * p) + k)) (λ k. sequence g (8 * n + k)) (λ k l.
+    let w : 8 * (n + times * p) + k ≡ 8 * n + k + 8 * times * p = omega (arith, mul-assoc 8 times p) in
+    ap (λ z. getD (register g z) 0 false) w ∙ ap (λ r. getD r 0 false) (again-times g some p e (8 * times) (8 * n + k)))
+
 pub telecommand-octets : (n : ℕ) → n < 319 → getD (walked (telecommand .powers) 319 (telecommand .first)) n 0 ≡ sequenceOctet telecommand n
-unfolding register telecommand
-telecommand-octets n h =
-    walked-at telecommand 319 0 n h
-    ∙ number-same 8 (λ k. getD (register telecommand (0 + 8 * n)) k false) (λ k. sequence telecommand (8 * n + k))
-    (λ k l. ap (λ z. getD (register telecommand z) k false) (zero-add (8 * n)) ∙ register-at telecommand telecommand-some (8 * n) k l)
+unfolding telecommand
+telecommand-octets n h = walked-octets telecommand (omega arith) 319 n h
 
 pub telecommand-mod : (n : ℕ) → sequenceOctet telecommand (n % 255) ≡ sequenceOctet telecommand n
 telecommand-mod n = number-same 8 (λ k. sequence telecommand (8 * (n % 255) + k)) (λ k. sequence telecommand (8 * n + k)) (λ k l.

@@ -1,8 +1,9 @@
 -- Randomising: the bits of a sequence are added to those of the octets.
+use mathlib.Core.Path.{_≡_}
 use mathlib.Core.Bool.{Bool, true, false}
 use mathlib.Core.List.{List, [], _∷_, _++_}
-use Prim.Native.Nat.{ℕ, zero, suc, _+_, _*_}
-use lib.ListN.{getD, drop, replicate}
+use Prim.Native.Nat.{ℕ, zero, suc, _+_, _*_, _<_}
+use lib.ListN.{length, getD, drop, replicate}
 use Rattle.bits.specs.Bits.{Word, digit, number, over, _⊕_}
 
 -- A generator: the powers of x in its polynomial below the greatest, and the first bits of its sequence, as many as the greatest power.
@@ -35,3 +36,9 @@ randomised g n (octet ∷ octets) = number 8 (λ k. digit 8 octet k ⊕ sequence
 -- The telecommand generator: x^8 + x^6 + x^4 + x^3 + x^2 + x + 1 from all ones.
 unfoldable pub telecommand : Generator
 telecommand = record { powers = 6 ∷ 4 ∷ 3 ∷ 2 ∷ 1 ∷ 0 ∷ []; first = replicate 8 true }
+
+-- What adding part of a table to octets ensures: where the table holds octets of a sequence there, the octets are randomised by it.
+abbrev pub Added : List ℕ → ℕ → List ℕ → List ℕ → Type 0
+Added table from octets out =
+    (g : Generator) → (used : ℕ) → ((i : ℕ) → i < length octets → getD table (from + i) 0 ≡ sequenceOctet g (used + i))
+    → out ≡ randomised g used octets

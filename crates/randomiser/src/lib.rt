@@ -1,8 +1,8 @@
 // Randomising: the telecommand sequence, added to octets in place.
 ghost use mathlib.Core.Path.{_≡_};
-ghost use Prim.Native.Nat.{ℕ, _+_, _≤_, _<_};
-ghost use lib.ListN.{length, getD};
-ghost use Rattle.randomiser.specs.Randomiser.{sequenceOctet, telecommand, randomised};
+ghost use Prim.Native.Nat.{_+_, _≤_};
+ghost use lib.ListN.{length};
+ghost use Rattle.randomiser.specs.Randomiser.{telecommand, randomised, Added};
 
 // The octets of the telecommand sequence, which come again after 255; 64 more, so that a codeblock is done without a test for the end.
 const TELECOMMAND: [u8; 319] = [
@@ -327,10 +327,10 @@ const TELECOMMAND: [u8; 319] = [
     0x7B,
 ];
 
-// The octets of the sequence from `from` on, which come after `used` others, added to as many octets.
-fn add(octets: &mut [u8], sequence: &[u8], from: usize, used: usize)
-    requires { ⌜ (from + length (now octets) ≤ length (now sequence)) × ((i : ℕ) → i < length (now octets) → getD (now sequence) (from + i) 0 ≡ sequenceOctet telecommand (used + i)) ⌝ }
-    ensures { λ _. ⌜ now (octets .exit) ≡ randomised telecommand used (now (octets .entry)) ⌝ }
+// The octets of a sequence from `from` on, added to as many octets.
+pub fn add(octets: &mut [u8], sequence: &[u8], from: usize)
+    requires { ⌜ from + length (now octets) ≤ length (now sequence) ⌝ }
+    ensures { λ _. ⌜ Added (now (sequence .entry)) from (now (octets .entry)) (now (octets .exit)) ⌝ }
 {
     let mut i = 0;
     while i < octets.len() {
@@ -345,5 +345,5 @@ pub fn randomise(octets: &mut [u8], used: usize)
     ensures { λ _. ⌜ now (octets .exit) ≡ randomised telecommand used (now (octets .entry)) ⌝ }
 {
     let from = used % 255;
-    add(octets, &TELECOMMAND, from, used);
+    add(octets, &TELECOMMAND, from);
 }

@@ -48,9 +48,10 @@ returns c =
     let m = f .before .before .before .before .before .before in
     let a = m .before .before .before .before .before in
     λ n off is.
-    let e = m .measure .ensures .1 n off is in
-    (f .fault .ensures n off is (a .args .word .now) _ _ (word-long n is off (a .pre .1)) e,
-    c .lowest .ensures _ _ _ (e .lends .fit) (e .lends .lent) (e .held) ∙ ap (lowest (code n)) (e .bits))
+    let e = m .measure .ensures .1 n off is in (
+      f .fault .ensures n off is (a .args .word .now) _ _ (word-long n is off (a .pre .1)) e,
+      c .lowest .ensures _ _ _ (e .lends .fit) (e .lends .lent) (e .held) ∙ ap (lowest (code n)) (e .bits),
+    )
 
 pub fault-of-spec : {M : Type 1} → statement M
 fault-of-spec =

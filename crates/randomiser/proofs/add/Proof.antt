@@ -6,19 +6,22 @@ use native.Mathlib.Omega.{arith}
 use lib.ListN.{length, take, drop, getD, length-set}
 use lib.Seq.{take-length, drop-length}
 use Rattle.randomiser.proofs.Randomising.{randomised-more}
-use Rattle.randomiser.specs.Randomiser.{telecommand, randomised}
+use Rattle.randomiser.specs.Randomiser.{Generator, sequenceOctet, randomised}
 use Rattle.randomiser.proofs.add.Statement.{statement}
 use Rattle.randomiser.proofs.add.Tie as tie
 
 abbrev Inv-loop : tie.InvT-loop
-Inv-loop octets₀ sequence from used i₀ octets i = (i ≤ length octets₀) × (length octets ≡ length octets₀) × (octets ≡ randomised telecommand used (take i octets₀) ++ drop i octets₀)
+Inv-loop octets₀ sequence from i₀ octets i =
+    (i ≤ length octets₀) × (length octets ≡ length octets₀)
+    × ((g : Generator) → (used : ℕ) → ((j : ℕ) → j < length octets₀ → getD sequence (from + j) 0 ≡ sequenceOctet g (used + j)) → octets
+    ≡ randomised g used (take i octets₀) ++ drop i octets₀)
 
 abbrev μ-loop : tie.MeasureT-loop
-μ-loop octets₀ sequence from used i₀ octets i = length octets₀ - i
+μ-loop octets₀ sequence from i₀ octets i = length octets₀ - i
 
 loop-holds : tie.Need-loop-holds Inv-loop μ-loop
 unfolding randomised
-loop-holds c = (omega arith, refl, refl)
+loop-holds c = (omega arith, refl, λ g used known. refl)
 
 add-octets : tie.Need-add-octets Inv-loop μ-loop
 add-octets c = omega arith
@@ -44,22 +47,24 @@ loop-again c =
     let a = c .before .before .before .before in (
       omega arith,
       simp length-set (h .inv .1),
-      randomised-more telecommand (a .args .used) (a .args .octets .now) (h .octets) (h .i) (getD (a .args .sequence .now) (a .args .from + h .i) 0) (omega arith) (c .slice-known .given (h .i) .fits) (h .inv .2)
-          (a .pre .1 (h .i) (omega arith)),
+      λ g used known. randomised-more g used (a .args .octets .now) (h .octets) (h .i)
+          (getD (a .args .sequence .now) (a .args .from + h .i) 0) (omega arith) (c .slice-known .given (h .i) .fits)
+          (h .inv .2 g used known)
+          (known (h .i) (omega arith)),
     )
 
 same-length : tie.Need-same-length Inv-loop μ-loop
 same-length c = omega arith
 
 returns : tie.Need-returns Inv-loop μ-loop
-returns c =
+returns c g used known =
     let h = c .before .loop in
     let a = c .before .before .args in
     let e : h .i ≡ length (a .octets .now) = omega arith in
-    h .inv .2
-    ∙ ap (λ z. randomised telecommand (a .used) (take z (a .octets .now)) ++ drop z (a .octets .now)) e
-    ∙ ap₂ (λ x y. randomised telecommand (a .used) x ++ y) (take-length (a .octets .now)) (drop-length (a .octets .now))
-    ∙ append-nil (randomised telecommand (a .used) (a .octets .now))
+    h .inv .2 g used known
+    ∙ ap (λ z. randomised g used (take z (a .octets .now)) ++ drop z (a .octets .now)) e
+    ∙ ap₂ (λ x y. randomised g used x ++ y) (take-length (a .octets .now)) (drop-length (a .octets .now))
+    ∙ append-nil (randomised g used (a .octets .now))
 
 pub add-spec : {M : Type 1} → statement M
 add-spec =

@@ -13,16 +13,17 @@ slice-aggregate-add : tie.Need-slice-aggregate-add
 slice-aggregate-add c = search needs
 
 add-requires : tie.Need-add-requires
-unfolding number telecommand
-add-requires c κs =
-    let a = c .before .before .before in
-    (omega arith, λ i l. telecommand-octets (a .args .used % 255 + i) (omega arith) ∙ telecommand-place (a .args .used) i)
+add-requires c κs = search needs
 
 same-length : tie.Need-same-length
 same-length c = search needs
 
 returns : tie.Need-returns
-returns c = search needs
+unfolding number telecommand
+returns c =
+    let a = c .before .before .before .before .before .before .args in
+    c .before .before .add .ensures telecommand (a .used) (λ i l. telecommand-octets (a .used % 255 + i) (omega arith)
+    ∙ telecommand-place (a .used) i)
 
 pub randomise-spec : {M : Type 1} → statement M
 randomise-spec = tie.close (tie.spec slice-aggregate-add add-requires same-length returns)

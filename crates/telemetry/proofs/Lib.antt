@@ -1,0 +1,4 @@
+pub mod Sequence
+pub mod Parts
+pub mod Second
+pub mod Period
