@@ -52,7 +52,8 @@ nine o at t p a r ht ep ha hr i hi = hr i hi ∙ ⊎-elim second first (le-or-lt
 -- ---- the bits in front that are not sent
 
 module _ (c : Code) (o : List ℕ) (u : ℕ) (eu : u ≡ c .unsent) where
-  pub lifted-low : (p a : ℕ) → p < u → u ≤ 18 → a < 2 ^ 64 → Holds a (from (8 * 0) (bit o)) → Holds (a / 2 ^ (u - p)) (from p (lifted c (bit o)))
+  pub lifted-low : (p a : ℕ) → p < u → u ≤ 18 → a < 2 ^ 64 → Holds a (from (8 * 0) (bit o))
+      → Holds (a / 2 ^ (u - p)) (from p (lifted c (bit o)))
   lifted-low p a l hu fits ha i hi = place-down a (u - p) (64 - suc i) ∙ ⊎-elim inside before (le-or-lt (u - p) i)
     where
       before : i < u - p → place a (u - p + (64 - suc i)) ≡ lifted c (bit o) (p + i)
@@ -63,7 +64,8 @@ module _ (c : Code) (o : List ℕ) (u : ℕ) (eu : u ≡ c .unsent) where
           let e : u - p + (64 - suc i) ≡ 64 - suc (i - (u - p)) = omega arith in
           let f : p + i ≡ i - (u - p) + c .unsent = omega (arith, eu) in
           let z : 8 * 0 + (i - (u - p)) ≡ i - (u - p) = omega arith in
-          ap (place a) e ∙ ha (i - (u - p)) (omega arith) ∙ ap (bit o) z ∙ sym (ap (lifted c (bit o)) f ∙ lifted-sent-bit c (bit o) (i - (u - p)))
+          ap (place a) e ∙ ha (i - (u - p)) (omega arith) ∙ ap (bit o) z
+          ∙ sym (ap (lifted c (bit o)) f ∙ lifted-sent-bit c (bit o) (i - (u - p)))
 
   pub lifted-high : (p r : ℕ) → u ≤ p → Holds r (from (p - u) (bit o)) → Holds r (from p (lifted c (bit o)))
   lifted-high p r l hr i hi =
@@ -88,7 +90,8 @@ module _ (m : ℕ) (x : Word) (p s : ℕ) where
       first : i + s < m → wbit (a ∷ b ∷ []) k ≡ x (p + (i + s) % m)
       first h =
           let e : p + (m - 64) + k ≡ p + (i + s) = omega arith in
-          word-at (a ∷ b ∷ []) k 0 k (omega arith) (omega arith) ∙ ha k (omega arith) ∙ ap x (e ∙ ap (λ z. p + z) (sym (mod-eq-of-lt h)))
+          word-at (a ∷ b ∷ []) k 0 k (omega arith) (omega arith) ∙ ha k (omega arith)
+          ∙ ap x (e ∙ ap (λ z. p + z) (sym (mod-eq-of-lt h)))
 
       second : m ≤ i + s → wbit (a ∷ b ∷ []) k ≡ x (p + (i + s) % m)
       second h =

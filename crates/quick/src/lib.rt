@@ -73,7 +73,11 @@ fn octets_from(octets: &[u8], p: usize) -> u64
     ensures { λ r. ⌜ Holds r (from p (bit (now (octets .entry)))) ⌝ }
 {
     let at = p / 8;
-    vectors::funnel(vectors::eight(octets, at), (octets[at + 8] as u64) << 56, p % 8)
+    vectors::funnel(
+        vectors::eight(octets, at),
+        (octets[at + 8] as u64) << 56,
+        p % 8,
+    )
 }
 
 // The same where the last of them may be the last of all.

@@ -17,7 +17,8 @@ use Rattle.quick.proofs.first_group.Statement.{statement}
 use Rattle.quick.proofs.first_group.Tie as tie
 
 abbrev Inv-loop : tie.InvT-loop
-Inv-loop octets u h sh v₀ k₀ v k = (k ≤ 2 * sh .blocks) × ((c : Code) → u ≡ c .unsent → Has 64 v (group sh h (lifted c (bit octets)) 0 k))
+Inv-loop octets u h sh v₀ k₀ v k =
+    (k ≤ 2 * sh .blocks) × ((c : Code) → u ≡ c .unsent → Has 64 v (group sh h (lifted c (bit octets)) 0 k))
 
 abbrev μ-loop : tie.MeasureT-loop
 μ-loop octets u h sh v₀ k₀ v k = 2 * sh .blocks - k
@@ -43,7 +44,8 @@ mul-wide-entry-2 c =
 shared-slice-read-wide-entry : tie.Need-shared-slice-read-wide-entry Inv-loop μ-loop
 shared-slice-read-wide-entry c =
     let s = c .before .before .before .before .before .before .before in
-    omega (arith, place-room (s .args .h .now) (s .args .sh) (s .pre .0) 0 (c .before .before .before .before .loop .k / 2) (s .pre .1) (omega arith))
+    let k = c .before .before .before .before .loop .k in
+    omega (arith, place-room (s .args .h .now) (s .args .sh) (s .pre .0) 0 (k / 2) (s .pre .1) (omega arith))
 
 cast-wide-entry : tie.Need-cast-wide-entry Inv-loop μ-loop
 cast-wide-entry c = omega (arith, c .shared-slice-known3 .given (c .before .before .before .before .loop .k))
@@ -68,13 +70,14 @@ loop-again c =
     let sh = s .args .sh in
     let h = s .args .h .now in
     let inside = place-room h sh (s .pre .0) 0 (l .k / 2) (s .pre .1) (omega arith) in
-    let at : l .k ≡ 2 * (0 * sh .blocks) + l .k = omega arith in (
+    let at : l .k ≡ 2 * (0 * sh .blocks) + l .k = omega arith in
+    let here = read-any h (l .k) 0 (sh .size) (omega (arith, inside .0)) ∙ ap (λ q. getD h q (sh .size)) at in (
       omega arith,
       λ code e i hi.
           let x = lifted code (bit (s .args .octets .now)) in
           digit-xor 64 (l .v) (c .wide-entry .result) i
           ∙ ap₂ _⊕_ (l .inv .1 code e i hi)
-          (c .wide-entry .ensures code e i hi ∙ ap (λ z. reached (sh .size) x (l .k / 2 * sh .size) z i) (read-any h (l .k) 0 (sh .size) (omega (arith, inside .0)) ∙ ap (λ q. getD h q (sh .size)) at))
+          (c .wide-entry .ensures code e i hi ∙ ap (λ z. reached (sh .size) x (l .k / 2 * sh .size) z i) here)
           ∙ group-more sh h x 0 (l .k) i,
     )
 

@@ -13,13 +13,15 @@ same-length : tie.Need-same-length
 same-length c = search needs
 
 returns : tie.Need-returns
-returns c =
-    (λ n off e. by-size _ _ _ (record {
-      small = λ e. (c .before .before .lend16 .ensures, refl);
-      middle = λ e. absurd (omega arith);
-      large = λ e. absurd (omega arith);
-      near = λ e. absurd (omega arith);
-    }) n off e .1, omega arith)
+returns c = (
+  λ n off e. by-size _ _ _ (record {
+    small = λ e. (c .before .before .lend16 .ensures, refl);
+    middle = λ e. absurd (omega arith);
+    large = λ e. absurd (omega arith);
+    near = λ e. absurd (omega arith);
+  }) n off e .1,
+  omega arith,
+)
 
 lend32-requires : tie.Need-lend32-requires
 lend32-requires c κs = search needs
@@ -28,13 +30,15 @@ same-length-2 : tie.Need-same-length-2
 same-length-2 c = search needs
 
 returns-2 : tie.Need-returns-2
-returns-2 c =
-    (λ n off e. by-size _ _ _ (record {
-      small = λ e. absurd (omega arith);
-      middle = λ e. (c .before .before .lend32 .ensures, refl);
-      large = λ e. absurd (omega arith);
-      near = λ e. absurd (omega arith);
-    }) n off e .1, omega arith)
+returns-2 c = (
+  λ n off e. by-size _ _ _ (record {
+    small = λ e. absurd (omega arith);
+    middle = λ e. (c .before .before .lend32 .ensures, refl);
+    large = λ e. absurd (omega arith);
+    near = λ e. absurd (omega arith);
+  }) n off e .1,
+  omega arith,
+)
 
 lend64-requires : tie.Need-lend64-requires
 lend64-requires c κs = search needs
@@ -43,13 +47,15 @@ same-length-3 : tie.Need-same-length-3
 same-length-3 c = search needs
 
 returns-3 : tie.Need-returns-3
-returns-3 c =
-    (λ n off e. by-size _ _ _ (record {
-      small = λ e. absurd (omega arith);
-      middle = λ e. absurd (omega arith);
-      large = λ e. (c .before .before .lend64 .ensures, refl);
-      near = λ e. absurd (c .before .before .before .before .before .before .before .pre .1 e);
-    }) n off e .1, omega arith)
+returns-3 c = (
+  λ n off e. by-size _ _ _ (record {
+    small = λ e. absurd (omega arith);
+    middle = λ e. absurd (omega arith);
+    large = λ e. (c .before .before .lend64 .ensures, refl);
+    near = λ e. absurd (c .before .before .before .before .before .before .before .pre .1 e);
+  }) n off e .1,
+  omega arith,
+)
 
 pub lend-narrow-spec : {M : Type 1} → statement M
 lend-narrow-spec =

@@ -17,7 +17,8 @@ shr-result c = search needs
 returns : tie.Need-returns
 returns c code e =
     let a = c .before .before .before .args in
-    lifted-low code (a .octets .now) (a .u) e (a .p) (c .eight .result) (c .before .if1 .taken) (c .before .before .before .pre .1) (c .eight .ok) (c .eight .ensures)
+    lifted-low code (a .octets .now) (a .u) e (a .p) (c .eight .result) (c .before .if1 .taken)
+    (c .before .before .before .pre .1) (c .eight .ok) (c .eight .ensures)
 
 octets-from-requires : tie.Need-octets-from-requires
 octets-from-requires c κs = search needs
@@ -25,7 +26,8 @@ octets-from-requires c κs = search needs
 returns-2 : tie.Need-returns-2
 returns-2 c code e =
     let a = c .before .before .before .args in
-    lifted-high code (a .octets .now) (a .u) e (a .p) (c .octets-from .result) (omega (arith, c .before .if1 .left)) (c .octets-from .ensures)
+    lifted-high code (a .octets .now) (a .u) e (a .p) (c .octets-from .result)
+    (omega (arith, c .before .if1 .left)) (c .octets-from .ensures)
 
 pub lifted-from-spec : {M : Type 1} → statement M
 lifted-from-spec =

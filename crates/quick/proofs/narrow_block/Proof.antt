@@ -35,19 +35,29 @@ double-word-requires : tie.Need-double-word-requires
 double-word-requires c κs = search needs
 
 mul-at : tie.Need-mul-at
-mul-at c = omega (arith, place-room (c .before .before .before .before .before .before .before .args .h .now) (c .before .before .before .before .before .before .before .args .sh) (c .before .before .before .before .before .before .before .pre .0) (c .before .before .before .before .before .before .before .args .r) (c .before .before .before .before .before .before .before .args .b) (c .before .before .before .before .before .before .before .pre .3) (c .before .before .before .before .before .before .before .pre .2))
+mul-at c =
+    let s = c .before .before .before .before .before .before .before in
+    omega (arith, place-room (s .args .h .now) (s .args .sh) (s .pre .0) (s .args .r) (s .args .b) (s .pre .3) (s .pre .2))
 
 add-at : tie.Need-add-at
-add-at c = omega (arith, place-room (c .before .before .before .before .before .before .before .args .h .now) (c .before .before .before .before .before .before .before .args .sh) (c .before .before .before .before .before .before .before .pre .0) (c .before .before .before .before .before .before .before .args .r) (c .before .before .before .before .before .before .before .args .b) (c .before .before .before .before .before .before .before .pre .3) (c .before .before .before .before .before .before .before .pre .2))
+add-at c =
+    let s = c .before .before .before .before .before .before .before in
+    omega (arith, place-room (s .args .h .now) (s .args .sh) (s .pre .0) (s .args .r) (s .args .b) (s .pre .3) (s .pre .2))
 
 mul-at-2 : tie.Need-mul-at-2
-mul-at-2 c = omega (arith, place-room (c .before .before .before .before .before .before .before .args .h .now) (c .before .before .before .before .before .before .before .args .sh) (c .before .before .before .before .before .before .before .pre .0) (c .before .before .before .before .before .before .before .args .r) (c .before .before .before .before .before .before .before .args .b) (c .before .before .before .before .before .before .before .pre .3) (c .before .before .before .before .before .before .before .pre .2))
+mul-at-2 c =
+    let s = c .before .before .before .before .before .before .before in
+    omega (arith, place-room (s .args .h .now) (s .args .sh) (s .pre .0) (s .args .r) (s .args .b) (s .pre .3) (s .pre .2))
 
 mul-narrow-entry : tie.Need-mul-narrow-entry
-mul-narrow-entry c = omega (arith, place-room (c .before .before .before .before .before .before .before .args .h .now) (c .before .before .before .before .before .before .before .args .sh) (c .before .before .before .before .before .before .before .pre .0) (c .before .before .before .before .before .before .before .args .r) (c .before .before .before .before .before .before .before .args .b) (c .before .before .before .before .before .before .before .pre .3) (c .before .before .before .before .before .before .before .pre .2))
+mul-narrow-entry c =
+    let s = c .before .before .before .before .before .before .before in
+    omega (arith, place-room (s .args .h .now) (s .args .sh) (s .pre .0) (s .args .r) (s .args .b) (s .pre .3) (s .pre .2))
 
 shared-slice-read-narrow-entry : tie.Need-shared-slice-read-narrow-entry
-shared-slice-read-narrow-entry c = omega (arith, place-room (c .before .before .before .before .before .before .before .before .args .h .now) (c .before .before .before .before .before .before .before .before .args .sh) (c .before .before .before .before .before .before .before .before .pre .0) (c .before .before .before .before .before .before .before .before .args .r) (c .before .before .before .before .before .before .before .before .args .b) (c .before .before .before .before .before .before .before .before .pre .3) (c .before .before .before .before .before .before .before .before .pre .2))
+shared-slice-read-narrow-entry c =
+    let s = c .before .before .before .before .before .before .before .before in
+    omega (arith, place-room (s .args .h .now) (s .args .sh) (s .pre .0) (s .args .r) (s .args .b) (s .pre .3) (s .pre .2))
 
 cast-narrow-entry : tie.Need-cast-narrow-entry
 cast-narrow-entry c =
@@ -58,13 +68,19 @@ narrow-entry-requires : tie.Need-narrow-entry-requires
 narrow-entry-requires c κs = search needs
 
 add-narrow-entry : tie.Need-add-narrow-entry
-add-narrow-entry c = omega (arith, place-room (c .before .before .before .before .before .before .before .before .before .args .h .now) (c .before .before .before .before .before .before .before .before .before .args .sh) (c .before .before .before .before .before .before .before .before .before .pre .0) (c .before .before .before .before .before .before .before .before .before .args .r) (c .before .before .before .before .before .before .before .before .before .args .b) (c .before .before .before .before .before .before .before .before .before .pre .3) (c .before .before .before .before .before .before .before .before .before .pre .2))
+add-narrow-entry c =
+    let s = c .before .before .before .before .before .before .before .before .before in
+    omega (arith, place-room (s .args .h .now) (s .args .sh) (s .pre .0) (s .args .r) (s .args .b) (s .pre .3) (s .pre .2))
 
 mul-narrow-entry-2 : tie.Need-mul-narrow-entry-2
-mul-narrow-entry-2 c = omega (arith, place-room (c .before .before .before .before .before .before .before .before .before .args .h .now) (c .before .before .before .before .before .before .before .before .before .args .sh) (c .before .before .before .before .before .before .before .before .before .pre .0) (c .before .before .before .before .before .before .before .before .before .args .r) (c .before .before .before .before .before .before .before .before .before .args .b) (c .before .before .before .before .before .before .before .before .before .pre .3) (c .before .before .before .before .before .before .before .before .before .pre .2))
+mul-narrow-entry-2 c =
+    let s = c .before .before .before .before .before .before .before .before .before in
+    omega (arith, place-room (s .args .h .now) (s .args .sh) (s .pre .0) (s .args .r) (s .args .b) (s .pre .3) (s .pre .2))
 
 shared-slice-read-narrow-entry-2 : tie.Need-shared-slice-read-narrow-entry-2
-shared-slice-read-narrow-entry-2 c = omega (arith, place-room (c .before .before .before .before .before .before .before .before .before .before .args .h .now) (c .before .before .before .before .before .before .before .before .before .before .args .sh) (c .before .before .before .before .before .before .before .before .before .before .pre .0) (c .before .before .before .before .before .before .before .before .before .before .args .r) (c .before .before .before .before .before .before .before .before .before .before .args .b) (c .before .before .before .before .before .before .before .before .before .before .pre .3) (c .before .before .before .before .before .before .before .before .before .before .pre .2))
+shared-slice-read-narrow-entry-2 c =
+    let s = c .before .before .before .before .before .before .before .before .before .before in
+    omega (arith, place-room (s .args .h .now) (s .args .sh) (s .pre .0) (s .args .r) (s .args .b) (s .pre .3) (s .pre .2))
 
 cast-narrow-entry-2 : tie.Need-cast-narrow-entry-2
 cast-narrow-entry-2 c =
@@ -85,7 +101,8 @@ returns c =
     let r = s .args .r in
     let M = sh .size in
     let inside = place-room h sh (s .pre .0) r b (s .pre .3) (s .pre .2) in
-    let block : Holds (f .result) (upTo M (from (b * M) y)) = λ i hi. f .ensures i hi ∙ ap (λ (p : Bool). ltb i M && p) (c .before .before .before .before .before .before .before .window .ensures i hi) in
+    let block : Holds (f .result) (upTo M (from (b * M) y)) =
+    λ i hi. f .ensures i hi ∙ ap (λ (p : Bool). ltb i M && p) (c .before .before .before .before .before .before .before .window .ensures i hi) in
     let twin = c .before .before .before .before .before .double-word .ensures (from (b * M) y) block in
     λ i hi.
     digit-xor 64 (c .before .before .narrow-entry .result) (c .narrow-entry2 .result) i

@@ -45,8 +45,10 @@ returns : tie.Need-returns
 returns c n off is =
     let s = c .before .before .before .before .before .before .before .before .before .before .before in
     let w = checked n off .narrow (λ e. s .pre .2 (ap (λ o. o .shape .size) is ∙ e)) in
-    c .rows-lowest .ensures (code n) (c .before .before .before .before .before .before .before .lend-narrow .ensures .0 n off (ap (λ o. o .shape .size) is) .lent)
-    ∙ ap (lowest (code n)) (c .before .before .before .before .load .ensures ∙ taken-whole (code n) (sym (w .1) ∙ fixed n off .unsent) (bit (s .args .word .now)))
+    let lends = c .before .before .before .before .before .before .before .lend-narrow .ensures .0 n off (ap (λ o. o .shape .size) is) in
+    let bits = taken-whole (code n) (sym (w .1) ∙ fixed n off .unsent) (bit (s .args .word .now)) in
+    c .rows-lowest .ensures (code n) (lends .lent)
+    ∙ ap (lowest (code n)) (c .before .before .before .before .load .ensures ∙ bits)
 
 pub narrow-lowest-spec : {M : Type 1} → statement M
 narrow-lowest-spec =

@@ -26,7 +26,8 @@ returns : tie.Need-returns
 returns c =
     let f = c .before .before in
     let a = f .before .before .args in
-    nine (a .octets .now) (a .p / 8) (a .p % 8) (a .p) (f .eight .result) (c .funnel .result) (omega arith) (omega arith) (f .eight .ensures) (c .funnel .ensures)
+    nine (a .octets .now) (a .p / 8) (a .p % 8) (a .p) (f .eight .result) (c .funnel .result)
+    (omega arith) (omega arith) (f .eight .ensures) (c .funnel .ensures)
 
 pub octets-from-spec : {M : Type 1} → statement M
 octets-from-spec =

@@ -20,7 +20,8 @@ use Rattle.quick.proofs.rows_lowest.Statement.{statement}
 use Rattle.quick.proofs.rows_lowest.Tie as tie
 
 abbrev Inv-loop : tie.InvT-loop
-Inv-loop y h sh r₀ r = (r ≤ sh .rows) × ((c : Code) → Lent c h sh → (j : ℕ) → j < r * sh .size → check c (wbit y) j ≡ false)
+Inv-loop y h sh r₀ r =
+    (r ≤ sh .rows) × ((c : Code) → Lent c h sh → (j : ℕ) → j < r * sh .size → check c (wbit y) j ≡ false)
 
 abbrev μ-loop : tie.MeasureT-loop
 μ-loop y h sh r₀ r = sh .rows - r
@@ -61,8 +62,10 @@ returns c code lent =
     let l = c .before .before .before .before .before .before .loop in
     let v = c .before .before .front .result in
     let g = c .before .before .before .narrow-group in
-    let f = front-first (a .sh .size) (g .result) v (s .pre .1) (c .before .before .front .ensures) (first-digit 64 v (pos-of-ne-zero (c .before .if2 .taken)) (c .before .before .front .ok)) in
-    group-found (a .sh) (a .h .now) (wbit (a .y .now)) code lent (l .r) (omega arith) (a .sh .size) (g .result) (leadingZeros 64 v) (omega arith) (g .ensures)
+    let first = first-digit 64 v (pos-of-ne-zero (c .before .if2 .taken)) (c .before .before .front .ok) in
+    let f = front-first (a .sh .size) (g .result) v (s .pre .1) (c .before .before .front .ensures) first in
+    group-found (a .sh) (a .h .now) (wbit (a .y .now)) code lent (l .r) (omega arith)
+    (a .sh .size) (g .result) (leadingZeros 64 v) (omega arith) (g .ensures)
     (f .0) (f .1) (f .2) (l .inv .1 code lent)
 
 add-r : tie.Need-add-r Inv-loop μ-loop
@@ -81,7 +84,10 @@ loop-again c =
       omega arith,
       λ code lent.
           row-met (a .sh) (a .h .now) (wbit (a .y .now)) code lent (l .r) (omega arith) (g .result) (g .ensures)
-          (λ q hq. sym (c .before .front .ensures q (omega (arith, s .pre .1)) ∙ upTo-below (a .sh .size) q (digit 64 (g .result)) hq) ∙ ap (λ z. digit 64 z q) (c .if2 .left) ∙ digit-zero 64 q)
+          (λ q hq.
+          sym (c .before .front .ensures q (omega (arith, s .pre .1)) ∙ upTo-below (a .sh .size) q (digit 64 (g .result)) hq)
+          ∙ ap (λ z. digit 64 z q) (c .if2 .left)
+          ∙ digit-zero 64 q)
           (l .inv .1 code lent),
     )
 
@@ -96,7 +102,8 @@ returns-2 c code lent =
     let a = c .before .before .before .before .before .before .args in
     let l = c .before .before .before .loop in
     let e : l .r ≡ a .sh .rows = omega arith in
-    rows-met (a .sh) (a .h .now) (wbit (a .y .now)) code lent (λ j h. l .inv .1 code lent j (subst (λ z. j < z * a .sh .size) (sym e) h))
+    rows-met (a .sh) (a .h .now) (wbit (a .y .now)) code lent
+    (λ j h. l .inv .1 code lent j (subst (λ z. j < z * a .sh .size) (sym e) h))
 
 pub rows-lowest-spec : {M : Type 1} → statement M
 rows-lowest-spec =

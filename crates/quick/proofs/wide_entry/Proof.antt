@@ -21,7 +21,8 @@ lifted-from-requires c κs = search needs
 returns : tie.Need-returns
 returns c code e =
     let a = c .before .before .before .args in
-    turned-on (a .m) (lifted code (bit (a .octets .now))) (a .p) (a .s) (c .lifted-from .result) (omega arith) (c .lifted-from .ensures code e)
+    turned-on (a .m) (lifted code (bit (a .octets .now))) (a .p) (a .s) (c .lifted-from .result)
+    (omega arith) (c .lifted-from .ensures code e)
 
 add-octets-to : tie.Need-add-octets-to
 add-octets-to c = search needs
@@ -43,7 +44,8 @@ returns-2 c code e =
     let l = c .before in
     let t = l .before in
     let a = t .before .before .before .before .args in
-    turned-round (a .m) (lifted code (bit (a .octets .now))) (a .p) (a .s) (t .octets-to .result) (l .lifted-from2 .result) (c .funnel .result)
+    turned-round (a .m) (lifted code (bit (a .octets .now))) (a .p) (a .s)
+    (t .octets-to .result) (l .lifted-from2 .result) (c .funnel .result)
     (omega arith) (omega arith) (omega arith)
     (lifted-high code (a .octets .now) (a .u) e (a .p + (a .m - 64)) (t .octets-to .result) (omega arith) (t .octets-to .ensures))
     (l .lifted-from2 .ensures code e) (c .funnel .ensures)

@@ -26,7 +26,8 @@ use Rattle.quick.proofs.wide_lowest.Tie as tie
 abbrev near : Shape
 near = record { size = 511; words = 8; blocks = 16; rows = 2 }
 
-lent : (n : ℕ) → offered n ≡ true → 511 ≡ offerOf n .shape .size → (t : List ℕ) → t ≡ flat16 (pairs parity511) → Lends n t near
+lent : (n : ℕ) → offered n ≡ true → 511 ≡ offerOf n .shape .size → (t : List ℕ) → t ≡ flat16 (pairs parity511)
+    → Lends n t near
 lent n off e t is = by-size 511 t near (record {
   small = λ e. absurd (omega arith);
   middle = λ e. absurd (omega arith);
@@ -52,7 +53,8 @@ first-group-requires c κs =
     let word = s .pre .1 ∙ ap (λ o. o .word) (k .is) in
     let unsent = ap (λ o. o .unsent) (k .is) in
     let few = small k in
-    (lent (k .number) (k .offers) e _ (c .before .before .lend511 .ensures) .fit, lit≤ tt, lit≤ tt, omega (arith, w .0, word, unsent), few .unsent, omega (arith, w .0, w .1, word), omega (arith, few .word, s .pre .1))
+    let l = lent (k .number) (k .offers) e _ (c .before .before .lend511 .ensures) in
+    (l .fit, lit≤ tt, lit≤ tt, omega (arith, w .0, word, unsent), few .unsent, omega (arith, w .0, w .1, word), omega (arith, few .word, s .pre .1))
 
 returns : tie.Need-returns
 returns c n off is =
@@ -63,7 +65,8 @@ returns c n off is =
     let f = first-digit 64 v (pos-of-ne-zero (c .if1 .taken)) (c .before .first-group .ok) in
     sym (zero-add (leadingZeros 64 v))
     ∙ group-found near _ (lifted (code n) (bit (s .args .word .now))) (code n) (l .lent) 0 (lit< tt) 64 v (leadingZeros 64 v) (lit≤ tt)
-    (c .before .first-group .ensures (code n) (ap (λ o. o .unsent) is ∙ fixed n off .unsent)) (f .inside) (f .here) (f .clear) (λ j h. absurd (omega arith))
+    (c .before .first-group .ensures (code n) (ap (λ o. o .unsent) is ∙ fixed n off .unsent))
+    (f .inside) (f .here) (f .clear) (λ j h. absurd (omega arith))
 
 whole-lowest-requires : tie.Need-whole-lowest-requires
 whole-lowest-requires c κs =
