@@ -92,10 +92,14 @@ loop-again c =
     )
 
 mul-result-2 : tie.Need-mul-result-2 Inv-loop μ-loop
-mul-result-2 c = omega (arith, mul-le-mul (c .before .before .before .before .before .before .pre .0 .rows) (c .before .before .before .before .before .before .pre .1))
+mul-result-2 c =
+    let s = c .before .before .before .before .before .before in
+    omega (arith, mul-le-mul (s .pre .0 .rows) (s .pre .1))
 
 cast-result-2 : tie.Need-cast-result-2 Inv-loop μ-loop
-cast-result-2 c = omega (arith, mul-le-mul (c .before .before .before .before .before .before .pre .0 .rows) (c .before .before .before .before .before .before .pre .1))
+cast-result-2 c =
+    let s = c .before .before .before .before .before .before in
+    omega (arith, mul-le-mul (s .pre .0 .rows) (s .pre .1))
 
 returns-2 : tie.Need-returns-2 Inv-loop μ-loop
 returns-2 c code lent =
