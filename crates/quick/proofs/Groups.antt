@@ -2,12 +2,11 @@
 use mathlib.Core.Path.{_≡_, refl, sym, ap, ap₂, _∙_, subst}
 use mathlib.Core.Bool.{Bool, true, false, _&&_, true≢false}
 use mathlib.Core.Logic.{⊎-elim}
-use mathlib.Core.List.{List, [], _∷_}
-use Prim.Native.Nat.{ℕ, zero, suc, _+_, _-_, _*_, _/_, _%_, _^_, _≤_, _<_}
+use mathlib.Core.List.{List}
+use Prim.Native.Nat.{ℕ, zero, suc, _+_, _-_, _*_, _/_, _%_, _≤_, _<_}
 use native.Mathlib.Nat.{mod-lt}
 use native.Mathlib.Omega.{arith}
-use lib.Dec.{ltb}
-use lib.ListN.{getD, length}
+use lib.ListN.{getD}
 use lib.Arith.{digits-lt}
 use borrow.Author.Tests.{lt-ltb, le-ltb}
 use Rattle.bits.specs.Bits.{Word, digit, _⊕_, sum, over}
@@ -17,8 +16,7 @@ use Rattle.bits.proofs.Leasts.{least-found, least-none}
 use Rattle.rules.specs.Codes.{Code, checks}
 use Rattle.rules.specs.Checks.{check, lowest}
 use Rattle.layout.specs.declared.Shape.{Shape}
-use Rattle.layout.specs.Lent.{Fit, Lent, placeOf, shiftsOf}
-use Rattle.layout.proofs.Lending.{read-any}
+use Rattle.layout.specs.Lent.{Lent, placeOf, shiftsOf}
 use Rattle.syndromes.proofs.Shifts.{over-entries}
 use Rattle.vectors.specs.Vectors.{Holds, upTo, from, twice}
 use Rattle.vectors.proofs.Spans.{upTo-below, upTo-above, twice-turned}

@@ -2,7 +2,7 @@
 use mathlib.Core.Path.{_≡_, refl, sym, ap, _∙_, subst}
 use mathlib.Core.Bool.{true, false}
 use mathlib.Core.List.{List}
-use Prim.Native.Nat.{ℕ, suc, _≤_, _<_}
+use Prim.Native.Nat.{ℕ, suc, _<_}
 use lib.Dec.{T}
 use lib.ListN.{length}
 use Rattle.bits.specs.Bits.{Word, bit}
@@ -11,7 +11,7 @@ use Rattle.rules.specs.Checks.{check, broken, lowest}
 use Rattle.rules.specs.Encoding.{lifted}
 use Rattle.answers.specs.Calls.{Checked, refusal, unless, checkedFrom, checkAnswer}
 use Rattle.answers.proofs.Answers.{check-taken, unless-taken, unless-refused, refusal-not}
-use Rattle.quick.specs.Quick.{Read, read, Quick, asRead, refusedQuick, quickFrom, quickAnswer}
+use Rattle.quick.specs.Quick.{read, Quick, asRead, refusedQuick, quickFrom, quickAnswer}
 use Rattle.quick.proofs.Reading.{read-lowest, read-all, read-quiet}
 
 -- ---- the checks of a word

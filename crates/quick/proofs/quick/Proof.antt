@@ -1,10 +1,10 @@
 -- `quick::quick`: refusals in the order of their numbers, then the lowest broken check. Assumes nothing.
-use mathlib.Core.Path.{_≡_, sym, ap, _∙_, subst}
-use Prim.Native.Nat.{_*_, _≤_}
+use mathlib.Core.Path.{sym, ap, _∙_}
+use Prim.Native.Nat.{_*_}
 use native.Mathlib.Omega.{arith}
 use lib.ListN.{length}
 use Rattle.bits.specs.Bits.{bit}
-use Rattle.rules.specs.Codes.{code, checks}
+use Rattle.rules.specs.Codes.{code}
 use Rattle.rules.specs.Encoding.{lifted}
 use Rattle.rules.proofs.Lowest.{lowest-le}
 use Rattle.offer.proofs.Offers.{is-offered}
