@@ -2,12 +2,11 @@
 use mathlib.Core.Path.{_≡_, refl, sym, ap, ap₂, _∙_, subst}
 use mathlib.Core.Bool.{Bool, true, false, _&&_, true≢false}
 use mathlib.Core.Logic.{⊎-elim}
-use mathlib.Core.List.{List, [], _∷_}
-use Prim.Native.Nat.{ℕ, zero, suc, _+_, _-_, _*_, _/_, _%_, _^_, _≤_, _<_}
+use mathlib.Core.List.{List}
+use Prim.Native.Nat.{ℕ, zero, suc, _+_, _-_, _*_, _/_, _%_, _≤_, _<_}
 use native.Mathlib.Nat.{mod-lt}
 use native.Mathlib.Omega.{arith}
-use lib.Dec.{ltb}
-use lib.ListN.{getD, length}
+use lib.ListN.{getD}
 use lib.Arith.{digits-lt}
 use borrow.Author.Tests.{lt-ltb, le-ltb}
 use Rattle.bits.specs.Bits.{Word, digit, _⊕_, sum, over}
@@ -17,8 +16,7 @@ use Rattle.bits.proofs.Leasts.{least-found, least-none}
 use Rattle.rules.specs.Codes.{Code, checks}
 use Rattle.rules.specs.Checks.{check, lowest}
 use Rattle.layout.specs.declared.Shape.{Shape}
-use Rattle.layout.specs.Lent.{Fit, Lent, placeOf, shiftsOf}
-use Rattle.layout.proofs.Lending.{read-any}
+use Rattle.layout.specs.Lent.{Lent, placeOf, shiftsOf}
 use Rattle.syndromes.proofs.Shifts.{over-entries}
 use Rattle.vectors.specs.Vectors.{Holds, upTo, from, twice}
 use Rattle.vectors.proofs.Spans.{upTo-below, upTo-above, twice-turned}
@@ -74,7 +72,8 @@ module _ (sh : Shape) (h : List ℕ) (x : Word) (r : ℕ) where
   xor-assoc true false d = refl
   xor-assoc false b d = refl
 
-  pub group-block : (b i : ℕ) → group sh h x r (2 * b) i ⊕ (placed sh h x r (2 * b) i ⊕ placed sh h x r (1 + 2 * b) i) ≡ group sh h x r (2 * (b + 1)) i
+  pub group-block : (b i : ℕ)
+      → group sh h x r (2 * b) i ⊕ (placed sh h x r (2 * b) i ⊕ placed sh h x r (1 + 2 * b) i) ≡ group sh h x r (2 * (b + 1)) i
   group-block b i =
       let e : 1 + 2 * b ≡ 2 * b + 1 = omega arith in
       let f : 2 * b + 1 + 1 ≡ 2 * (b + 1) = omega arith in
@@ -96,7 +95,8 @@ module _ (sh : Shape) (h : List ℕ) (x : Word) (r : ℕ) where
       ∙ sym (over-entries (sh .size) h (placeOf sh r b) (λ s. x (b * sh .size + (i + s) % sh .size))))
 
   -- all places of a row are its checks
-  pub group-check : (c : Code) → Lent c h sh → r < sh .rows → (i : ℕ) → i < sh .size → group sh h x r (2 * sh .blocks) i ≡ check c x (r * sh .size + i)
+  pub group-check : (c : Code) → Lent c h sh → r < sh .rows → (i : ℕ) → i < sh .size
+      → group sh h x r (2 * sh .blocks) i ≡ check c x (r * sh .size + i)
   group-check c lent hr i hi = group-over i (sh .blocks) ∙ sym (lent .check-by x r i hr hi)
 
 -- ---- the lowest broken check
@@ -107,7 +107,8 @@ module _ (sh : Shape) (h : List ℕ) (x : Word) (c : Code) (lent : Lent c h sh) 
   Met k = (j : ℕ) → j < k → check c x j ≡ false
 
   -- the first bit of a group that is set, among the first m
-  pub group-found : (m v l : ℕ) → m ≤ sh .size → Has m v (group sh h x r (2 * sh .blocks)) → l < m → digit 64 v l ≡ true → ((q : ℕ) → q < l → digit 64 v q ≡ false)
+  pub group-found : (m v l : ℕ) → m ≤ sh .size → Has m v (group sh h x r (2 * sh .blocks))
+      → l < m → digit 64 v l ≡ true → ((q : ℕ) → q < l → digit 64 v q ≡ false)
       → Met (r * sh .size) → r * sh .size + l ≡ lowest c x
   unfolding lowest
   group-found m v l hm has hl here clear met =
@@ -117,12 +118,15 @@ module _ (sh : Shape) (h : List ℕ) (x : Word) (c : Code) (lent : Lent c h sh) 
       (λ j g. ⊎-elim
       (λ (k : r * sh .size ≤ j).
       let d : j ≡ r * sh .size + (j - r * sh .size) = omega arith in
-      ap (check c x) d ∙ sym (has (j - r * sh .size) (omega arith) ∙ group-check sh h x r c lent hr (j - r * sh .size) (omega arith)) ∙ clear (j - r * sh .size) (omega arith))
+      ap (check c x) d
+      ∙ sym (has (j - r * sh .size) (omega arith) ∙ group-check sh h x r c lent hr (j - r * sh .size) (omega arith))
+      ∙ clear (j - r * sh .size) (omega arith))
       (λ (k : j < r * sh .size). met j k)
       (le-or-lt (r * sh .size) j)))
 
   -- a row without one
-  pub row-met : (v : ℕ) → Has (sh .size) v (group sh h x r (2 * sh .blocks)) → ((q : ℕ) → q < sh .size → digit 64 v q ≡ false) → Met (r * sh .size) → Met ((r + 1) * sh .size)
+  pub row-met : (v : ℕ) → Has (sh .size) v (group sh h x r (2 * sh .blocks)) → ((q : ℕ) → q < sh .size → digit 64 v q ≡ false)
+      → Met (r * sh .size) → Met ((r + 1) * sh .size)
   row-met v has clear met j g =
       let n : (r + 1) * sh .size ≡ r * sh .size + sh .size = omega arith in
       ⊎-elim
@@ -135,7 +139,8 @@ module _ (sh : Shape) (h : List ℕ) (x : Word) (c : Code) (lent : Lent c h sh) 
       (le-or-lt (r * sh .size) j)
 
 -- all rows without one
-pub rows-met : (sh : Shape) (h : List ℕ) (x : Word) (c : Code) → Lent c h sh → ((j : ℕ) → j < sh .rows * sh .size → check c x j ≡ false) → sh .rows * sh .size ≡ lowest c x
+pub rows-met : (sh : Shape) (h : List ℕ) (x : Word) (c : Code) → Lent c h sh
+    → ((j : ℕ) → j < sh .rows * sh .size → check c x j ≡ false) → sh .rows * sh .size ≡ lowest c x
 unfolding lowest
 rows-met sh h x c lent met =
     sym (lent .checks-are) ∙ sym (least-none (checks c) (check c x) (λ j g. met j (subst (λ k. j < k) (lent .checks-are) g)))

@@ -4,7 +4,6 @@ use contract.Lifetimes.{Lfts}
 use borrow.Fn.World.{ArgsD, ResD}
 use borrow.Fn.Kinds.{endedOf}
 use denote.Triple.Clauses.{AtExit}
-use denote.Ref.{now}
 use Rattle.quick.proofs.quick.{signature}
 use Rattle.quick.proofs.quick.Kinds as kinds
 use Rattle.quick.proofs.quick.Reads as reads

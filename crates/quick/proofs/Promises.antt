@@ -2,7 +2,7 @@
 use mathlib.Core.Path.{_≡_, refl, sym, ap, _∙_, subst}
 use mathlib.Core.Bool.{true, false}
 use mathlib.Core.List.{List}
-use Prim.Native.Nat.{ℕ, suc, _≤_, _<_}
+use Prim.Native.Nat.{ℕ, suc, _<_}
 use lib.Dec.{T}
 use lib.ListN.{length}
 use Rattle.bits.specs.Bits.{Word, bit}
@@ -11,7 +11,7 @@ use Rattle.rules.specs.Checks.{check, broken, lowest}
 use Rattle.rules.specs.Encoding.{lifted}
 use Rattle.answers.specs.Calls.{Checked, refusal, unless, checkedFrom, checkAnswer}
 use Rattle.answers.proofs.Answers.{check-taken, unless-taken, unless-refused, refusal-not}
-use Rattle.quick.specs.Quick.{Read, read, Quick, asRead, refusedQuick, quickFrom, quickAnswer}
+use Rattle.quick.specs.Quick.{read, Quick, asRead, refusedQuick, quickFrom, quickAnswer}
 use Rattle.quick.proofs.Reading.{read-lowest, read-all, read-quiet}
 
 -- ---- the checks of a word
@@ -38,7 +38,8 @@ module _ (n : ℕ) (word : List ℕ) where
       unless-taken refusedQuick (quickFrom n word) (refusal (offered n) (length word) (code n .wordOctets) 0 0)
       (refusal-not (offered n) (length word) (code n .wordOctets) 0 0 t lw refl)
 
-  pub quick-refused : (k : ℕ) → k ≡ refusal (offered n) (length word) (code n .wordOctets) 0 0 → (k ≡ 0 → ⊥) → quickAnswer n word ≡ refusedQuick k
+  pub quick-refused : (k : ℕ) → k ≡ refusal (offered n) (length word) (code n .wordOctets) 0 0 → (k ≡ 0 → ⊥)
+      → quickAnswer n word ≡ refusedQuick k
   unfolding quickAnswer
   quick-refused k e d = ap (λ z. unless z refusedQuick (quickFrom n word)) (sym e) ∙ unless-refused refusedQuick (quickFrom n word) k d
 
@@ -53,7 +54,8 @@ module _ (n : ℕ) (word : List ℕ) (off : T (offered n)) (lw : length word ≡
   x = lifted (code n) (bit word)
 
   -- yes exactly if check's count is 0
-  pub yes-quiet : (quickAnswer n word .yes ≡ true → checkAnswer n word .broken ≡ 0) × (checkAnswer n word .broken ≡ 0 → quickAnswer n word .yes ≡ true)
+  pub yes-quiet : (quickAnswer n word .yes ≡ true → checkAnswer n word .broken ≡ 0)
+      × (checkAnswer n word .broken ≡ 0 → quickAnswer n word .yes ≡ true)
   yes-quiet = (
     (λ e. ap (λ (r : Checked). r .broken) same ∙ found-quiet (code n) x .0 (sym (ap (λ (r : Quick). r .yes) is) ∙ e)),
     (λ e. ap (λ (r : Quick). r .yes) is ∙ found-quiet (code n) x .1 (sym (ap (λ (r : Checked). r .broken) same) ∙ e)),

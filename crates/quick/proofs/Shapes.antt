@@ -1,14 +1,13 @@
 -- What the record of a code that is offered says of its checks and its octets.
-use mathlib.Core.Path.{_≡_, refl, sym, ap, _∙_, subst}
+use mathlib.Core.Path.{_≡_, refl}
 use mathlib.Core.Bool.{true}
-use Prim.Native.Nat.{ℕ, _+_, _*_, _≤_, _<_}
+use Prim.Native.Nat.{ℕ, _+_, _*_, _≤_}
 use native.Mathlib.Omega.{arith}
-use lib.Dec.{T, lit≤, lit<}
+use lib.Dec.{T, lit≤}
 use Rattle.rules.specs.Codes.{code, code1, code2, code3, code4, code5, checks, offered}
 use Rattle.rules.specs.Tables.{parity16, parity32, parity64, parity511}
 use Rattle.rules.proofs.Numbers.{five}
-use Rattle.offer.specs.declared.Offer.{Offer}
-use Rattle.offer.specs.Offers.{offerOf, Known}
+use Rattle.offer.specs.Offers.{offerOf}
 use Rattle.offer.proofs.Offers.{is-offered}
 
 pub record Checked (n : ℕ) : Type 0 where

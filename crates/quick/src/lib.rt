@@ -1,4 +1,4 @@
-// A quick no: the checks in order, up to the first broken one.
+// A quick no: the checks in order, up to the first group with a broken one. A group is worked out at once; the number reported is the definition's.
 ghost use mathlib.Core.Path.{_≡_};
 ghost use mathlib.Core.Bool.{true};
 ghost use Prim.Native.Nat.{ℕ, _+_, _*_, _/_, _≤_, _<_};
@@ -136,7 +136,8 @@ fn first_group(octets: &[u8], u: usize, h: &[u16], sh: Shape) -> u64
     v
 }
 
-// The lowest broken check where a row is wider than a group: the first group straight from the octets, and then all.
+// The lowest broken check where a row is wider than a group. The first group comes straight from the octets; if it is met, the whole
+// syndrome costs less than the groups behind it one by one.
 fn wide_lowest(o: Offer, word: &[u8]) -> u32
     requires { ⌜ Known o × (length (now word) ≡ o .word) × (o .shape .size ≡ 511) ⌝ }
     ensures { λ r. ⌜ ((n : ℕ) → offered n ≡ true → o ≡ offerOf n → r ≡ lowestOf (codeOf n) (lifted (codeOf n) (bit (now (word .entry))))) ⌝ }

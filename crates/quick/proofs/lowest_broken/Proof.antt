@@ -1,5 +1,4 @@
 -- `quick::lowest_broken`: by the width of a row. Assumes nothing.
-use borrow.Author.Needs.{needs}
 use Rattle.quick.proofs.lowest_broken.Statement.{statement}
 use Rattle.quick.proofs.lowest_broken.Tie as tie
 

@@ -1,7 +1,7 @@
 -- `quick::narrow_block`: the block doubled, and its two places. Assumes nothing.
-use mathlib.Core.Path.{_≡_, sym, ap, ap₂, _∙_}
+use mathlib.Core.Path.{sym, ap, ap₂, _∙_}
 use mathlib.Core.Bool.{Bool, _&&_}
-use Prim.Native.Nat.{_+_, _*_, _≤_, _<_}
+use Prim.Native.Nat.{_+_, _*_, _≤_}
 use native.Mathlib.Nat.{mul-le-mul}
 use native.Mathlib.Omega.{arith}
 use lib.Dec.{ltb}
@@ -93,6 +93,7 @@ narrow-entry-requires-2 c κs = search needs
 returns : tie.Need-returns
 returns c =
     let f = c .before .before .before .before .before .before .front in
+    let w = c .before .before .before .before .before .before .before .window in
     let s = c .before .before .before .before .before .before .before .before .before .before .before in
     let sh = s .args .sh in
     let h = s .args .h .now in
@@ -102,7 +103,7 @@ returns c =
     let M = sh .size in
     let inside = place-room h sh (s .pre .0) r b (s .pre .3) (s .pre .2) in
     let block : Holds (f .result) (upTo M (from (b * M) y)) =
-    λ i hi. f .ensures i hi ∙ ap (λ (p : Bool). ltb i M && p) (c .before .before .before .before .before .before .before .window .ensures i hi) in
+    λ i hi. f .ensures i hi ∙ ap (λ (p : Bool). ltb i M && p) (w .ensures i hi) in
     let twin = c .before .before .before .before .before .double-word .ensures (from (b * M) y) block in
     λ i hi.
     digit-xor 64 (c .before .before .narrow-entry .result) (c .narrow-entry2 .result) i

@@ -1,5 +1,5 @@
 -- `quick::narrow_lowest`: the octets loaded, and their rows. Assumes nothing.
-use mathlib.Core.Path.{_≡_, refl, sym, ap, ap₂, _∙_, subst}
+use mathlib.Core.Path.{refl, sym, ap, _∙_}
 use native.Mathlib.Omega.{arith}
 use Rattle.rules.specs.Codes.{code}
 use Rattle.rules.specs.Checks.{lowest}

@@ -1,5 +1,4 @@
 -- `quick::octets_from`: eight octets and the next. Assumes nothing.
-use mathlib.Core.Path.{_≡_, refl, sym, ap, ap₂, _∙_, subst}
 use Prim.Native.Nat.{_+_, _/_, _%_}
 use native.Mathlib.Omega.{arith}
 use Rattle.quick.proofs.Windows.{nine}

@@ -1,10 +1,10 @@
 -- `quick::quick`: refusals in the order of their numbers, then the lowest broken check. Assumes nothing.
-use mathlib.Core.Path.{_≡_, sym, ap, _∙_, subst}
-use Prim.Native.Nat.{_*_, _≤_}
+use mathlib.Core.Path.{sym, ap, _∙_}
+use Prim.Native.Nat.{_*_}
 use native.Mathlib.Omega.{arith}
 use lib.ListN.{length}
 use Rattle.bits.specs.Bits.{bit}
-use Rattle.rules.specs.Codes.{code, checks}
+use Rattle.rules.specs.Codes.{code}
 use Rattle.rules.specs.Encoding.{lifted}
 use Rattle.rules.proofs.Lowest.{lowest-le}
 use Rattle.offer.proofs.Offers.{is-offered}
@@ -28,16 +28,19 @@ returns : tie.Need-returns
 returns c =
     let f = c .before .before in
     let a = f .before .before .before in
+    let n = a .args .code in
     c .refused .ensures
-    ∙ sym (quick-refused (a .args .code) (a .args .word .now) _ (check-refusal (a .args .code) (f .before .of .ensures) _ (f .refusal .ensures)) (c .before .if1 .taken))
+    ∙ sym (quick-refused n (a .args .word .now) _ (check-refusal n (f .before .of .ensures) _ (f .refusal .ensures)) (c .before .if1 .taken))
 
 lowest-broken-requires : tie.Need-lowest-broken-requires
 lowest-broken-requires c κs =
     let i = c .before in
     let f = i .before in
     let a = f .before .before .before in
+    let n = a .args .code in
+    let is = f .before .of .ensures in
     let o = f .before .of .result in
-    let t = taken (a .args .code) (f .before .of .ensures) (o .offered) (offered-by (a .args .code) (f .before .of .ensures)) (length (a .args .word .now)) _ 0 0 (f .refusal .ensures) (i .if1 .left) in
+    let t = taken n is (o .offered) (offered-by n is) (length (a .args .word .now)) _ 0 0 (f .refusal .ensures) (i .if1 .left) in
     (t .known, t .input-is)
 
 mul-answer : tie.Need-mul-answer
@@ -47,7 +50,8 @@ mul-answer c =
     let a = f .before .before .before in
     let n = a .args .code in
     let is = f .before .of .ensures in
-    let t = taken n is (f .before .of .result .offered) (offered-by n is) (length (a .args .word .now)) _ 0 0 (f .refusal .ensures) (i .if1 .left) in
+    let o = f .before .of .result in
+    let t = taken n is (o .offered) (offered-by n is) (length (a .args .word .now)) _ 0 0 (f .refusal .ensures) (i .if1 .left) in
     let k = checked n (t .offers) in
     let e = ap (λ o. o .shape .rows * o .shape .size) is ∙ k .checks-are in
     omega (arith, e, k .few)
@@ -59,7 +63,8 @@ cast-answer c =
     let a = f .before .before .before in
     let n = a .args .code in
     let is = f .before .of .ensures in
-    let t = taken n is (f .before .of .result .offered) (offered-by n is) (length (a .args .word .now)) _ 0 0 (f .refusal .ensures) (i .if1 .left) in
+    let o = f .before .of .result in
+    let t = taken n is (o .offered) (offered-by n is) (length (a .args .word .now)) _ 0 0 (f .refusal .ensures) (i .if1 .left) in
     let k = checked n (t .offers) in
     let e = ap (λ o. o .shape .rows * o .shape .size) is ∙ k .checks-are in
     omega (arith, e, k .few)
@@ -71,8 +76,10 @@ answer-requires c κs =
     let a = f .before .before .before in
     let n = a .args .code in
     let is = f .before .of .ensures in
-    let t = taken n is (f .before .of .result .offered) (offered-by n is) (length (a .args .word .now)) _ 0 0 (f .refusal .ensures) (i .if1 .left) in
-    omega (arith, c .before .lowest-broken .ensures n (t .offers) is, lowest-le (code n) (lifted (code n) (bit (a .args .word .now))), checked n (t .offers) .few)
+    let o = f .before .of .result in
+    let t = taken n is (o .offered) (offered-by n is) (length (a .args .word .now)) _ 0 0 (f .refusal .ensures) (i .if1 .left) in
+    let x = lifted (code n) (bit (a .args .word .now)) in
+    omega (arith, c .before .lowest-broken .ensures n (t .offers) is, lowest-le (code n) x, checked n (t .offers) .few)
 
 returns-2 : tie.Need-returns-2
 returns-2 c =
@@ -82,7 +89,8 @@ returns-2 c =
     let a = f .before .before .before in
     let n = a .args .code in
     let is = f .before .of .ensures in
-    let t = taken n is (f .before .of .result .offered) (offered-by n is) (length (a .args .word .now)) _ 0 0 (f .refusal .ensures) (i .if1 .left) in
+    let o = f .before .of .result in
+    let t = taken n is (o .offered) (offered-by n is) (length (a .args .word .now)) _ 0 0 (f .refusal .ensures) (i .if1 .left) in
     c .answer .ensures (code n) (lifted (code n) (bit (a .args .word .now)))
     (ap (λ o. o .shape .rows * o .shape .size) is ∙ checked n (t .offers) .checks-are)
     (l .before .lowest-broken .ensures n (t .offers) is)

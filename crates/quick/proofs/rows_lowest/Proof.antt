@@ -1,8 +1,7 @@
 -- `quick::rows_lowest`: no check of the rows so far is broken. Assumes nothing.
-use mathlib.Core.Path.{_≡_, refl, sym, ap, ap₂, _∙_, subst}
-use mathlib.Core.Bool.{Bool, true, false, _&&_, true≢false}
-use mathlib.Core.Logic.{⊎-elim}
-use Prim.Native.Nat.{ℕ, _+_, _-_, _*_, _≤_, _<_}
+use mathlib.Core.Path.{_≡_, sym, ap, _∙_, subst}
+use mathlib.Core.Bool.{false}
+use Prim.Native.Nat.{ℕ, _-_, _*_, _≤_, _<_}
 use native.Mathlib.Nat.{mul-le-mul, pos-of-ne-zero}
 use native.Mathlib.Omega.{arith}
 use lib.Count.{leadingZeros, leading-le}
@@ -11,7 +10,7 @@ use Rattle.bits.proofs.Octets.{digit-zero}
 use Rattle.rules.specs.Codes.{Code}
 use Rattle.rules.specs.Checks.{check}
 use Rattle.layout.specs.Lent.{Lent}
-use Rattle.vectors.specs.Vectors.{wbit, upTo}
+use Rattle.vectors.specs.Vectors.{wbit}
 use Rattle.vectors.proofs.Spans.{upTo-below}
 use Rattle.vectors.proofs.Firsts.{first-digit}
 use Rattle.quick.proofs.Groups.{group-found, row-met, rows-met, front-first}
@@ -92,10 +91,14 @@ loop-again c =
     )
 
 mul-result-2 : tie.Need-mul-result-2 Inv-loop μ-loop
-mul-result-2 c = omega (arith, mul-le-mul (c .before .before .before .before .before .before .pre .0 .rows) (c .before .before .before .before .before .before .pre .1))
+mul-result-2 c =
+    let s = c .before .before .before .before .before .before in
+    omega (arith, mul-le-mul (s .pre .0 .rows) (s .pre .1))
 
 cast-result-2 : tie.Need-cast-result-2 Inv-loop μ-loop
-cast-result-2 c = omega (arith, mul-le-mul (c .before .before .before .before .before .before .pre .0 .rows) (c .before .before .before .before .before .before .pre .1))
+cast-result-2 c =
+    let s = c .before .before .before .before .before .before in
+    omega (arith, mul-le-mul (s .pre .0 .rows) (s .pre .1))
 
 returns-2 : tie.Need-returns-2 Inv-loop μ-loop
 returns-2 c code lent =

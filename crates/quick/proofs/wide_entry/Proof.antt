@@ -16,7 +16,9 @@ add-lifted-from : tie.Need-add-lifted-from
 add-lifted-from c = search needs
 
 lifted-from-requires : tie.Need-lifted-from-requires
-lifted-from-requires c κs = search needs
+lifted-from-requires c κs =
+    let s = c .before .before in
+    (omega (arith, c .if1 .taken, s .pre .1), s .pre .2, s .pre .3, s .pre .4)
 
 returns : tie.Need-returns
 returns c code e =

@@ -1,8 +1,8 @@
 -- `quick::wide_lowest`: the first group, or the whole syndrome. Assumes nothing.
-use mathlib.Core.Path.{_≡_, refl, sym, ap, ap₂, _∙_, subst}
-use mathlib.Core.Bool.{true, false}
+use mathlib.Core.Path.{_≡_, refl, sym, ap, _∙_}
+use mathlib.Core.Bool.{true}
 use mathlib.Core.List.{List}
-use Prim.Native.Nat.{ℕ, _+_, _*_, _≤_, _<_}
+use Prim.Native.Nat.{ℕ, _≤_, _<_}
 use native.Mathlib.Nat.{pos-of-ne-zero, zero-add}
 use native.Mathlib.Omega.{arith}
 use lib.Dec.{lit≤, lit<}
@@ -53,8 +53,15 @@ first-group-requires c κs =
     let word = s .pre .1 ∙ ap (λ o. o .word) (k .is) in
     let unsent = ap (λ o. o .unsent) (k .is) in
     let few = small k in
-    let l = lent (k .number) (k .offers) e _ (c .before .before .lend511 .ensures) in
-    (l .fit, lit≤ tt, lit≤ tt, omega (arith, w .0, word, unsent), few .unsent, omega (arith, w .0, w .1, word), omega (arith, few .word, s .pre .1))
+    let l = lent (k .number) (k .offers) e _ (c .before .before .lend511 .ensures) in (
+      l .fit,
+      lit≤ tt,
+      lit≤ tt,
+      omega (arith, w .0, word, unsent),
+      few .unsent,
+      omega (arith, w .0, w .1, word),
+      omega (arith, few .word, s .pre .1),
+    )
 
 returns : tie.Need-returns
 returns c n off is =
