@@ -44,6 +44,11 @@ int main(void)
     demand_done("check", checked.number);
     printf("check: %u checks are broken, the lowest is %u\n", checked.broken, checked.lowest);
 
+    /* Where only that is asked: yes or no, and how far it looked. */
+    pandoricchia_answered answered = pandoricchia_quick(CODE, word, WORD);
+    demand_done("quick", answered.number);
+    printf("quick: %s, %u checks evaluated\n", answered.yes ? "yes" : "no", answered.evaluated);
+
     /* A word with a broken check does not open. */
     pandoricchia_opened opened = pandoricchia_open(CODE, word, WORD);
     printf("open: %s, the lowest is %u\n", pandoricchia_text(opened.number), opened.lowest);

@@ -39,6 +39,11 @@ fn main() {
     demand_done("check", checked.number);
     println!("check: {} checks are broken, the lowest is {}", checked.broken, checked.lowest);
 
+    // Where only that is asked: yes or no, and how far it looked.
+    let answered = pandoricchia::quick(CODE, &word);
+    demand_done("quick", answered.number);
+    println!("quick: {}, {} checks evaluated", if answered.yes { "yes" } else { "no" }, answered.evaluated);
+
     // A word with a broken check does not open.
     match pandoricchia::open(CODE, &word) {
         Ok(part) => println!("open: done, {} octets", part.len()),

@@ -29,7 +29,7 @@
 extern "C" {
 #endif
 
-#define PANDORICCHIA_VERSION "0.8.0"
+#define PANDORICCHIA_VERSION "0.9.0"
 
 /* The table above; for a code number that is not known until the program runs there are two calls below. */
 #define PANDORICCHIA_WORD_OCTETS_1 16
@@ -154,6 +154,15 @@ typedef struct pandoricchia_checked {
 /* Check: counts the broken checks; for code 5 with the unsent bits 0 and the last two bits unread. A word without a
  * broken check is a codeword in codes 1 to 3, but need not be one in codes 4 and 5. */
 pandoricchia_checked pandoricchia_check(uint8_t code, const uint8_t *word, size_t word_len);
+
+typedef struct pandoricchia_answered {
+    uint8_t number;      /* 0 to 2 */
+    bool yes;            /* no check is broken */
+    uint32_t evaluated;  /* the lowest broken check and 1 more, or all checks; 0 where the call is refused */
+} pandoricchia_answered;
+
+/* Quick: reads the checks in order, and stops at the first broken one. Yes exactly where check counts none. */
+pandoricchia_answered pandoricchia_quick(uint8_t code, const uint8_t *word, size_t word_len);
 
 typedef struct pandoricchia_opened {
     uint8_t number;   /* 0 to 2, 9, 14 or 15 */

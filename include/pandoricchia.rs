@@ -7,7 +7,7 @@
 //!
 //! and `rustc -L target/staticlib -l static=pandoricchia`.
 
-pub const VERSION: &str = "0.8.0";
+pub const VERSION: &str = "0.9.0";
 
 /// Octets of a word and of its information, by code number; there is no code 0.
 pub const WORD_OCTETS: [usize; 6] = [0, 16, 32, 64, 1022, 1020];
@@ -43,6 +43,14 @@ pub struct Checked {
     pub number: u8,
     pub broken: u32,
     pub lowest: u32,
+}
+
+#[repr(C)]
+#[derive(Clone, Copy, Debug, PartialEq, Eq)]
+pub struct Answered {
+    pub number: u8,
+    pub yes: bool,
+    pub evaluated: u32,
 }
 
 #[repr(C)]
@@ -168,6 +176,7 @@ extern "C" {
     fn pandoricchia_information_octets(code: u8) -> usize;
     fn pandoricchia_encode(code: u8, information: *const u8, information_len: usize, word: *mut u8, word_len: usize) -> u8;
     fn pandoricchia_check(code: u8, word: *const u8, word_len: usize) -> Checked;
+    fn pandoricchia_quick(code: u8, word: *const u8, word_len: usize) -> Answered;
     fn pandoricchia_open(code: u8, word: *const u8, word_len: usize) -> Opened;
     fn pandoricchia_correct(code: u8, word: *const u8, word_len: usize, limit: u16, out: *mut u8, out_len: usize) -> Corrected;
     fn pandoricchia_list(code: u8, word: *const u8, word_len: usize, limit: u16, table: *mut FlipRecord, table_len: usize) -> Listed;
@@ -244,6 +253,12 @@ pub fn encode(code: u8, information: &[u8], word: &mut [u8]) -> u8 {
 #[must_use]
 pub fn check(code: u8, word: &[u8]) -> Checked {
     unsafe { pandoricchia_check(code, word.as_ptr(), word.len()) }
+}
+
+/// Whether no check is broken: reads the checks in order, and stops at the first broken one.
+#[must_use]
+pub fn quick(code: u8, word: &[u8]) -> Answered {
+    unsafe { pandoricchia_quick(code, word.as_ptr(), word.len()) }
 }
 
 /// Why a word was not opened: the number, 1, 2, 9, 14 or 15, and the lowest broken check, as check gives it.

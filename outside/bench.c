@@ -1,11 +1,13 @@
 /* Calls of the library, of the judge and of the same algorithm in C, to be counted or timed.
  *
- *     bench WHO CALL CODE WRONG TURNS    WHO is library, judge or fast; WRONG a number of wrong bits, or random
+ *     bench WHO CALL CODE WRONG TURNS    WHO is library, judge or fast; WRONG a number of wrong bits, random,
+ *                                        or the group of the lowest broken check: zero, first, middle or last
  *     bench time CALL CODE WRONG         nanoseconds a call of each, turn and turn about
  *     bench stack CALL CODE WRONG        the most octets of stack that a call of each takes
  *
  * A turn is one call for each of a few words, which are the same at every run. Prints flips a word, the times, or the octets.
  */
+#include "breaks.h"
 #include "fast.h"
 #include "judge.h"
 #include "pandoricchia.h"
@@ -39,6 +41,26 @@ static uint8_t information[WORDS][LONGEST], word[WORDS][LONGEST], out[LONGEST];
 static struct judge_fliprecord table[LONGEST];
 static unsigned long flips;
 
+/* Breaks one check at random of a group: zero is check 0 alone, first and last are groups of 64 checks or of a block row,
+ * middle is the first group of the last half. Whether there is such a group. */
+static bool break_group(uint8_t code, const char *group, uint8_t *x)
+{
+    unsigned size = code >= 4 ? 511 : 16u << (code - 1), rows = code >= 4 ? 2 : 4, n = size < 64 ? size : 64;
+    unsigned from = 0;
+    if (strcmp(group, "zero") == 0)
+        n = 1;
+    else if (strcmp(group, "middle") == 0)
+        from = rows / 2 * size;
+    else if (strcmp(group, "last") == 0)
+        from = (rows - 1) * size + (size - 1) / 64 * 64;
+    else if (strcmp(group, "first") != 0)
+        return false;
+    if (code >= 4 && n > 62)
+        n = 62; /* the last check of a block row is not broken alone */
+    break_check(code, from + (unsigned)(draw() % n), x);
+    return true;
+}
+
 static void prepare(uint8_t code, const char *wrong)
 {
     for (unsigned w = 0; w < WORDS; w++) {
@@ -51,6 +73,8 @@ static void prepare(uint8_t code, const char *wrong)
         if (strcmp(wrong, "random") == 0)
             continue;
         pandoricchia_encode(code, information[w], info_octets[code], word[w], word_octets[code]);
+        if (break_group(code, wrong, word[w]))
+            continue;
         uint8_t done[LONGEST] = {0};
         for (int left = atoi(wrong); left > 0;) {
             unsigned bit = (unsigned)(draw() % covered_bits[code]);
@@ -82,6 +106,10 @@ static unsigned long ask(unsigned who, char call, uint8_t code, unsigned w)
         return who == 0   ? pandoricchia_list(code, x, l, 65535, (pandoricchia_fliprecord *)table, LONGEST).flips
                : who == 1 ? judge_list(code, x, l, 65535, table, LONGEST).flips
                           : fast_list(code, x, l, 65535, table, LONGEST).flips;
+    case 'q':
+        return who == 0   ? pandoricchia_quick(code, x, l).evaluated
+               : who == 1 ? judge_quick(code, x, l).evaluated
+                          : fast_quick(code, x, l).evaluated;
     case 'o':
         return who == 0   ? pandoricchia_open(code, x, l).octets
                : who == 1 ? judge_open(code, x, l).octets

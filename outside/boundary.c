@@ -75,6 +75,7 @@ static void test_null(void)
         expect(pandoricchia_encode(c, NULL, 0, NULL, 0) == input, "encode, both NULL", code);
         expect(pandoricchia_encode(c, information, info, NULL, 0) == output, "encode, output NULL", code);
         expect(pandoricchia_check(c, NULL, 0).number == input, "check, NULL", code);
+        expect(pandoricchia_quick(c, NULL, 0).number == input, "quick, NULL", code);
         pandoricchia_opened opened = pandoricchia_open(c, NULL, 0);
         expect(opened.number == (code == 4 ? 1 : input) && opened.octets == 0, "open, NULL", code);
         expect(pandoricchia_correct(c, NULL, 0, 9, NULL, 0).number == input, "correct, both NULL", code);
@@ -130,6 +131,7 @@ static void test_addresses(void)
                 memcpy(first, word + 15, n);
             expect(memcmp(word + (15 - at), first, n) == 0, "encode's octets", code);
             expect(pandoricchia_check(code, word + (15 - at), n).broken == 0, "check", code);
+            expect(pandoricchia_quick(code, word + (15 - at), n).yes, "quick", code);
             pandoricchia_opened opened = pandoricchia_open(code, word + (15 - at), n);
             expect(opened.number == (code == 4 ? 1 : 0) && opened.octets == (code == 4 ? 0 : info), "open", code);
             word[15 - at + 3] ^= 0x10;
@@ -177,14 +179,14 @@ static void test_stack(void)
     whole.place = 4;
     whole.limit = 1000;
     whole.edition = 5;
-    static const char *names[] = {"encode", "check", "open", "correct", "step", "list", "take", "taker_for", "nearest"};
+    static const char *names[] = {"encode", "check", "open", "quick", "correct", "step", "list", "take", "taker_for", "nearest"};
     for (unsigned call = 0; call < sizeof names / sizeof names[0]; call++) {
         size_t most = 0;
         for (uint8_t code = 1; code <= 5; code++) {
             size_t n = words[code];
             fill(code, 0);
             pandoricchia_encode(code, information, informations[code], word, n);
-            for (size_t i = 0; i < 4 && call > 2; i++)
+            for (size_t i = 0; i < 4 && call > 3; i++)
                 word[2 * i] ^= 0x21;
             paint();
             if (call == 0)
@@ -194,14 +196,16 @@ static void test_stack(void)
             else if (call == 2)
                 pandoricchia_open(code, word, n);
             else if (call == 3)
-                pandoricchia_correct(code, word, n, 1000, out, n);
+                pandoricchia_quick(code, word, n);
             else if (call == 4)
-                pandoricchia_step(code, word, n, out, n);
+                pandoricchia_correct(code, word, n, 1000, out, n);
             else if (call == 5)
-                pandoricchia_list(code, word, n, 1000, table, PANDORICCHIA_MOST_WORD_OCTETS);
+                pandoricchia_step(code, word, n, out, n);
             else if (call == 6)
-                pandoricchia_take(whole, word, n);
+                pandoricchia_list(code, word, n, 1000, table, PANDORICCHIA_MOST_WORD_OCTETS);
             else if (call == 7)
+                pandoricchia_take(whole, word, n);
+            else if (call == 8)
                 pandoricchia_taker_for(code, 1000);
             else
                 pandoricchia_nearest(word, words[1], 3, out, words[1]);
@@ -209,7 +213,7 @@ static void test_stack(void)
             most = taken > most ? taken : most;
         }
         printf("boundary: stack of %s: %zu octets\n", names[call], most);
-        size_t room = call == 5 ? PANDORICCHIA_LIST_STACK_OCTETS : call == 6 ? PANDORICCHIA_TAKE_STACK_OCTETS : PANDORICCHIA_STACK_OCTETS;
+        size_t room = call == 6 ? PANDORICCHIA_LIST_STACK_OCTETS : call == 7 ? PANDORICCHIA_TAKE_STACK_OCTETS : PANDORICCHIA_STACK_OCTETS;
         expect(most < room, "more stack than the header says", call);
     }
 }

@@ -31,6 +31,12 @@ pandoricchia_checked pandoricchia_check(uint8_t code, const uint8_t *word, size_
     return (pandoricchia_checked){a.number, a.broken, a.lowest};
 }
 
+pandoricchia_answered pandoricchia_quick(uint8_t code, const uint8_t *word, size_t len)
+{
+    struct judge_answered a = judge_quick(code, word, len);
+    return (pandoricchia_answered){a.number, a.yes, a.evaluated};
+}
+
 pandoricchia_listed pandoricchia_list(uint8_t code, const uint8_t *word, size_t len, uint16_t limit,
                                       pandoricchia_fliprecord *table, size_t places)
 {
@@ -58,9 +64,9 @@ pandoricchia_stepped pandoricchia_step(uint8_t code, const uint8_t *word, size_t
 }
 #endif
 
-enum call { ENCODE, CHECK, OPEN, CORRECT, STEP, LIST, CALLS };
+enum call { ENCODE, CHECK, OPEN, CORRECT, STEP, QUICK, LIST, CALLS };
 
-static const char *const call_names[CALLS] = {"encode", "check", "open", "correct", "step", "list"};
+static const char *const call_names[CALLS] = {"encode", "check", "open", "correct", "step", "quick", "list"};
 
 enum { VALUES = 7 };
 
@@ -71,6 +77,7 @@ static const char *const value_names[CALLS][VALUES] = {
     {"lowest", "octets"},
     {"flips", "first", "last", "unlike", "lowest"},
     {"quiet", "bit", "excess"},
+    {"yes", "evaluated"},
     {"flips", "first", "last", "unlike", "lowest", "bit", "excess"},
 };
 
@@ -125,6 +132,11 @@ static struct answer ask_judge(const struct question *q, const uint8_t *input, u
         a = (struct answer){r.number, {r.flips, r.first, r.last, r.unlike, r.lowest}};
         break;
     }
+    case QUICK: {
+        struct judge_answered r = judge_quick(q->code, input, q->len);
+        a = (struct answer){r.number, {r.yes, r.evaluated}};
+        break;
+    }
     case LIST: {
         struct judge_listed r = judge_list(q->code, input, q->len, q->limit, (struct judge_fliprecord *)out, q->out_len / RECORD);
         a = (struct answer){r.number, {r.flips, r.first, r.last, r.unlike, r.lowest, r.bit, r.excess}};
@@ -158,6 +170,11 @@ static struct answer ask_library(const struct question *q, const uint8_t *input,
     case CORRECT: {
         pandoricchia_corrected r = pandoricchia_correct(q->code, input, q->len, q->limit, out, q->out_len);
         a = (struct answer){r.number, {r.flips, r.first, r.last, r.unlike, r.lowest}};
+        break;
+    }
+    case QUICK: {
+        pandoricchia_answered r = pandoricchia_quick(q->code, input, q->len);
+        a = (struct answer){r.number, {r.yes, r.evaluated}};
         break;
     }
     case LIST: {
@@ -236,7 +253,7 @@ static void fail(const char *what, const struct question *q, const struct answer
         printf("  limit %u\n", q->limit);
     print_answer("judge", q, judge);
     print_answer("library", q, library);
-    if (q->call != CHECK && q->call != OPEN) {
+    if (q->out_len > 0) {
         print_octets("output before", before, q->out_len);
         print_octets("judge's output", judge_out, q->out_len);
         print_octets("library's output", library_out, q->out_len);
@@ -305,7 +322,7 @@ static size_t input_octets(enum call call, uint8_t code)
 
 static size_t output_octets(enum call call, uint8_t code)
 {
-    return call == CHECK || call == OPEN || call == LIST ? 0 : word_octets[code];
+    return call == CHECK || call == OPEN || call == QUICK || call == LIST ? 0 : word_octets[code];
 }
 
 static void draw_info(uint8_t code, uint8_t *info)

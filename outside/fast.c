@@ -359,6 +359,80 @@ struct judge_checked fast_check(uint8_t code, const uint8_t *word, size_t len)
     return (struct judge_checked){0, wrong, low};
 }
 
+/* Quick, codes 1 to 3: a block is doubled in a register, and a block row is a group. */
+LEAF struct judge_answered quick_narrow(const uint64_t *y, const uint16_t *h, struct shape sh)
+{
+    uint64_t d[8];
+    for (unsigned b = 0; b < 8; b++) {
+        uint64_t v = front(window(y, b * sh.size), sh.size);
+        d[b] = sh.size < 64 ? v | v >> sh.size : v;
+    }
+    for (unsigned r = 0; r < sh.rows; r++) {
+        uint64_t sum = 0;
+        for (unsigned b = 0; b < 8; b++)
+            for (unsigned e = 0; e < 2; e++) {
+                unsigned shift = h[2 * (r * 8 + b) + e];
+                if (shift < sh.size)
+                    sum ^= sh.size < 64 ? d[b] << shift : funnel(d[b], d[b], shift);
+            }
+        sum = front(sum, sh.size);
+        if (sum != 0)
+            return (struct judge_answered){0, false, r * sh.size + (unsigned)__builtin_clzll(sum) + 1};
+    }
+    return (struct judge_answered){0, true, sh.rows * sh.size};
+}
+
+/* The 64 bits of the octets from bit p on; of code 5 the first 18 are not there, and 0. */
+LEAF uint64_t octets_window(const uint8_t *octets, unsigned p, unsigned unsent)
+{
+    unsigned at = p < unsent ? 0 : p - unsent, t = at % 8;
+    uint64_t v;
+    memcpy(&v, octets + at / 8, 8);
+    v = __builtin_bswap64(v) << t | (uint64_t)octets[at / 8 + 8] >> (8 - t);
+    return p < unsent ? v >> (unsent - p) : v;
+}
+
+/* The first 64 checks of codes 4 and 5, straight from the octets. No window that the table asks for reaches their end. */
+static uint64_t first_group(const uint8_t *octets, unsigned unsent)
+{
+    uint64_t sum = 0;
+    for (unsigned b = 0; b < 16; b++)
+        for (unsigned e = 0; e < 2; e++) {
+            unsigned shift = PARITY511[0][b][e], left = 511 - shift;
+            uint64_t v = octets_window(octets, 511 * b + shift, unsent);
+            if (left < 64)
+                v = (v & ~UINT64_C(0) << (64 - left)) | octets_window(octets, 511 * b, unsent) >> left;
+            sum ^= v;
+        }
+    return sum;
+}
+
+struct judge_answered fast_quick(uint8_t code, const uint8_t *word, size_t len)
+{
+    if (!offered(code))
+        return (struct judge_answered){1, false, 0};
+    if (len != word_octets[code])
+        return (struct judge_answered){2, false, 0};
+    if (code >= 4) {
+        uint64_t group = first_group(word, code == 5 ? 18 : 0);
+        if (group != 0)
+            return (struct judge_answered){0, false, (unsigned)__builtin_clzll(group) + 1};
+    }
+    uint64_t y[HELD], s[SYNDROME];
+    struct judge_answered answer = {0};
+    unsigned low;
+    take(code, word, len, y);
+#define QUICK(h, steps, sh, lead)                  \
+    if (sh.words == 1)                             \
+        return quick_narrow(y, h, sh);             \
+    syndrome(y, h, sh, s);                         \
+    low = lowest(s, sh);                           \
+    answer.yes = low == sh.rows * sh.size;         \
+    answer.evaluated = answer.yes ? low : low + 1
+    FOR_CODE(code, QUICK)
+    return answer;
+}
+
 struct judge_opened fast_open(uint8_t code, const uint8_t *word, size_t len)
 {
     if (!offered(code) || code == 4)

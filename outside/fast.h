@@ -8,6 +8,8 @@ uint8_t fast_encode(uint8_t code, const uint8_t *information, size_t information
 
 struct judge_checked fast_check(uint8_t code, const uint8_t *word, size_t len);
 
+struct judge_answered fast_quick(uint8_t code, const uint8_t *word, size_t len);
+
 struct judge_opened fast_open(uint8_t code, const uint8_t *word, size_t len);
 
 struct judge_corrected fast_correct(uint8_t code, const uint8_t *word, size_t len, uint16_t limit, uint8_t *out,

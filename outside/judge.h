@@ -13,6 +13,12 @@ struct judge_checked {
     uint32_t broken, lowest;
 };
 
+struct judge_answered {
+    uint8_t number;
+    bool yes;
+    uint32_t evaluated;
+};
+
 struct judge_opened {
     uint8_t number;
     uint32_t lowest;
@@ -48,6 +54,8 @@ struct judge_stepped {
 uint8_t judge_encode(uint8_t code, const uint8_t *info, size_t info_len, uint8_t *word, size_t word_len);
 
 struct judge_checked judge_check(uint8_t code, const uint8_t *word, size_t len);
+
+struct judge_answered judge_quick(uint8_t code, const uint8_t *word, size_t len);
 
 struct judge_opened judge_open(uint8_t code, const uint8_t *word, size_t len);
 

@@ -116,6 +116,11 @@ static bool are(struct judge_corrected a, uint8_t number, uint32_t flips, uint32
            && a.lowest == lowest;
 }
 
+static bool answered(struct judge_answered a, uint8_t number, bool yes, uint32_t evaluated)
+{
+    return a.number == number && a.yes == yes && a.evaluated == evaluated;
+}
+
 /* Open is refused by this number, with this place. */
 static bool unopened(uint8_t code, const uint8_t *word, uint8_t number, uint32_t lowest)
 {
@@ -185,6 +190,7 @@ static void starred_cases(void)
     word[15] = 0x01;
     EXPECT(broken_are(1, word, (unsigned[]){15, 24, 44}, 3));
     EXPECT(unopened(1, word, 9, 15));
+    EXPECT(answered(judge_quick(1, word, 16), 0, false, 16));
     EXPECT(are(correct(1, word, 0, out), 6, 0, 3, 3, 0, 15));
     EXPECT(are(correct(1, word, 1, out), 0, 1, 3, 0, 1, 15));
     end();
@@ -193,6 +199,7 @@ static void starred_cases(void)
     memset(word, 0xFF, sizeof word);
     EXPECT(broken_are(1, word, NULL, 0));
     EXPECT(opened(1, word));
+    EXPECT(answered(judge_quick(1, word, 16), 0, true, 64));
     end();
 
     begin("code 4, only bit 0 set");
@@ -222,12 +229,14 @@ static void starred_cases(void)
         EXPECT(judge_encode(code, info, 8, out, 16) == 1);
         struct judge_checked c = judge_check(code, word, 16);
         EXPECT(c.number == 1 && c.broken == 0 && c.lowest == 0);
+        EXPECT(answered(judge_quick(code, word, 16), 1, false, 0));
         struct judge_opened o = judge_open(code, word, 16);
         EXPECT(o.number == 1 && o.lowest == 0 && o.octets == 0);
         EXPECT(are(judge_correct(code, word, 16, 9, out, 16), 1, 0, 0, 0, 0, 0));
         s = judge_step(code, word, 16, out, 16);
         EXPECT(s.number == 1 && !s.quiet && s.bit == 0 && s.excess == 0);
     }
+    EXPECT(answered(judge_quick(4, word, 1020), 2, false, 0));
     EXPECT(unopened(4, word, 1, 0));
     struct judge_opened o = judge_open(5, word, 1022);
     EXPECT(o.number == 2 && o.lowest == 0 && o.octets == 0);
@@ -326,6 +335,7 @@ static void other_cases(void)
                 word[i] ^= solution[check][i];
             EXPECT(broken_are(code, word, &check, 1));
             EXPECT(unopened(code, word, 9, check));
+            EXPECT(answered(judge_quick(code, word, word_octets[code]), 0, false, check + 1));
             memset(out, 0x5A, sizeof out);
             EXPECT(are(correct(code, word, (uint16_t)below(65536), out), 5, 0, 1, 1, 0, check));
             struct judge_stepped s = judge_step(code, word, word_octets[code], out, word_octets[code]);
@@ -582,6 +592,7 @@ static void bounds(uint8_t code, const uint8_t *word, uint16_t limit)
     EXPECT(a.first == judge_check(code, word, len).broken);
     EXPECT(a.lowest == judge_check(code, word, len).lowest && a.lowest == lowest_of(code, word));
     EXPECT((a.lowest == checks[code]) == (a.first == 0));
+    EXPECT(answered(judge_quick(code, word, len), 0, a.first == 0, a.first == 0 ? checks[code] : a.lowest + 1));
     EXPECT(a.unlike <= a.flips && a.unlike % 2 == a.flips % 2);
     EXPECT(a.number == 0 || a.number == 5 || a.number == 6 || a.number == 8);
     EXPECT((a.last == 0) == (a.number == 0 || a.number == 8));

@@ -28,6 +28,9 @@ use Rattle.capi.proofs.pandoricchia_taker_for.Reads as taker-for-reads
 use Rattle.capi.proofs.pandoricchia_take as take
 use Rattle.capi.proofs.pandoricchia_take.Kinds as take-kinds
 use Rattle.capi.proofs.pandoricchia_take.Reads as take-reads
+use Rattle.capi.proofs.pandoricchia_quick as quick
+use Rattle.capi.proofs.pandoricchia_quick.Kinds as quick-kinds
+use Rattle.capi.proofs.pandoricchia_quick.Reads as quick-reads
 use Rattle.capi.proofs.pandoricchia_nearest as nearest
 use Rattle.capi.proofs.pandoricchia_nearest.Kinds as nearest-kinds
 use Rattle.capi.proofs.pandoricchia_nearest.Reads as nearest-reads
@@ -87,6 +90,10 @@ pub step-outcome : (κs : Lfts 2) (a : ArgsD step.signature κs) (r₁ r₂ : Re
     → step-reads.Post κs a r₁ s₁ → step-reads.Post κs a r₂ s₂ → (r₁ ≡ r₂) × (now (s₁ .1 .1 .0) ≡ now (s₂ .1 .1 .0))
 step-outcome κs a r₁ r₂ s₁ s₂ p q =
     (ap (λ x. record { number = x .number; quiet = x .quiet; bit = x .bit; excess = x .excess }) (p ∙ sym q), ap (λ x. x .out) (p ∙ sym q))
+
+pub quick-outcome : (κs : Lfts 1) (a : ArgsD quick.signature κs) (r₁ r₂ : ResD quick.signature κs) (s₁ s₂ : AtExit (endedOf 1 quick-kinds.ps quick-kinds.r) κs)
+    → quick-reads.Post κs a r₁ s₁ → quick-reads.Post κs a r₂ s₂ → r₁ ≡ r₂
+quick-outcome κs a r₁ r₂ s₁ s₂ p q = ap (λ x. record { number = x .number; yes = x .yes; evaluated = x .evaluated }) (p ∙ sym q)
 
 pub nearest-outcome : (κs : Lfts 2) (a : ArgsD nearest.signature κs) (r₁ r₂ : ResD nearest.signature κs) (s₁ s₂ : AtExit (endedOf 2 nearest-kinds.ps nearest-kinds.r) κs)
     → nearest-reads.Post κs a r₁ s₁ → nearest-reads.Post κs a r₂ s₂ → (r₁ ≡ r₂) × (now (s₁ .1 .1 .0) ≡ now (s₂ .1 .1 .0))

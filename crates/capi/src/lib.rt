@@ -10,6 +10,8 @@ ghost use Rattle.units.specs.Answers.{asReading, asHanded};
 ghost use Rattle.bch.specs.Bch.{bchEncodeAnswer, bchCheckAnswer};
 ghost use Rattle.bch.specs.Answers.{asEncoded as asBchEncoded, asMended};
 use bch::Mended;
+ghost use Rattle.quick.specs.Quick.{quickAnswer};
+ghost use Rattle.quick.specs.Answers.{asQuick};
 ghost use Rattle.nearest.specs.Nearest.{nearestAnswer};
 ghost use Rattle.nearest.specs.Answers.{asReached};
 ghost use Rattle.taker.specs.Taking.{newTaker, takerForAnswer, takeAnswer};
@@ -18,6 +20,7 @@ ghost use Rattle.blocks.specs.Blocks.{exportAnswer, exportRoom, importAnswer, i
 ghost use Rattle.blocks.specs.Answers.{asExported, asImported};
 use blocks::Imported;
 use nearest::Reached;
+use quick::Answered;
 use taker::Made;
 use taker::Taken;
 use taker::Taker;
@@ -63,6 +66,13 @@ pub extern "C" fn pandoricchia_check(code: u8, word: &[u8]) -> Checked
     ensures { λ r. ⌜ asChecked r ≡ checkAnswer code (now (word .entry)) ⌝ }
 {
     codes::check(code, word)
+}
+
+#[no_mangle]
+pub extern "C" fn pandoricchia_quick(code: u8, word: &[u8]) -> Answered
+    ensures { λ r. ⌜ asQuick r ≡ quickAnswer code (now (word .entry)) ⌝ }
+{
+    quick::quick(code, word)
 }
 
 // What open gives, with the number of leading octets for the part: a returned reference has no form in C.

@@ -1,0 +1,6 @@
+pub mod Reading
+pub mod Promises
+pub mod Shapes
+pub mod Groups
+pub mod Windows
+pub mod Outcomes

@@ -1,0 +1,281 @@
+// A quick no: the checks in order, up to the first group with a broken one. A group is worked out at once; the number reported is the definition's.
+ghost use mathlib.Core.Path.{_≡_};
+ghost use mathlib.Core.Bool.{true};
+ghost use Prim.Native.Nat.{ℕ, _+_, _*_, _/_, _≤_, _<_};
+ghost use lib.ListN.{length};
+ghost use Rattle.bits.specs.Bits.{Word, bit, _⊕_};
+ghost use Rattle.rules.specs.Codes.{Code, code as codeOf, checks, offered};
+ghost use Rattle.rules.specs.Checks.{check, lowest as lowestOf};
+ghost use Rattle.rules.specs.Encoding.{lifted};
+ghost use Rattle.vectors.specs.Vectors.{wbit, both, Holds, upTo, from, twice};
+ghost use Rattle.layout.specs.Lent.{Fit, Lent};
+ghost use Rattle.tables.specs.Flat.{Lends};
+ghost use Rattle.offer.specs.Offers.{offerOf, Known};
+ghost use Rattle.quick.specs.Quick.{read, asRead, refusedQuick, quickAnswer};
+ghost use Rattle.quick.specs.Groups.{Has, reached, placed, group};
+ghost use Rattle.quick.specs.Answers.{asQuick};
+use layout::Shape;
+use offer::Offer;
+use vectors::Pair;
+
+#[repr(C)]
+pub struct Answered {
+    pub number: u8,
+    pub yes: bool,
+    pub evaluated: u32,
+}
+
+// What a refused call gives besides its number.
+fn refused(number: u8) -> Answered
+    ensures { λ r. ⌜ asQuick r ≡ refusedQuick number ⌝ }
+{
+    Answered {
+        number: number,
+        yes: false,
+        evaluated: 0,
+    }
+}
+
+// The answer by the lowest broken check: that many checks were evaluated, and it; or all of them.
+fn answer(lowest: u32, all: u32) -> Answered
+    requires { ⌜ lowest ≤ 2048 ⌝ }
+    ensures { λ r. ⌜ ((c : Code) (x : Word) → all ≡ checks c → lowest ≡ lowestOf c x → asQuick r ≡ asRead (read (checks c) (check c x))) ⌝ }
+{
+    if lowest == all {
+        return Answered {
+            number: 0,
+            yes: true,
+            evaluated: all,
+        };
+    }
+    Answered {
+        number: 0,
+        yes: false,
+        evaluated: lowest + 1,
+    }
+}
+
+// The lowest broken check by the whole syndrome.
+fn whole_lowest(o: Offer, word: &[u8]) -> u32
+    requires { ⌜ Known o × (length (now word) ≡ o .word) ⌝ }
+    ensures { λ r. ⌜ ((n : ℕ) → offered n ≡ true → o ≡ offerOf n → r ≡ lowestOf (codeOf n) (lifted (codeOf n) (bit (now (word .entry))))) ⌝ }
+{
+    let mut t = [0u16; 64];
+    let mut y = [0u64; 130];
+    let mut s = [0u64; 16];
+    let sh = measured::measure(o, word, &mut t, &mut y, &mut s);
+    syndromes::lowest(&s, sh)
+}
+
+// The 64 bits of the octets from bit p on, of nine octets.
+fn octets_from(octets: &[u8], p: usize) -> u64
+    requires { ⌜ (p + 65 ≤ 8 * length (now octets)) × (length (now octets) ≤ 1022) ⌝ }
+    ensures { λ r. ⌜ Holds r (from p (bit (now (octets .entry)))) ⌝ }
+{
+    let at = p / 8;
+    vectors::funnel(
+        vectors::eight(octets, at),
+        (octets[at + 8] as u64) << 56,
+        p % 8,
+    )
+}
+
+// The same where the last of them may be the last of all.
+fn octets_to(octets: &[u8], p: usize) -> u64
+    requires { ⌜ (p + 64 ≤ 8 * length (now octets)) × (length (now octets) ≤ 1022) ⌝ }
+    ensures { λ r. ⌜ Holds r (from p (bit (now (octets .entry)))) ⌝ }
+{
+    if p % 8 == 0 {
+        return vectors::eight(octets, p / 8);
+    }
+    octets_from(octets, p)
+}
+
+// The same of the word that the checks are over, of which the first u bits are not sent.
+fn lifted_from(octets: &[u8], u: usize, p: usize) -> u64
+    requires { ⌜ (p + 65 ≤ 8 * length (now octets) + u) × (u ≤ 18) × (9 ≤ length (now octets)) × (length (now octets) ≤ 1022) ⌝ }
+    ensures { λ r. ⌜ ((c : Code) → u ≡ c .unsent → Holds r (from p (lifted c (bit (now (octets .entry)))))) ⌝ }
+{
+    if p < u {
+        return vectors::eight(octets, 0) >> (u - p);
+    }
+    octets_from(octets, p - u)
+}
+
+// What the shift s adds to the first 64 checks of a row, where the block has the m bits from bit p on. Its last 64 bits and its first ones
+// are read where it goes round.
+fn wide_entry(octets: &[u8], u: usize, p: usize, m: usize, s: usize) -> u64
+    requires { ⌜ (130 ≤ m) × (p + m ≤ 8 * length (now octets) + u) × (u ≤ 18) × (9 ≤ length (now octets)) × (length (now octets) ≤ 1022) ⌝ }
+    ensures { λ r. ⌜ ((c : Code) → u ≡ c .unsent → Holds r (reached m (lifted c (bit (now (octets .entry)))) p s)) ⌝ }
+{
+    let end = m - 64;
+    if s < end {
+        return lifted_from(octets, u, p + s);
+    }
+    if s < m {
+        return vectors::funnel(
+            octets_to(octets, p + end - u),
+            lifted_from(octets, u, p),
+            s - end,
+        );
+    }
+    0
+}
+
+// The first 64 checks of row 0.
+fn first_group(octets: &[u8], u: usize, h: &[u16], sh: Shape) -> u64
+    requires { ⌜ Fit (now h) sh × (1 ≤ sh .rows) × (130 ≤ sh .size) × (sh .blocks * sh .size ≤ 8 * length (now octets) + u) × (u ≤ 18) × (9 ≤ length (now octets)) × (length (now octets) ≤ 1022) ⌝ }
+    ensures { λ r. ⌜ ((c : Code) → u ≡ c .unsent → Has 64 r (group sh (now (h .entry)) (lifted c (bit (now (octets .entry)))) 0 (2 * sh .blocks))) ⌝ }
+{
+    let mut v: u64 = 0;
+    let mut k = 0;
+    while k < 2 * sh.blocks {
+        v ^= wide_entry(octets, u, k / 2 * sh.size, sh.size, h[k] as usize);
+        k += 1;
+    }
+    v
+}
+
+// The lowest broken check where a row is wider than a group. The first group comes straight from the octets; if it is met, the whole
+// syndrome costs less than the groups behind it one by one.
+fn wide_lowest(o: Offer, word: &[u8]) -> u32
+    requires { ⌜ Known o × (length (now word) ≡ o .word) × (o .shape .size ≡ 511) ⌝ }
+    ensures { λ r. ⌜ ((n : ℕ) → offered n ≡ true → o ≡ offerOf n → r ≡ lowestOf (codeOf n) (lifted (codeOf n) (bit (now (word .entry))))) ⌝ }
+{
+    let mut t = [0u16; 64];
+    tables::lend511(&mut t);
+    let sh = Shape {
+        size: 511,
+        words: 8,
+        blocks: 16,
+        rows: 2,
+    };
+    let v = first_group(word, o.unsent, &t, sh);
+    if v != 0 {
+        return u64::leading_zeros(v);
+    }
+    whole_lowest(o, word)
+}
+
+// What the shift s adds to the checks of a row, where one word holds the block of m bits; d is the block twice over.
+fn narrow_entry(d: Pair, m: usize, s: usize) -> u64
+    requires { ⌜ m ≤ 64 ⌝ }
+    ensures { λ r. ⌜ ((x : Word) (p : ℕ) → both d ≡ twice m (upTo m (from p x)) → Has m r (reached m x p s)) ⌝ }
+{
+    if s < m {
+        return vectors::funnel(d.first, d.second, s);
+    }
+    0
+}
+
+// What block b adds to the checks of row r.
+fn narrow_block(y: &[u64], h: &[u16], sh: Shape, b: usize, r: usize) -> u64
+    requires { ⌜ Fit (now h) sh × (sh .size ≤ 64) × (b < sh .blocks) × (r < sh .rows) × (length (now y) ≡ 17) ⌝ }
+    ensures { λ v. ⌜ Has (sh .size) v (λ i. placed sh (now (h .entry)) (wbit (now (y .entry))) r (2 * b) i ⊕ placed sh (now (h .entry)) (wbit (now (y .entry))) r (1 + 2 * b) i) ⌝ }
+{
+    let block = vectors::front(vectors::window(y, b * sh.size), sh.size);
+    let d = vectors::double_word(block, sh.size);
+    let at = 2 * (r * sh.blocks + b);
+    narrow_entry(d, sh.size, h[at] as usize) ^ narrow_entry(d, sh.size, h[at + 1] as usize)
+}
+
+// The checks of row r.
+fn narrow_group(y: &[u64], h: &[u16], sh: Shape, r: usize) -> u64
+    requires { ⌜ Fit (now h) sh × (sh .size ≤ 64) × (r < sh .rows) × (length (now y) ≡ 17) ⌝ }
+    ensures { λ v. ⌜ Has (sh .size) v (group sh (now (h .entry)) (wbit (now (y .entry))) r (2 * sh .blocks)) ⌝ }
+{
+    let mut v: u64 = 0;
+    let mut b = 0;
+    while b < sh.blocks {
+        v ^= narrow_block(y, h, sh, b, r);
+        b += 1;
+    }
+    v
+}
+
+// The lowest broken check, row after row.
+fn rows_lowest(y: &[u64], h: &[u16], sh: Shape) -> u32
+    requires { ⌜ Fit (now h) sh × (sh .size ≤ 64) × (length (now y) ≡ 17) ⌝ }
+    ensures { λ n. ⌜ ((c : Code) → Lent c (now (h .entry)) sh → n ≡ lowestOf c (wbit (now (y .entry)))) ⌝ }
+{
+    let mut r = 0;
+    while r < sh.rows {
+        let v = vectors::front(narrow_group(y, h, sh, r), sh.size);
+        if v != 0 {
+            return (r * sh.size) as u32 + u64::leading_zeros(v);
+        }
+        r += 1;
+    }
+    (sh.rows * sh.size) as u32
+}
+
+// The table of a code whose rows one word holds, lent. `lend` has the one caller that its speed rests on.
+fn lend_narrow(size: usize, t: &mut [u16]) -> Shape
+    requires { ⌜ (length (now t) ≡ 64) × (size ≡ 511 → ⊥) ⌝ }
+    ensures { λ r. ⌜ ((n : ℕ) → offered n ≡ true → size ≡ offerOf n .shape .size → Lends n (now (t .exit)) r) × (r .size ≤ 64) ⌝ }
+{
+    if size == 16 {
+        tables::lend16(t);
+        return Shape {
+            size: 16,
+            words: 1,
+            blocks: 8,
+            rows: 4,
+        };
+    }
+    if size == 32 {
+        tables::lend32(t);
+        return Shape {
+            size: 32,
+            words: 1,
+            blocks: 8,
+            rows: 4,
+        };
+    }
+    tables::lend64(t);
+    Shape {
+        size: 64,
+        words: 1,
+        blocks: 8,
+        rows: 4,
+    }
+}
+
+// The lowest broken check where one word holds a row.
+fn narrow_lowest(o: Offer, word: &[u8]) -> u32
+    requires { ⌜ Known o × (length (now word) ≡ o .word) × (o .shape .size ≡ 511 → ⊥) ⌝ }
+    ensures { λ r. ⌜ ((n : ℕ) → offered n ≡ true → o ≡ offerOf n → r ≡ lowestOf (codeOf n) (lifted (codeOf n) (bit (now (word .entry))))) ⌝ }
+{
+    let of = o.shape;
+    let mut t = [0u16; 64];
+    let sh = lend_narrow(of.size, &mut t);
+    let mut y = [0u64; 17];
+    vectors::load(word, &mut y);
+    rows_lowest(&y, &t, sh)
+}
+
+// The lowest broken check, or the number of checks if none is broken.
+fn lowest_broken(o: Offer, word: &[u8]) -> u32
+    requires { ⌜ Known o × (length (now word) ≡ o .word) ⌝ }
+    ensures { λ r. ⌜ ((n : ℕ) → offered n ≡ true → o ≡ offerOf n → r ≡ lowestOf (codeOf n) (lifted (codeOf n) (bit (now (word .entry))))) ⌝ }
+{
+    let sh = o.shape;
+    if sh.size == 511 {
+        return wide_lowest(o, word);
+    }
+    narrow_lowest(o, word)
+}
+
+// Whether every check is met, and how many were evaluated.
+pub fn quick(code: u8, word: &[u8]) -> Answered
+    ensures { λ r. ⌜ asQuick r ≡ quickAnswer code (now (word .entry)) ⌝ }
+{
+    let o = offer::of(code);
+    let number = ladder::refusal(o.offered, word.len(), o.word, 0, 0);
+    if number != 0 {
+        return refused(number);
+    }
+    let sh = o.shape;
+    let lowest = lowest_broken(o, word);
+    answer(lowest, (sh.rows * sh.size) as u32)
+}
