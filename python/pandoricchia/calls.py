@@ -105,7 +105,7 @@ def list(code: int, word: Buffer, limit: int, table: Any) -> Listed:  # pylint: 
     with Lent(word) as source, Lent(table, writable=True) as written:
         source.apart(written)
         places, rest = divmod(written.octets, ctypes.sizeof(FliprecordRecord))
-        if rest or written.address % ctypes.alignment(FliprecordRecord):
+        if rest or places and written.address % ctypes.alignment(FliprecordRecord):
             raise ValueError("the table is not whole records of 12 octets at an address that four divides")
         given = LIBRARY.pandoricchia_list(code, source.address, source.octets, limit, written.address, places)
     run = _corrected(given)
