@@ -1,11 +1,22 @@
 # `make run` proves and builds the bench program and runs it on a sample (SAMPLE=.. for another recording). `make test`
-# is the gate. `make lib` writes target/staticlib/libpandoricchia.a. `make compare N=..` compares the library with the
-# judge on N inputs of each call under each telecommand code, and N / 10 of each near-Earth one; SEED=.. repeats a
-# campaign. `make bench` counts the instructions of each call.
-.PHONY: run test lib compare bench
+# is the gate. `make lib` writes the archive and the shared library in target/staticlib. `make compare N=..` compares the
+# library with the judge on N inputs of each call under each telecommand code, and N / 10 of each near-Earth one; SEED=..
+# repeats a campaign. `make bench` counts the instructions of each call. `make install PREFIX=.. DESTDIR=..` installs
+# header, Rust module, libraries, pkg-config file and programs, building what is missing; `make uninstall` removes just those.
+.PHONY: run test lib shared compare bench install uninstall
 N ?= 20000
 SAMPLE ?= samples/code5.bin
 ARCHIVE = target/staticlib/libpandoricchia.a
+VERSION := $(shell sed -n 's/^.define PANDORICCHIA_VERSION "\(.*\)"$$/\1/p' include/pandoricchia.h)
+MAJOR := $(firstword $(subst ., ,$(VERSION)))
+SHARED = target/staticlib/libpandoricchia.so.$(VERSION)
+PROGRAMS = wordbench why frames unitread unitwrite fromblocks toblocks
+
+PREFIX ?= /usr/local
+BINDIR ?= $(PREFIX)/bin
+INCLUDEDIR ?= $(PREFIX)/include
+LIBDIR ?= $(PREFIX)/lib
+DATADIR ?= $(PREFIX)/share/pandoricchia
 
 run:
 	rt check wordbench
@@ -17,6 +28,11 @@ test:
 lib:
 	rt staticlib capi
 	cp target/staticlib/libcapi.a $(ARCHIVE)
+	outside/build_shared $(VERSION)
+
+# The shared library again, from the archive as it stands.
+shared: $(ARCHIVE)
+	outside/build_shared $(VERSION)
 
 compare: lib
 	outside/build_c target/outside/compare outside/compare.c outside/breaks.c outside/judge.c
@@ -30,3 +46,33 @@ compare: lib
 
 bench: lib
 	outside/bench
+
+# What install finds missing.
+$(ARCHIVE):
+	rt staticlib capi
+	cp target/staticlib/libcapi.a $@
+
+$(SHARED): $(ARCHIVE)
+	outside/build_shared $(VERSION)
+
+target/bin/%:
+	rt check $*
+
+install: $(ARCHIVE) $(SHARED) $(PROGRAMS:%=target/bin/%)
+	install -d $(DESTDIR)$(BINDIR) $(DESTDIR)$(INCLUDEDIR) $(DESTDIR)$(LIBDIR)/pkgconfig $(DESTDIR)$(DATADIR)
+	install -m 755 $(PROGRAMS:%=target/bin/%) $(DESTDIR)$(BINDIR)
+	install -m 644 include/pandoricchia.h $(DESTDIR)$(INCLUDEDIR)
+	install -m 644 include/pandoricchia.rs $(DESTDIR)$(DATADIR)
+	install -m 644 $(ARCHIVE) $(SHARED) $(DESTDIR)$(LIBDIR)
+	ln -sf libpandoricchia.so.$(VERSION) $(DESTDIR)$(LIBDIR)/libpandoricchia.so.$(MAJOR)
+	ln -sf libpandoricchia.so.$(MAJOR) $(DESTDIR)$(LIBDIR)/libpandoricchia.so
+	sed -e 's|@PREFIX@|$(PREFIX)|' -e 's|@INCLUDEDIR@|$(INCLUDEDIR)|' -e 's|@LIBDIR@|$(LIBDIR)|' -e 's|@VERSION@|$(VERSION)|' \
+	    include/pandoricchia.pc.in > $(DESTDIR)$(LIBDIR)/pkgconfig/pandoricchia.pc
+	chmod 644 $(DESTDIR)$(LIBDIR)/pkgconfig/pandoricchia.pc
+
+uninstall:
+	rm -f $(PROGRAMS:%=$(DESTDIR)$(BINDIR)/%) $(DESTDIR)$(INCLUDEDIR)/pandoricchia.h $(DESTDIR)$(DATADIR)/pandoricchia.rs
+	rm -f $(DESTDIR)$(LIBDIR)/libpandoricchia.a $(DESTDIR)$(LIBDIR)/libpandoricchia.so
+	rm -f $(DESTDIR)$(LIBDIR)/libpandoricchia.so.$(MAJOR) $(DESTDIR)$(LIBDIR)/libpandoricchia.so.$(VERSION)
+	rm -f $(DESTDIR)$(LIBDIR)/pkgconfig/pandoricchia.pc
+	[ ! -d $(DESTDIR)$(DATADIR) ] || rmdir $(DESTDIR)$(DATADIR)

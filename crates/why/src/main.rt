@@ -131,7 +131,10 @@ fn put_nearest(code: u8, word: &[u8], a: lists::Listed) -> bool {
 // A word's line, its flips and the reason: whether they are written.
 fn explain(index: u64, code: u8, limit: u16, word: &[u8]) -> bool {
     let l = lists::gather(code, word, limit, PLACES);
-    put_line(index, l.answer) && put_flips(l) && put_reason(l.answer) && put_nearest(code, word, l.answer)
+    put_line(index, l.answer)
+        && put_flips(l)
+        && put_reason(l.answer)
+        && put_nearest(code, word, l.answer)
 }
 
 // Word after word; the last may be short, and is refused.

@@ -1,0 +1,92 @@
+"""How the shared library is found, the package installed, and README's example."""
+from __future__ import annotations
+
+import doctest
+import importlib.metadata
+import importlib.util
+import os
+import pathlib
+import shutil
+import subprocess
+import sys
+import tempfile
+import unittest
+from typing import Dict, Optional, Tuple
+
+from pandoricchia import _library
+
+from .judge import TOP
+
+ASK = "import pandoricchia; print(pandoricchia.__file__, pandoricchia.word_octets(5))"
+
+
+def newest(name: str) -> Tuple[int, ...]:
+    """The version of an installed package, () where there is none."""
+    try:
+        return tuple(int(part) for part in importlib.metadata.version(name).split(".")[:2])
+    except (importlib.metadata.PackageNotFoundError, ValueError):
+        return ()
+
+
+class Package(unittest.TestCase):
+    def setUp(self) -> None:
+        self.place = pathlib.Path(tempfile.mkdtemp())
+        self.addCleanup(shutil.rmtree, self.place)
+        self.library = pathlib.Path(os.environ[_library.ENVIRONMENT]).resolve()
+
+    def run_python(self, path: pathlib.Path, library: Optional[str] = None, **more: str) -> subprocess.CompletedProcess[str]:
+        """Imports the package from a path, in an environment of its own."""
+        environment: Dict[str, str] = {"PATH": os.environ.get("PATH", ""), "PYTHONPATH": str(path), **more}
+        if library is not None:
+            environment[_library.ENVIRONMENT] = library
+        return subprocess.run(
+            [sys.executable, "-c", ASK], env=environment, cwd=self.place, capture_output=True, text=True, check=False
+        )
+
+    def test_named(self) -> None:
+        self.assertEqual(self.run_python(TOP / "python", str(self.library)).stdout.split()[-1:], ["1020"])
+
+    def test_in_the_folder(self) -> None:
+        shutil.copytree(TOP / "python/pandoricchia", self.place / "pandoricchia")
+        shutil.copy(self.library, self.place / "pandoricchia" / _library.SONAME)
+        self.assertEqual(self.run_python(self.place).stdout.split()[-1:], ["1020"])
+
+    def test_by_the_loader(self) -> None:
+        shutil.copy(self.library, self.place / _library.SONAME)
+        found = self.run_python(TOP / "python", LD_LIBRARY_PATH=str(self.place))
+        self.assertEqual(found.stdout.split()[-1:], ["1020"])
+
+    def test_not_there(self) -> None:
+        found = self.run_python(TOP / "python", str(self.place / "none.so"))
+        self.assertIn("ImportError: the shared library of pandoricchia can't be loaded", found.stderr)
+        self.assertIn(_library.ENVIRONMENT, found.stderr)
+
+    def test_another_library(self) -> None:
+        found = self.run_python(TOP / "python", os.environ["PANDORICCHIA_JUDGE"])
+        self.assertIn(f"is no library of version {_library.VERSION}", found.stderr)
+        self.assertIn("ImportError", found.stderr)
+
+    def test_installed(self) -> None:
+        """Without a network: by pip where it can build a wheel, else by setuptools alone."""
+        setuptools = newest("setuptools")
+        if setuptools < (61,):
+            self.skipTest("installing needs setuptools 61 or newer")
+        source, target = self.place / "source", self.place / "target"
+        shutil.copytree(TOP / "python", source, ignore=shutil.ignore_patterns("__pycache__", "tests"))
+        if importlib.util.find_spec("pip") and (newest("wheel") or setuptools >= (70, 1)):
+            command = ["-m", "pip", "install", "--quiet", "--no-index", "--no-build-isolation", "--no-deps", "--no-compile"]
+            command += ["--disable-pip-version-check", "--target", str(target), str(source)]
+        else:
+            command = ["-c", "import setuptools; setuptools.setup()", "--quiet", "build", "--build-lib", str(target)]
+        done = subprocess.run([sys.executable, *command], cwd=source, capture_output=True, text=True, check=False)
+        self.assertEqual(done.returncode, 0, done.stderr)
+        installed = {path.name for path in (target / "pandoricchia").iterdir() if path.is_file()}
+        kept = {path.name for path in (TOP / "python/pandoricchia").iterdir() if path.is_file()}
+        self.assertEqual(installed, kept)
+        found = self.run_python(target, str(self.library))
+        self.assertEqual(found.stdout.split(), [str(target / "pandoricchia/__init__.py"), "1020"], found.stderr)
+
+    def test_readme(self) -> None:
+        failed, tried = doctest.testfile(str(TOP / "README.md"), module_relative=False, verbose=False)
+        self.assertGreater(tried, 4)
+        self.assertEqual(failed, 0)
