@@ -8,6 +8,7 @@
  * check made anew. Outputs are filled beforehand, and what a refused call leaves is compared too.
  */
 #include "blocks_judge.h"
+#include "draws.h"
 #include "pandoricchia.h"
 
 #include <inttypes.h>
@@ -17,23 +18,8 @@
 
 enum { MOST = 66048 };
 
-static uint64_t state;
 static unsigned long compared;
 static unsigned long numbers[24];
-
-/* splitmix64 */
-static uint64_t draw(void)
-{
-    uint64_t z = (state += 0x9E3779B97F4A7C15);
-    z = (z ^ z >> 30) * 0xBF58476D1CE4E5B9;
-    z = (z ^ z >> 27) * 0x94D049BB133111EB;
-    return z ^ z >> 31;
-}
-
-static size_t below(size_t n)
-{
-    return (size_t)(draw() % n);
-}
 
 static uint8_t octets[MOST], blocks[MOST], mine[MOST], theirs[MOST];
 

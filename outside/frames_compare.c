@@ -8,6 +8,7 @@
  * and trailing octets; each is randomised by an edition. Of each call the octets taken, the mark, the numbers and all octets of
  * the word are held to what must be. Takers for every edition, and states that no call gives, are tried first.
  */
+#include "draws.h"
 #include "frames_judge.h"
 #include "pandoricchia.h"
 
@@ -19,28 +20,8 @@
 enum { WORD = JUDGE_FRAME_OCTETS, FRAME = 4 + WORD, MOST_FRAMES = 8, STREAM = MOST_FRAMES * (FRAME + 64) };
 
 static const uint8_t marker[4] = {0x1A, 0xCF, 0xFC, 0x1D};
-static uint64_t seed, state;
+static uint64_t seed;
 static unsigned long calls, words, streams, numbers[256];
-
-/* splitmix64 */
-static uint64_t draw(void)
-{
-    uint64_t z = (state += 0x9E3779B97F4A7C15);
-    z = (z ^ z >> 30) * 0xBF58476D1CE4E5B9;
-    z = (z ^ z >> 27) * 0x94D049BB133111EB;
-    return z ^ z >> 31;
-}
-
-static size_t below(size_t n)
-{
-    return (size_t)(draw() % n);
-}
-
-static void draw_octets(uint8_t *octets, size_t len)
-{
-    for (size_t i = 0; i < len; i++)
-        octets[i] = (uint8_t)draw();
-}
 
 static void fail(const char *what, size_t at, size_t part)
 {

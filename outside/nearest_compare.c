@@ -8,6 +8,7 @@
  * length from 0 to 40 of both buffers and every reach to 255 come on top. What must come of few wrong bits is also said
  * outright, beside the judge's answer.
  */
+#include "draws.h"
 #include "nearest_judge.h"
 #include "pandoricchia.h"
 
@@ -18,28 +19,8 @@
 
 enum { WORD = 16, BITS = 128, LENGTHS = 40, GUARD = 8, ROOM = GUARD + LENGTHS + GUARD };
 
-static uint64_t seed, state;
+static uint64_t seed;
 static unsigned long compared, numbers[256], leasts[4];
-
-/* splitmix64 */
-static uint64_t draw(void)
-{
-    uint64_t z = (state += 0x9E3779B97F4A7C15);
-    z = (z ^ z >> 30) * 0xBF58476D1CE4E5B9;
-    z = (z ^ z >> 27) * 0x94D049BB133111EB;
-    return z ^ z >> 31;
-}
-
-static unsigned below(unsigned n)
-{
-    return (unsigned)(draw() % n);
-}
-
-static void draw_octets(uint8_t *octets, size_t len)
-{
-    for (size_t i = 0; i < len; i++)
-        octets[i] = (uint8_t)draw();
-}
 
 static void fail(const char *what, const uint8_t *word, size_t len, uint8_t reach, size_t out_len)
 {

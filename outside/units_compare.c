@@ -5,6 +5,7 @@
  *
  * UNITS is how many units are drawn of each code: written, cut, spoiled and read; lengths are tried on top.
  */
+#include "draws.h"
 #include "pandoricchia.h"
 #include "units_judge.h"
 
@@ -15,27 +16,8 @@
 
 enum { INFO = 2048, UNIT = 2 * INFO + 256, GUARD = 16 };
 
-static uint64_t seed, drawn;
+static uint64_t seed;
 static unsigned long compared, numbers[256], nones;
-
-static uint64_t draw(void)
-{
-    uint64_t z = (drawn += 0x9E3779B97F4A7C15);
-    z = (z ^ z >> 30) * 0xBF58476D1CE4E5B9;
-    z = (z ^ z >> 27) * 0x94D049BB133111EB;
-    return z ^ z >> 31;
-}
-
-static size_t below(size_t n)
-{
-    return (size_t)(draw() % n);
-}
-
-static void draw_octets(uint8_t *octets, size_t len)
-{
-    for (size_t i = 0; i < len; i++)
-        octets[i] = (uint8_t)draw();
-}
 
 static void fail(const char *what, uint8_t code, size_t len)
 {
@@ -178,7 +160,7 @@ int main(int argc, char **argv)
 {
     unsigned long units = argc > 1 ? strtoul(argv[1], NULL, 10) : 2000;
     static const size_t great[] = {SIZE_MAX, SIZE_MAX - 1, SIZE_MAX / 2, SIZE_MAX / 2 + 1, SIZE_MAX / 4, 1, 0};
-    seed = drawn = argc > 2 ? strtoull(argv[2], NULL, 10) : 1;
+    seed = state = argc > 2 ? strtoull(argv[2], NULL, 10) : 1;
     for (unsigned code = 0; code < 256; code++)
         for (size_t k = 0; k < sizeof great / sizeof great[0]; k++, compared++)
             for (size_t less = 0; less < 100 && less <= great[k]; less++)
