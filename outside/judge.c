@@ -359,18 +359,24 @@ uint8_t judge_encode(uint8_t code, const uint8_t *info, size_t info_len, uint8_t
     return 0;
 }
 
+/* What is refused of a word in and a word out before a bit is read: the code, then the lengths. */
+static uint8_t refused(uint8_t code, size_t len, size_t out_len)
+{
+    if (!offered(code))
+        return 1;
+    const struct code *c = code_of(code);
+    if (len != c->word_octets)
+        return 2;
+    return out_len != c->word_octets ? 3 : 0;
+}
+
 struct judge_checked judge_check(uint8_t code, const uint8_t *word, size_t len)
 {
     struct judge_checked answer = {0};
-    if (!offered(code)) {
-        answer.number = 1;
+    answer.number = refused(code, len, len);
+    if (answer.number != 0)
         return answer;
-    }
     const struct code *c = code_of(code);
-    if (len != c->word_octets) {
-        answer.number = 2;
-        return answer;
-    }
     unsigned char x[MOST_BITS], broken[MOST_CHECKS];
     lift(c, word, c->bits, x);
     answer.broken = check_all(c, x, broken);
@@ -382,15 +388,10 @@ struct judge_checked judge_check(uint8_t code, const uint8_t *word, size_t len)
 struct judge_answered judge_quick(uint8_t code, const uint8_t *word, size_t len)
 {
     struct judge_answered answer = {0};
-    if (!offered(code)) {
-        answer.number = 1;
+    answer.number = refused(code, len, len);
+    if (answer.number != 0)
         return answer;
-    }
     const struct code *c = code_of(code);
-    if (len != c->word_octets) {
-        answer.number = 2;
-        return answer;
-    }
     unsigned char x[MOST_BITS];
     lift(c, word, c->bits, x);
     for (unsigned check = 0; check < c->checks; check++) {
@@ -425,17 +426,6 @@ struct judge_opened judge_open(uint8_t code, const uint8_t *word, size_t len)
     answer.number = count > 0 ? 9 : after ? 14 : !parity_is_the_encoders(c, x) ? 15 : 0;
     answer.octets = answer.number == 0 ? c->info_octets : 0;
     return answer;
-}
-
-/* What is refused of a word in and a word out before a bit is read: the code, then the lengths. */
-static uint8_t refused(uint8_t code, size_t len, size_t out_len)
-{
-    if (!offered(code))
-        return 1;
-    const struct code *c = code_of(code);
-    if (len != c->word_octets)
-        return 2;
-    return out_len != c->word_octets ? 3 : 0;
 }
 
 /* The run, from x to the word at its end: 0 where that is quiet, 5 or 6; the flips made, and the broken checks left. */
@@ -502,15 +492,10 @@ struct judge_listed judge_list(uint8_t code, const uint8_t *word, size_t len, ui
                                size_t places)
 {
     struct judge_listed answer = {0};
-    if (!offered(code)) {
-        answer.number = 1;
+    answer.number = refused(code, len, len);
+    if (answer.number != 0)
         return answer;
-    }
     const struct code *c = code_of(code);
-    if (len != c->word_octets) {
-        answer.number = 2;
-        return answer;
-    }
     unsigned char received[MOST_BITS], x[MOST_BITS], broken[MOST_CHECKS];
     struct judge_fliprecord list[MOST_CHECKS];
     lift(c, word, c->bits, received);
