@@ -4,7 +4,7 @@
 # repeats a campaign. `make bench` counts the instructions of each call. `make alist` writes the parity matrices of codes 1
 # to 4 in target/alist, in the format that other programs read. `make install PREFIX=.. DESTDIR=..` installs header, Rust
 # module, libraries, pkg-config file and programs, building what is missing; `make uninstall` removes just those.
-.PHONY: run test lib shared compare bench alist install uninstall
+.PHONY: run test lib shared compare bench alist peers install uninstall
 N ?= 20000
 SAMPLE ?= samples/code5.bin
 ARCHIVE = target/staticlib/libpandoricchia.a
@@ -50,6 +50,9 @@ bench: lib
 
 alist: target/bin/charts
 	outside/alist
+
+peers: lib target/bin/charts
+	outside/peers
 
 # What install finds missing.
 $(ARCHIVE):
