@@ -9,6 +9,7 @@
 #include "draws.h"
 #include "pandoricchia.h"
 
+#include <stdbool.h>
 #include <stdio.h>
 #include <stdlib.h>
 #include <string.h>
@@ -62,6 +63,7 @@ int main(int argc, char **argv)
         make(code, (unsigned)atoi(argv[3]), (size_t)atoi(argv[4]));
         return 0;
     }
+    bool checking = strcmp(call, "check") == 0, encoding = strcmp(call, "encode") == 0;
     size_t count = (size_t)atoi(argv[3]), turns = (size_t)atoi(argv[4]), well = 0;
     size_t info_octets = pandoricchia_information_octets(code), word_octets = pandoricchia_word_octets(code);
     if (count == 0 || count > MOST)
@@ -74,16 +76,16 @@ int main(int argc, char **argv)
     double start = nanoseconds();
     for (size_t t = 0; t < turns; t++)
         for (size_t w = 0; w < count; w++)
-            if (call[1] == 'h')
+            if (checking)
                 words[w].checked = pandoricchia_check(code, words[w].word, word_octets);
-            else if (call[0] == 'e')
+            else if (encoding)
                 pandoricchia_encode(code, words[w].information, info_octets, words[w].out, word_octets);
             else
                 pandoricchia_correct(code, words[w].spoiled, word_octets, 65535, words[w].out, word_octets);
     double each = (nanoseconds() - start) / (double)(turns * count);
 
     for (size_t w = 0; w < count; w++)
-        if (call[1] == 'h')
+        if (checking)
             well += words[w].checked.broken == 0 && pandoricchia_check(code, words[w].spoiled, word_octets).broken != 0;
         else
             well += memcmp(words[w].out, words[w].word, word_octets) == 0;

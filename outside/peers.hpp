@@ -1,9 +1,12 @@
-/* What the programs over IT++ and GNU Radio share: outside/peers.c's words, and its calls, asked of a peer.
+/* What the programs over IT++ and GNU Radio share: outside/peers.c's calls on outside/peers.c's words, asked of a peer.
  *
  *     PROGRAM CALL ALIST WRONG WORDS TURNS < FILE
  *
  * A peer is made from the alist file, whether it is to encode, and how sure a received bit is: log((1 - p) / p), where p is the
- * share of wrong bits. It has its own types for bits and for soft bits; what is converted to them is not timed. */
+ * share of wrong bits. It has types of its own for bits and for soft bits; turning words into them is not timed. */
+#ifndef PEERS_HPP
+#define PEERS_HPP
+
 #include <cmath>
 #include <cstdint>
 #include <cstdio>
@@ -36,7 +39,7 @@ inline double nanoseconds()
     return 1e9 * now.tv_sec + now.tv_nsec;
 }
 
-/* What the call gives for each of the inputs, the last time; prints nothing, but counts the time into each. */
+/* What the call gives for each of the inputs; each becomes the nanoseconds of one call. */
 template <class Input, class Call>
 auto timed(const std::vector<Input> &inputs, size_t turns, double &each, Call call)
 {
@@ -93,3 +96,5 @@ int ask(int argc, char **argv)
     std::printf("%zu %.0f\n", well, each);
     return 0;
 }
+
+#endif
