@@ -2,8 +2,9 @@
 # is the gate. `make lib` writes the archive and the shared library in target/staticlib. `make compare N=..` compares the
 # library with the judge on N inputs of each call under each telecommand code, and N / 10 of each near-Earth one; SEED=..
 # repeats a campaign. `make bench` counts the instructions of each call. `make alist` writes the parity matrices of codes 1
-# to 4 in target/alist, in the format that other programs read. `make install PREFIX=.. DESTDIR=..` installs header, Rust
-# module, libraries, pkg-config file and programs, building what is missing; `make uninstall` removes just those.
+# to 4 in target/alist, in a format that other programs read; `make peers` asks such programs about the library's words.
+# `make install PREFIX=.. DESTDIR=..` installs header, Rust module, libraries, pkg-config file and programs, building what
+# is missing; `make uninstall` removes just those.
 .PHONY: run test lib shared compare bench alist peers install uninstall
 N ?= 20000
 SAMPLE ?= samples/code5.bin
