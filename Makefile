@@ -1,9 +1,11 @@
 # `make run` proves and builds the bench program and runs it on a sample (SAMPLE=.. for another recording). `make test`
 # is the gate. `make lib` writes the archive and the shared library in target/staticlib. `make compare N=..` compares the
 # library with the judge on N inputs of each call under each telecommand code, and N / 10 of each near-Earth one; SEED=..
-# repeats a campaign. `make bench` counts the instructions of each call. `make install PREFIX=.. DESTDIR=..` installs
-# header, Rust module, libraries, pkg-config file and programs, building what is missing; `make uninstall` removes just those.
-.PHONY: run test lib shared compare bench install uninstall
+# repeats a campaign. `make bench` counts the instructions of each call. `make alist` writes the parity matrices of codes 1
+# to 4 in target/alist, in a format that other programs read; `make peers` asks such programs about the library's words.
+# `make install PREFIX=.. DESTDIR=..` installs header, Rust module, libraries, pkg-config file and programs, building what
+# is missing; `make uninstall` removes just those.
+.PHONY: run test lib shared compare bench alist peers install uninstall
 N ?= 20000
 SAMPLE ?= samples/code5.bin
 ARCHIVE = target/staticlib/libpandoricchia.a
@@ -46,6 +48,12 @@ compare: lib
 
 bench: lib
 	outside/bench
+
+alist: target/bin/charts
+	outside/alist
+
+peers: lib target/bin/charts
+	outside/peers
 
 # What install finds missing.
 $(ARCHIVE):
