@@ -1,3 +1,2 @@
-pub mod Keeping
-pub mod Gathering
-pub mod Outcomes
+pub mod Lending
+pub mod Writing
