@@ -4,7 +4,7 @@ use mathlib.Core.Bool.{true, false, not}
 use mathlib.Core.List.{List, [], _∷_, _++_, map}
 use Prim.Native.Nat.{ℕ, zero, suc, _+_, _-_, _*_, _/_, _≤_, _<_}
 use native.Mathlib.Omega.{arith}
-use lib.Dec.{T, eqb}
+use lib.Dec.{T, leb}
 use lib.IntN.{ℤ, pos}
 use lib.ListN.{length, getD, take, drop, set, length-map}
 use borrow.Author.Tests.{leb-true, leb-false}
@@ -31,8 +31,10 @@ use Rattle.offer.specs.Offers.{offerOf, Known}
 use Rattle.offer.proofs.Offers.{is-offered}
 use Rattle.codes.specs.Ends.{EndsAt}
 use Rattle.codes.proofs.Admitted.{word-long}
+use Rattle.tables.specs.Flat.{Lends}
+use Rattle.measured.specs.Measured.{Measured}
 use Rattle.runs.specs.Turns.{Going, RunsTo}
-use Rattle.runs.proofs.Turning.{ends-quiet, ends-stuck, ends-limit, goes-on}
+use Rattle.runs.proofs.Turning.{going-start, ends-quiet, ends-stuck, ends-limit, goes-on}
 use Rattle.lists.specs.declared.FlipRecord.{FlipRecord}
 use Rattle.lists.specs.declared.Listed.{Listed}
 use Rattle.lists.specs.declared.Listing.{Listing}
@@ -124,6 +126,49 @@ module _ (n : ℕ) (off : offered n ≡ true) (o : Offer) (is : o ≡ offerOf n)
       let near = near-asked n (is-offered n off) (sym (ap (λ z. z .asked) is) ∙ asked) in
       let h = run-half (chooses n (is-offered n off)) (λ k l. (2, near-degree n near k l)) limit x in
       omega (arith, h)
+
+-- ---- the start
+
+module _ (n : ℕ) (off : offered n ≡ true) (word : List ℕ) (o : Offer) (is : o ≡ offerOf n) (long : length word ≡ o .word) (limit room : ℕ)
+    where
+  -- a table that is too short
+  pub short-lists : leb (length (runOf n word limit .flips)) room ≡ false → (table : List Entry) → length table ≡ room
+      → refusedList table 10 ≡ listAnswer n word limit table
+  short-lists short table fits =
+      sym (list-taken n word limit table (is-offered n off) (word-long n is off long)
+      ∙ list-short (code n) (wordOf n word) (runOf n word limit) table (omega (arith, fits, leb-false (length (runOf n word limit .flips)) room short)))
+
+  -- a run that is begun
+  pub starts : (t y s : List ℕ) (sh : Shape) → Measured n word t (wbit y) (wbit s) sh → sh ≡ o .shape → length y ≡ 130 → length s ≡ 16
+      → (first low : ℕ) → first ≡ broken (code n) (wbit y) → low ≡ lowest (code n) (wbit y)
+      → leb (length (runOf n word limit .flips)) room ≡ true → (l : Listing) → l .offer ≡ o → l .limit ≡ limit → l .answer .first ≡ first
+      → l .answer .lowest ≡ low → l .record .left ≡ first → Stands n word limit room l 0 t y s
+  starts t y s sh m shape ly ls first low f lo some l offers lim at-first at-low left = record {
+    measures = record {
+      offers = off;
+      is = offers ∙ is;
+      long = long ∙ sym (ap (λ z. z .word) offers);
+      under = lim;
+      first = at-first ∙ f ∙ ap (broken (code n)) (m .bits);
+      lowest = at-low ∙ lo ∙ ap (lowest (code n)) (m .bits);
+    };
+    y-long = ly;
+    s-long = ls;
+    lends = subst (Lends n t) same (m .lends);
+    left = left ∙ f;
+    going = subst (λ z. Going (byExcess (code n)) (code n) z limit (wordOf n word) 0 (wbit y) (wbit s)) same
+        (subst (λ x. Going (byExcess (code n)) (code n) sh limit x 0 (wbit y) (wbit s)) (m .bits)
+        (going-start (byExcess (code n)) (code n) sh limit (wbit y) (wbit s) (m .held)));
+    list = ap (λ x. entries (code n) x (run (byExcess (code n)) limit x .flips)) (sym (m .bits))
+        ∙ ap (λ k. entries (code n) (wbit y) (run (byExcess (code n)) k (wbit y) .flips)) none;
+    serves = leb-true _ _ some;
+  }
+    where
+      same : sh ≡ l .offer .shape
+      same = shape ∙ sym (ap (λ z. z .shape) offers)
+
+      none : limit ≡ limit - 0
+      none = omega arith
 
 -- ---- the run's end
 
@@ -261,7 +306,7 @@ module _ (n : ℕ) (word : List ℕ) (limit room : ℕ) (l : Listing) (flips : �
       };
       y-long = ly;
       s-long = ls;
-      lends = subst (λ z. Rattle.tables.specs.Flat.Lends n t (z .shape)) (sym off) (st .lends);
+      lends = subst (λ z. Lends n t (z .shape)) (sym off) (st .lends);
       left = ap (λ z. z .left) rec ∙ lf ∙ ap (broken (code n)) (sym here);
       going = subst (λ z. Going (byExcess (code n)) (code n) (z .shape) limit (wordOf n word) (l′ .place + 1) (wbit y′) (wbit s′)) (sym off)
           (subst (λ z. Going (byExcess (code n)) (code n) (l .offer .shape) limit (wordOf n word) (z + 1) (wbit y′) (wbit s′)) (sym at)
