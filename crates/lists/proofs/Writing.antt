@@ -130,45 +130,45 @@ module _ (n : ℕ) (off : offered n ≡ true) (o : Offer) (is : o ≡ offerOf n)
 -- ---- the start
 
 module _ (n : ℕ) (off : offered n ≡ true) (word : List ℕ) (o : Offer) (is : o ≡ offerOf n) (long : length word ≡ o .word) (limit room : ℕ)
-    where
-  -- a table that is too short
-  pub short-lists : leb (length (runOf n word limit .flips)) room ≡ false → (table : List Entry) → length table ≡ room
-      → refusedList table 10 ≡ listAnswer n word limit table
-  short-lists short table fits =
-      sym (list-taken n word limit table (is-offered n off) (word-long n is off long)
-      ∙ list-short (code n) (wordOf n word) (runOf n word limit) table (omega (arith, fits, leb-false (length (runOf n word limit .flips)) room short)))
+  where
+    -- a table that is too short
+    pub short-lists : leb (length (runOf n word limit .flips)) room ≡ false → (table : List Entry) → length table ≡ room
+        → refusedList table 10 ≡ listAnswer n word limit table
+    short-lists short table fits =
+        sym (list-taken n word limit table (is-offered n off) (word-long n is off long)
+        ∙ list-short (code n) (wordOf n word) (runOf n word limit) table (omega (arith, fits, leb-false (length (runOf n word limit .flips)) room short)))
 
-  -- a run that is begun
-  pub starts : (t y s : List ℕ) (sh : Shape) → Measured n word t (wbit y) (wbit s) sh → sh ≡ o .shape → length y ≡ 130 → length s ≡ 16
-      → (first low : ℕ) → first ≡ broken (code n) (wbit y) → low ≡ lowest (code n) (wbit y)
-      → leb (length (runOf n word limit .flips)) room ≡ true → (l : Listing) → l .offer ≡ o → l .limit ≡ limit → l .answer .first ≡ first
-      → l .answer .lowest ≡ low → l .record .left ≡ first → Stands n word limit room l 0 t y s
-  starts t y s sh m shape ly ls first low f lo some l offers lim at-first at-low left = record {
-    measures = record {
-      offers = off;
-      is = offers ∙ is;
-      long = long ∙ sym (ap (λ z. z .word) offers);
-      under = lim;
-      first = at-first ∙ f ∙ ap (broken (code n)) (m .bits);
-      lowest = at-low ∙ lo ∙ ap (lowest (code n)) (m .bits);
-    };
-    y-long = ly;
-    s-long = ls;
-    lends = subst (Lends n t) same (m .lends);
-    left = left ∙ f;
-    going = subst (λ z. Going (byExcess (code n)) (code n) z limit (wordOf n word) 0 (wbit y) (wbit s)) same
-        (subst (λ x. Going (byExcess (code n)) (code n) sh limit x 0 (wbit y) (wbit s)) (m .bits)
-        (going-start (byExcess (code n)) (code n) sh limit (wbit y) (wbit s) (m .held)));
-    list = ap (λ x. entries (code n) x (run (byExcess (code n)) limit x .flips)) (sym (m .bits))
-        ∙ ap (λ k. entries (code n) (wbit y) (run (byExcess (code n)) k (wbit y) .flips)) none;
-    serves = leb-true _ _ some;
-  }
-    where
-      same : sh ≡ l .offer .shape
-      same = shape ∙ sym (ap (λ z. z .shape) offers)
+    -- a run that is begun
+    pub starts : (t y s : List ℕ) (sh : Shape) → Measured n word t (wbit y) (wbit s) sh → sh ≡ o .shape → length y ≡ 130 → length s ≡ 16
+        → (first low : ℕ) → first ≡ broken (code n) (wbit y) → low ≡ lowest (code n) (wbit y)
+        → leb (length (runOf n word limit .flips)) room ≡ true → (l : Listing) → l .offer ≡ o → l .limit ≡ limit → l .answer .first ≡ first
+        → l .answer .lowest ≡ low → l .record .left ≡ first → Stands n word limit room l 0 t y s
+    starts t y s sh m shape ly ls first low f lo some l offers lim at-first at-low left = record {
+      measures = record {
+        offers = off;
+        is = offers ∙ is;
+        long = long ∙ sym (ap (λ z. z .word) offers);
+        under = lim;
+        first = at-first ∙ f ∙ ap (broken (code n)) (m .bits);
+        lowest = at-low ∙ lo ∙ ap (lowest (code n)) (m .bits);
+      };
+      y-long = ly;
+      s-long = ls;
+      lends = subst (Lends n t) same (m .lends);
+      left = left ∙ f;
+      going = subst (λ z. Going (byExcess (code n)) (code n) z limit (wordOf n word) 0 (wbit y) (wbit s)) same
+          (subst (λ x. Going (byExcess (code n)) (code n) sh limit x 0 (wbit y) (wbit s)) (m .bits)
+          (going-start (byExcess (code n)) (code n) sh limit (wbit y) (wbit s) (m .held)));
+      list = ap (λ x. entries (code n) x (run (byExcess (code n)) limit x .flips)) (sym (m .bits))
+          ∙ ap (λ k. entries (code n) (wbit y) (run (byExcess (code n)) k (wbit y) .flips)) none;
+      serves = leb-true _ _ some;
+    }
+      where
+        same : sh ≡ l .offer .shape
+        same = shape ∙ sym (ap (λ z. z .shape) offers)
 
-      none : limit ≡ limit - 0
-      none = omega arith
+        none : limit ≡ limit - 0
+        none = omega arith
 
 -- ---- the run's end
 
@@ -224,125 +224,125 @@ module _ (n : ℕ) (word : List ℕ) (limit : ℕ) (l : Listing) (flips : ℕ) (
 -- ---- a turn
 
 module _ (n : ℕ) (word : List ℕ) (limit room : ℕ) (l : Listing) (flips : ℕ) (t y s : List ℕ) (st : Stands n word limit room l flips t y s)
-    where
-  abbrev r : Run
-  r = runOf n word limit
+  where
+    abbrev r : Run
+    r = runOf n word limit
 
-  unlike-five : (number : ℕ) → (number ≡ 5 → ⊥) → number ≡ r .number → reason (code n) r ≡ record { bit = 0; excess = pos 0 }
-  unlike-five number d e = reason-none (code n) r (λ z. d (e ∙ z))
+    unlike-five : (number : ℕ) → (number ≡ 5 → ⊥) → number ≡ r .number → reason (code n) r ≡ record { bit = 0; excess = pos 0 }
+    unlike-five number d e = reason-none (code n) r (λ z. d (e ∙ z))
 
-  ends-as : (number why : ℕ) (ex : ℤ)
-      → RunsTo (byExcess (code n)) (code n) (l .offer .shape) limit (wordOf n word) (record { number = number; flips = flips }) (wbit y)
-      (wbit s) → reason (code n) r ≡ record { bit = why; excess = ex } → Ends n word limit l flips (wbit y) number why ex
-  ends-as number why ex to reasoned = record {
-    measures = st .measures;
-    number-is = to .number;
-    flips-are = to .flips;
-    word-is = to .word;
-    left = st .left;
-    why = reasoned;
-  }
+    ends-as : (number why : ℕ) (ex : ℤ)
+        → RunsTo (byExcess (code n)) (code n) (l .offer .shape) limit (wordOf n word) (record { number = number; flips = flips }) (wbit y)
+        (wbit s) → reason (code n) r ≡ record { bit = why; excess = ex } → Ends n word limit l flips (wbit y) number why ex
+    ends-as number why ex to reasoned = record {
+      measures = st .measures;
+      number-is = to .number;
+      flips-are = to .flips;
+      word-is = to .word;
+      left = st .left;
+      why = reasoned;
+    }
 
-  pub ends-by-quiet : byExcess (code n) (wbit y) ≡ quiet → Ends n word limit l flips (wbit y) 0 0 (pos 0)
-  ends-by-quiet e =
-      let to = ends-quiet (byExcess (code n)) (code n) _ limit (wordOf n word) flips (wbit y) (wbit s) (st .going) e in
-      ends-as 0 0 (pos 0) to (unlike-five 0 (λ z. omega arith) (to .number))
+    pub ends-by-quiet : byExcess (code n) (wbit y) ≡ quiet → Ends n word limit l flips (wbit y) 0 0 (pos 0)
+    ends-by-quiet e =
+        let to = ends-quiet (byExcess (code n)) (code n) _ limit (wordOf n word) flips (wbit y) (wbit s) (st .going) e in
+        ends-as 0 0 (pos 0) to (unlike-five 0 (λ z. omega arith) (to .number))
 
-  pub ends-by-stuck : (k : ℕ) (ex ex′ : ℤ) → ex′ ≡ ex → byExcess (code n) (wbit y) ≡ stuck k ex
-      → Ends n word limit l flips (wbit y) 5 k ex′
-  ends-by-stuck k ex ex′ same e =
-      let to = ends-stuck (byExcess (code n)) (code n) _ limit (wordOf n word) flips (wbit y) (wbit s) (st .going) k ex e in
-      ends-as 5 k ex′ to (reason-stuck (code n) r (sym (to .number)) k ex (ap (byExcess (code n)) (sym (to .word)) ∙ e)
-      ∙ ap (λ z. record { bit = k; excess = z }) (sym same))
+    pub ends-by-stuck : (k : ℕ) (ex ex′ : ℤ) → ex′ ≡ ex → byExcess (code n) (wbit y) ≡ stuck k ex
+        → Ends n word limit l flips (wbit y) 5 k ex′
+    ends-by-stuck k ex ex′ same e =
+        let to = ends-stuck (byExcess (code n)) (code n) _ limit (wordOf n word) flips (wbit y) (wbit s) (st .going) k ex e in
+        ends-as 5 k ex′ to (reason-stuck (code n) r (sym (to .number)) k ex (ap (byExcess (code n)) (sym (to .word)) ∙ e)
+        ∙ ap (λ z. record { bit = k; excess = z }) (sym same))
 
-  pub ends-by-limit : (k : ℕ) (ex : ℤ) → byExcess (code n) (wbit y) ≡ flip k ex → limit ≤ flips
-      → Ends n word limit l flips (wbit y) 6 0 (pos 0)
-  ends-by-limit k ex e h =
-      let to = ends-limit (byExcess (code n)) (code n) _ limit (wordOf n word) flips (wbit y) (wbit s) (st .going) k ex e h in
-      ends-as 6 0 (pos 0) to (unlike-five 6 (λ z. omega arith) (to .number))
+    pub ends-by-limit : (k : ℕ) (ex : ℤ) → byExcess (code n) (wbit y) ≡ flip k ex → limit ≤ flips
+        → Ends n word limit l flips (wbit y) 6 0 (pos 0)
+    ends-by-limit k ex e h =
+        let to = ends-limit (byExcess (code n)) (code n) _ limit (wordOf n word) flips (wbit y) (wbit s) (st .going) k ex e h in
+        ends-as 6 0 (pos 0) to (unlike-five 6 (λ z. omega arith) (to .number))
 
-  -- the answer of a list that has ended
-  pub ended-lists : (number why : ℕ) (ex : ℤ) → Ends n word limit l flips (wbit y) number why ex → (l′ : Listing) (t′ y′ s′ : List ℕ)
-      → l′ .goes ≡ false → l′ .place ≡ flips → ((table : List Entry) → listedAs (l′ .answer) table ≡ endsWith n word limit table)
-      → Lists n word limit room l′ t′ y′ s′
-  ended-lists number why ex e l′ t′ y′ s′ off at is = record {
-    goes = λ on. never (sym on ∙ off);
-    record-is = λ on. never (sym on ∙ off);
-    ends = λ _ table long.
-        is (soFar (listOf n word limit) (l′ .place) table)
-        ∙ ap (endsWith n word limit) (entered table)
-        ∙ sym (list-fits (code n) (wordOf n word) r table (omega (arith, long, st .serves)))
-        ∙ sym (list-taken n word limit table (is-offered n (m .offers)) (word-long n (m .is) (m .offers) (m .long)));
-  }
-    where
-      m : Measures n word limit l
-      m = st .measures
+    -- the answer of a list that has ended
+    pub ended-lists : (number why : ℕ) (ex : ℤ) → Ends n word limit l flips (wbit y) number why ex → (l′ : Listing) (t′ y′ s′ : List ℕ)
+        → l′ .goes ≡ false → l′ .place ≡ flips → ((table : List Entry) → listedAs (l′ .answer) table ≡ endsWith n word limit table)
+        → Lists n word limit room l′ t′ y′ s′
+    ended-lists number why ex e l′ t′ y′ s′ off at is = record {
+      goes = λ on. never (sym on ∙ off);
+      record-is = λ on. never (sym on ∙ off);
+      ends = λ _ table long.
+          is (soFar (listOf n word limit) (l′ .place) table)
+          ∙ ap (endsWith n word limit) (entered table)
+          ∙ sym (list-fits (code n) (wordOf n word) r table (omega (arith, long, st .serves)))
+          ∙ sym (list-taken n word limit table (is-offered n (m .offers)) (word-long n (m .is) (m .offers) (m .long)));
+    }
+      where
+        m : Measures n word limit l
+        m = st .measures
 
-      never : {P : Type 0} → true ≡ false → P
-      never z = absurd (subst T z tt)
+        never : {P : Type 0} → true ≡ false → P
+        never z = absurd (subst T z tt)
 
-      entered : (table : List Entry) → soFar (listOf n word limit) (l′ .place) table ≡ enteredIn table (listOf n word limit)
-      entered table =
-          let z : l′ .place ≡ length (listOf n word limit)
+        entered : (table : List Entry) → soFar (listOf n word limit) (l′ .place) table ≡ enteredIn table (listOf n word limit)
+        entered table =
+            let z : l′ .place ≡ length (listOf n word limit)
             = at ∙ e .flips-are ∙ sym (list-long (code n) (wordOf n word) (r .flips)) in
-          ap₂ (λ a k. a ++ drop k table) (whole (l′ .place) (listOf n word limit) z) z
+            ap₂ (λ a k. a ++ drop k table) (whole (l′ .place) (listOf n word limit) z) z
 
-  -- one flip more
-  pub went-lists : (k : ℕ) (ex ex′ : ℤ) → ex′ ≡ ex → byExcess (code n) (wbit y) ≡ flip k ex → flips < limit → (left : ℕ) (y′ s′ : List ℕ)
-      → length y′ ≡ 130 → length s′ ≡ 16 → wbit y′ ≡ flipped (wbit y) k → wbit s′ ≡ laid (code n) (l .offer .shape) (flipped (wbit y) k)
-      → left ≡ broken (code n) (flipped (wbit y) k) → (l′ : Listing) → l′ .goes ≡ true → l′ .place ≡ flips
-      → l′ .record ≡ record { bit = k; excess = ex′; left = left } → l′ .answer ≡ l .answer → l′ .limit ≡ l .limit
-      → l′ .offer ≡ l .offer → Lists n word limit room l′ t y′ s′
-  unfolding entries
-  went-lists k ex ex′ same e h left y′ s′ ly ls here held lf l′ on at rec ans lim off = record {
-    goes = λ _. record {
-      measures = record {
-        offers = m .offers;
-        is = off ∙ m .is;
-        long = m .long ∙ sym (ap (λ z. z .word) off);
-        under = lim ∙ m .under;
-        first = ap (λ z. z .first) ans ∙ m .first;
-        lowest = ap (λ z. z .lowest) ans ∙ m .lowest;
+    -- one flip more
+    pub went-lists : (k : ℕ) (ex ex′ : ℤ) → ex′ ≡ ex → byExcess (code n) (wbit y) ≡ flip k ex → flips < limit → (left : ℕ) (y′ s′ : List ℕ)
+        → length y′ ≡ 130 → length s′ ≡ 16 → wbit y′ ≡ flipped (wbit y) k → wbit s′ ≡ laid (code n) (l .offer .shape) (flipped (wbit y) k)
+        → left ≡ broken (code n) (flipped (wbit y) k) → (l′ : Listing) → l′ .goes ≡ true → l′ .place ≡ flips
+        → l′ .record ≡ record { bit = k; excess = ex′; left = left } → l′ .answer ≡ l .answer → l′ .limit ≡ l .limit
+        → l′ .offer ≡ l .offer → Lists n word limit room l′ t y′ s′
+    unfolding entries
+    went-lists k ex ex′ same e h left y′ s′ ly ls here held lf l′ on at rec ans lim off = record {
+      goes = λ _. record {
+        measures = record {
+          offers = m .offers;
+          is = off ∙ m .is;
+          long = m .long ∙ sym (ap (λ z. z .word) off);
+          under = lim ∙ m .under;
+          first = ap (λ z. z .first) ans ∙ m .first;
+          lowest = ap (λ z. z .lowest) ans ∙ m .lowest;
+        };
+        y-long = ly;
+        s-long = ls;
+        lends = subst (λ z. Lends n t (z .shape)) (sym off) (st .lends);
+        left = ap (λ z. z .left) rec ∙ lf ∙ ap (broken (code n)) (sym here);
+        going = subst (λ z. Going (byExcess (code n)) (code n) (z .shape) limit (wordOf n word) (l′ .place + 1) (wbit y′) (wbit s′)) (sym off)
+            (subst (λ z. Going (byExcess (code n)) (code n) (l .offer .shape) limit (wordOf n word) (z + 1) (wbit y′) (wbit s′)) (sym at)
+            (goes-on (byExcess (code n)) (code n) _ limit (wordOf n word) flips (wbit y) (wbit s) (st .going) k ex e h (wbit y′) (wbit s′)
+            here held));
+        list = subst (λ z. listOf n word limit ≡ take (z + 1) (listOf n word limit) ++ rest (z + 1)) (sym at) (split (asEntry (l′ .record)) .1);
+        serves = st .serves;
       };
-      y-long = ly;
-      s-long = ls;
-      lends = subst (λ z. Lends n t (z .shape)) (sym off) (st .lends);
-      left = ap (λ z. z .left) rec ∙ lf ∙ ap (broken (code n)) (sym here);
-      going = subst (λ z. Going (byExcess (code n)) (code n) (z .shape) limit (wordOf n word) (l′ .place + 1) (wbit y′) (wbit s′)) (sym off)
-          (subst (λ z. Going (byExcess (code n)) (code n) (l .offer .shape) limit (wordOf n word) (z + 1) (wbit y′) (wbit s′)) (sym at)
-          (goes-on (byExcess (code n)) (code n) _ limit (wordOf n word) flips (wbit y) (wbit s) (st .going) k ex e h (wbit y′) (wbit s′)
-          here held));
-      list = subst (λ z. listOf n word limit ≡ take (z + 1) (listOf n word limit) ++ rest (z + 1)) (sym at) (split (asEntry (l′ .record)) .1);
-      serves = st .serves;
-    };
-    record-is = λ _ d. ap (λ z. getD (listOf n word limit) z d) at ∙ split d .0
-        ∙ ap₂ (λ v z. record { bit = k; excess = v; left = z }) (sym same) (sym lf) ∙ sym (ap asEntry rec);
-    ends = λ off. absurd (subst T (sym on ∙ off) tt);
-  }
-    where
-      m : Measures n word limit l
-      m = st .measures
+      record-is = λ _ d. ap (λ z. getD (listOf n word limit) z d) at ∙ split d .0
+          ∙ ap₂ (λ v z. record { bit = k; excess = v; left = z }) (sym same) (sym lf) ∙ sym (ap asEntry rec);
+      ends = λ off. absurd (subst T (sym on ∙ off) tt);
+    }
+      where
+        m : Measures n word limit l
+        m = st .measures
 
-      rest : ℕ → List Entry
-      rest i = entries (code n) (wbit y′) (run (byExcess (code n)) (limit - i) (wbit y′) .flips)
+        rest : ℕ → List Entry
+        rest i = entries (code n) (wbit y′) (run (byExcess (code n)) (limit - i) (wbit y′) .flips)
 
-      first : Entry
-      first = record { bit = k; excess = ex; left = broken (code n) (flipped (wbit y) k) }
+        first : Entry
+        first = record { bit = k; excess = ex; left = broken (code n) (flipped (wbit y) k) }
 
-      less : limit - flips ≡ suc (limit - (flips + 1))
-      less = omega arith
+        less : limit - flips ≡ suc (limit - (flips + 1))
+        less = omega arith
 
-      goes-so : listOf n word limit ≡ take flips (listOf n word limit) ++ (first ∷ rest (flips + 1))
-      goes-so =
-          st .list
-          ∙ ap (λ z. take flips (listOf n word limit) ++ entries (code n) (wbit y) (z .flips))
-          (ap (λ i. run (byExcess (code n)) i (wbit y)) less ∙ run-flip (byExcess (code n)) (limit - (flips + 1)) (wbit y) k ex e)
-          ∙ ap (λ w. take flips (listOf n word limit) ++
-          (first ∷ entries (code n) w (run (byExcess (code n)) (limit - (flips + 1)) w .flips))) (sym here)
+        goes-so : listOf n word limit ≡ take flips (listOf n word limit) ++ (first ∷ rest (flips + 1))
+        goes-so =
+            st .list
+            ∙ ap (λ z. take flips (listOf n word limit) ++ entries (code n) (wbit y) (z .flips))
+            (ap (λ i. run (byExcess (code n)) i (wbit y)) less ∙ run-flip (byExcess (code n)) (limit - (flips + 1)) (wbit y) k ex e)
+            ∙ ap (λ w. take flips (listOf n word limit) ++
+            (first ∷ entries (code n) w (run (byExcess (code n)) (limit - (flips + 1)) w .flips))) (sym here)
 
-      split : (d : Entry) → (getD (listOf n word limit) flips d ≡ first)
-          × (listOf n word limit ≡ take (flips + 1) (listOf n word limit) ++ rest (flips + 1))
-      split d =
-          let w = goes-with flips (listOf n word limit) (rest (flips + 1)) first d goes-so in
-          let z : suc flips ≡ flips + 1 = omega arith in
-          (w .0, w .1 ∙ ap (λ i. take i (listOf n word limit) ++ rest (flips + 1)) z)
+        split : (d : Entry) → (getD (listOf n word limit) flips d ≡ first)
+            × (listOf n word limit ≡ take (flips + 1) (listOf n word limit) ++ rest (flips + 1))
+        split d =
+            let w = goes-with flips (listOf n word limit) (rest (flips + 1)) first d goes-so in
+            let z : suc flips ≡ flips + 1 = omega arith in
+            (w .0, w .1 ∙ ap (λ i. take i (listOf n word limit) ++ rest (flips + 1)) z)

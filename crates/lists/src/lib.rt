@@ -78,7 +78,15 @@ fn refused(number: u8) -> Listing
 }
 
 // The list at the end of the run: its number, and bit and excess of the reason.
-fn ended(l: Listing, flips: usize, word: &[u8], y: &[u64], number: u8, bit: u32, excess: i8) -> Listing
+fn ended(
+    l: Listing,
+    flips: usize,
+    word: &[u8],
+    y: &[u64],
+    number: u8,
+    bit: u32,
+    excess: i8,
+) -> Listing
     requires { ⌜ Known (l .offer) × (length (now word) ≡ l .offer .word) × (length (now y) ≡ 130) × (flips ≤ 65535) ⌝ }
     ensures { λ r. ⌜ (r .goes ≡ false) × (r .place ≡ flips) × ((n limit : ℕ) → Ends n (now (word .entry)) limit l flips (wbit (now (y .entry))) number bit excess → (table : List Entry) → listedAs (r .answer) table ≡ endsWith n (now (word .entry)) limit table) ⌝ }
 {
@@ -128,7 +136,14 @@ fn went(l: Listing, flips: usize, bit: u32, excess: i8, left: u32) -> Listing
 }
 
 // What comes after so many flips: one more, or the end.
-fn turn(l: Listing, flips: usize, word: &[u8], t: &mut [u16], y: &mut [u64], s: &mut [u64]) -> Listing
+fn turn(
+    l: Listing,
+    flips: usize,
+    word: &[u8],
+    t: &mut [u16],
+    y: &mut [u64],
+    s: &mut [u64],
+) -> Listing
     requires { ⌜ Standing (now word) l flips (now t) (now y) (now s) ⌝ }
     ensures { λ r. ⌜ (r .place ≡ flips) × ((n limit room : ℕ) → Stands n (now (word .entry)) limit room l flips (now (t .entry)) (now (y .entry)) (now (s .entry)) → Lists n (now (word .entry)) limit room r (now (t .exit)) (now (y .exit)) (now (s .exit))) ⌝ }
 {
@@ -195,7 +210,15 @@ fn serves(o: Offer, word: &[u8], limit: u16, first: u32, room: usize) -> bool
 }
 
 // The list of the run on a word of the right length.
-fn begin_taken(o: Offer, word: &[u8], limit: u16, room: usize, t: &mut [u16], y: &mut [u64], s: &mut [u64]) -> Listing
+fn begin_taken(
+    o: Offer,
+    word: &[u8],
+    limit: u16,
+    room: usize,
+    t: &mut [u16],
+    y: &mut [u64],
+    s: &mut [u64],
+) -> Listing
     requires { ⌜ Known o × (length (now word) ≡ o .word) × Blank (now t) (now y) (now s) ⌝ }
     ensures { λ r. ⌜ (r .place ≡ 0) × ((n : ℕ) → offered n ≡ true → o ≡ offerOf n → Lists n (now (word .entry)) limit room r (now (t .exit)) (now (y .exit)) (now (s .exit))) ⌝ }
 {
@@ -217,7 +240,7 @@ fn begin_taken(o: Offer, word: &[u8], limit: u16, room: usize, t: &mut [u16], y:
             number: 0,
             flips: 0,
             first: first,
-            last: 0,
+            last: first,
             unlike: 0,
             lowest: lowest,
             bit: 0,
@@ -230,7 +253,15 @@ fn begin_taken(o: Offer, word: &[u8], limit: u16, room: usize, t: &mut [u16], y:
 }
 
 // The list of the run on a received word, under a limit, for a table of so many places; t, y and s are handed over as zeros.
-pub fn begin(code: u8, word: &[u8], limit: u16, room: usize, t: &mut [u16], y: &mut [u64], s: &mut [u64]) -> Listing
+pub fn begin(
+    code: u8,
+    word: &[u8],
+    limit: u16,
+    room: usize,
+    t: &mut [u16],
+    y: &mut [u64],
+    s: &mut [u64],
+) -> Listing
     requires { ⌜ Blank (now t) (now y) (now s) ⌝ }
     ensures { λ r. ⌜ (r .place ≡ 0) × Lists code (now (word .entry)) limit room r (now (t .exit)) (now (y .exit)) (now (s .exit)) ⌝ }
 {

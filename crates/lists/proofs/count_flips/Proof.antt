@@ -55,9 +55,9 @@ returns : tie.Need-returns
 returns c =
     let a = c .before .before .before .before .before .before .before .before .before .before .before .before .before .before .before in
     λ n off is.
-        let e = c .before .before .before .before .before .before .before .before .before .before .measure .ensures .1 n off is in
-        c .before .before .before .run .ensures (code n) (e .lends .lent) (sym (unsent-is n is off)) (e .held) .flips
-        ∙ ap (λ x. length (run (byExcess (code n)) (a .args .limit) x .flips)) (e .bits)
+    let e = c .before .before .before .before .before .before .before .before .before .before .measure .ensures .1 n off is in
+    c .before .before .before .run .ensures (code n) (e .lends .lent) (sym (unsent-is n is off)) (e .held) .flips
+    ∙ ap (λ x. length (run (byExcess (code n)) (a .args .limit) x .flips)) (e .bits)
 
 pub count-flips-spec : {M : Type 1} → statement M
 count-flips-spec =

@@ -292,13 +292,16 @@ module _ {M : Type 1} (𝓤 : URA M) (H : Heap 𝓤) (A : Atoms 𝓤) (W : Given
     nextArg l a q = (l, (w, (t-ref q a, (y-ref q a, (s-ref q a, tt)))))
 
     abbrev to-next : Listing → Three → Loan → Next 𝓤 H A mem run .Ghost
-    to-next l a q = ((
-      lives q,
-      (qw, (fullShare, (fullShare, (fullShare, tt)))),
+    to-next l a q = (
+      (
+        lives q,
+        (qw, (fullShare, (fullShare, (fullShare, tt)))),
+        tt,
+        nextArg l a q,
+        (mach l ∷ [], (wv ∷ [], (sliceVal (l₅, 0) 64 ∷ [], (sliceVal (l₆, 0) 130 ∷ [], (sliceVal (l₇, 0) 16 ∷ [], tt))))),
+      ),
       tt,
-      nextArg l a q,
-      (mach l ∷ [], (wv ∷ [], (sliceVal (l₅, 0) 64 ∷ [], (sliceVal (l₆, 0) 130 ∷ [], (sliceVal (l₇, 0) 16 ∷ [], tt))))),
-    ), tt)
+    )
 
     goes-next : (l : Listing) (a : Three) (q : Loan) → Is L.the-row l (mach l ∷ []) → Goes (now w) l (a .0) (a .1 .0) (a .1 .1)
         → ent 𝓤 (sep 𝓤 (A .lft κw qw) (sep 𝓤 (sem 𝓤 H A word-own) (sep 𝓤 (mean 𝓤 H A (tokens q)) (mean 𝓤 H A (slices q a)))))
@@ -330,7 +333,7 @@ module _ {M : Type 1} (𝓤 : URA M) (H : Heap 𝓤) (A : Atoms 𝓤) (W : Given
         ‵ (lasts next′.ended (lives q) (nextArg l a q) ws) ⊛ raw (fact 𝓤 (Told l a (r, (ws .1 .1 .0, (ws .1 .1 .1 .0, ws .1 .1 .1 .1 .0)))))))
         (id⊢ 𝓤 _) $ pick ! (λ ws. split ! $ move ! (1 ∷ []) $
         heard ! (Told l a (r, (ws .1 .1 .0, (ws .1 .1 .1 .0, ws .1 .1 .1 .1 .0)))) (λ told.
-        fsplit ! $ drop ! $ fsplit ! $ drop ! $ -- the three last lists, then the tokens
+        fsplit ! $ drop ! $ fsplit ! $ drop ! $  -- the three last lists, then the tokens
         fsplit ! $ fsplit ! $ move ! (2 ∷ []) $ fsplit ! $ fsplit ! $ move ! (2 ∷ []) $ fsplit ! $ fsplit ! $
         move ! (3 ∷ 0 ∷ []) $ fjoin ! $ move ! (4 ∷ 0 ∷ []) $ fjoin ! $ move ! (5 ∷ []) $ split ! $ split ! $ move ! (1 ∷ []) $ split ! $
         move ! (1 ∷ []) $ split ! $ move ! (1 ∷ []) $ split ! $ keep ! (4 ∷ 5 ∷ 3 ∷ 2 ∷ 0 ∷ 6 ∷ []) $
@@ -344,22 +347,25 @@ module _ {M : Type 1} (𝓤 : URA M) (H : Heap 𝓤) (A : Atoms 𝓤) (W : Given
     beginArg q = (cd, (w, (lim, (length ys, (t-ref q zeros, (y-ref q zeros, (s-ref q zeros, tt)))))))
 
     abbrev to-begin : Loan → Begin 𝓤 H A mem run .Ghost
-    to-begin q = ((
-      lives q,
-      (qw, (fullShare, (fullShare, (fullShare, tt)))),
-      tt,
-      beginArg q,
+    to-begin q = (
       (
-        vint w8 cd ∷ [],
+        lives q,
+        (qw, (fullShare, (fullShare, (fullShare, tt)))),
+        tt,
+        beginArg q,
         (
-          wv ∷ [],
+          vint w8 cd ∷ [],
           (
-            vint w16 lim ∷ [],
-            (vint w64 (length ys) ∷ [], (sliceVal (l₅, 0) 64 ∷ [], (sliceVal (l₆, 0) 130 ∷ [], (sliceVal (l₇, 0) 16 ∷ [], tt)))),
+            wv ∷ [],
+            (
+              vint w16 lim ∷ [],
+              (vint w64 (length ys) ∷ [], (sliceVal (l₅, 0) 64 ∷ [], (sliceVal (l₆, 0) 130 ∷ [], (sliceVal (l₇, 0) 16 ∷ [], tt)))),
+            ),
           ),
         ),
       ),
-    ), tt)
+      tt,
+    )
 
     goes-begin : cd < 2 ^ 8 → lim < 2 ^ 16 → length ys < 2 ^ 64 → (q : Loan)
         → ent 𝓤 (sep 𝓤 (A .lft κw qw) (sep 𝓤 (sem 𝓤 H A word-own) (sep 𝓤 (mean 𝓤 H A (tokens q)) (mean 𝓤 H A (slices q zeros)))))
@@ -384,7 +390,7 @@ module _ {M : Type 1} (𝓤 : URA M) (H : Heap 𝓤) (A : Atoms 𝓤) (W : Given
         ⊛ raw (fact 𝓤 (Began (r, (ws .1 .1 .1 .1 .0, (ws .1 .1 .1 .1 .1 .0, ws .1 .1 .1 .1 .1 .1 .0)))))))
         (id⊢ 𝓤 _) $ pick ! (λ ws. split ! $ move ! (1 ∷ []) $
         heard ! (Began (r, (ws .1 .1 .1 .1 .0, (ws .1 .1 .1 .1 .1 .0, ws .1 .1 .1 .1 .1 .1 .0)))) (λ told.
-        fsplit ! $ drop ! $ fsplit ! $ drop ! $ fsplit ! $ drop ! $ fsplit ! $ drop ! $ -- the three last lists, then the tokens
+        fsplit ! $ drop ! $ fsplit ! $ drop ! $ fsplit ! $ drop ! $ fsplit ! $ drop ! $  -- the three last lists, then the tokens
         fsplit ! $ fsplit ! $ move ! (2 ∷ []) $ fsplit ! $ fsplit ! $ move ! (2 ∷ []) $ fsplit ! $ fsplit ! $
         move ! (3 ∷ 0 ∷ []) $ fjoin ! $ move ! (4 ∷ 0 ∷ []) $ fjoin ! $ move ! (5 ∷ []) $ split ! $ split ! $ move ! (1 ∷ []) $ split ! $
         move ! (1 ∷ []) $ split ! $ move ! (1 ∷ []) $ split ! $ keep ! (4 ∷ 5 ∷ 3 ∷ 2 ∷ 0 ∷ 6 ∷ []) $
@@ -405,48 +411,48 @@ module _ {M : Type 1} (𝓤 : URA M) (H : Heap 𝓤) (A : Atoms 𝓤) (W : Given
 
     abbrev En : Env 𝓤 H
     En = (S′.mir, l₀) ∷
-          (tyInt w8, l₁) ∷
-          (words, l₂) ∷
-          (tyInt w16, l₃) ∷
-          (records, l₄) ∷
-          (tyArray (tyInt w16) 64, l₅) ∷
-          (tyArray (tyInt w64) 130, l₆) ∷
-          (tyArray (tyInt w64) 16, l₇) ∷
-          (L′.mir, l₈) ∷
-          (wide, l₉) ∷
-          (ref16 64, l₁₀) ∷
-          (slice16, l₁₁) ∷
-          (ref64 130, l₁₂) ∷
-          (slice64, l₁₃) ∷
-          (ref64 16, l₁₄) ∷
-          (slice64, l₁₅) ∷
-          (tyBool, l₁₆) ∷
-          (wide, l₁₇) ∷
-          (tyPtr, l₁₈) ∷
-          (ref16 64, l₁₉) ∷
-          (slice16, l₂₀) ∷
-          (ref64 130, l₂₁) ∷
-          (slice64, l₂₂) ∷
-          (ref64 16, l₂₃) ∷
-          (slice64, l₂₄) ∷ []
+        (tyInt w8, l₁) ∷
+        (words, l₂) ∷
+        (tyInt w16, l₃) ∷
+        (records, l₄) ∷
+        (tyArray (tyInt w16) 64, l₅) ∷
+        (tyArray (tyInt w64) 130, l₆) ∷
+        (tyArray (tyInt w64) 16, l₇) ∷
+        (L′.mir, l₈) ∷
+        (wide, l₉) ∷
+        (ref16 64, l₁₀) ∷
+        (slice16, l₁₁) ∷
+        (ref64 130, l₁₂) ∷
+        (slice64, l₁₃) ∷
+        (ref64 16, l₁₄) ∷
+        (slice64, l₁₅) ∷
+        (tyBool, l₁₆) ∷
+        (wide, l₁₇) ∷
+        (tyPtr, l₁₈) ∷
+        (ref16 64, l₁₉) ∷
+        (slice16, l₂₀) ∷
+        (ref64 130, l₂₁) ∷
+        (slice64, l₂₂) ∷
+        (ref64 16, l₂₃) ∷
+        (slice64, l₂₄) ∷ []
 
     -- what no turn touches
     abbrev Frame : List (Item 𝓤)
     Frame = ‵ (froom tyBool l₁₆ 0) ∷ ‵ (froom wide l₁₇ 0) ∷ ‵ (froom tyPtr l₁₈ 0) ∷ ‵ (froom (ref16 64) l₁₉ 0)
-          ∷ ‵ (froom slice16 l₂₀ 0) ∷ ‵ (froom (ref64 130) l₂₁ 0) ∷ ‵ (froom slice64 l₂₂ 0) ∷ ‵ (froom (ref64 16) l₂₃ 0)
-          ∷ ‵ (froom slice64 l₂₄ 0) ∷ ‵ (fat fullShare records l₄ 0 (sliceVal (b, o) (length ys)))
-          ∷ ‵ (fat fullShare words l₂ 0 wv) ∷ ‵ (froom S′.mir l₀ 0) ∷ ‵ (fat fullShare (tyInt w8) l₁ 0 (vint w8 cd))
-          ∷ ‵ (fat fullShare (tyInt w16) l₃ 0 (vint w16 lim)) ∷ ‵ (fat fullShare wide l₉ 0 (vint w64 (length ys)))
-          ∷ ‵ (fat fullShare (ref16 64) l₁₀ 0 (vptr l₅ 0)) ∷ ‵ (fat fullShare slice16 l₁₁ 0 (sliceVal (l₅, 0) 64))
-          ∷ ‵ (fat fullShare (ref64 130) l₁₂ 0 (vptr l₆ 0)) ∷ ‵ (fat fullShare slice64 l₁₃ 0 (sliceVal (l₆, 0) 130))
-          ∷ ‵ (fat fullShare (ref64 16) l₁₄ 0 (vptr l₇ 0)) ∷ ‵ (fat fullShare slice64 l₁₅ 0 (sliceVal (l₇, 0) 16))
-          ∷ ‵ (fdies S′.mir l₀) ∷ ‵ (fdies (tyInt w8) l₁) ∷ ‵ (fdies words l₂) ∷ ‵ (fdies (tyInt w16) l₃) ∷ ‵ (fdies records l₄)
-          ∷ ‵ (fdies (tyArray (tyInt w16) 64) l₅) ∷ ‵ (fdies (tyArray (tyInt w64) 130) l₆)
-          ∷ ‵ (fdies (tyArray (tyInt w64) 16) l₇) ∷ ‵ (fdies L′.mir l₈) ∷ ‵ (fdies wide l₉) ∷ ‵ (fdies (ref16 64) l₁₀)
-          ∷ ‵ (fdies slice16 l₁₁) ∷ ‵ (fdies (ref64 130) l₁₂) ∷ ‵ (fdies slice64 l₁₃) ∷ ‵ (fdies (ref64 16) l₁₄)
-          ∷ ‵ (fdies slice64 l₁₅) ∷ ‵ (fdies tyBool l₁₆) ∷ ‵ (fdies wide l₁₇) ∷ ‵ (fdies tyPtr l₁₈) ∷ ‵ (fdies (ref16 64) l₁₉)
-          ∷ ‵ (fdies slice16 l₂₀) ∷ ‵ (fdies (ref64 130) l₂₁) ∷ ‵ (fdies slice64 l₂₂) ∷ ‵ (fdies (ref64 16) l₂₃)
-          ∷ ‵ (fdies slice64 l₂₄) ∷ []
+        ∷ ‵ (froom slice16 l₂₀ 0) ∷ ‵ (froom (ref64 130) l₂₁ 0) ∷ ‵ (froom slice64 l₂₂ 0) ∷ ‵ (froom (ref64 16) l₂₃ 0)
+        ∷ ‵ (froom slice64 l₂₄ 0) ∷ ‵ (fat fullShare records l₄ 0 (sliceVal (b, o) (length ys)))
+        ∷ ‵ (fat fullShare words l₂ 0 wv) ∷ ‵ (froom S′.mir l₀ 0) ∷ ‵ (fat fullShare (tyInt w8) l₁ 0 (vint w8 cd))
+        ∷ ‵ (fat fullShare (tyInt w16) l₃ 0 (vint w16 lim)) ∷ ‵ (fat fullShare wide l₉ 0 (vint w64 (length ys)))
+        ∷ ‵ (fat fullShare (ref16 64) l₁₀ 0 (vptr l₅ 0)) ∷ ‵ (fat fullShare slice16 l₁₁ 0 (sliceVal (l₅, 0) 64))
+        ∷ ‵ (fat fullShare (ref64 130) l₁₂ 0 (vptr l₆ 0)) ∷ ‵ (fat fullShare slice64 l₁₃ 0 (sliceVal (l₆, 0) 130))
+        ∷ ‵ (fat fullShare (ref64 16) l₁₄ 0 (vptr l₇ 0)) ∷ ‵ (fat fullShare slice64 l₁₅ 0 (sliceVal (l₇, 0) 16))
+        ∷ ‵ (fdies S′.mir l₀) ∷ ‵ (fdies (tyInt w8) l₁) ∷ ‵ (fdies words l₂) ∷ ‵ (fdies (tyInt w16) l₃) ∷ ‵ (fdies records l₄)
+        ∷ ‵ (fdies (tyArray (tyInt w16) 64) l₅) ∷ ‵ (fdies (tyArray (tyInt w64) 130) l₆)
+        ∷ ‵ (fdies (tyArray (tyInt w64) 16) l₇) ∷ ‵ (fdies L′.mir l₈) ∷ ‵ (fdies wide l₉) ∷ ‵ (fdies (ref16 64) l₁₀)
+        ∷ ‵ (fdies slice16 l₁₁) ∷ ‵ (fdies (ref64 130) l₁₂) ∷ ‵ (fdies slice64 l₁₃) ∷ ‵ (fdies (ref64 16) l₁₄)
+        ∷ ‵ (fdies slice64 l₁₅) ∷ ‵ (fdies tyBool l₁₆) ∷ ‵ (fdies wide l₁₇) ∷ ‵ (fdies tyPtr l₁₈) ∷ ‵ (fdies (ref16 64) l₁₉)
+        ∷ ‵ (fdies slice16 l₂₀) ∷ ‵ (fdies (ref64 130) l₂₁) ∷ ‵ (fdies slice64 l₂₂) ∷ ‵ (fdies (ref64 16) l₂₃)
+        ∷ ‵ (fdies slice64 l₂₄) ∷ []
 
     -- the list, the arrays, and the table
     abbrev At : Listing → Three → List FlipRecord → List (Item 𝓤)
@@ -571,20 +577,20 @@ module _ {M : Type 1} (𝓤 : URA M) (H : Heap 𝓤) (A : Atoms 𝓤) (W : Given
         let ga : Is S.the-row (l .answer) (machS (l .answer) ∷ []) = LL.owed L.the-type L′.the-laws l _ (good .0) .1 .1 .1 .0 in
         qed W (At l a zs) ∵ exec ! C Λ En m.turn-1 (anyQ (afterTurn 𝓤 H X Left)) $
         assigns ! (of-opd ! (load ! (from ! (fld ! refl (stop !))) (look-in ! 0 (sub ! 0 refl (whole !))))) (from ! (stop !)) (init ! 7 refl (tt, tt)) $
-          rewrite ! 7 (λ (t : Bool). ‵ (fat fullShare tyBool l₁₆ 0 (vbool t))) off refl $
-          leaves-loop ! (load ! (from ! (stop !)) (look ! 7 refl)) $ exec ! C Λ En m.t-13 (atRet En Post) $
-          assigns ! (of-opd ! (load ! (from ! (fld ! refl (stop !))) (look-in ! 0 (sub ! 3 refl (whole !))))) (from ! (stop !))
-          (init ! 18 refl (LL.lawful S.the-type S′.the-laws 𝓤 H A W .typed (l .answer) _ ga .0)) $
-          returns ! (look ! 18 refl) $
-          forget ! 18 refl $ forget ! 19 refl $ forget ! 17 refl $ forget ! 20 refl $ forget ! 16 refl $ forget ! 0 refl $ forget ! 21 refl $ forget ! 22 refl $ forget ! 23 refl $ forget ! 24 refl $ forget ! 25 refl $ forget ! 26 refl $ forget ! 27 refl $ forget ! 7 refl $
-          move ! (1 ∷ []) $ fsplit ! $
-          use1 W (‵ (froom (tyArray (tyInt w16) 64) l₅ 0)) (part-room 𝓤 H A W (Array u16 64) (a .0) l₅ 0) $
-          move ! (1 ∷ []) $ fsplit ! $
-          use1 W (‵ (froom (tyArray (tyInt w64) 130) l₆ 0)) (part-room 𝓤 H A W (Array u64 130) (a .1 .0) l₆ 0) $
-          move ! (1 ∷ []) $ use1 W (‵ (froom (tyArray (tyInt w64) 16) l₇ 0)) (part-room 𝓤 H A W (Array u64 16) (a .1 .1) l₇ 0) $
-          move ! (20 ∷ 30 ∷ 21 ∷ 31 ∷ 19 ∷ 32 ∷ 22 ∷ 33 ∷ 18 ∷ 34 ∷ 2 ∷ 35 ∷ 1 ∷ 36 ∷ 0 ∷ 37 ∷ 3 ∷ 38 ∷ 23 ∷ 39 ∷ 24 ∷ 40 ∷ 25 ∷ 41 ∷ 26 ∷ 42 ∷ 27 ∷ 43 ∷ 28 ∷ 44 ∷ 29 ∷ 45 ∷ 9 ∷ 46 ∷ 10 ∷ 47 ∷ 11 ∷ 48 ∷ 12 ∷ 49 ∷ 13 ∷ 50 ∷ 14 ∷ 51 ∷ 15 ∷ 52 ∷ 16 ∷ 53 ∷ 17 ∷ 54 ∷ []) $
-          free1 ! $ free1 ! $ free1 ! $ free1 ! $ free1 ! $ free1 ! $ free1 ! $ free1 ! $ free1 ! $ free1 ! $ free1 ! $ free1 ! $ free1 ! $ free1 ! $ free1 ! $ free1 ! $ free1 ! $ free1 ! $ free1 ! $ free1 ! $ free1 ! $ free1 ! $ free1 ! $ free1 ! $ free1 ! $ free0 ! $
-          keep ! (0 ∷ 1 ∷ 2 ∷ 3 ∷ []) $ by ! (exits l a zs good off gn)
+        rewrite ! 7 (λ (t : Bool). ‵ (fat fullShare tyBool l₁₆ 0 (vbool t))) off refl $
+        leaves-loop ! (load ! (from ! (stop !)) (look ! 7 refl)) $ exec ! C Λ En m.t-13 (atRet En Post) $
+        assigns ! (of-opd ! (load ! (from ! (fld ! refl (stop !))) (look-in ! 0 (sub ! 3 refl (whole !))))) (from ! (stop !))
+        (init ! 18 refl (LL.lawful S.the-type S′.the-laws 𝓤 H A W .typed (l .answer) _ ga .0)) $
+        returns ! (look ! 18 refl) $
+        forget ! 18 refl $ forget ! 19 refl $ forget ! 17 refl $ forget ! 20 refl $ forget ! 16 refl $ forget ! 0 refl $ forget ! 21 refl $ forget ! 22 refl $ forget ! 23 refl $ forget ! 24 refl $ forget ! 25 refl $ forget ! 26 refl $ forget ! 27 refl $ forget ! 7 refl $
+        move ! (1 ∷ []) $ fsplit ! $
+        use1 W (‵ (froom (tyArray (tyInt w16) 64) l₅ 0)) (part-room 𝓤 H A W (Array u16 64) (a .0) l₅ 0) $
+        move ! (1 ∷ []) $ fsplit ! $
+        use1 W (‵ (froom (tyArray (tyInt w64) 130) l₆ 0)) (part-room 𝓤 H A W (Array u64 130) (a .1 .0) l₆ 0) $
+        move ! (1 ∷ []) $ use1 W (‵ (froom (tyArray (tyInt w64) 16) l₇ 0)) (part-room 𝓤 H A W (Array u64 16) (a .1 .1) l₇ 0) $
+        move ! (20 ∷ 30 ∷ 21 ∷ 31 ∷ 19 ∷ 32 ∷ 22 ∷ 33 ∷ 18 ∷ 34 ∷ 2 ∷ 35 ∷ 1 ∷ 36 ∷ 0 ∷ 37 ∷ 3 ∷ 38 ∷ 23 ∷ 39 ∷ 24 ∷ 40 ∷ 25 ∷ 41 ∷ 26 ∷ 42 ∷ 27 ∷ 43 ∷ 28 ∷ 44 ∷ 29 ∷ 45 ∷ 9 ∷ 46 ∷ 10 ∷ 47 ∷ 11 ∷ 48 ∷ 12 ∷ 49 ∷ 13 ∷ 50 ∷ 14 ∷ 51 ∷ 15 ∷ 52 ∷ 16 ∷ 53 ∷ 17 ∷ 54 ∷ []) $
+        free1 ! $ free1 ! $ free1 ! $ free1 ! $ free1 ! $ free1 ! $ free1 ! $ free1 ! $ free1 ! $ free1 ! $ free1 ! $ free1 ! $ free1 ! $ free1 ! $ free1 ! $ free1 ! $ free1 ! $ free1 ! $ free1 ! $ free1 ! $ free1 ! $ free1 ! $ free1 ! $ free1 ! $ free1 ! $ free0 ! $
+        keep ! (0 ∷ 1 ∷ 2 ∷ 3 ∷ []) $ by ! (exits l a zs good off gn)
 
     below : (t : ℕ) (σ : State) → Good (σ .0) (σ .1 .0) (σ .1 .1) → length ys - σ .0 .place < t
         → ent 𝓤 (⋆ 𝓤 H A (At (σ .0) (σ .1 .0) (σ .1 .1))) (Below t)
@@ -680,7 +686,7 @@ module _ {M : Type 1} (𝓤 : URA M) (H : Heap 𝓤) (A : Atoms 𝓤) (W : Given
           (lands (𝓣 .C) (𝓣 .Λ) Ev (place 8 []) v m.t-12 (atRet Ev Post))
       landed q v =
           use1 W (later (some (λ (g : Got). given (Began g) (‵ (flft κw qw) ⊛ (‵ (L.the-row .own (g .0) (v ∷ [])) ⊛ (tokens l₅ l₆ l₇ q ⊛ ‵ (fins l₅ l₆ l₇ q (g .1))))))))
-        (begin-got l₅ l₆ l₇ q v) $ await ! tt $ pick ! (λ g. learn ! (λ told. split ! $
+          (begin-got l₅ l₆ l₇ q v) $ await ! tt $ pick ! (λ g. learn ! (λ told. split ! $
           move ! (1 ∷ []) $ split ! $
           move ! (1 ∷ []) $ split ! $
           move ! (0 ∷ 4 ∷ 1 ∷ []) $ use3 W (later (‵ (arrays l₅ l₆ l₇ (g .1)))) (comes-back l₅ l₆ l₇ q (g .1)) $ await ! tt $
@@ -711,16 +717,16 @@ module _ {M : Type 1} (𝓤 : URA M) (H : Heap 𝓤) (A : Atoms 𝓤) (W : Given
           (runs (𝓣 .C) (𝓣 .Λ) Ev m.t-4 (atRet Ev Post))
       begins =
           assigns ! (of-opd ! (load ! (from ! (fld ! refl (stop !))) (look-in ! 40 (sub ! 1 refl (whole !))))) (from ! (stop !))
-        (init ! 33 refl (tt, record { fits = gn .0 })) $
+          (init ! 33 refl (tt, record { fits = gn .0 })) $
           assigns ! (addr ! (from ! (stop !))) (from ! (stop !)) (init ! 31 refl (tt, tt)) $
           assigns ! (agg ! (and-then ! (load ! (from ! (stop !)) (look ! 31 refl)) (and-then ! (lit ! tt) (no-more !)))) (from ! (stop !))
-        (init ! 29 refl (tt, (tt, (record { fits = lit< tt }, tt)))) $
+          (init ! 29 refl (tt, (tt, (record { fits = lit< tt }, tt)))) $
           assigns ! (addr ! (from ! (stop !))) (from ! (stop !)) (init ! 27 refl (tt, tt)) $
           assigns ! (agg ! (and-then ! (load ! (from ! (stop !)) (look ! 27 refl)) (and-then ! (lit ! tt) (no-more !)))) (from ! (stop !))
-        (init ! 25 refl (tt, (tt, (record { fits = lit< tt }, tt)))) $
+          (init ! 25 refl (tt, (tt, (record { fits = lit< tt }, tt)))) $
           assigns ! (addr ! (from ! (stop !))) (from ! (stop !)) (init ! 23 refl (tt, tt)) $
           assigns ! (agg ! (and-then ! (load ! (from ! (stop !)) (look ! 23 refl)) (and-then ! (lit ! tt) (no-more !)))) (from ! (stop !))
-        (init ! 21 refl (tt, (tt, (record { fits = lit< tt }, tt)))) $
+          (init ! 21 refl (tt, (tt, (record { fits = lit< tt }, tt)))) $
           move ! (1 ∷ 0 ∷ []) $ fjoin ! $
           move ! (1 ∷ 0 ∷ []) $ fjoin ! $
           move ! (49 ∷ []) $ fsplit ! $ drop ! $ fsplit ! $

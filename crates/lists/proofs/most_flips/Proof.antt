@@ -11,7 +11,7 @@ use Rattle.lists.proofs.most_flips.Tie as tie
 returns : tie.Need-returns
 returns c =
     λ n off is x first limit.
-        subst (λ k. length (run (byExcess (code n)) limit x .flips) ≤ k / 2) (sym first) (flips-half n off _ is x limit (c .if1 .taken))
+    subst (λ k. length (run (byExcess (code n)) limit x .flips) ≤ k / 2) (sym first) (flips-half n off _ is x limit (c .if1 .taken))
 
 returns-2 : tie.Need-returns-2
 returns-2 c =

@@ -16,7 +16,7 @@ returns : tie.Need-returns
 returns c =
     let a = c .before .before in
     λ n off is first.
-        sym (le-leb (length (runOf n (a .args .word .now) (a .args .limit) .flips)) (a .args .room) (omega (arith, c .if1 .taken, run-within (byExcess (code n)) (a .args .limit) (wordOf n (a .args .word .now)))))
+    sym (le-leb (length (runOf n (a .args .word .now) (a .args .limit) .flips)) (a .args .room) (omega (arith, c .if1 .taken, run-within (byExcess (code n)) (a .args .limit) (wordOf n (a .args .word .now)))))
 
 most-flips-requires : tie.Need-most-flips-requires
 most-flips-requires c κs = search needs
@@ -28,8 +28,12 @@ returns-2 : tie.Need-returns-2
 returns-2 c =
     let a = c .before .before .before .before in
     λ n off is first.
-        sym (le-leb (length (runOf n (a .args .word .now) (a .args .limit) .flips)) (a .args .room) (omega (arith, c .if2 .taken, c .before .most-flips .ensures n off is (wordOf n (a .args .word .now)) first
-        (a .args .limit))))
+    sym (le-leb (length (runOf n (a .args .word .now) (a .args .limit) .flips)) (a .args .room) (omega (
+      arith,
+      c .if2 .taken,
+      c .before .most-flips .ensures n off is (wordOf n (a .args .word .now)) first
+          (a .args .limit),
+    )))
 
 count-flips-requires : tie.Need-count-flips-requires
 count-flips-requires c κs = search needs

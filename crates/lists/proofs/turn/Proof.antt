@@ -88,7 +88,7 @@ returns c =
       r .ensures .1,
       λ n limit room st.
           let next = c .before .before .before .before .before .before .before .comes-next .ensures .1 (code n) (st .lends .lent) (sym (unsent-is n (st .measures .is) (st .measures .offers)))
-              _ (st .going .held) ∙ ap comesNext (c .before .before .before .before .before .next2 .given .1) in
+          _ (st .going .held) ∙ ap comesNext (c .before .before .before .before .before .next2 .given .1) in
           let ends = ends-by-limit n (a .args .word .now) limit room _ _ _ _ _ st _ _ next (omega (arith, c .before .before .if1 .taken, st .measures .under)) in
           ended-lists n (a .args .word .now) limit room _ _ _ _ _ st _ _ _ ends _ _ _ _ (r .ensures .0) (r .ensures .1)
           (r .ensures .2 n limit ends),
@@ -139,7 +139,7 @@ returns-2 c =
       r .ensures .1,
       λ n limit room st.
           let next = c .before .before .before .before .comes-next .ensures .1 (code n) (st .lends .lent) (sym (unsent-is n (st .measures .is) (st .measures .offers)))
-              _ (st .going .held) ∙ ap comesNext (c .before .before .enum-told .given .1) in
+          _ (st .going .held) ∙ ap comesNext (c .before .before .enum-told .given .1) in
           let ends = ends-by-quiet n (a .args .word .now) limit room _ _ _ _ _ st next in
           ended-lists n (a .args .word .now) limit room _ _ _ _ _ st _ _ _ ends _ _ _ _ (r .ensures .0) (r .ensures .1)
           (r .ensures .2 n limit ends),
@@ -164,7 +164,7 @@ returns-3 c =
       r .ensures .1,
       λ n limit room st.
           let next = c .before .before .before .before .before .comes-next .ensures .1 (code n) (st .lends .lent) (sym (unsent-is n (st .measures .is) (st .measures .offers)))
-              _ (st .going .held) ∙ ap comesNext (c .before .before .before .next .given .1) in
+          _ (st .going .held) ∙ ap comesNext (c .before .before .before .next .given .1) in
           let ends = ends-by-stuck n (a .args .word .now) limit room _ _ _ _ _ st _ ex _ (toZ-ofZ w8 ex fits) next in
           ended-lists n (a .args .word .now) limit room _ _ _ _ _ st _ _ _ ends _ _ _ _ (r .ensures .0) (r .ensures .1)
           (r .ensures .2 n limit ends),
@@ -190,7 +190,7 @@ returns-4 c =
       r .ensures .1,
       λ n limit room st.
           let next = c .before .before .before .before .before .before .before .before .before .before .before .before .before .before .before .before .comes-next .ensures .1 (code n) (st .lends .lent) (sym (unsent-is n (st .measures .is) (st .measures .offers)))
-              _ (st .going .held) ∙ ap comesNext (c .before .before .before .before .before .before .before .before .before .before .before .before .before .before .next2 .given .1) in
+          _ (st .going .held) ∙ ap comesNext (c .before .before .before .before .before .before .before .before .before .before .before .before .before .before .next2 .given .1) in
           let held = f .ensures .1 (code n) (st .lends .lent) _ (st .going .held) in
           let y-long = st .y-long in
           let s-long = st .s-long in
