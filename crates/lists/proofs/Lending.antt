@@ -71,6 +71,7 @@ module _ {M : Type 1} (𝓤 : URA M) (H : Heap 𝓤) (A : Atoms 𝓤) (W : Given
       owned ! R (Is R) makes x (v ∷ []) is $
       use1 W (‵ (Array R n .own (replicate n x) (arrayVal (replicate n v) ∷ []))) (array-repeat 𝓤 H A W R copy n x v) $
       peeks ! (Array R n) (Is (Array R n)) (shows 𝓤 H A (Array R n)) (replicate n x) (arrayVal (replicate n v) ∷ []) (λ all.
-      assigns ! (rep ! n opd) finds (init ! 1 refl (array-lawful 𝓤 H A W R lawful n .typed (replicate n x) (arrayVal (replicate n v) ∷ []) all .0)) $
+      assigns ! (rep ! n opd) finds (init ! 1 refl (array-lawful 𝓤 H A W R lawful n .typed (replicate n x) (arrayVal (replicate n v) ∷ [])
+      all .0)) $
       move ! (1 ∷ 0 ∷ []) $ use2 W (‵ (partAt (Array R n) fullShare (replicate n x) l 0))
       (part-in 𝓤 H A W (Array R n) refl fullShare (replicate n x) l 0 (arrayVal (replicate n v))) $ then)

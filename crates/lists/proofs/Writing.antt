@@ -92,7 +92,11 @@ module _ (n : ℕ) (word : List ℕ) (limit room : ℕ) (table : List Entry) (no
       map-set asEntry now (l .place) (l .record)
       ∙ ap₂ (λ z e. set z (l .place) e) so (sym (is .record-is on (asEntry (l .record))))
       ∙ one-more (l .place) (listOf n word limit) table (asEntry (l .record))
-      (omega (arith, list-long (code n) (wordOf n word) (runOf n word limit .flips), is .goes on .going .count)) (omega (arith, in-table, long))
+      (omega (arith, list-long (code n) (wordOf n word) (runOf n word limit .flips), is .goes on .going .count)) (omega (
+        arith,
+        in-table,
+        long,
+      ))
 
 -- a list that is refused: nothing is written
 pub refused-lists : (n : ℕ) (word : List ℕ) (limit room : ℕ) (l : Listing) (t y s : List ℕ) (number : ℕ) → l .goes ≡ false
@@ -136,7 +140,12 @@ module _ (n : ℕ) (off : offered n ≡ true) (word : List ℕ) (o : Offer) (is 
         → refusedList table 10 ≡ listAnswer n word limit table
     short-lists short table fits =
         sym (list-taken n word limit table (is-offered n off) (word-long n is off long)
-        ∙ list-short (code n) (wordOf n word) (runOf n word limit) table (omega (arith, fits, leb-false (length (runOf n word limit .flips)) room short)))
+        ∙ list-short (code n) (wordOf n word) (runOf n word limit) table (omega (
+          arith,
+          fits,
+          leb-false (length (runOf n word limit
+              .flips)) room short,
+        )))
 
     -- a run that is begun
     pub starts : (t y s : List ℕ) (sh : Shape) → Measured n word t (wbit y) (wbit s) sh → sh ≡ o .shape → length y ≡ 130 → length s ≡ 16
@@ -206,7 +215,8 @@ module _ (n : ℕ) (word : List ℕ) (limit : ℕ) (l : Listing) (flips : ℕ) (
     unsent = end-unsent;
   }
 
-  pub ended-is : (excess′ : ℤ) → excess′ ≡ excess → (judge unlike : ℕ) → judge ≡ judged (code n) (runOf n word limit) → unlike ≡ differing (code n) (wordOf n word) y
+  pub ended-is : (excess′ : ℤ) → excess′ ≡ excess → (judge unlike : ℕ) → judge ≡ judged (code n) (runOf n word limit) → unlike ≡ differing
+      (code n) (wordOf n word) y
       → (table : List Entry)
       → numbers judge flips (l .answer .first) (l .record .left) unlike (l .answer .lowest) why excess′ table ≡ endsWith n word limit table
   unfolding ranCorrect
@@ -308,11 +318,13 @@ module _ (n : ℕ) (word : List ℕ) (limit room : ℕ) (l : Listing) (flips : �
         s-long = ls;
         lends = subst (λ z. Lends n t (z .shape)) (sym off) (st .lends);
         left = ap (λ z. z .left) rec ∙ lf ∙ ap (broken (code n)) (sym here);
-        going = subst (λ z. Going (byExcess (code n)) (code n) (z .shape) limit (wordOf n word) (l′ .place + 1) (wbit y′) (wbit s′)) (sym off)
+        going = subst (λ z. Going (byExcess (code n)) (code n) (z .shape) limit (wordOf n word) (l′ .place + 1) (wbit y′) (wbit s′)) (sym
+            off)
             (subst (λ z. Going (byExcess (code n)) (code n) (l .offer .shape) limit (wordOf n word) (z + 1) (wbit y′) (wbit s′)) (sym at)
             (goes-on (byExcess (code n)) (code n) _ limit (wordOf n word) flips (wbit y) (wbit s) (st .going) k ex e h (wbit y′) (wbit s′)
             here held));
-        list = subst (λ z. listOf n word limit ≡ take (z + 1) (listOf n word limit) ++ rest (z + 1)) (sym at) (split (asEntry (l′ .record)) .1);
+        list = subst (λ z. listOf n word limit ≡ take (z + 1) (listOf n word limit) ++ rest (z + 1)) (sym at) (split (asEntry (l′
+            .record)) .1);
         serves = st .serves;
       };
       record-is = λ _ d. ap (λ z. getD (listOf n word limit) z d) at ∙ split d .0

@@ -68,7 +68,8 @@ pub record Stands (n : ℕ) (word : List ℕ) (limit room : ℕ) (l : Listing) (
   pub lends : Lends n t (l .offer .shape)
   pub left : l .record .left ≡ broken (code n) (wbit y)
   pub going : Going (byExcess (code n)) (code n) (l .offer .shape) limit (wordOf n word) flips (wbit y) (wbit s)
-  pub list : listOf n word limit ≡ take flips (listOf n word limit) ++ entries (code n) (wbit y) (run (byExcess (code n)) (limit - flips) (wbit y) .flips)
+  pub list : listOf n word limit ≡ take flips (listOf n word limit) ++ entries (code n) (wbit y) (run (byExcess (code n)) (limit - flips)
+      (wbit y) .flips)
   pub serves : length (runOf n word limit .flips) ≤ room
 
 -- The same of some code, limit and room.

@@ -50,10 +50,12 @@ same-length-3 c = search needs
 returns-2 : tie.Need-returns-2
 returns-2 c =
     let f = c .before .before .before .before .before .before .before .before .before .before .before in
-    let a = c .before .before .before .before .before .before .before .before .before .before .before .before .before .before .before .before .before in
+    let a = c .before .before .before .before .before .before .before .before .before .before .before .before .before .before .before
+    .before .before in
     let n = a .args .code in
     let is = f .before .of .ensures in
-    let t = taken n is (f .before .of .result .offered) (offered-by n is) (length (a .args .word .now)) (f .before .of .result .word) 0 0 (f .refusal .ensures) (c .before .before .before .before .before .before .before .before .before .before .if1 .left) in
+    let t = taken n is (f .before .of .result .offered) (offered-by n is) (length (a .args .word .now)) (f .before .of .result .word) 0 0
+    (f .refusal .ensures) (c .before .before .before .before .before .before .before .before .before .before .if1 .left) in
     let b = c .before .before .before .before .before .before .begin-taken .ensures in
     (b .0, b .1 n (t .offers) is)
 

@@ -18,7 +18,8 @@ broken-requires c κs = search needs
 lowest-requires : tie.Need-lowest-requires
 lowest-requires c κs =
     let m = c .before .before .before .before .before .before .before .before .before .measure .ensures in
-    let k = c .before .before .before .before .before .before .before .before .before .before .before .before .before .before .before .before .before .pre .0 in
+    let k = c .before .before .before .before .before .before .before .before .before .before .before .before .before .before .before
+    .before .before .pre .0 in
     let w = fitting (m .1 (k .number) (k .offers) (k .is) .lends .fit) in
     (search needs, w .0, w .1, w .2, w .3)
 
@@ -39,7 +40,8 @@ same-length-3 c = search needs
 
 returns : tie.Need-returns
 returns c =
-    let a = c .before .before .before .before .before .before .before .before .before .before .before .before .before .before .before .before .before .before .before .before .before in
+    let a = c .before .before .before .before .before .before .before .before .before .before .before .before .before .before .before
+    .before .before .before .before .before .before in
     let m = c .before .before .before .before .before .before .before .before .before .before .before .before .before .measure .ensures in
     let first = c .before .before .before .before .before .broken .ensures in
     let r = c .refused .ensures in (
@@ -54,16 +56,20 @@ returns c =
 
 turn-requires : tie.Need-turn-requires
 turn-requires c κs =
-    let a = c .before .before .before .before .before .before .before .before .before .before .before .before .before .before .before .before .before .before .before .before .before .before .before in
-    let m = c .before .before .before .before .before .before .before .before .before .before .before .before .before .before .before .measure .ensures in
+    let a = c .before .before .before .before .before .before .before .before .before .before .before .before .before .before .before
+    .before .before .before .before .before .before .before .before in
+    let m = c .before .before .before .before .before .before .before .before .before .before .before .before .before .before .before
+    .measure .ensures in
     let k = a .pre .0 in
     let n = k .number in
     let off = k .offers in
     let is = k .is in
     let e = m .1 n off is in
-    let broke = c .before .before .before .before .before .before .before .broken .ensures (code n) _ _ _ (e .lends .fit) (e .lends .lent) (e .held) in
+    let broke = c .before .before .before .before .before .before .before .broken .ensures (code n) _ _ _ (e .lends .fit) (e .lends .lent)
+    (e .held) in
     let low = c .before .before .before .before .before .lowest .ensures (code n) _ _ (e .lends .fit) (e .lends .lent) (e .held) in
-    let some = sym (c .before .before .before .before .serves .ensures n off is (broke ∙ ap (broken (code n)) (e .bits))) ∙ not-false _ (c .before .before .before .if1 .left) in
+    let some = sym (c .before .before .before .before .serves .ensures n off is (broke ∙ ap (broken (code n)) (e .bits))) ∙ not-false _ (c
+    .before .before .before .if1 .left) in
     record {
       number = n;
       limit = a .args .limit;
@@ -73,28 +79,39 @@ turn-requires c κs =
     }
 
 same-length-4 : tie.Need-same-length-4
-same-length-4 c = c .before .before .before .before .before .t2 .given ∙ c .before .before .before .before .before .before .before .before .before .before .before .before .before .before .before .before .before .before .before .before .before .t .given
+same-length-4 c = c .before .before .before .before .before .t2 .given ∙ c .before .before .before .before .before .before .before .before
+    .before .before .before .before .before .before .before .before .before .before .before .before .before .t .given
 
 same-length-5 : tie.Need-same-length-5
-same-length-5 c = c .before .before .before .y2 .given ∙ c .before .before .before .before .before .before .before .before .before .before .before .before .before .before .before .before .before .before .before .y .given
+same-length-5 c = c .before .before .before .y2 .given ∙ c .before .before .before .before .before .before .before .before .before .before
+    .before .before .before .before .before .before .before .before .before .y .given
 
 same-length-6 : tie.Need-same-length-6
 same-length-6 c = search needs
 
 returns-2 : tie.Need-returns-2
 returns-2 c =
-    let a = c .before .before .before .before .before .before .before .before .before .before .before .before .before .before .before .before .before .before .before .before .before .before .before .before .before .before .before .before .before .before in
-    let m = c .before .before .before .before .before .before .before .before .before .before .before .before .before .before .before .before .before .before .before .before .before .before .measure .ensures in
+    let a = c .before .before .before .before .before .before .before .before .before .before .before .before .before .before .before
+    .before .before .before .before .before .before .before .before .before .before .before .before .before .before .before in
+    let m = c .before .before .before .before .before .before .before .before .before .before .before .before .before .before .before
+    .before .before .before .before .before .before .before .measure .ensures in
     let t = c .before .before .before .before .before .before .turn .ensures in (
       t .0,
       λ n off is.
           let e = m .1 n off is in
-          let broke = c .before .before .before .before .before .before .before .before .before .before .before .before .before .before .broken .ensures (code n) _ _ _ (e .lends .fit) (e .lends .lent) (e .held) in
-          let low = c .before .before .before .before .before .before .before .before .before .before .before .before .lowest .ensures (code n) _ _ (e .lends .fit) (e .lends .lent) (e .held) in
-          let some = sym (c .before .before .before .before .before .before .before .before .before .before .before .serves .ensures n off is (broke ∙ ap (broken (code n)) (e .bits))) ∙ not-false _ (c .before .before .before .before .before .before .before .before .before .before .if1 .left) in
+          let broke = c .before .before .before .before .before .before .before .before .before .before .before .before .before .before
+          .broken .ensures (code n) _ _ _ (e .lends .fit) (e .lends .lent) (e .held) in
+          let low = c .before .before .before .before .before .before .before .before .before .before .before .before .lowest .ensures
+          (code n) _ _ (e .lends .fit) (e .lends .lent) (e .held) in
+          let some = sym (c .before .before .before .before .before .before .before .before .before .before .before .serves .ensures n off
+          is (broke ∙ ap (broken (code n)) (e .bits))) ∙ not-false _ (c .before .before .before .before .before .before .before .before
+          .before .before .if1 .left) in
           t .1 n (a .args .limit) (a .args .room)
           (starts n off (a .args .word .now) _ is (a .pre .1) (a .args .limit) (a .args .room) _ _ _ _ e (m .0)
-          (c .before .before .before .before .before .before .before .before .before .before .before .before .before .before .before .before .before .before .before .y .given ∙ a .pre .2 .1) (c .before .before .before .before .before .before .before .before .before .before .before .before .before .before .before .before .before .s .given ∙ a .pre .2 .2) _ _ broke low some _ refl refl refl refl refl),
+          (c .before .before .before .before .before .before .before .before .before .before .before .before .before .before .before
+          .before .before .before .before .y .given ∙ a .pre .2 .1) (c .before .before .before .before .before .before .before .before
+          .before .before .before .before .before .before .before .before .before .s .given ∙ a .pre .2 .2) _ _ broke low some _ refl refl
+          refl refl refl),
     )
 
 pub begin-taken-spec : {M : Type 1} → statement M

@@ -327,10 +327,21 @@ module _ {M : Type 1} (𝓤 : URA M) (H : Heap 𝓤) (A : Atoms 𝓤) (W : Given
         → ent 𝓤 (Next 𝓤 H A mem run .post (to-next l a q) v) (H .⇛ (Back q (Told l a) v))
     next-got l a q v =
         qed W (later (some (λ (r : Listing). (live q ⊛ ‵ (L.the-row .own r (v ∷ []))) ⊛ raw
-        (ensured 𝓤 H A next′.ended (next′.clauses 𝓤 H A mem run) (lives q) (nextArg l a q) tt r))) ∷ []) ∵ updating ! $ await ! tt $ pick ! (λ r.
+        (ensured 𝓤 H A next′.ended (next′.clauses 𝓤 H A mem run) (lives q) (nextArg l a q) tt r))) ∷ []) ∵ updating ! $ await ! tt $ pick
+        ! (λ r.
         split ! $ move ! (1 ∷ []) $
         use1 W (some (λ (ws : Unit {0} × (Unit {0} × (List ℕ × (List ℕ × (List ℕ × Unit {0}))))).
-        ‵ (lasts next′.ended (lives q) (nextArg l a q) ws) ⊛ raw (fact 𝓤 (Told l a (r, (ws .1 .1 .0, (ws .1 .1 .1 .0, ws .1 .1 .1 .1 .0)))))))
+        ‵ (lasts next′.ended (lives q) (nextArg l a q) ws) ⊛ raw (fact 𝓤 (Told l a (
+          r,
+          (
+            ws .1 .1 .0,
+            (
+              ws .1 .1 .1 .0,
+              ws .1 .1 .1 .1
+                  .0,
+            ),
+          ),
+        )))))
         (id⊢ 𝓤 _) $ pick ! (λ ws. split ! $ move ! (1 ∷ []) $
         heard ! (Told l a (r, (ws .1 .1 .0, (ws .1 .1 .1 .0, ws .1 .1 .1 .1 .0)))) (λ told.
         fsplit ! $ drop ! $ fsplit ! $ drop ! $  -- the three last lists, then the tokens
@@ -383,7 +394,8 @@ module _ {M : Type 1} (𝓤 : URA M) (H : Heap 𝓤) (A : Atoms 𝓤) (W : Given
     begin-got : (q : Loan) (v : Val) → ent 𝓤 (Begin 𝓤 H A mem run .post (to-begin q) v) (H .⇛ (Back q Began v))
     begin-got q v =
         qed W (later (some (λ (r : Listing). (live q ⊛ ‵ (L.the-row .own r (v ∷ []))) ⊛ raw
-        (ensured 𝓤 H A begin.ended (begin.clauses 𝓤 H A mem run) (lives q) (beginArg q) tt r))) ∷ []) ∵ updating ! $ await ! tt $ pick ! (λ r.
+        (ensured 𝓤 H A begin.ended (begin.clauses 𝓤 H A mem run) (lives q) (beginArg q) tt r))) ∷ []) ∵ updating ! $ await ! tt $ pick !
+        (λ r.
         split ! $ move ! (1 ∷ []) $
         use1 W (some (λ (ws : Unit {0} × (Unit {0} × (Unit {0} × (Unit {0} × (List ℕ × (List ℕ × (List ℕ × Unit {0}))))))).
         ‵ (lasts begin.ended (lives q) (beginArg q) ws)
@@ -465,7 +477,8 @@ module _ {M : Type 1} (𝓤 : URA M) (H : Heap 𝓤) (A : Atoms 𝓤) (W : Given
 
     -- the invariant, where t places are left
     abbrev Inv : ℕ → SProp 𝓤
-    Inv t = ex 𝓤 (λ (σ : State). guard 𝓤 (Good (σ .0) (σ .1 .0) (σ .1 .1) × (length ys - σ .0 .place ≡ t)) (⋆ 𝓤 H A (At (σ .0) (σ .1 .0) (σ .1 .1))))
+    Inv t = ex 𝓤 (λ (σ : State). guard 𝓤 (Good (σ .0) (σ .1 .0) (σ .1 .1) × (length ys - σ .0 .place ≡ t)) (⋆ 𝓤 H A (At (σ .0) (σ .1 .0)
+        (σ .1 .1))))
 
     abbrev Below : ℕ → SProp 𝓤
     Below t = ex 𝓤 (λ (t′ : ℕ). guard 𝓤 (t′ < t) (Inv t′))
@@ -516,16 +529,19 @@ module _ {M : Type 1} (𝓤 : URA M) (H : Heap 𝓤) (A : Atoms 𝓤) (W : Given
         ),
       )
 
-      more : (X : SProp 𝓤) → ((g : Got) → Told l a g → Is L.the-row (g .0) (mach (g .0) ∷ []) → ent 𝓤 (⋆ 𝓤 H A (At (g .0) (g .1) (put l zs))) X)
+      more : (X : SProp 𝓤) → ((g : Got) → Told l a g → Is L.the-row (g .0) (mach (g .0) ∷ []) → ent 𝓤 (⋆ 𝓤 H A (At (g .0) (g .1) (put l
+          zs))) X)
           → ent 𝓤 (⋆ 𝓤 H A (At l a zs)) (Wp 𝓤 H C Λ En m.turn-1 (afterTurn 𝓤 H X Left))
       unfolding afterTurn
       more X k =
           let typed = LL.lawful T.the-type T′.the-laws 𝓤 H A W .typed (l .record) _ ge .0 in
           qed W (At l a zs) ∵ exec ! C Λ En m.turn-1 (anyQ (afterTurn 𝓤 H X Left)) $
-          assigns ! (of-opd ! (load ! (from ! (fld ! refl (stop !))) (look-in ! 0 (sub ! 0 refl (whole !))))) (from ! (stop !)) (init ! 7 refl (tt, tt)) $
+          assigns ! (of-opd ! (load ! (from ! (fld ! refl (stop !))) (look-in ! 0 (sub ! 0 refl (whole !))))) (from ! (stop !)) (init ! 7
+          refl (tt, tt)) $
           rewrite ! 7 (λ (t : Bool). ‵ (fat fullShare tyBool l₁₆ 0 (vbool t))) on refl $
           stays ! (load ! (from ! (stop !)) (look ! 7 refl)) $
-          assigns ! (bin ! (load ! (from ! (fld ! refl (stop !))) (look-in ! 0 (sub ! 1 refl (whole !)))) (lit ! tt) scaled) (from ! (stop !))
+          assigns ! (bin ! (load ! (from ! (fld ! refl (stop !))) (look-in ! 0 (sub ! 1 refl (whole !)))) (lit ! tt) scaled) (from ! (stop
+          !))
           (init ! 8 refl (tt, scaled)) $
           assigns ! (bin ! (load ! (from ! (fld ! refl (stop !))) (look-in ! 16 (sub ! 0 refl (whole !))))
           (load ! (from ! (stop !)) (look ! 8 refl)) tt) (from ! (stop !)) (init ! 9 refl (tt, tt)) $
@@ -534,7 +550,8 @@ module _ {M : Type 1} (𝓤 : URA M) (H : Heap 𝓤) (A : Atoms 𝓤) (W : Given
           elem-out ! T.the-row (Is T.the-row) (shows 𝓤 H A T.the-row) (LL.vals T.the-type T′.the-laws) (LL.tells T.the-type T′.the-laws)
           fullShare zs (l .place) (l .record) b o inside (λ _.
           -- [table[place]; what it owns; the others; the open borrow; obs; auth; …]
-          assigns ! (of-opd ! (load ! (from ! (fld ! refl (stop !))) (look-in ! 6 (sub ! 2 refl (whole !))))) (from ! (hop ! (look ! 12 refl) (stop !)))
+          assigns ! (of-opd ! (load ! (from ! (fld ! refl (stop !))) (look-in ! 6 (sub ! 2 refl (whole !))))) (from ! (hop ! (look ! 12
+          refl) (stop !)))
           (store-raw ! 0 refl typed) $
           move ! (1 ∷ []) $ drop ! $ owned ! T.the-row (Is T.the-row) (LL.makes T.the-type T′.the-plain 𝓤 H A) (l .record) _ ge $
           move ! (1 ∷ 0 ∷ []) $
@@ -550,13 +567,15 @@ module _ {M : Type 1} (𝓤 : URA M) (H : Heap 𝓤) (A : Atoms 𝓤) (W : Given
           assigns ! (agg ! (and-then ! (load ! (from ! (stop !)) (look ! 14 refl)) (and-then ! (lit ! tt) (no-more !)))) (from ! (stop !))
           (init ! 15 refl (tt, (tt, (record { fits = lit< tt }, tt)))) $
           move ! (6 ∷ []) $ use1 W (‵ word-own ⊛ ‵ word-own) (shr-slice-copy 𝓤 H A W (named 0) κw u8 .twice w (wv ∷ [])) $ split ! $
-          move ! (6 ∷ []) $ use1 W (later (some (λ (q : Loan). (tokens l₅ l₆ l₇ q ⊛ slices l₅ l₆ l₇ q a) ⊛ keeps l₅ l₆ l₇ q))) (lends l₅ l₆ l₇ a) $ await ! tt $ pick ! (λ q. split ! $
+          move ! (6 ∷ []) $ use1 W (later (some (λ (q : Loan). (tokens l₅ l₆ l₇ q ⊛ slices l₅ l₆ l₇ q a) ⊛ keeps l₅ l₆ l₇ q))) (lends l₅
+          l₆ l₇ a) $ await ! tt $ pick ! (λ q. split ! $
           move ! (8 ∷ 3 ∷ 0 ∷ []) $ use3 W (raw (Next 𝓤 H A mem run .pre (to-next l₅ l₆ l₇ l a q))) (goes-next l₅ l₆ l₇ l a q gl goes) $
           calls-at-last ! (fmOf 𝓤 H (W .laws) 𝓣) (Next 𝓤 H A mem run) known (to-next l₅ l₆ l₇ l a q)
           (and-then ! (load ! (from ! (stop !)) (look ! 6 refl)) (and-then ! (load ! (from ! (stop !)) (look ! 17 refl))
           (and-then ! (load ! (from ! (stop !)) (look ! 11 refl)) (and-then ! (load ! (from ! (stop !)) (look ! 13 refl))
           (and-then ! (load ! (from ! (stop !)) (look ! 15 refl)) (no-more !)))))) (λ v.
-          use1 W (later (some (λ (g : Got). given (Told l a g) (‵ (flft κw qw) ⊛ (‵ (L.the-row .own (g .0) (v ∷ [])) ⊛ (tokens l₅ l₆ l₇ q ⊛ ‵ (fins l₅ l₆ l₇ q (g .1))))))))
+          use1 W (later (some (λ (g : Got). given (Told l a g) (‵ (flft κw qw) ⊛ (‵ (L.the-row .own (g .0) (v ∷ [])) ⊛ (tokens l₅ l₆ l₇ q
+          ⊛ ‵ (fins l₅ l₆ l₇ q (g .1))))))))
           (next-got l₅ l₆ l₇ l a q v) $ await ! tt $ pick ! (λ g. learn ! (λ told. split ! $
           move ! (1 ∷ []) $ split ! $
           move ! (1 ∷ []) $ split ! $
@@ -566,8 +585,11 @@ module _ {M : Type 1} (𝓤 : URA M) (H : Heap 𝓤) (A : Atoms 𝓤) (W : Given
           let gr : Is L.the-row (g .0) (mach (g .0) ∷ []) = subst (λ (u : Val). Is L.the-row (g .0) (u ∷ [])) value is in
           land-last ! (from ! (stop !)) (store ! 6 refl (LL.lawful L.the-type L′.the-laws 𝓤 H A W .typed (g .0) _ is .0)) $
           rewrite ! 6 (λ (u : Val). ‵ (fat fullShare L′.mir l₈ 0 u)) value refl $
-          forget ! 7 refl $ forget ! 8 refl $ forget ! 9 refl $ forget ! 10 refl $ forget ! 11 refl $ forget ! 12 refl $ forget ! 13 refl $ forget ! 14 refl $ forget ! 15 refl $
-          keep ! (6 ∷ 0 ∷ 3 ∷ 4 ∷ 5 ∷ 1 ∷ 2 ∷ 7 ∷ 8 ∷ 9 ∷ 10 ∷ 11 ∷ 12 ∷ 13 ∷ 14 ∷ 15 ∷ 16 ∷ 17 ∷ 18 ∷ 19 ∷ 20 ∷ 21 ∷ 22 ∷ 23 ∷ 24 ∷ 25 ∷ 26 ∷ 27 ∷ 28 ∷ 29 ∷ 30 ∷ 31 ∷ 32 ∷ 33 ∷ 34 ∷ 35 ∷ 36 ∷ 37 ∷ 38 ∷ 39 ∷ 40 ∷ 41 ∷ 42 ∷ 43 ∷ 44 ∷ 45 ∷ 46 ∷ 47 ∷ 48 ∷ 49 ∷ 50 ∷ 51 ∷ 52 ∷ []) $ by ! (k g told gr)))))))
+          forget ! 7 refl $ forget ! 8 refl $ forget ! 9 refl $ forget ! 10 refl $ forget ! 11 refl $ forget ! 12 refl $ forget ! 13 refl
+          $ forget ! 14 refl $ forget ! 15 refl $
+          keep ! (6 ∷ 0 ∷ 3 ∷ 4 ∷ 5 ∷ 1 ∷ 2 ∷ 7 ∷ 8 ∷ 9 ∷ 10 ∷ 11 ∷ 12 ∷ 13 ∷ 14 ∷ 15 ∷ 16 ∷ 17 ∷ 18 ∷ 19 ∷ 20 ∷ 21 ∷ 22 ∷ 23 ∷ 24 ∷ 25 ∷
+          26 ∷ 27 ∷ 28 ∷ 29 ∷ 30 ∷ 31 ∷ 32 ∷ 33 ∷ 34 ∷ 35 ∷ 36 ∷ 37 ∷ 38 ∷ 39 ∷ 40 ∷ 41 ∷ 42 ∷ 43 ∷ 44 ∷ 45 ∷ 46 ∷ 47 ∷ 48 ∷ 49 ∷ 50 ∷ 51
+          ∷ 52 ∷ []) $ by ! (k g told gr)))))))
 
     -- the turn that leaves the loop, and the rest of the body
     ends : (l : Listing) (a : Three) (zs : List FlipRecord) → Good l a zs → l .goes ≡ false → (X : SProp 𝓤)
@@ -576,30 +598,39 @@ module _ {M : Type 1} (𝓤 : URA M) (H : Heap 𝓤) (A : Atoms 𝓤) (W : Given
     ends l a zs good off X =
         let ga : Is S.the-row (l .answer) (machS (l .answer) ∷ []) = LL.owed L.the-type L′.the-laws l _ (good .0) .1 .1 .1 .0 in
         qed W (At l a zs) ∵ exec ! C Λ En m.turn-1 (anyQ (afterTurn 𝓤 H X Left)) $
-        assigns ! (of-opd ! (load ! (from ! (fld ! refl (stop !))) (look-in ! 0 (sub ! 0 refl (whole !))))) (from ! (stop !)) (init ! 7 refl (tt, tt)) $
+        assigns ! (of-opd ! (load ! (from ! (fld ! refl (stop !))) (look-in ! 0 (sub ! 0 refl (whole !))))) (from ! (stop !)) (init ! 7
+        refl (tt, tt)) $
         rewrite ! 7 (λ (t : Bool). ‵ (fat fullShare tyBool l₁₆ 0 (vbool t))) off refl $
         leaves-loop ! (load ! (from ! (stop !)) (look ! 7 refl)) $ exec ! C Λ En m.t-13 (atRet En Post) $
         assigns ! (of-opd ! (load ! (from ! (fld ! refl (stop !))) (look-in ! 0 (sub ! 3 refl (whole !))))) (from ! (stop !))
         (init ! 18 refl (LL.lawful S.the-type S′.the-laws 𝓤 H A W .typed (l .answer) _ ga .0)) $
         returns ! (look ! 18 refl) $
-        forget ! 18 refl $ forget ! 19 refl $ forget ! 17 refl $ forget ! 20 refl $ forget ! 16 refl $ forget ! 0 refl $ forget ! 21 refl $ forget ! 22 refl $ forget ! 23 refl $ forget ! 24 refl $ forget ! 25 refl $ forget ! 26 refl $ forget ! 27 refl $ forget ! 7 refl $
+        forget ! 18 refl $ forget ! 19 refl $ forget ! 17 refl $ forget ! 20 refl $ forget ! 16 refl $ forget ! 0 refl $ forget ! 21 refl
+        $ forget ! 22 refl $ forget ! 23 refl $ forget ! 24 refl $ forget ! 25 refl $ forget ! 26 refl $ forget ! 27 refl $ forget ! 7
+        refl $
         move ! (1 ∷ []) $ fsplit ! $
         use1 W (‵ (froom (tyArray (tyInt w16) 64) l₅ 0)) (part-room 𝓤 H A W (Array u16 64) (a .0) l₅ 0) $
         move ! (1 ∷ []) $ fsplit ! $
         use1 W (‵ (froom (tyArray (tyInt w64) 130) l₆ 0)) (part-room 𝓤 H A W (Array u64 130) (a .1 .0) l₆ 0) $
         move ! (1 ∷ []) $ use1 W (‵ (froom (tyArray (tyInt w64) 16) l₇ 0)) (part-room 𝓤 H A W (Array u64 16) (a .1 .1) l₇ 0) $
-        move ! (20 ∷ 30 ∷ 21 ∷ 31 ∷ 19 ∷ 32 ∷ 22 ∷ 33 ∷ 18 ∷ 34 ∷ 2 ∷ 35 ∷ 1 ∷ 36 ∷ 0 ∷ 37 ∷ 3 ∷ 38 ∷ 23 ∷ 39 ∷ 24 ∷ 40 ∷ 25 ∷ 41 ∷ 26 ∷ 42 ∷ 27 ∷ 43 ∷ 28 ∷ 44 ∷ 29 ∷ 45 ∷ 9 ∷ 46 ∷ 10 ∷ 47 ∷ 11 ∷ 48 ∷ 12 ∷ 49 ∷ 13 ∷ 50 ∷ 14 ∷ 51 ∷ 15 ∷ 52 ∷ 16 ∷ 53 ∷ 17 ∷ 54 ∷ []) $
-        free1 ! $ free1 ! $ free1 ! $ free1 ! $ free1 ! $ free1 ! $ free1 ! $ free1 ! $ free1 ! $ free1 ! $ free1 ! $ free1 ! $ free1 ! $ free1 ! $ free1 ! $ free1 ! $ free1 ! $ free1 ! $ free1 ! $ free1 ! $ free1 ! $ free1 ! $ free1 ! $ free1 ! $ free1 ! $ free0 ! $
+        move ! (20 ∷ 30 ∷ 21 ∷ 31 ∷ 19 ∷ 32 ∷ 22 ∷ 33 ∷ 18 ∷ 34 ∷ 2 ∷ 35 ∷ 1 ∷ 36 ∷ 0 ∷ 37 ∷ 3 ∷ 38 ∷ 23 ∷ 39 ∷ 24 ∷ 40 ∷ 25 ∷ 41 ∷ 26 ∷
+        42 ∷ 27 ∷ 43 ∷ 28 ∷ 44 ∷ 29 ∷ 45 ∷ 9 ∷ 46 ∷ 10 ∷ 47 ∷ 11 ∷ 48 ∷ 12 ∷ 49 ∷ 13 ∷ 50 ∷ 14 ∷ 51 ∷ 15 ∷ 52 ∷ 16 ∷ 53 ∷ 17 ∷ 54 ∷ []) $
+        free1 ! $ free1 ! $ free1 ! $ free1 ! $ free1 ! $ free1 ! $ free1 ! $ free1 ! $ free1 ! $ free1 ! $ free1 ! $ free1 ! $ free1 ! $
+        free1 ! $ free1 ! $ free1 ! $ free1 ! $ free1 ! $ free1 ! $ free1 ! $ free1 ! $ free1 ! $ free1 ! $ free1 ! $ free1 ! $ free0 ! $
         keep ! (0 ∷ 1 ∷ 2 ∷ 3 ∷ []) $ by ! (exits l a zs good off gn)
 
     below : (t : ℕ) (σ : State) → Good (σ .0) (σ .1 .0) (σ .1 .1) → length ys - σ .0 .place < t
         → ent 𝓤 (⋆ 𝓤 H A (At (σ .0) (σ .1 .0) (σ .1 .1))) (Below t)
     below t σ good less =
         via 𝓤 (Inv (length ys - σ .0 .place))
-        (via 𝓤 (guard 𝓤 (Good (σ .0) (σ .1 .0) (σ .1 .1) × (length ys - σ .0 .place ≡ length ys - σ .0 .place)) (⋆ 𝓤 H A (At (σ .0) (σ .1 .0) (σ .1 .1))))
-        (guardI 𝓤 (Good (σ .0) (σ .1 .0) (σ .1 .1) × (length ys - σ .0 .place ≡ length ys - σ .0 .place)) (⋆ 𝓤 H A (At (σ .0) (σ .1 .0) (σ .1 .1))) (good, refl))
-        (exI 𝓤 (λ (τ : State). guard 𝓤 (Good (τ .0) (τ .1 .0) (τ .1 .1) × (length ys - τ .0 .place ≡ length ys - σ .0 .place)) (⋆ 𝓤 H A (At (τ .0) (τ .1 .0) (τ .1 .1)))) σ))
-        (via 𝓤 (guard 𝓤 (length ys - σ .0 .place < t) (Inv (length ys - σ .0 .place))) (guardI 𝓤 (length ys - σ .0 .place < t) (Inv (length ys - σ .0 .place)) less)
+        (via 𝓤 (guard 𝓤 (Good (σ .0) (σ .1 .0) (σ .1 .1) × (length ys - σ .0 .place ≡ length ys - σ .0 .place)) (⋆ 𝓤 H A (At (σ .0) (σ .1
+        .0) (σ .1 .1))))
+        (guardI 𝓤 (Good (σ .0) (σ .1 .0) (σ .1 .1) × (length ys - σ .0 .place ≡ length ys - σ .0 .place)) (⋆ 𝓤 H A (At (σ .0) (σ .1 .0) (σ
+        .1 .1))) (good, refl))
+        (exI 𝓤 (λ (τ : State). guard 𝓤 (Good (τ .0) (τ .1 .0) (τ .1 .1) × (length ys - τ .0 .place ≡ length ys - σ .0 .place)) (⋆ 𝓤 H A
+        (At (τ .0) (τ .1 .0) (τ .1 .1)))) σ))
+        (via 𝓤 (guard 𝓤 (length ys - σ .0 .place < t) (Inv (length ys - σ .0 .place))) (guardI 𝓤 (length ys - σ .0 .place < t) (Inv
+        (length ys - σ .0 .place)) less)
         (exI 𝓤 (λ (u : ℕ). guard 𝓤 (u < t) (Inv u)) (length ys - σ .0 .place)))
 
     -- a turn from the invariant at t leaves the loop, or ends in the invariant below t
@@ -615,11 +646,13 @@ module _ {M : Type 1} (𝓤 : URA M) (H : Heap 𝓤) (A : Atoms 𝓤) (W : Given
         go false off = ends (σ .0) (σ .1 .0) (σ .1 .1) good off (Below t)
 
     turns : (t : ℕ) → ent 𝓤 (Inv t) (Wp 𝓤 H C Λ En m.turn-1 (afterTurn 𝓤 H (Below t) Left))
-    turns t = exE 𝓤 (λ (σ : State). guard 𝓤 (Good (σ .0) (σ .1 .0) (σ .1 .1) × (length ys - σ .0 .place ≡ t)) (⋆ 𝓤 H A (At (σ .0) (σ .1 .0) (σ .1 .1))))
+    turns t = exE 𝓤 (λ (σ : State). guard 𝓤 (Good (σ .0) (σ .1 .0) (σ .1 .1) × (length ys - σ .0 .place ≡ t)) (⋆ 𝓤 H A (At (σ .0) (σ .1
+        .0) (σ .1 .1))))
         (λ σ. guardE 𝓤 (Good (σ .0) (σ .1 .0) (σ .1 .1) × (length ys - σ .0 .place ≡ t)) (⋆ 𝓤 H A (At (σ .0) (σ .1 .0) (σ .1 .1)))
         (λ e. turn-at t σ (e .0) (e .1)))
 
-    loops : (g : Got) → Began g → Is L.the-row (g .0) (mach (g .0) ∷ []) → ent 𝓤 (⋆ 𝓤 H A (At (g .0) (g .1) ys)) (Wp 𝓤 H C Λ En (loop m.turn-1) Left)
+    loops : (g : Got) → Began g → Is L.the-row (g .0) (mach (g .0) ∷ []) → ent 𝓤 (⋆ 𝓤 H A (At (g .0) (g .1) ys)) (Wp 𝓤 H C Λ En (loop
+        m.turn-1) Left)
     loops g told gr =
         let σ : State = (g .0, (g .1, ys)) in
         let t = length ys - g .0 .place in
@@ -627,7 +660,8 @@ module _ {M : Type 1} (𝓤 : URA M) (H : Heap 𝓤) (A : Atoms 𝓤) (W : Given
         (via 𝓤 (guard 𝓤 (Good (g .0) (g .1) ys × (length ys - g .0 .place ≡ t)) (⋆ 𝓤 H A (At (g .0) (g .1) ys)))
         (guardI 𝓤 (Good (g .0) (g .1) ys × (length ys - g .0 .place ≡ t)) (⋆ 𝓤 H A (At (g .0) (g .1) ys))
         ((gr, (told .1, (sym (ap (λ k. soFar (listOf cd (now w) lim) k (asEntries ys)) (told .0)), refl))), refl))
-        (exI 𝓤 (λ (τ : State). guard 𝓤 (Good (τ .0) (τ .1 .0) (τ .1 .1) × (length ys - τ .0 .place ≡ t)) (⋆ 𝓤 H A (At (τ .0) (τ .1 .0) (τ .1 .1)))) σ))
+        (exI 𝓤 (λ (τ : State). guard 𝓤 (Good (τ .0) (τ .1 .0) (τ .1 .1) × (length ys - τ .0 .place ≡ t)) (⋆ 𝓤 H A (At (τ .0) (τ .1 .0) (τ
+        .1 .1)))) σ))
         (loop-rule 𝓤 H (W .laws) 𝓣 _<_ (Nat·lt-wfRel .wf) En m.turn-1 Left Inv turns t)
 
   -- ---- the MIR, up to the loop
@@ -685,7 +719,8 @@ module _ {M : Type 1} (𝓤 : URA M) (H : Heap 𝓤) (A : Atoms 𝓤) (W : Given
           ∷ ‵ (fdies (tyInt w8) l₁) ∷ ‵ (froom S′.mir l₀ 0) ∷ ‵ (fdies S′.mir l₀) ∷ [])
           (lands (𝓣 .C) (𝓣 .Λ) Ev (place 8 []) v m.t-12 (atRet Ev Post))
       landed q v =
-          use1 W (later (some (λ (g : Got). given (Began g) (‵ (flft κw qw) ⊛ (‵ (L.the-row .own (g .0) (v ∷ [])) ⊛ (tokens l₅ l₆ l₇ q ⊛ ‵ (fins l₅ l₆ l₇ q (g .1))))))))
+          use1 W (later (some (λ (g : Got). given (Began g) (‵ (flft κw qw) ⊛ (‵ (L.the-row .own (g .0) (v ∷ [])) ⊛ (tokens l₅ l₆ l₇ q ⊛ ‵
+          (fins l₅ l₆ l₇ q (g .1))))))))
           (begin-got l₅ l₆ l₇ q v) $ await ! tt $ pick ! (λ g. learn ! (λ told. split ! $
           move ! (1 ∷ []) $ split ! $
           move ! (1 ∷ []) $ split ! $
@@ -695,7 +730,10 @@ module _ {M : Type 1} (𝓤 : URA M) (H : Heap 𝓤) (A : Atoms 𝓤) (W : Given
           let gr : Is L.the-row (g .0) (mach (g .0) ∷ []) = subst (λ (u : Val). Is L.the-row (g .0) (u ∷ [])) value is in
           land ! (from ! (stop !)) (init ! 40 refl (LL.lawful L.the-type L′.the-laws 𝓤 H A W .typed (g .0) _ is .0)) $
           rewrite ! 40 (λ (u : Val). ‵ (fat fullShare L′.mir l₈ 0 u)) value refl $
-          keep ! (40 ∷ 0 ∷ 5 ∷ 6 ∷ 3 ∷ 1 ∷ 2 ∷ 24 ∷ 22 ∷ 20 ∷ 18 ∷ 16 ∷ 14 ∷ 12 ∷ 10 ∷ 8 ∷ 45 ∷ 49 ∷ 53 ∷ 51 ∷ 47 ∷ 38 ∷ 36 ∷ 34 ∷ 32 ∷ 30 ∷ 28 ∷ 26 ∷ 54 ∷ 52 ∷ 50 ∷ 48 ∷ 46 ∷ 44 ∷ 43 ∷ 42 ∷ 41 ∷ 39 ∷ 37 ∷ 35 ∷ 33 ∷ 31 ∷ 29 ∷ 27 ∷ 25 ∷ 23 ∷ 21 ∷ 19 ∷ 17 ∷ 15 ∷ 13 ∷ 11 ∷ 9 ∷ []) $ by ! (loops gn 𝓣 known-next l₀ l₁ l₂ l₃ l₄ l₅ l₆ l₇ l₈ l₉ l₁₀ l₁₁ l₁₂ l₁₃ l₁₄ l₁₅ l₁₆ l₁₇ l₁₈ l₁₉ l₂₀ l₂₁ l₂₂ l₂₃ l₂₄ g told gr))))
+          keep ! (40 ∷ 0 ∷ 5 ∷ 6 ∷ 3 ∷ 1 ∷ 2 ∷ 24 ∷ 22 ∷ 20 ∷ 18 ∷ 16 ∷ 14 ∷ 12 ∷ 10 ∷ 8 ∷ 45 ∷ 49 ∷ 53 ∷ 51 ∷ 47 ∷ 38 ∷ 36 ∷ 34 ∷ 32 ∷ 30
+          ∷ 28 ∷ 26 ∷ 54 ∷ 52 ∷ 50 ∷ 48 ∷ 46 ∷ 44 ∷ 43 ∷ 42 ∷ 41 ∷ 39 ∷ 37 ∷ 35 ∷ 33 ∷ 31 ∷ 29 ∷ 27 ∷ 25 ∷ 23 ∷ 21 ∷ 19 ∷ 17 ∷ 15 ∷ 13 ∷
+          11 ∷ 9 ∷ []) $ by ! (loops gn 𝓣 known-next l₀ l₁ l₂ l₃ l₄ l₅ l₆ l₇ l₈ l₉ l₁₀ l₁₁ l₁₂ l₁₃ l₁₄ l₁₅ l₁₆ l₁₇ l₁₈ l₁₉ l₂₀ l₂₁ l₂₂ l₂₃
+          l₂₄ g told gr))))
 
       -- the arrays are there: they are lent to `begin`
       begins : Sq W (‵ (partAt (Array u64 16) fullShare (replicate 16 0) l₇ 0) ∷ ‵ (partAt (Array u64 130) fullShare (replicate 130 0) l₆ 0)
@@ -734,10 +772,14 @@ module _ {M : Type 1} (𝓤 : URA M) (H : Heap 𝓤) (A : Atoms 𝓤) (W : Given
           move ! (52 ∷ []) $ split ! $
           move ! (1 ∷ []) $ split ! $
           move ! (6 ∷ []) $ use1 W (‵ word-own ⊛ ‵ word-own) (shr-slice-copy 𝓤 H A W (named 0) κw u8 .twice w (wv ∷ [])) $ split ! $
-          move ! (8 ∷ []) $ use1 W (later (some (λ (q : Loan). (tokens l₅ l₆ l₇ q ⊛ slices l₅ l₆ l₇ q zeros) ⊛ keeps l₅ l₆ l₇ q))) (lends l₅ l₆ l₇ zeros) $ await ! tt $ pick ! (λ q. split ! $
+          move ! (8 ∷ []) $ use1 W (later (some (λ (q : Loan). (tokens l₅ l₆ l₇ q ⊛ slices l₅ l₆ l₇ q zeros) ⊛ keeps l₅ l₆ l₇ q))) (lends
+          l₅ l₆ l₇ zeros) $ await ! tt $ pick ! (λ q. split ! $
           move ! (6 ∷ 3 ∷ 0 ∷ []) $ use3 W (raw (Begin 𝓤 H A mem run .pre (to-begin l₅ l₆ l₇ q))) (goes-begin l₅ l₆ l₇ gc gl (gn .0) q) $
           calls-at ! (fmOf 𝓤 H (W .laws) 𝓣) (Begin 𝓤 H A mem run) known-begin (to-begin l₅ l₆ l₇ q)
-          (and-then ! (load ! (from ! (stop !)) (look ! 51 refl)) (and-then ! (load ! (from ! (stop !)) (look ! 49 refl)) (and-then ! (load ! (from ! (stop !)) (look ! 47 refl)) (and-then ! (load ! (from ! (stop !)) (look ! 38 refl)) (and-then ! (load ! (from ! (stop !)) (look ! 34 refl)) (and-then ! (load ! (from ! (stop !)) (look ! 30 refl)) (and-then ! (load ! (from ! (stop !)) (look ! 26 refl)) (no-more !)))))))) (λ v. landed q v))
+          (and-then ! (load ! (from ! (stop !)) (look ! 51 refl)) (and-then ! (load ! (from ! (stop !)) (look ! 49 refl)) (and-then !
+          (load ! (from ! (stop !)) (look ! 47 refl)) (and-then ! (load ! (from ! (stop !)) (look ! 38 refl)) (and-then ! (load ! (from !
+          (stop !)) (look ! 34 refl)) (and-then ! (load ! (from ! (stop !)) (look ! 30 refl)) (and-then ! (load ! (from ! (stop !)) (look
+          ! 26 refl)) (no-more !)))))))) (λ v. landed q v))
 
     walk : ent 𝓤 (onEntry 𝓤 H A list′.signature (κw, (κt, tt)) (qw, (qt, tt)) x at)
         (WpFn 𝓤 H (𝓣 .C) (𝓣 .Λ) code.function (vint w8 cd ∷ wv ∷ vint w16 lim ∷ sliceVal (b, o) (length ys) ∷ []) Post)
@@ -745,15 +787,21 @@ module _ {M : Type 1} (𝓤 : URA M) (H : Heap 𝓤) (A : Atoms 𝓤) (W : Given
         qed W ((‵ (flft κw qw) ⊛ (‵ (flft κt qt) ⊛ ‵ ftrue))
         ∷ ‵ (owns (u8 ∷ ShrSlice (named 0) κw u8 ∷ u16 ∷ MutSlice (named 1) κt T.the-row ∷ []) x at) ∷ []) ∵
         enter ! (𝓣 .C) (𝓣 .Λ) code.function (vint w8 cd ∷ wv ∷ vint w16 lim ∷ sliceVal (b, o) (length ys) ∷ []) _ $
-        alloc1 ! (λ l₀. alloc1 ! (λ l₁. alloc1 ! (λ l₂. alloc1 ! (λ l₃. alloc1 ! (λ l₄. alloc1 ! (λ l₅. alloc1 ! (λ l₆. alloc1 ! (λ l₇. alloc1 ! (λ l₈. alloc1 ! (λ l₉. alloc1 ! (λ l₁₀. alloc1 ! (λ l₁₁. alloc1 ! (λ l₁₂. alloc1 ! (λ l₁₃. alloc1 ! (λ l₁₄. alloc1 ! (λ l₁₅. alloc1 ! (λ l₁₆. alloc1 ! (λ l₁₇. alloc1 ! (λ l₁₈. alloc1 ! (λ l₁₉. alloc1 ! (λ l₂₀. alloc1 ! (λ l₂₁. alloc1 ! (λ l₂₂. alloc1 ! (λ l₂₃. alloc1 ! (λ l₂₄. alloc0 ! $ params1 ! $
+        alloc1 ! (λ l₀. alloc1 ! (λ l₁. alloc1 ! (λ l₂. alloc1 ! (λ l₃. alloc1 ! (λ l₄. alloc1 ! (λ l₅. alloc1 ! (λ l₆. alloc1 ! (λ l₇.
+        alloc1 ! (λ l₈. alloc1 ! (λ l₉. alloc1 ! (λ l₁₀. alloc1 ! (λ l₁₁. alloc1 ! (λ l₁₂. alloc1 ! (λ l₁₃. alloc1 ! (λ l₁₄. alloc1 ! (λ
+        l₁₅. alloc1 ! (λ l₁₆. alloc1 ! (λ l₁₇. alloc1 ! (λ l₁₈. alloc1 ! (λ l₁₉. alloc1 ! (λ l₂₀. alloc1 ! (λ l₂₁. alloc1 ! (λ l₂₂. alloc1
+        ! (λ l₂₃. alloc1 ! (λ l₂₄. alloc0 ! $ params1 ! $
         pass1 ! (init ! 46 refl (tt, record { fits = gc })) $ pass1 ! (init ! 44 refl (tt, (tt, (record { fits = gw .0 }, tt)))) $
         pass1 ! (init ! 42 refl (tt, record { fits = gl })) $ pass1 ! (init ! 40 refl (tt, (tt, (record { fits = gn .0 }, tt)))) $ pass0 ! $
         move ! (38 ∷ []) $
-        fills 𝓤 H A W u16 (uint-lawful 𝓤 H A W w16) (uint-copy 𝓤 H A W w16) (uint-makes 𝓤 H A W w16) 0 (vint w16 0) (refl, lit< tt) 64 l₅ (lit ! tt) (from ! (stop !)) (
+        fills 𝓤 H A W u16 (uint-lawful 𝓤 H A W w16) (uint-copy 𝓤 H A W w16) (uint-makes 𝓤 H A W w16) 0 (vint w16 0) (refl, lit< tt) 64 l₅
+        (lit ! tt) (from ! (stop !)) (
         move ! (37 ∷ []) $
-        fills 𝓤 H A W u64 (uint-lawful 𝓤 H A W w64) (uint-copy 𝓤 H A W w64) (uint-makes 𝓤 H A W w64) 0 (vint w64 0) (refl, lit< tt) 130 l₆ (lit ! tt) (from ! (stop !)) (
+        fills 𝓤 H A W u64 (uint-lawful 𝓤 H A W w64) (uint-copy 𝓤 H A W w64) (uint-makes 𝓤 H A W w64) 0 (vint w64 0) (refl, lit< tt) 130 l₆
+        (lit ! tt) (from ! (stop !)) (
         move ! (36 ∷ []) $
-        fills 𝓤 H A W u64 (uint-lawful 𝓤 H A W w64) (uint-copy 𝓤 H A W w64) (uint-makes 𝓤 H A W w64) 0 (vint w64 0) (refl, lit< tt) 16 l₇ (lit ! tt) (from ! (stop !)) (
+        fills 𝓤 H A W u64 (uint-lawful 𝓤 H A W w64) (uint-copy 𝓤 H A W w64) (uint-makes 𝓤 H A W w64) 0 (vint w64 0) (refl, lit< tt) 16 l₇
+        (lit ! tt) (from ! (stop !)) (
         begins l₀ l₁ l₂ l₃ l₄ l₅ l₆ l₇ l₈ l₉ l₁₀ l₁₁ l₁₂ l₁₃ l₁₄ l₁₅ l₁₆ l₁₇ l₁₈ l₁₉ l₂₀ l₂₁ l₂₂ l₂₃ l₂₄))))))))))))))))))))))))))))
 
 module _ {M : Type 1} (𝓤 : URA M) (H : Heap 𝓤) (A : Atoms 𝓤) (W : Given 𝓤 H A) (mem : Memory → SProp 𝓤) (run : Routine → Fun 𝓤)

@@ -27,8 +27,11 @@ same-length-3 c = search needs
 
 returns : tie.Need-returns
 returns c =
-    let t = c .before .before .before .before .before .before .turn in
-    (t .ensures .0, λ n limit room is. t .ensures .1 n limit room (is .goes (c .before .before .before .before .before .before .before .before .before .before .before .before .before .before .before .pre .on)))
+    let t = c .before .before .before .before .before .before .turn in (
+      t .ensures .0,
+      λ n limit room is. t .ensures .1 n limit room (is .goes (c .before .before .before .before .before .before .before
+          .before .before .before .before .before .before .before .before .pre .on)),
+    )
 
 pub next-spec : {M : Type 1} → statement M
 next-spec =

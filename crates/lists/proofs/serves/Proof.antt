@@ -16,7 +16,12 @@ returns : tie.Need-returns
 returns c =
     let a = c .before .before in
     λ n off is first.
-    sym (le-leb (length (runOf n (a .args .word .now) (a .args .limit) .flips)) (a .args .room) (omega (arith, c .if1 .taken, run-within (byExcess (code n)) (a .args .limit) (wordOf n (a .args .word .now)))))
+    sym (le-leb (length (runOf n (a .args .word .now) (a .args .limit) .flips)) (a .args .room) (omega (
+      arith,
+      c .if1 .taken,
+      run-within
+          (byExcess (code n)) (a .args .limit) (wordOf n (a .args .word .now)),
+    )))
 
 most-flips-requires : tie.Need-most-flips-requires
 most-flips-requires c κs = search needs

@@ -47,7 +47,8 @@ cast-ended c =
     omega (
       arith,
       a .pre .stands .lends .fit .bits,
-      subst (Within (sh .blocks * sh .size)) (c .before .before .next .given .1) (c .before .before .before .before .comes-next .ensures .0),
+      subst (Within (sh .blocks * sh .size)) (c .before .before .next .given .1) (c .before .before .before .before .comes-next .ensures
+          .0),
     )
 
 ended-requires-2 : tie.Need-ended-requires-2
@@ -83,41 +84,54 @@ same-length-3 c = search needs
 
 returns : tie.Need-returns
 returns c =
-    let a = c .before .before .before .before .before .before .before .before .before .before .before .before .before .before .before .before in
+    let a = c .before .before .before .before .before .before .before .before .before .before .before .before .before .before .before
+    .before in
     let r = c .ended3 in (
       r .ensures .1,
       λ n limit room st.
-          let next = c .before .before .before .before .before .before .before .comes-next .ensures .1 (code n) (st .lends .lent) (sym (unsent-is n (st .measures .is) (st .measures .offers)))
+          let next = c .before .before .before .before .before .before .before .comes-next .ensures .1 (code n) (st .lends .lent) (sym
+          (unsent-is n (st .measures .is) (st .measures .offers)))
           _ (st .going .held) ∙ ap comesNext (c .before .before .before .before .before .next2 .given .1) in
-          let ends = ends-by-limit n (a .args .word .now) limit room _ _ _ _ _ st _ _ next (omega (arith, c .before .before .if1 .taken, st .measures .under)) in
+          let ends = ends-by-limit n (a .args .word .now) limit room _ _ _ _ _ st _ _ next (omega (
+            arith,
+            c .before .before .if1 .taken,
+            st .measures .under,
+          )) in
           ended-lists n (a .args .word .now) limit room _ _ _ _ _ st _ _ _ ends _ _ _ _ (r .ensures .0) (r .ensures .1)
           (r .ensures .2 n limit ends),
     )
 
 flip-requires : tie.Need-flip-requires
 flip-requires c κs =
-    let a = c .before .before .before .before .before .before .before .before .before .before .before .before .before .before .before .before .before in
+    let a = c .before .before .before .before .before .before .before .before .before .before .before .before .before .before .before
+    .before .before in
     let st = a .pre .stands in
     let sh = a .args .l .offer .shape in (
       st .lends .fit,
       st .y-long,
       st .s-long,
-      subst (Within (sh .blocks * sh .size)) (c .before .before .before .before .before .before .next2 .given .1) (c .before .before .before .before .before .before .before .before .comes-next .ensures .0),
+      subst (Within (sh .blocks * sh .size)) (c .before .before .before .before .before .before .next2 .given .1) (c .before .before
+          .before .before .before .before .before .before .comes-next .ensures .0),
     )
 
 broken-requires : tie.Need-broken-requires
 broken-requires c κs =
-    let long = c .before .before .before .before .before .before .before .before .before .before .before .before .before .before .before .before .before .before .before .before .before .before .before .pre .stands .s-long in
+    let long = c .before .before .before .before .before .before .before .before .before .before .before .before .before .before .before
+    .before .before .before .before .before .before .before .before .pre .stands .s-long in
     search needs
 
 cast-went : tie.Need-cast-went
 cast-went c =
-    let a = c .before .before .before .before .before .before .before .before .before .before .before .before .before .before .before .before .before .before .before .before .before .before .before .before in
+    let a = c .before .before .before .before .before .before .before .before .before .before .before .before .before .before .before
+    .before .before .before .before .before .before .before .before .before in
     let sh = a .args .l .offer .shape in
     omega (
       arith,
       a .pre .stands .lends .fit .bits,
-      subst (Within (sh .blocks * sh .size)) (c .before .before .before .before .before .before .before .before .before .before .before .before .before .next2 .given .1) (c .before .before .before .before .before .before .before .before .before .before .before .before .before .before .before .comes-next .ensures .0),
+      subst (Within (sh .blocks * sh .size))
+          (c .before .before .before .before .before .before .before .before .before .before .before .before .before .next2 .given .1)
+          (c .before .before .before .before .before .before .before .before .before .before .before .before .before .before .before
+          .comes-next .ensures .0),
     )
 
 went-requires : tie.Need-went-requires
@@ -138,7 +152,8 @@ returns-2 c =
     let r = c .ended in (
       r .ensures .1,
       λ n limit room st.
-          let next = c .before .before .before .before .comes-next .ensures .1 (code n) (st .lends .lent) (sym (unsent-is n (st .measures .is) (st .measures .offers)))
+          let next = c .before .before .before .before .comes-next .ensures .1 (code n) (st .lends .lent) (sym (unsent-is n (st .measures
+          .is) (st .measures .offers)))
           _ (st .going .held) ∙ ap comesNext (c .before .before .enum-told .given .1) in
           let ends = ends-by-quiet n (a .args .word .now) limit room _ _ _ _ _ st next in
           ended-lists n (a .args .word .now) limit room _ _ _ _ _ st _ _ _ ends _ _ _ _ (r .ensures .0) (r .ensures .1)
@@ -163,7 +178,8 @@ returns-3 c =
     let r = c .ended2 in (
       r .ensures .1,
       λ n limit room st.
-          let next = c .before .before .before .before .before .comes-next .ensures .1 (code n) (st .lends .lent) (sym (unsent-is n (st .measures .is) (st .measures .offers)))
+          let next = c .before .before .before .before .before .comes-next .ensures .1 (code n) (st .lends .lent) (sym (unsent-is n (st
+          .measures .is) (st .measures .offers)))
           _ (st .going .held) ∙ ap comesNext (c .before .before .before .next .given .1) in
           let ends = ends-by-stuck n (a .args .word .now) limit room _ _ _ _ _ st _ ex _ (toZ-ofZ w8 ex fits) next in
           ended-lists n (a .args .word .now) limit room _ _ _ _ _ st _ _ _ ends _ _ _ _ (r .ensures .0) (r .ensures .1)
@@ -181,21 +197,32 @@ same-length-12 c = search needs
 
 returns-4 : tie.Need-returns-4
 returns-4 c =
-    let a = c .before .before .before .before .before .before .before .before .before .before .before .before .before .before .before .before .before .before .before .before .before .before .before .before .before in
+    let a = c .before .before .before .before .before .before .before .before .before .before .before .before .before .before .before
+    .before .before .before .before .before .before .before .before .before .before in
     let f = c .before .before .before .before .before .before .before .flip in
-    let ex = c .before .before .before .before .before .before .before .before .before .before .before .before .before .before .next2 .given .0 .1 .0 in
-    let known = c .before .before .before .before .before .before .before .before .before .before .before .before .before .known-told2 .given in
+    let ex = c .before .before .before .before .before .before .before .before .before .before .before .before .before .before .next2
+    .given .0 .1 .0 in
+    let known = c .before .before .before .before .before .before .before .before .before .before .before .before .before .known-told2
+    .given in
     let fits : SFits w8 ex = search (needs, known) in
     let r = c .went in (
       r .ensures .1,
       λ n limit room st.
-          let next = c .before .before .before .before .before .before .before .before .before .before .before .before .before .before .before .before .comes-next .ensures .1 (code n) (st .lends .lent) (sym (unsent-is n (st .measures .is) (st .measures .offers)))
-          _ (st .going .held) ∙ ap comesNext (c .before .before .before .before .before .before .before .before .before .before .before .before .before .before .next2 .given .1) in
+          let next = c .before .before .before .before .before .before .before .before .before .before .before .before .before .before
+          .before .before .comes-next .ensures .1 (code n) (st .lends .lent) (sym (unsent-is n (st .measures .is) (st .measures .offers)))
+          _ (st .going .held) ∙ ap comesNext (c .before .before .before .before .before .before .before .before .before .before .before
+          .before .before .before .next2 .given .1) in
           let held = f .ensures .1 (code n) (st .lends .lent) _ (st .going .held) in
           let y-long = st .y-long in
           let s-long = st .s-long in
-          went-lists n (a .args .word .now) limit room _ _ _ _ _ st _ ex _ (toZ-ofZ w8 ex fits) next (omega (arith, c .before .before .before .before .before .before .before .before .before .before .before .if1 .left, st .measures .under)) _ _ _
-          (search needs) (search needs) (f .ensures .0) held (c .before .broken .ensures (code n) _ _ _ (st .lends .fit) (st .lends .lent) held)
+          went-lists n (a .args .word .now) limit room _ _ _ _ _ st _ ex _ (toZ-ofZ w8 ex fits) next (omega (
+            arith,
+            c .before .before
+                .before .before .before .before .before .before .before .before .before .if1 .left,
+            st .measures .under,
+          )) _ _ _
+          (search needs) (search needs) (f .ensures .0) held (c .before .broken .ensures (code n) _ _ _ (st .lends .fit) (st .lends .lent)
+          held)
           _ (r .ensures .0) (r .ensures .1) (r .ensures .2) (r .ensures .3) (r .ensures .4) (r .ensures .5),
     )
 

@@ -49,17 +49,31 @@ slice-aggregate-next-3 c = search needs
 next-requires : tie.Need-next-requires Inv-loop μ-loop
 next-requires c κs =
     let a = c .before .before .before .before .before .before .before .before .before .before .before .before .before .before in
-    record { number = a .args .code; limit = a .args .limit; room = 511; on = c .before .before .before .before .loop-test .taken; lists = c .before .before .before .before .before .loop .inv .3 }
+    record {
+      number = a .args .code;
+      limit = a .args .limit;
+      room = 511;
+      on = c .before .before .before .before .loop-test .taken;
+      lists =
+          c .before .before .before .before .before .loop .inv .3;
+    }
 
 loop-less : tie.Need-loop-less Inv-loop μ-loop
 loop-less c =
-    let st = c .before .before .before .before .before .before .before .before .before .loop .inv .3 .goes (c .before .before .before .before .before .before .before .before .loop-test .taken) in
+    let st = c .before .before .before .before .before .before .before .before .before .loop .inv .3 .goes (c .before .before .before
+    .before .before .before .before .before .loop-test .taken) in
     omega (arith, c .before .before .before .next .ensures .0, st .going .count, st .serves)
 
 loop-again : tie.Need-loop-again Inv-loop μ-loop
 loop-again c =
-    let a = c .before .before .before .before .before .before .before .before .before .before .before .before .before .before .before .before .before .before in
-    (search needs, search needs, search needs, c .before .before .before .next .ensures .1 (a .args .code) (a .args .limit) 511 (c .before .before .before .before .before .before .before .before .before .loop .inv .3))
+    let a = c .before .before .before .before .before .before .before .before .before .before .before .before .before .before .before
+    .before .before .before in (
+      search needs,
+      search needs,
+      search needs,
+      c .before .before .before .next .ensures .1 (a .args .code) (a .args .limit) 511 (c .before
+          .before .before .before .before .before .before .before .before .loop .inv .3),
+    )
 
 returns-2 : tie.Need-returns-2 Inv-loop μ-loop
 returns-2 c = search needs
