@@ -1,5 +1,5 @@
 -- Local arrays that are lent as `&mut` slices for the time of a call, and come back. It says nothing of the crate. Assumes `Given`.
-use mathlib.Core.Path.{_≡_, refl, sym, subst}
+use mathlib.Core.Path.{refl, sym, subst}
 use mathlib.Core.List.{List, [], _∷_}
 use Prim.Native.Nat.{ℕ}
 use lib.ListN.{length, replicate}

@@ -2,20 +2,19 @@
 use mathlib.Core.Path.{_≡_, refl, sym, ap, ap₂, _∙_, subst}
 use mathlib.Core.Bool.{true, false, not}
 use mathlib.Core.List.{List, [], _∷_, _++_, map}
-use Prim.Native.Nat.{ℕ, zero, suc, _+_, _-_, _*_, _/_, _≤_, _<_}
+use Prim.Native.Nat.{ℕ, zero, suc, _+_, _-_, _/_, _≤_, _<_}
 use native.Mathlib.Omega.{arith}
 use lib.Dec.{T, leb}
 use lib.IntN.{ℤ, pos}
-use lib.ListN.{length, getD, take, drop, set, length-map}
+use lib.ListN.{length, getD, take, drop, set}
 use borrow.Author.Tests.{leb-true, leb-false}
 use Rattle.bits.specs.Bits.{Word, bit, flipped}
-use Rattle.rules.specs.Codes.{Code, code, bits, offered}
+use Rattle.rules.specs.Codes.{code, bits, offered}
 use Rattle.rules.specs.Checks.{broken, lowest}
-use Rattle.rules.specs.Encoding.{lifted}
-use Rattle.rules.specs.Flipping.{quiet, stuck, flip, byExcess, Run, ended, after, run}
+use Rattle.rules.specs.Flipping.{quiet, stuck, flip, byExcess, Run, run}
 use Rattle.answers.specs.Calls.{judged, differing, ranCorrect}
-use Rattle.answers.specs.Lists.{Entry, entries, enteredIn, reason, Listed as ListedAnswer, listedBy, refusedList, listAnswer, listedFrom}
-use Rattle.rules.proofs.Runs.{run-quiet, run-stuck, run-limit, run-flip, no-flips}
+use Rattle.answers.specs.Lists.{Entry, entries, enteredIn, reason, Listed as ListedAnswer, refusedList, listAnswer}
+use Rattle.rules.proofs.Runs.{run-flip, no-flips}
 use Rattle.rules.proofs.Ways.{run-met, run-fall, run-half}
 use Rattle.rules.proofs.Choosing.{by-excess}
 use Rattle.rules.proofs.Codewords.{lifted-unsent}
@@ -36,7 +35,6 @@ use Rattle.measured.specs.Measured.{Measured}
 use Rattle.runs.specs.Turns.{Going, RunsTo}
 use Rattle.runs.proofs.Turning.{going-start, ends-quiet, ends-stuck, ends-limit, goes-on}
 use Rattle.lists.specs.declared.FlipRecord.{FlipRecord}
-use Rattle.lists.specs.declared.Listed.{Listed}
 use Rattle.lists.specs.declared.Listing.{Listing}
 use Rattle.lists.specs.Answers.{asEntry, asEntries, listedAs}
 use Rattle.lists.specs.Listings.{wordOf, runOf, listOf, soFar, endsWith, Measures, Ends, Stands, Lists}

@@ -5,7 +5,7 @@
 use mathlib.Core.Path.{_≡_, refl, sym, ap, _∙_, subst}
 use mathlib.Core.Bool.{Bool, true, false}
 use mathlib.Core.List.{List, [], _∷_}
-use Prim.Native.Nat.{ℕ, zero, suc, _+_, _-_, _*_, _≤_, _<_, _^_}
+use Prim.Native.Nat.{ℕ, _+_, _-_, _*_, _≤_, _<_, _^_}
 use native.Mathlib.Omega.{arith}
 use lib.Dec.{lit<}
 use lib.ListN.{length, set, length-set, length-map, replicate}
@@ -23,9 +23,9 @@ use ghost.Atoms.{Atoms, sem}
 use contract.Monad.{Fun, fact}
 use contract.Running.{givenOf, tables, tablesOf}
 use types.Kit.{Given, Item, Sq, runs, lands, ‵, raw, mean, _⊛_, some, given, later, ⋆, anyQ, atRet, _$_, _∵_, !, qed, by, move, keep, drop}
-use types.Kit.{use1, use2, use3, split, join, pick, learn, rewrite, fsplit, fjoin, suffices, frame, await, updating, now as at-once, show}
+use types.Kit.{use1, use3, split, join, pick, learn, rewrite, fsplit, fjoin, suffices, frame, await, updating, now as at-once, show}
 use types.Kit.{check, done}
-use types.Part.{whole, sub, look-in, agg, rep}
+use types.Part.{whole, sub, look-in, agg}
 use types.Run.{look, store, store-raw, init, forget, stop, hop, fld, from, load, lit, addr, of-opd, bin, and-then, no-more, assigns}
 use types.Run.{land, land-last, stays, leaves-loop, returns, enter, alloc1, alloc0, params1, pass1, pass0, free1, free0, exec}
 use types.Tokens.{lft-new, lft-end}
@@ -37,7 +37,7 @@ use denote.Shadow.{pureI}
 use denote.Laws.{Is, shows}
 use denote.Plain.{uint-vals, uint-tells, uint-makes, uint-copy, uint-lawful}
 use denote.Ref.{RefT, now}
-use denote.Array.{Array, arrayVal, array-repeat, array-lawful}
+use denote.Array.{Array}
 use denote.Slice.{sliceTy, sliceVal, MutSlice, ShrSlice, heres, Room, finally, slice-vals, mut-slice-tells, shr-slice-tells, shr-slice-copy}
 use denote.Slice.{at-slice, codedHoleys}
 use denote.Lend.{Held}
@@ -46,7 +46,7 @@ use denote.Signature.{plain, shrSliceOf}
 use denote.Builtin.{u8, u16, u64, usize}
 use denote.Exit.{yes}
 use denote.Triple.Entry.{onEntry}
-use denote.Steps.{only, nothing, owned, facts, heard, peeks}
+use denote.Steps.{only, nothing, owned, facts, heard}
 use denote.Struct.Laws as LL
 use denote.Triple.Statement.{Contract, Triple}
 use denote.Triple.Call.{calls-at, calls-at-last}
@@ -55,11 +55,9 @@ use denote.Triple.Spec.{Meets, tripleOf}
 use denote.Triple.Table.{entered, cited}
 use denote.Triple.Walked.{says, Stays, stay-slice, stay-dropped, walkOf, Walks, ends-at, walked, goes-slice, goes-dropped, walk-meets}
 use borrow.Author.Needs.{scaled-fits}
-use borrow.Table.OneValue.{part-in}
 use borrow.Rule.Array.Init.{part-room}
 use Rattle.vectors.proofs.Filling.{zero-words}
-use Rattle.answers.specs.Lists.{listAnswer}
-use Rattle.lists.specs.Answers.{asEntry, asEntries, asListed, listedAs}
+use Rattle.lists.specs.Answers.{asEntry, asEntries, listedAs}
 use Rattle.lists.specs.Listings.{listOf, soFar, Blank, Lists, Goes}
 use Rattle.lists.specs.declared.FlipRecord.{FlipRecord}
 use Rattle.lists.specs.declared.Listed.{Listed}

@@ -1,6 +1,6 @@
 -- `why::follow`: the list goes on or has ended, and it has no more records than places. Assumes the kit's contracts of writing.
 use mathlib.Core.Path.{_≡_, refl}
-use Prim.Native.Nat.{_-_, _+_}
+use Prim.Native.Nat.{_-_}
 use native.Mathlib.Omega.{arith}
 use lib.ListN.{length}
 use Rattle.vectors.proofs.Filling.{zero-words}
