@@ -47,10 +47,10 @@ extern "C" {
 #define PANDORICCHIA_MOST_WORD_OCTETS 1022
 #define PANDORICCHIA_MOST_INFORMATION_OCTETS 895
 
-/* Measured by outside/boundary.c, not proved: take takes some 8,000 octets, correct 2,800, encode 2,600, step 2,500, check and open
- * 2,200. */
+/* Measured by outside/boundary.c, not proved: take takes some 8,000 octets, list 4,700, correct 2,800, encode 2,600, step 2,500,
+ * check and open 2,200. */
 #define PANDORICCHIA_STACK_OCTETS 8192
-#define PANDORICCHIA_LIST_STACK_OCTETS 65536
+#define PANDORICCHIA_LIST_STACK_OCTETS 8192
 #define PANDORICCHIA_TAKE_STACK_OCTETS 16384
 
 /* The number that each call returns. The lowest that applies is given, except that 5 to 8 come in the order of the run, and 18

@@ -201,8 +201,10 @@ static void test_stack(void)
                 pandoricchia_correct(code, word, n, 1000, out, n);
             else if (call == 5)
                 pandoricchia_step(code, word, n, out, n);
-            else if (call == 6)
+            else if (call == 6) { /* a table that serves, and one that may be too short */
                 pandoricchia_list(code, word, n, 1000, table, PANDORICCHIA_MOST_WORD_OCTETS);
+                pandoricchia_list(code, word, n, 1000, table, 1);
+            }
             else if (call == 7)
                 pandoricchia_take(whole, word, n);
             else if (call == 8)

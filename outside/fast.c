@@ -508,6 +508,24 @@ static uint8_t run_listed(uint64_t *y, uint64_t *s, const uint16_t *h, struct sh
     }
 }
 
+static uint32_t count_flips(uint8_t code, const uint8_t *word, size_t len, uint16_t limit)
+{
+    uint64_t y[HELD], s[SYNDROME];
+    uint32_t flips = 0;
+    take(code, word, len, y);
+#define COUNT(h, steps, sh, lead) \
+    syndrome(y, h, sh, s);        \
+    run(y, s, h, sh, code == 5 ? 18 : 0, limit, &flips)
+    FOR_CODE(code, COUNT)
+    return flips;
+}
+
+/* Whether the table serves: by the bounds where they tell, else the flips are counted. */
+static bool serves(uint8_t code, const uint8_t *word, size_t len, uint16_t limit, uint32_t first, size_t places)
+{
+    return limit <= places || (code >= 4 ? first / 2 : first) <= places || count_flips(code, word, len, limit) <= places;
+}
+
 struct judge_listed fast_list(uint8_t code, const uint8_t *word, size_t len, uint16_t limit, struct judge_fliprecord *table,
                               size_t places)
 {
@@ -516,24 +534,23 @@ struct judge_listed fast_list(uint8_t code, const uint8_t *word, size_t len, uin
     if (answer.number != 0)
         return answer;
     uint64_t y[HELD], s[SYNDROME];
-    struct judge_fliprecord list[1022], reason = {0, 0, 0};
+    struct judge_fliprecord reason = {0, 0, 0};
     take(code, word, len, y);
 #define LIST(h, steps, sh, lead)     \
     syndrome(y, h, sh, s);           \
     answer.first = broken(s, sh);    \
     answer.lowest = lowest(s, sh);   \
-    answer.number = run_listed(y, s, h, sh, code == 5 ? 18 : 0, limit, &answer.flips, list, &reason); \
+    if (!serves(code, word, len, limit, answer.first, places)) \
+        return (struct judge_listed){.number = 10}; \
+    answer.number = run_listed(y, s, h, sh, code == 5 ? 18 : 0, limit, &answer.flips, table, &reason); \
     answer.last = broken(s, sh)
     FOR_CODE(code, LIST)
-    if (answer.flips > places)
-        return (struct judge_listed){.number = 10};
     if (answer.flips != 0)
         answer.unlike = unlike(code, word, len, y);
     if (answer.number == 0 && code >= 4 && !own_parity(y))
         answer.number = 8;
     answer.bit = reason.bit;
     answer.excess = reason.excess;
-    memcpy(table, list, answer.flips * sizeof *table);
     return answer;
 }
 

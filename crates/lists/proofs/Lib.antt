@@ -1,3 +1,3 @@
-pub mod Keeping
-pub mod Gathering
+pub mod Lending
+pub mod Writing
 pub mod Outcomes

@@ -1,17 +1,21 @@
 // The list of a run: a record for each of its flips in the caller's table, correct's numbers, and the reason for a refusal 5.
 ghost use mathlib.Core.Path.{_≡_};
-ghost use mathlib.Core.Bool.{true};
+ghost use mathlib.Core.Bool.{true, false};
 ghost use mathlib.Core.List.{List};
-ghost use Prim.Native.Nat.{ℕ, _<_};
-ghost use lib.ListN.{length, getD};
-ghost use Prim.Native.Nat.{min};
+ghost use Prim.Native.Nat.{ℕ, _+_, _≤_};
+ghost use lib.Dec.{leb};
+ghost use lib.ListN.{length};
+ghost use Rattle.bits.specs.Bits.{Word};
 ghost use Rattle.rules.specs.Codes.{offered};
-ghost use Rattle.answers.specs.Lists.{listAnswer, listedFrom, refusedList};
+ghost use Rattle.rules.specs.Codes.{code as codeOf};
+ghost use Rattle.rules.specs.Checks.{broken};
+ghost use Rattle.rules.specs.Flipping.{byExcess, run};
+ghost use Rattle.answers.specs.Lists.{Entry, listAnswer, refusedList};
+ghost use Rattle.vectors.specs.Vectors.{wbit};
 ghost use Rattle.offer.specs.Offers.{offerOf, Known};
-ghost use Rattle.lists.specs.Answers.{asEntries, asListed, noRecord};
-ghost use Rattle.lists.specs.Kept.{Ready, Keeps, Gathers};
+ghost use Rattle.lists.specs.Answers.{asEntries, asListed, listedAs};
 ghost use Rattle.lists.specs.declared.FlipRecord.{FlipRecord};
-use layout::Shape;
+ghost use Rattle.lists.specs.Listings.{wordOf, runOf, endsWith, Blank, Ends, Stands, Standing, Lists, Goes};
 use offer::Offer;
 use runs::Next;
 
@@ -36,84 +40,28 @@ pub struct Listed {
     pub excess: i8,
 }
 
-// A run that was kept: how it ended, its flips, the reason for a refusal 5, and a record for each flip.
-pub struct Kept {
-    pub number: u8,
-    pub flips: u32,
-    pub bit: u32,
-    pub excess: i8,
-    pub records: [FlipRecord; 511],
-}
-
-// What is listed: how many records there are to write, the answer, and the records.
+// A list that is being written. Where it goes on, a flip was made, and its record belongs at this place; else the answer is made.
 pub struct Listing {
-    pub flips: usize,
+    pub goes: bool,
+    pub place: usize,
+    pub record: FlipRecord,
     pub answer: Listed,
-    pub records: [FlipRecord; 511],
-}
-
-// The run from the word y with the syndrome s, under a limit that is no more than the places.
-fn run(y: &mut [u64], s: &mut [u64], h: &[u16], sh: Shape, from: usize, limit: u16) -> Kept
-    requires { ⌜ Ready (now h) sh from limit (now y) (now s) ⌝ }
-    ensures { λ r. ⌜ Keeps (now (h .entry)) sh from limit r (now (y .entry)) (now (s .entry)) (now (y .exit)) (now (s .exit)) ⌝ }
-{
-    let most = limit as usize;
-    let mut records = [FlipRecord {
-        bit: 0,
-        excess: 0,
-        left: 0,
-    }; 511];
-    let mut flips: usize = 0;
-    loop {
-        let next = runs::comes_next(s, h, sh, from);
-        match next {
-            Next::Quiet => {
-                return Kept {
-                    number: 0,
-                    flips: flips as u32,
-                    bit: 0,
-                    excess: 0,
-                    records: records,
-                };
-            }
-            Next::Stuck(bit, excess) => {
-                return Kept {
-                    number: 5,
-                    flips: flips as u32,
-                    bit: bit as u32,
-                    excess: excess,
-                    records: records,
-                };
-            }
-            Next::Flip(bit, excess) => {
-                if flips >= most {
-                    return Kept {
-                        number: 6,
-                        flips: flips as u32,
-                        bit: 0,
-                        excess: 0,
-                        records: records,
-                    };
-                }
-                syndromes::flip(y, s, h, sh, bit);
-                let left = syndromes::broken(s);
-                records[flips] = FlipRecord {
-                    bit: bit as u32,
-                    excess: excess,
-                    left: left,
-                };
-                flips += 1;
-            }
-        }
-    }
+    pub limit: u16,
+    pub offer: Offer,
 }
 
 // What a refused list gives besides its number.
 fn refused(number: u8) -> Listing
-    ensures { λ r. ⌜ (r .flips ≡ 0) × ((table : List FlipRecord) → asListed (r .answer) table ≡ refusedList (asEntries table) number) ⌝ }
+    ensures { λ r. ⌜ (r .goes ≡ false) × (r .place ≡ 0) × ((table : List Entry) → listedAs (r .answer) table ≡ refusedList table number) ⌝ }
 {
     Listing {
-        flips: 0,
+        goes: false,
+        place: 0,
+        record: FlipRecord {
+            bit: 0,
+            excess: 0,
+            left: 0,
+        },
         answer: Listed {
             number: number,
             flips: 0,
@@ -124,89 +72,218 @@ fn refused(number: u8) -> Listing
             bit: 0,
             excess: 0,
         },
-        records: [FlipRecord {
-            bit: 0,
-            excess: 0,
-            left: 0,
-        }; 511],
+        limit: 0,
+        offer: offer::of(0),
     }
 }
 
-// No run has more flips than this: a larger limit changes nothing.
-fn at_most(limit: u16) -> u16
-    ensures { λ r. ⌜ r ≡ min limit 511 ⌝ }
+// The list at the end of the run: its number, and bit and excess of the reason.
+fn ended(
+    l: Listing,
+    flips: usize,
+    word: &[u8],
+    y: &[u64],
+    number: u8,
+    bit: u32,
+    excess: i8,
+) -> Listing
+    requires { ⌜ Known (l .offer) × (length (now word) ≡ l .offer .word) × (length (now y) ≡ 130) × (flips ≤ 65535) ⌝ }
+    ensures { λ r. ⌜ (r .goes ≡ false) × (r .place ≡ flips) × ((n limit : ℕ) → Ends n (now (word .entry)) limit l flips (wbit (now (y .entry))) number bit excess → (table : List Entry) → listedAs (r .answer) table ≡ endsWith n (now (word .entry)) limit table) ⌝ }
 {
-    if limit < 511 {
-        return limit;
+    let o = l.offer;
+    let begun = l.answer;
+    let record = l.record;
+    let count = flips as u32;
+    let unlike = codes::unlike_after(o, word, y, count);
+    let judged = judging::judge(o, y, number);
+    Listing {
+        goes: false,
+        place: flips,
+        record: record,
+        answer: Listed {
+            number: judged,
+            flips: count,
+            first: begun.first,
+            last: record.left,
+            unlike: unlike,
+            lowest: begun.lowest,
+            bit: bit,
+            excess: excess,
+        },
+        limit: l.limit,
+        offer: o,
     }
-    511
 }
 
-// The list of the run on a word of the right length, for a table of so many places.
-fn gather_taken(o: Offer, word: &[u8], limit: u16, room: usize) -> Listing
+// The list after one more flip, with its record.
+fn went(l: Listing, flips: usize, bit: u32, excess: i8, left: u32) -> Listing
+    ensures { λ r. ⌜ (r .goes ≡ true) × (r .place ≡ flips) × (r .record ≡ record { bit = bit; excess = excess; left = left }) × (r .answer ≡ l .answer) × (r .limit ≡ l .limit) × (r .offer ≡ l .offer) ⌝ }
+{
+    let o = l.offer;
+    let begun = l.answer;
+    Listing {
+        goes: true,
+        place: flips,
+        record: FlipRecord {
+            bit: bit,
+            excess: excess,
+            left: left,
+        },
+        answer: begun,
+        limit: l.limit,
+        offer: o,
+    }
+}
+
+// What comes after so many flips: one more, or the end.
+fn turn(
+    l: Listing,
+    flips: usize,
+    word: &[u8],
+    t: &mut [u16],
+    y: &mut [u64],
+    s: &mut [u64],
+) -> Listing
+    requires { ⌜ Standing (now word) l flips (now t) (now y) (now s) ⌝ }
+    ensures { λ r. ⌜ (r .place ≡ flips) × ((n limit room : ℕ) → Stands n (now (word .entry)) limit room l flips (now (t .entry)) (now (y .entry)) (now (s .entry)) → Lists n (now (word .entry)) limit room r (now (t .exit)) (now (y .exit)) (now (s .exit))) ⌝ }
+{
+    let o = l.offer;
+    let sh = o.shape;
+    let next = runs::comes_next(s, t, sh, o.unsent);
+    match next {
+        Next::Quiet => ended(l, flips, word, y, 0, 0, 0),
+        Next::Stuck(bit, excess) => ended(l, flips, word, y, 5, bit as u32, excess),
+        Next::Flip(bit, excess) => {
+            if flips >= l.limit as usize {
+                return ended(l, flips, word, y, 6, 0, 0);
+            }
+            syndromes::flip(y, s, t, sh, bit);
+            let left = syndromes::broken(s);
+            went(l, flips, bit as u32, excess, left)
+        }
+    }
+}
+
+// The next record of the list, or its end.
+pub fn next(l: Listing, word: &[u8], t: &mut [u16], y: &mut [u64], s: &mut [u64]) -> Listing
+    requires { ⌜ Goes (now word) l (now t) (now y) (now s) ⌝ }
+    ensures { λ r. ⌜ (r .place ≡ l .place + 1) × ((n limit room : ℕ) → Lists n (now (word .entry)) limit room l (now (t .entry)) (now (y .entry)) (now (s .entry)) → Lists n (now (word .entry)) limit room r (now (t .exit)) (now (y .exit)) (now (s .exit))) ⌝ }
+{
+    turn(l, l.place + 1, word, t, y, s)
+}
+
+// No run has more flips than checks are broken at its start; for the near-Earth codes than half as many.
+fn most_flips(o: Offer, first: u32) -> u32
+    ensures { λ r. ⌜ ((n : ℕ) → offered n ≡ true → o ≡ offerOf n → (x : Word) → first ≡ broken (codeOf n) x → (limit : ℕ) → length (run (byExcess (codeOf n)) limit x .flips) ≤ r) ⌝ }
+{
+    if o.asked {
+        return first / 2;
+    }
+    first
+}
+
+// How many flips the run on a word has.
+fn count_flips(o: Offer, word: &[u8], limit: u16) -> usize
     requires { ⌜ Known o × (length (now word) ≡ o .word) ⌝ }
-    ensures { λ r. ⌜ ((n : ℕ) → offered n ≡ true → o ≡ offerOf n → Gathers r room (listedFrom n (now (word .entry)) limit)) ⌝ }
+    ensures { λ r. ⌜ ((n : ℕ) → offered n ≡ true → o ≡ offerOf n → r ≡ length (runOf n (now (word .entry)) limit .flips)) ⌝ }
 {
     let mut t = [0u16; 64];
     let mut y = [0u64; 130];
     let mut s = [0u64; 16];
     let sh = measured::measure(o, word, &mut t, &mut y, &mut s);
-    let first = syndromes::broken(&s);
-    let lowest = syndromes::lowest(&s, sh);
-    let kept = run(&mut y, &mut s, &t, sh, o.unsent, at_most(limit));
-    let flips = kept.flips as usize;
-    if flips > room {
-        return refused(10);
-    }
-    let last = syndromes::broken(&s);
-    let unlike = codes::unlike_after(o, word, &y, kept.flips);
-    let number = judging::judge(o, &y, kept.number);
-    let records = kept.records;
-    Listing {
-        flips: flips,
-        answer: Listed {
-            number: number,
-            flips: kept.flips,
-            first: first,
-            last: last,
-            unlike: unlike,
-            lowest: lowest,
-            bit: kept.bit,
-            excess: kept.excess,
-        },
-        records: records,
-    }
+    let ran = runs::run(&mut y, &mut s, &t, sh, o.unsent, limit);
+    ran.flips as usize
 }
 
-// The list of the run on a received word, under a limit, for a table of so many places.
-pub fn gather(code: u8, word: &[u8], limit: u16, room: usize) -> Listing
-    ensures { λ r. ⌜ Gathers r room (listAnswer code (now (word .entry)) limit) ⌝ }
+// Whether a table of so many places serves the run on a word: by the bounds where they tell, else the flips are counted.
+fn serves(o: Offer, word: &[u8], limit: u16, first: u32, room: usize) -> bool
+    requires { ⌜ Known o × (length (now word) ≡ o .word) ⌝ }
+    ensures { λ r. ⌜ ((n : ℕ) → offered n ≡ true → o ≡ offerOf n → first ≡ broken (codeOf n) (wordOf n (now (word .entry))) → r ≡ leb (length (runOf n (now (word .entry)) limit .flips)) room) ⌝ }
+{
+    if limit as usize <= room {
+        return true;
+    }
+    if most_flips(o, first) as usize <= room {
+        return true;
+    }
+    count_flips(o, word, limit) <= room
+}
+
+// The list of the run on a word of the right length.
+fn begin_taken(
+    o: Offer,
+    word: &[u8],
+    limit: u16,
+    room: usize,
+    t: &mut [u16],
+    y: &mut [u64],
+    s: &mut [u64],
+) -> Listing
+    requires { ⌜ Known o × (length (now word) ≡ o .word) × Blank (now t) (now y) (now s) ⌝ }
+    ensures { λ r. ⌜ (r .place ≡ 0) × ((n : ℕ) → offered n ≡ true → o ≡ offerOf n → Lists n (now (word .entry)) limit room r (now (t .exit)) (now (y .exit)) (now (s .exit))) ⌝ }
+{
+    let sh = measured::measure(o, word, t, y, s);
+    let first = syndromes::broken(s);
+    let lowest = syndromes::lowest(s, sh);
+    if !serves(o, word, limit, first, room) {
+        return refused(10);
+    }
+    let l = Listing {
+        goes: false,
+        place: 0,
+        record: FlipRecord {
+            bit: 0,
+            excess: 0,
+            left: first,
+        },
+        answer: Listed {
+            number: 0,
+            flips: 0,
+            first: first,
+            last: first,
+            unlike: 0,
+            lowest: lowest,
+            bit: 0,
+            excess: 0,
+        },
+        limit: limit,
+        offer: o,
+    };
+    turn(l, 0, word, t, y, s)
+}
+
+// The list of the run on a received word, under a limit, for a table of so many places; t, y and s are handed over as zeros.
+pub fn begin(
+    code: u8,
+    word: &[u8],
+    limit: u16,
+    room: usize,
+    t: &mut [u16],
+    y: &mut [u64],
+    s: &mut [u64],
+) -> Listing
+    requires { ⌜ Blank (now t) (now y) (now s) ⌝ }
+    ensures { λ r. ⌜ (r .place ≡ 0) × Lists code (now (word .entry)) limit room r (now (t .exit)) (now (y .exit)) (now (s .exit)) ⌝ }
 {
     let o = offer::of(code);
     let number = ladder::refusal(o.offered, word.len(), o.word, 0, 0);
     if number != 0 {
         return refused(number);
     }
-    gather_taken(o, word, limit, room)
-}
-
-// A record of the list.
-pub fn record_at(l: Listing, i: usize) -> FlipRecord
-    requires { ⌜ i < 511 ⌝ }
-    ensures { λ r. ⌜ r ≡ getD (l .records) i noRecord ⌝ }
-{
-    l.records[i]
+    begin_taken(o, word, limit, room, t, y, s)
 }
 
 // The list of the run on a received word, under a limit, into the caller's table.
 pub fn list(code: u8, word: &[u8], limit: u16, table: &mut [FlipRecord]) -> Listed
     ensures { λ r. ⌜ asListed r (now (table .exit)) ≡ listAnswer code (now (word .entry)) limit (asEntries (now (table .entry))) ⌝ }
 {
-    let l = gather(code, word, limit, table.len());
-    let mut i: usize = 0;
-    while i < l.flips {
-        table[i] = record_at(l, i);
-        i += 1;
+    let mut t = [0u16; 64];
+    let mut y = [0u64; 130];
+    let mut s = [0u64; 16];
+    let mut l = begin(code, word, limit, table.len(), &mut t, &mut y, &mut s);
+    while l.goes {
+        table[l.place] = l.record;
+        l = next(l, word, &mut t, &mut y, &mut s);
     }
     l.answer
 }

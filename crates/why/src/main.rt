@@ -2,7 +2,6 @@
 // Under a word's line stand its flips, with bit, excess and broken checks left, for refusal 5 the bit of greatest excess, and for a
 // refused word of code 1 the codeword that is nearest.
 ghost use mathlib.Core.Path.{_≡_};
-ghost use Prim.Native.Nat.{_≤_};
 ghost use lib.ListN.{length};
 use libc::STDIN_FILENO;
 use libc::STDOUT_FILENO;
@@ -69,17 +68,19 @@ fn put_flip(r: lists::FlipRecord) -> bool {
     put_end()
 }
 
-fn put_flips(l: lists::Listing) -> bool
-    requires { ⌜ l .flips ≤ 511 ⌝ }
-{
-    let mut i: usize = 0;
-    while i < l.flips {
-        if !put_flip(lists::record_at(l, i)) {
-            return false;
+// The list of a word, to its end; where the flips are shown, to one that could not be written.
+fn follow(code: u8, limit: u16, word: &[u8], shown: bool) -> lists::Listing {
+    let mut t = [0u16; 64];
+    let mut y = [0u64; 130];
+    let mut s = [0u64; 16];
+    let mut l = lists::begin(code, word, limit, PLACES, &mut t, &mut y, &mut s);
+    while l.goes {
+        if shown && !put_flip(l.record) {
+            return l;
         }
-        i += 1;
+        l = lists::next(l, word, &mut t, &mut y, &mut s);
     }
-    true
+    l
 }
 
 // The greatest excess and the lowest bit that has it, where no bit has one above 0.
@@ -128,13 +129,15 @@ fn put_nearest(code: u8, word: &[u8], a: lists::Listed) -> bool {
     put_end()
 }
 
-// A word's line, its flips and the reason: whether they are written.
+// A word's line, its flips and the reason: whether they are written. The line stands first, so the run is made twice.
 fn explain(index: u64, code: u8, limit: u16, word: &[u8]) -> bool {
-    let l = lists::gather(code, word, limit, PLACES);
-    put_line(index, l.answer)
-        && put_flips(l)
-        && put_reason(l.answer)
-        && put_nearest(code, word, l.answer)
+    let l = follow(code, limit, word, false);
+    let a = l.answer;
+    if !put_line(index, a) {
+        return false;
+    }
+    let shown = follow(code, limit, word, true);
+    !shown.goes && put_reason(a) && put_nearest(code, word, a)
 }
 
 // Word after word; the last may be short, and is refused.

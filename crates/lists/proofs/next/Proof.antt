@@ -1,0 +1,38 @@
+-- `lists::next`: a turn from the next place. Assumes nothing.
+use borrow.Author.Needs.{needs}
+use Rattle.lists.proofs.next.Statement.{statement}
+use Rattle.lists.proofs.next.Tie as tie
+
+add-turn : tie.Need-add-turn
+add-turn c =
+    let a = c .before .before .before .before .before in
+    let st = a .pre .lists .goes (a .pre .on) in
+    let under = st .measures .under in
+    let within = st .going .within in
+    search needs
+
+turn-requires : tie.Need-turn-requires
+turn-requires c κs =
+    let k = c .before .before .before .before .before .before .before .before .pre in
+    record { number = k .number; limit = k .limit; room = k .room; stands = k .lists .goes (k .on) }
+
+same-length : tie.Need-same-length
+same-length c = search needs
+
+same-length-2 : tie.Need-same-length-2
+same-length-2 c = search needs
+
+same-length-3 : tie.Need-same-length-3
+same-length-3 c = search needs
+
+returns : tie.Need-returns
+returns c =
+    let t = c .before .before .before .before .before .before .turn in (
+      t .ensures .0,
+      λ n limit room is. t .ensures .1 n limit room (is .goes (c .before .before .before .before .before .before .before
+          .before .before .before .before .before .before .before .before .pre .on)),
+    )
+
+pub next-spec : {M : Type 1} → statement M
+next-spec =
+    tie.close (tie.spec add-turn turn-requires same-length same-length-2 same-length-3 returns)
