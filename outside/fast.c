@@ -382,6 +382,32 @@ LEAF struct judge_answered quick_narrow(const uint64_t *y, const uint16_t *h, st
     return (struct judge_answered){0, true, sh.rows * sh.size};
 }
 
+/* Quick, codes 4 and 5, once the first group is met: every block doubled, and then group after group. */
+LEAF struct judge_answered quick_wide(const uint64_t *y, const uint16_t *h, struct shape sh)
+{
+    uint64_t d[16 * 16 + 1];
+    for (unsigned b = 0; b < 16; b++) {
+        uint64_t v[8];
+        cut(y, b * sh.size, sh, v);
+        twice(v, sh, d + 16 * b);
+    }
+    for (unsigned r = 0; r < sh.rows; r++) {
+        unsigned begins[32];
+        for (unsigned k = 0; k < 32; k++)
+            begins[k] = 1024 * (k / 2) + h[32 * r + k];
+        for (unsigned g = 0; g < sh.words; g++) {
+            uint64_t sum = 0;
+            for (unsigned k = 0; k < 32; k++)
+                sum ^= window(d + g, begins[k]);
+            if (g == sh.words - 1)
+                sum = front(sum, sh.size);
+            if (sum != 0)
+                return (struct judge_answered){0, false, r * sh.size + 64 * g + (unsigned)__builtin_clzll(sum) + 1};
+        }
+    }
+    return (struct judge_answered){0, true, sh.rows * sh.size};
+}
+
 /* The 64 bits of the octets from bit p on; of code 5 the first 18 are not there, and 0. */
 LEAF uint64_t octets_window(const uint8_t *octets, unsigned p, unsigned unsent)
 {
@@ -418,17 +444,10 @@ struct judge_answered fast_quick(uint8_t code, const uint8_t *word, size_t len)
         if (group != 0)
             return (struct judge_answered){0, false, (unsigned)__builtin_clzll(group) + 1};
     }
-    uint64_t y[HELD], s[SYNDROME];
-    struct judge_answered answer = {0};
-    unsigned low;
+    uint64_t y[HELD];
+    struct judge_answered answer;
     take(code, word, len, y);
-#define QUICK(h, steps, sh, lead)                  \
-    if (sh.words == 1)                             \
-        return quick_narrow(y, h, sh);             \
-    syndrome(y, h, sh, s);                         \
-    low = lowest(s, sh);                           \
-    answer.yes = low == sh.rows * sh.size;         \
-    answer.evaluated = answer.yes ? low : low + 1
+#define QUICK(h, steps, sh, lead) answer = sh.words == 1 ? quick_narrow(y, h, sh) : quick_wide(y, h, sh)
     FOR_CODE(code, QUICK)
     return answer;
 }

@@ -1,14 +1,19 @@
 -- What the record of a code that is offered says of its checks and its octets.
-use mathlib.Core.Path.{_≡_, refl}
-use mathlib.Core.Bool.{true}
-use Prim.Native.Nat.{ℕ, _+_, _*_, _≤_}
+use mathlib.Core.Path.{_≡_, refl, sym}
+use mathlib.Core.Bool.{Bool, true, false, _&&_, true≢false}
+use mathlib.Core.List.{List, [], _∷_}
+use Prim.Native.Nat.{ℕ, zero, suc, _+_, _*_, _≤_, _<_}
+use native.Mathlib.Nat.{le-of-suc-le-suc}
 use native.Mathlib.Omega.{arith}
-use lib.Dec.{T, lit≤}
+use lib.Dec.{T, lit≤, ltb}
+use lib.ListN.{length, getD}
+use borrow.Author.Tests.{ltb-true}
 use Rattle.rules.specs.Codes.{code, code1, code2, code3, code4, code5, checks, offered}
 use Rattle.rules.specs.Tables.{parity16, parity32, parity64, parity511}
 use Rattle.rules.proofs.Numbers.{five}
 use Rattle.offer.specs.Offers.{offerOf}
 use Rattle.offer.proofs.Offers.{is-offered}
+use Rattle.tables.specs.Flat.{flat16, pairs}
 
 pub record Checked (n : ℕ) : Type 0 where
   pub checks-are : offerOf n .shape .rows * offerOf n .shape .size ≡ checks (code n)
@@ -28,3 +33,23 @@ checked-five =
 
 pub checked : (n : ℕ) → offered n ≡ true → Checked n
 checked n o = checked-five n (is-offered n o)
+
+-- ---- every place of the near-Earth table holds a shift
+
+both-true : (a b : Bool) → (a && b) ≡ true → (a ≡ true) × (b ≡ true)
+both-true true b e = (refl, e)
+both-true false b e = absurd (true≢false (sym e))
+
+below : ℕ → List ℕ → Bool
+below m [] = true
+below m (v ∷ l) = ltb v m && below m l
+
+below-at : (m : ℕ) (l : List ℕ) → below m l ≡ true → (k : ℕ) → k < length l → getD l k 0 < m
+unfolding below
+below-at m [] e k h = absurd (omega (arith, h))
+below-at m (v ∷ l) e zero h = ltb-true v m (both-true (ltb v m) (below m l) e .0)
+below-at m (v ∷ l) e (suc k) h = below-at m l (both-true (ltb v m) (below m l) e .1) k (le-of-suc-le-suc h)
+
+pub every-shift : (k : ℕ) → k < length (flat16 (pairs parity511)) → getD (flat16 (pairs parity511)) k 0 < 511
+unfolding below flat16 parity511
+every-shift = below-at 511 (flat16 (pairs parity511)) refl

@@ -1,9 +1,10 @@
-// A quick no: the checks in order, up to the first group with a broken one. A group is worked out at once; the number reported is the definition's.
+// A quick no: the checks in order, up to the first group with a broken one. A group is worked out at once; the number reported is the
+// definition's.
 ghost use mathlib.Core.Path.{_≡_};
 ghost use mathlib.Core.Bool.{true};
 ghost use Prim.Native.Nat.{ℕ, _+_, _*_, _/_, _≤_, _<_};
 ghost use lib.ListN.{length};
-ghost use Rattle.bits.specs.Bits.{Word, bit, _⊕_};
+ghost use Rattle.bits.specs.Bits.{Word, bit, least, _⊕_};
 ghost use Rattle.rules.specs.Codes.{Code, code as codeOf, checks, offered};
 ghost use Rattle.rules.specs.Checks.{check, lowest as lowestOf};
 ghost use Rattle.rules.specs.Encoding.{lifted};
@@ -12,7 +13,7 @@ ghost use Rattle.layout.specs.Lent.{Fit, Lent};
 ghost use Rattle.tables.specs.Flat.{Lends};
 ghost use Rattle.offer.specs.Offers.{offerOf, Known};
 ghost use Rattle.quick.specs.Quick.{read, asRead, refusedQuick, quickAnswer};
-ghost use Rattle.quick.specs.Groups.{Has, reached, placed, group};
+ghost use Rattle.quick.specs.Groups.{Has, reached, placed, group, Twofold, Begun, Full, Inside, behind};
 ghost use Rattle.quick.specs.Answers.{asQuick};
 use layout::Shape;
 use offer::Offer;
@@ -53,18 +54,6 @@ fn answer(lowest: u32, all: u32) -> Answered
         yes: false,
         evaluated: lowest + 1,
     }
-}
-
-// The lowest broken check by the whole syndrome.
-fn whole_lowest(o: Offer, word: &[u8]) -> u32
-    requires { ⌜ Known o × (length (now word) ≡ o .word) ⌝ }
-    ensures { λ r. ⌜ ((n : ℕ) → offered n ≡ true → o ≡ offerOf n → r ≡ lowestOf (codeOf n) (lifted (codeOf n) (bit (now (word .entry))))) ⌝ }
-{
-    let mut t = [0u16; 64];
-    let mut y = [0u64; 130];
-    let mut s = [0u64; 16];
-    let sh = measured::measure(o, word, &mut t, &mut y, &mut s);
-    syndromes::lowest(&s, sh)
 }
 
 // The 64 bits of the octets from bit p on, of nine octets.
@@ -136,8 +125,116 @@ fn first_group(octets: &[u8], u: usize, h: &[u16], sh: Shape) -> u64
     v
 }
 
-// The lowest broken check where a row is wider than a group. The first group comes straight from the octets; if it is met, the whole
-// syndrome costs less than the groups behind it one by one.
+// The block of the m bits from bit p on, twice over.
+fn double_block(y: &[u64], p: usize, m: usize, d: &mut [u64])
+    requires { ⌜ (1 ≤ m) × (m ≤ 512) × (p / 64 + 8 < length (now y)) × (length (now d) ≡ 16) ⌝ }
+    ensures { λ _. ⌜ wbit (now (d .exit)) ≡ twice m (upTo m (from p (wbit (now (y .entry))))) ⌝ }
+{
+    let mut block = [0u64; 8];
+    vectors::cut(y, p, m, &mut block);
+    vectors::double(&block, m, d);
+}
+
+// Every block twice over, each in 16 words.
+fn double_blocks(y: &[u64], sh: Shape, d: &mut [u64])
+    requires { ⌜ (448 < sh .size) × (sh .size ≤ 512) × (sh .blocks ≡ 16) × (sh .blocks * sh .size ≤ 8176) × (length (now y) ≡ 130) × (length (now d) ≡ 256) ⌝ }
+    ensures { λ _. ⌜ Twofold (sh .blocks) (sh .size) (wbit (now (y .entry))) (now (d .exit)) ⌝ }
+{
+    let mut b: usize = 0;
+    while b < sh.blocks {
+        let at = 16 * b;
+        let end = at + 16;
+        double_block(y, b * sh.size, sh.size, &mut d[at..end]);
+        b += 1;
+    }
+}
+
+// Where each place of row r begins in the doubled blocks. It is worked out once, so that a group costs no more than its windows.
+fn begin_row(h: &[u16], sh: Shape, r: usize, begins: &mut [usize])
+    requires { ⌜ Fit (now h) sh × (r < sh .rows) × (length (now begins) ≡ 2 * sh .blocks) ⌝ }
+    ensures { λ _. ⌜ Begun (2 * sh .blocks) sh (now (h .entry)) r (now (begins .exit)) ⌝ }
+{
+    let mut k = 0;
+    while k < 2 * sh.blocks {
+        begins[k] = 1024 * (k / 2) + h[2 * (r * sh.blocks) + k] as usize;
+        k += 1;
+    }
+}
+
+// The first 64 checks: the sum of the 64 bits from each beginning on.
+fn wide_group(d: &[u64], begins: &[usize]) -> u64
+    requires { ⌜ Inside (now begins) 2 (now d) ⌝ }
+    ensures { λ r. ⌜ Holds r (behind (now (begins .entry)) (wbit (now (d .entry)))) ⌝ }
+{
+    let mut v: u64 = 0;
+    let mut k = 0;
+    while k < begins.len() {
+        v ^= vectors::window(d, begins[k]);
+        k += 1;
+    }
+    v
+}
+
+// The lowest broken one of m checks, group after group, or m if none is broken.
+fn groups_lowest(d: &[u64], begins: &[usize], m: usize) -> usize
+    requires { ⌜ (m ≤ 512) × (8 ≤ length (now d)) × Inside (now begins) 9 (now d) ⌝ }
+    ensures { λ r. ⌜ r ≡ least m (behind (now (begins .entry)) (wbit (now (d .entry)))) ⌝ }
+{
+    let mut g: usize = 0;
+    while 64 * g < m {
+        let v = wide_group(&d[g..], begins);
+        if v != 0 {
+            let l = 64 * g + u64::leading_zeros(v) as usize;
+            if l < m {
+                return l;
+            }
+            return m; // what is set is past the last check
+        }
+        g += 1;
+    }
+    m
+}
+
+// The lowest broken check of row r, counted from the row's first, or M if none is broken.
+fn wide_row_lowest(d: &[u64], h: &[u16], sh: Shape, r: usize) -> usize
+    requires { ⌜ Fit (now h) sh × Full (now h) sh × (sh .blocks ≡ 16) × (r < sh .rows) × (length (now d) ≡ 256) ⌝ }
+    ensures { λ l. ⌜ ((c : Code) (x : Word) → Lent c (now (h .entry)) sh → Twofold (sh .blocks) (sh .size) x (now (d .entry)) → l ≡ least (sh .size) (from (r * sh .size) (check c x))) ⌝ }
+{
+    let mut begins = [0usize; 32];
+    begin_row(h, sh, r, &mut begins);
+    groups_lowest(d, &begins, sh.size)
+}
+
+// The lowest broken check, row after row.
+fn wide_rows_lowest(d: &[u64], h: &[u16], sh: Shape) -> u32
+    requires { ⌜ Fit (now h) sh × Full (now h) sh × (sh .blocks ≡ 16) × (length (now d) ≡ 256) ⌝ }
+    ensures { λ n. ⌜ ((c : Code) (x : Word) → Lent c (now (h .entry)) sh → Twofold (sh .blocks) (sh .size) x (now (d .entry)) → n ≡ lowestOf c x) ⌝ }
+{
+    let mut row = 0;
+    while row < sh.rows {
+        let l = wide_row_lowest(d, h, sh, row);
+        if l < sh.size {
+            return (row * sh.size + l) as u32;
+        }
+        row += 1;
+    }
+    (sh.rows * sh.size) as u32
+}
+
+// The lowest broken check of a word that is laid out whole.
+fn whole_lowest(octets: &[u8], u: usize, h: &[u16], sh: Shape) -> u32
+    requires { ⌜ Fit (now h) sh × Full (now h) sh × (448 < sh .size) × (sh .blocks ≡ 16) × (u ≤ 18) × (length (now octets) ≤ 1022) ⌝ }
+    ensures { λ r. ⌜ ((c : Code) → Lent c (now (h .entry)) sh → u ≡ c .unsent → r ≡ lowestOf c (lifted c (bit (now (octets .entry))))) ⌝ }
+{
+    let mut y = [0u64; 130];
+    received::take(octets, u, &mut y);
+    let mut d = [0u64; 256];
+    double_blocks(&y, sh, &mut d);
+    wide_rows_lowest(&d, h, sh)
+}
+
+// The lowest broken check where a row is wider than a group. The first group comes straight from the octets; if it is met, the word is
+// laid out, and group comes after group, from the first on: to begin with the second would cost more instructions, not fewer.
 fn wide_lowest(o: Offer, word: &[u8]) -> u32
     requires { ⌜ Known o × (length (now word) ≡ o .word) × (o .shape .size ≡ 511) ⌝ }
     ensures { λ r. ⌜ ((n : ℕ) → offered n ≡ true → o ≡ offerOf n → r ≡ lowestOf (codeOf n) (lifted (codeOf n) (bit (now (word .entry))))) ⌝ }
@@ -154,7 +251,7 @@ fn wide_lowest(o: Offer, word: &[u8]) -> u32
     if v != 0 {
         return u64::leading_zeros(v);
     }
-    whole_lowest(o, word)
+    whole_lowest(word, o.unsent, &t, sh)
 }
 
 // What the shift s adds to the checks of a row, where one word holds the block of m bits; d is the block twice over.

@@ -77,6 +77,14 @@ module _ (g : Generator) where
       ∙ digit-number 8 (λ k. digit 8 (getD o (i / 8) 0) k ⊕ sequence g (8 * (n + i / 8) + k)) (i % 8) (mod-lt i (zero-lt-suc 7))
       ∙ ap (λ z. bit o i ⊕ sequence g z) e
 
+  -- octets that have the sequence's bits added are the octets randomised
+  pub by-bits : (n : ℕ) (o : List ℕ) (x : Word) → ((i : ℕ) → i < 8 * length o → x i ≡ bit o i ⊕ sequence g (8 * n + i))
+      → octets (length o) x ≡ randomised g n o
+  by-bits n o x h =
+      octets-same (length o) x (bit (randomised g n o)) (λ i l. h i l ∙ sym (bit-randomised n o i l))
+      ∙ ap (λ z. octets z (bit (randomised g n o))) (sym (length-randomised n o))
+      ∙ octets-bit (randomised g n o) (randomised-octets n o)
+
   -- a wrong bit stays where it is
   pub randomised-flip : (n : ℕ) (o : List ℕ) (b : ℕ)
       → randomised g n (octets (length o) (flipped (bit o) b)) ≡ octets (length o) (flipped (bit (randomised g n o)) b)
@@ -110,3 +118,15 @@ module _ (g : Generator) where
       ∙ ap (λ z. P ++ (z ∷ [])) (added-octet g (n + i) y (subst (λ z. z < 256) here low) ∙ ap (bitXor y) (sym ev)) in
       ap₂ (λ a b. set a i (bitXor b v)) split here ∙ set-at P y ys (bitXor y v) i long′
       ∙ sym (append-snoc P (bitXor y v) ys) ∙ ap₂ (λ a b. a ++ drop b o) (sym more) (sym (add-one i))
+
+-- a bit of a table that holds octets of a sequence
+pub table-bit : (g : Generator) (table : List ℕ) (from n i : ℕ) → getD table (from + i / 8) 0 ≡ sequenceOctet g (n + i / 8)
+    → bit table (8 * from + i) ≡ sequence g (8 * n + i)
+table-bit g table from n i known =
+    let q : (8 * from + i) / 8 ≡ from + i / 8 = omega arith in
+    let t : (8 * from + i) % 8 ≡ i % 8 = omega arith in
+    let e : 8 * (n + i / 8) + i % 8 ≡ 8 * n + i = omega arith in
+    ap₂ (λ a b. digit 8 (getD table a 0) b) q t
+    ∙ ap (λ z. digit 8 z (i % 8)) known
+    ∙ digit-number 8 (λ k. sequence g (8 * (n + i / 8) + k)) (i % 8) (mod-lt i (zero-lt-suc 7))
+    ∙ ap (sequence g) e

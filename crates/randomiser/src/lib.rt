@@ -1,6 +1,6 @@
 // Randomising: the telecommand sequence, added to octets in place.
 ghost use mathlib.Core.Path.{_≡_};
-ghost use Prim.Native.Nat.{_+_, _≤_};
+ghost use Prim.Native.Nat.{_+_, _*_, _/_, _≤_};
 ghost use lib.ListN.{length};
 ghost use Rattle.randomiser.specs.Randomiser.{telecommand, randomised, Added};
 
@@ -327,8 +327,33 @@ const TELECOMMAND: [u8; 319] = [
     0x7B,
 ];
 
-// The octets of a sequence from `from` on, added to as many octets.
-pub fn add(octets: &mut [u8], sequence: &[u8], from: usize)
+// Eight octets of a sequence from `from` on, added to as many octets as one 64-bit word.
+fn add_word(octets: &mut [u8], sequence: &[u8], from: usize)
+    requires { ⌜ (length (now octets) ≡ 8) × (from + 8 ≤ length (now sequence)) ⌝ }
+    ensures { λ _. ⌜ Added (now (sequence .entry)) from (now (octets .entry)) (now (octets .exit)) ⌝ }
+{
+    let words = [
+        vectors::eight(octets, 0) ^ vectors::eight(sequence, from),
+        0,
+    ];
+    vectors::store(&words, 0, octets);
+}
+
+// The same for octets that are whole words, one after another.
+fn add_words(octets: &mut [u8], sequence: &[u8], from: usize)
+    requires { ⌜ (length (now octets) ≡ length (now octets) / 8 * 8) × (from + length (now octets) ≤ length (now sequence)) ⌝ }
+    ensures { λ _. ⌜ Added (now (sequence .entry)) from (now (octets .entry)) (now (octets .exit)) ⌝ }
+{
+    let mut at: usize = 0;
+    while at < octets.len() {
+        let end = at + 8;
+        add_word(&mut octets[at..end], sequence, from + at);
+        at = end;
+    }
+}
+
+// The same octet by octet.
+fn add_octets(octets: &mut [u8], sequence: &[u8], from: usize)
     requires { ⌜ from + length (now octets) ≤ length (now sequence) ⌝ }
     ensures { λ _. ⌜ Added (now (sequence .entry)) from (now (octets .entry)) (now (octets .exit)) ⌝ }
 {
@@ -337,6 +362,16 @@ pub fn add(octets: &mut [u8], sequence: &[u8], from: usize)
         octets[i] ^= sequence[from + i];
         i += 1;
     }
+}
+
+// The octets of a sequence from `from` on, added to as many octets: by words, and the last ones, fewer than eight, by octets.
+pub fn add(octets: &mut [u8], sequence: &[u8], from: usize)
+    requires { ⌜ from + length (now octets) ≤ length (now sequence) ⌝ }
+    ensures { λ _. ⌜ Added (now (sequence .entry)) from (now (octets .entry)) (now (octets .exit)) ⌝ }
+{
+    let whole = octets.len() / 8 * 8;
+    add_words(&mut octets[..whole], sequence, from);
+    add_octets(&mut octets[whole..], sequence, from + whole);
 }
 
 // Randomises up to 64 octets in place, or takes it off again; `used` octets of the sequence were used before.

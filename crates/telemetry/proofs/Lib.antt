@@ -1,4 +1,3 @@
 pub mod Sequence
-pub mod Parts
 pub mod Second
 pub mod Period

@@ -1,52 +1,56 @@
--- `quick::whole_lowest`: the word measured, and the first broken check of its syndrome. Assumes nothing.
-use mathlib.Core.Path.{refl, ap, _∙_}
-use Rattle.rules.specs.Codes.{code}
-use Rattle.rules.specs.Checks.{lowest}
+-- `quick::whole_lowest`: the word laid out, its blocks doubled, and row after row. Assumes nothing.
+use mathlib.Core.Path.{refl, subst}
+use Rattle.bits.specs.Bits.{Word, bit}
+use Rattle.rules.specs.Encoding.{lifted}
 use Rattle.vectors.proofs.Filling.{zero-words}
-use Rattle.codes.proofs.Admitted.{fitting}
+use Rattle.quick.specs.Groups.{Twofold}
+use Rattle.quick.proofs.Doubled.{fit-size}
 use borrow.Author.Needs.{needs}
 use Rattle.quick.proofs.whole_lowest.Statement.{statement}
 use Rattle.quick.proofs.whole_lowest.Tie as tie
 
-slice-aggregate-measure : tie.Need-slice-aggregate-measure
-slice-aggregate-measure c = search needs
+slice-aggregate-take : tie.Need-slice-aggregate-take
+slice-aggregate-take c = search needs
 
-slice-aggregate-measure-2 : tie.Need-slice-aggregate-measure-2
-slice-aggregate-measure-2 c = search needs
+take-requires : tie.Need-take-requires
+take-requires c κs =
+    let s = c .before .before .before in
+    (s .pre .5, s .pre .4, refl, zero-words 130)
 
-slice-aggregate-measure-3 : tie.Need-slice-aggregate-measure-3
-slice-aggregate-measure-3 c = search needs
+slice-aggregate-double-blocks : tie.Need-slice-aggregate-double-blocks
+slice-aggregate-double-blocks c = search needs
 
-measure-requires : tie.Need-measure-requires
-measure-requires c κs =
-    let a = c .before .before .before .before in
-    (a .pre .0, a .pre .1, refl, refl, refl, zero-words 130, zero-words 16)
+slice-aggregate-double-blocks-2 : tie.Need-slice-aggregate-double-blocks-2
+slice-aggregate-double-blocks-2 c = search needs
 
-slice-aggregate-lowest : tie.Need-slice-aggregate-lowest
-slice-aggregate-lowest c = search needs
+double-blocks-requires : tie.Need-double-blocks-requires
+double-blocks-requires c κs =
+    let s = c .before .before .before .before .before .before .before in
+    (s .pre .2, fit-size (s .pre .0), s .pre .3, s .pre .0 .bits, search needs, refl)
 
-lowest-requires : tie.Need-lowest-requires
-lowest-requires c κs =
-    let m = c .before .before .before .before in
-    let a = m .before .before .before .before .before in
-    let k = a .pre .0 in
-    let w = fitting (m .measure .ensures .1 (k .number) (k .offers) (k .is) .lends .fit) in
-    (search needs, w .0, w .1, w .2, w .3)
+slice-aggregate-wide-rows-lowest : tie.Need-slice-aggregate-wide-rows-lowest
+slice-aggregate-wide-rows-lowest c = search needs
+
+wide-rows-lowest-requires : tie.Need-wide-rows-lowest-requires
+wide-rows-lowest-requires c κs = search needs
 
 returns : tie.Need-returns
-returns c n off is =
-    let m = c .before .before .before .before .before in
-    let e = m .measure .ensures .1 n off is in
-    c .lowest .ensures _ _ _ (e .lends .fit) (e .lends .lent) (e .held) ∙ ap (lowest (code n)) (e .bits)
+returns c code lent e =
+    let s = c .before .before .before .before .before .before .before .before .before .before .before in
+    let bits = c .before .before .before .before .before .before .before .take .ensures code e in
+    let two = c .before .before .before .double-blocks in
+    c .wide-rows-lowest .ensures code (lifted code (bit (s .args .octets .now))) lent
+    (subst (λ (x : Word). Twofold (s .args .sh .blocks) (s .args .sh .size) x (two .last .1 .1 .0)) bits (two .ensures))
 
 pub whole-lowest-spec : {M : Type 1} → statement M
 whole-lowest-spec =
     tie.close
     (tie.spec
-    slice-aggregate-measure
-    slice-aggregate-measure-2
-    slice-aggregate-measure-3
-    measure-requires
-    slice-aggregate-lowest
-    lowest-requires
+    slice-aggregate-take
+    take-requires
+    slice-aggregate-double-blocks
+    slice-aggregate-double-blocks-2
+    double-blocks-requires
+    slice-aggregate-wide-rows-lowest
+    wide-rows-lowest-requires
     returns)

@@ -1,5 +1,5 @@
--- `quick::wide_lowest`: the first group, or the whole syndrome. Assumes nothing.
-use mathlib.Core.Path.{_≡_, refl, sym, ap, _∙_}
+-- `quick::wide_lowest`: the first group, or the word laid out. Assumes nothing.
+use mathlib.Core.Path.{_≡_, refl, sym, ap, _∙_, subst}
 use mathlib.Core.Bool.{true}
 use mathlib.Core.List.{List}
 use Prim.Native.Nat.{ℕ, _≤_, _<_}
@@ -18,7 +18,8 @@ use Rattle.tables.specs.Flat.{Lends, flat16, pairs}
 use Rattle.tables.proofs.Lending.{by-size}
 use Rattle.vectors.proofs.Firsts.{first-digit}
 use Rattle.quick.proofs.Groups.{group-found}
-use Rattle.quick.proofs.Shapes.{checked}
+use Rattle.quick.specs.Groups.{Full}
+use Rattle.quick.proofs.Shapes.{checked, every-shift}
 use borrow.Author.Needs.{needs}
 use Rattle.quick.proofs.wide_lowest.Statement.{statement}
 use Rattle.quick.proofs.wide_lowest.Tie as tie
@@ -34,6 +35,9 @@ lent n off e t is = by-size 511 t near (record {
   large = λ e. absurd (omega arith);
   near = λ e. (is, refl);
 }) n off e .1
+
+full : (t : List ℕ) → t ≡ flat16 (pairs parity511) → Full t near
+full t is = subst (λ z. Full z near) (sym is) every-shift
 
 slice-aggregate-lend511 : tie.Need-slice-aggregate-lend511
 slice-aggregate-lend511 c = search needs
@@ -75,13 +79,24 @@ returns c n off is =
     (c .before .first-group .ensures (code n) (ap (λ o. o .unsent) is ∙ fixed n off .unsent))
     (f .inside) (f .here) (f .clear) (λ j h. absurd (omega arith))
 
+slice-aggregate-whole-lowest : tie.Need-slice-aggregate-whole-lowest
+slice-aggregate-whole-lowest c = search needs
+
 whole-lowest-requires : tie.Need-whole-lowest-requires
 whole-lowest-requires c κs =
-    let s = c .before .before .before .before .before .before .before in
-    (s .pre .0, s .pre .1)
+    let s = c .before .before .before .before .before .before .before .before in
+    let k = s .pre .0 in
+    let e : 511 ≡ offerOf (k .number) .shape .size = sym (s .pre .2) ∙ ap (λ o. o .shape .size) (k .is) in
+    let few = small k in
+    let is = c .before .before .before .before .before .lend511 .ensures in
+    (lent (k .number) (k .offers) e _ is .fit, full _ is, lit< tt, refl, few .unsent, omega (arith, few .word, s .pre .1))
 
 returns-2 : tie.Need-returns-2
-returns-2 c = c .whole-lowest .ensures
+returns-2 c n off is =
+    let s = c .before .before .before .before .before .before .before .before .before in
+    let e : 511 ≡ offerOf n .shape .size = sym (s .pre .2) ∙ ap (λ o. o .shape .size) is in
+    let l = lent n off e _ (c .before .before .before .before .before .before .lend511 .ensures) in
+    c .whole-lowest .ensures (code n) (l .lent) (ap (λ o. o .unsent) is ∙ fixed n off .unsent)
 
 pub wide-lowest-spec : {M : Type 1} → statement M
 wide-lowest-spec =
@@ -92,5 +107,6 @@ wide-lowest-spec =
     slice-aggregate-first-group
     first-group-requires
     returns
+    slice-aggregate-whole-lowest
     whole-lowest-requires
     returns-2)

@@ -1,84 +1,86 @@
--- `randomiser::add`: what is done so far is randomised, and the rest is as it was. Assumes nothing.
-use mathlib.Core.Path.{_≡_, refl, ap, ap₂, sym, _∙_}
-use mathlib.Core.List.{List, _∷_, [], _++_, append-nil}
-use Prim.Native.Nat.{ℕ, _≤_, _<_, _-_, _+_}
+-- `randomiser::add`: the whole words, then what is left. Assumes nothing.
+use mathlib.Core.Path.{_≡_, sym, ap, _∙_}
+use mathlib.Core.List.{List, _++_}
+use Prim.Native.Nat.{ℕ, _≤_, _-_, _+_, _*_, _/_}
 use native.Mathlib.Omega.{arith}
-use lib.ListN.{length, take, drop, getD, length-set}
-use lib.Seq.{take-length, drop-length}
-use Rattle.randomiser.proofs.Randomising.{randomised-more}
-use Rattle.randomiser.specs.Randomiser.{Generator, sequenceOctet, randomised}
+use lib.ListN.{length, getD, take, drop, length-take}
+use lib.Seq.{length-take-le}
+use borrow.Author.Needs.{needs}
+use Rattle.randomiser.specs.Randomiser.{sequenceOctet, randomised}
+use Rattle.randomiser.proofs.Parts.{more-done, out-length, all-done}
 use Rattle.randomiser.proofs.add.Statement.{statement}
 use Rattle.randomiser.proofs.add.Tie as tie
 
-abbrev Inv-loop : tie.InvT-loop
-Inv-loop octets₀ sequence from i₀ octets i =
-    (i ≤ length octets₀) × (length octets ≡ length octets₀)
-    × ((g : Generator) → (used : ℕ) → ((j : ℕ) → j < length octets₀ → getD sequence (from + j) 0 ≡ sequenceOctet g (used + j)) → octets
-    ≡ randomised g used (take i octets₀) ++ drop i octets₀)
+mul-whole : tie.Need-mul-whole
+mul-whole c = search needs
 
-abbrev μ-loop : tie.MeasureT-loop
-μ-loop octets₀ sequence from i₀ octets i = length octets₀ - i
+slice-relend-prefix-add-words : tie.Need-slice-relend-prefix-add-words
+slice-relend-prefix-add-words c = search needs
 
-loop-holds : tie.Need-loop-holds Inv-loop μ-loop
-unfolding randomised
-loop-holds c = (omega arith, refl, λ g used known. refl)
+slice-aggregate-add-words : tie.Need-slice-aggregate-add-words
+slice-aggregate-add-words c =
+    let o = c .before .before .before .args .octets .now in
+    sym (length-take-le (length o / 8 * 8) o (omega arith))
 
-add-octets : tie.Need-add-octets Inv-loop μ-loop
-add-octets c = omega arith
+add-words-requires : tie.Need-add-words-requires
+add-words-requires c κs =
+    let s = c .before .before .before in
+    let o = s .args .octets .now in
+    let long = length-take-le (length o / 8 * 8) o (omega arith) in
+    (omega (arith, long), omega (arith, long, s .pre))
 
-shared-slice-read-octets : tie.Need-shared-slice-read-octets Inv-loop μ-loop
-shared-slice-read-octets c = omega arith
+sub-add-octets : tie.Need-sub-add-octets
+sub-add-octets c = search needs
 
-slice-read-octets : tie.Need-slice-read-octets Inv-loop μ-loop
-slice-read-octets c = omega arith
+part-add-octets-start : tie.Need-part-add-octets-start
+part-add-octets-start c = search needs
 
-slice-write-octets : tie.Need-slice-write-octets Inv-loop μ-loop
-slice-write-octets c = omega arith
+part-add-octets-end : tie.Need-part-add-octets-end
+part-add-octets-end c = search needs
 
-add-i : tie.Need-add-i Inv-loop μ-loop
-add-i c = omega arith
+add-add-octets : tie.Need-add-add-octets
+add-add-octets c = search needs
 
-loop-less : tie.Need-loop-less Inv-loop μ-loop
-loop-less c = omega arith
+add-octets-requires : tie.Need-add-octets-requires
+add-octets-requires c κs = search needs
 
-loop-again : tie.Need-loop-again Inv-loop μ-loop
-loop-again c =
-    let h = c .before .before .before .loop in
-    let a = c .before .before .before .before in (
-      omega arith,
-      simp length-set (h .inv .1),
-      λ g used known. randomised-more g used (a .args .octets .now) (h .octets) (h .i)
-          (getD (a .args .sequence .now) (a .args .from + h .i) 0) (omega arith) (c .slice-known .given (h .i) .fits)
-          (h .inv .2 g used known)
-          (known (h .i) (omega arith)),
-    )
+same-length : tie.Need-same-length
+same-length c = search needs
 
-same-length : tie.Need-same-length Inv-loop μ-loop
-same-length c = omega arith
-
-returns : tie.Need-returns Inv-loop μ-loop
+returns : tie.Need-returns
 returns c g used known =
-    let h = c .before .loop in
-    let a = c .before .before .args in
-    let e : h .i ≡ length (a .octets .now) = omega arith in
-    h .inv .2 g used known
-    ∙ ap (λ z. randomised g used (take z (a .octets .now)) ++ drop z (a .octets .now)) e
-    ∙ ap₂ (λ x y. randomised g used x ++ y) (take-length (a .octets .now)) (drop-length (a .octets .now))
-    ∙ append-nil (randomised g used (a .octets .now))
+    let s = c .before .before .before .before .before .before .before .before .before .before in
+    let o = s .args .octets .now in
+    let from = s .args .from in
+    let w = length o / 8 * 8 in
+    let words = c .before .before .before .before .before .before .add-words in
+    let rest = c .before .before .add-octets in
+    let out : List ℕ = words .last .0 ++ drop w o in
+    let long = length-take-le w o (omega arith) in
+    let done : out ≡ randomised g used (take w o) ++ drop w o =
+    ap (λ z. z ++ drop w o) (words .ensures g used (λ i h. known i (omega (arith, h, long)))) in
+    let size = out-length g used o out w (omega arith) done in
+    let room : w + (length out - w) ≤ length o = omega (arith, size) in
+    let few = length-take (length out - w) (drop w out) in
+    let more = rest .ensures g (used + w) (λ i h.
+    let e : from + (w + i) ≡ from + w + i = omega arith in
+    let f : used + (w + i) ≡ used + w + i = omega arith in
+    ap (λ z. getD (s .args .sequence .now) z 0) (sym e) ∙ known (w + i) (omega (arith, h, few, room)) ∙ ap (sequenceOctet g) f) in
+    all-done g used o _ (w + (length out - w)) (omega (arith, size))
+    (more-done g used o out (rest .last .0) w (length out - w) room done more)
 
 pub add-spec : {M : Type 1} → statement M
 add-spec =
     tie.close
     (tie.spec
-    Inv-loop
-    μ-loop
-    loop-holds
-    add-octets
-    shared-slice-read-octets
-    slice-read-octets
-    slice-write-octets
-    add-i
-    loop-less
-    loop-again
+    mul-whole
+    slice-relend-prefix-add-words
+    slice-aggregate-add-words
+    add-words-requires
+    sub-add-octets
+    part-add-octets-start
+    part-add-octets-end
+    add-add-octets
+    add-octets-requires
     same-length
     returns)
