@@ -6,7 +6,7 @@ use Prim.Native.Nat.{ℕ, zero, suc, _+_, _-_, _*_, _/_, _%_, _^_, _≤_, _<_}
 use native.Mathlib.Nat.{lt-of-not-le}
 use native.Mathlib.Decide.{decLt}
 use native.Mathlib.Omega.{arith}
-use lib.Dec.{T, eqb, lit≤}
+use lib.Dec.{T, eqb}
 use lib.ListN.{length, getD}
 use borrow.Author.Tests.{eq-eqb, eqb-true, lt-ltb, le-ltb}
 use Rattle.bits.specs.Bits.{Word, digit, bit, octets, if_then_else_}
@@ -99,7 +99,3 @@ module _ (n : ℕ) (off : offered n ≡ true) (info : List ℕ) (long : length i
 -- only the bits that the checks are over are written
 pub written-upTo : (n : ℕ) (x : Word) → written (code n) (upTo (bits (code n)) x) ≡ written (code n) x
 written-upTo n x = ap (octets (code n .wordOctets)) (sent-same (code n) (upTo (bits (code n)) x) x (λ i l. ap (λ b. b && x i) (lt-ltb i (bits (code n)) l)))
-
-pub few-information : (n : ℕ) → offered n ≡ true → code n .informationOctets ≤ 1022
-unfolding code code1 code2 code3 code4 code5
-few-information n off = five (λ k. code k .informationOctets ≤ 1022) (lit≤ tt) (lit≤ tt) (lit≤ tt) (lit≤ tt) (lit≤ tt) n (is-offered n off)

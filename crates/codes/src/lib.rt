@@ -94,13 +94,13 @@ fn six_set(o: Offer, information: &[u8]) -> bool
 }
 
 // The encoding of information of the right length, whose spare bits are 0, into a word of the right length.
-fn encode_taken(code: u8, o: Offer, information: &[u8], word: &mut [u8])
-    requires { ⌜ (offered code ≡ true) × (o ≡ offerOf code) × (length (now information) ≡ codeOf code .informationOctets) × (length (now word) ≡ codeOf code .wordOctets) × (sixSet code (now information) ≡ false) ⌝ }
-    ensures { λ _. ⌜ now (word .exit) ≡ written (codeOf code) (encoded (codeOf code) (lifted (codeOf code) (bit (now (information .entry))))) ⌝ }
+fn encode_taken(o: Offer, information: &[u8], word: &mut [u8])
+    requires { ⌜ Known o × (length (now information) ≡ o .information) × (length (now word) ≡ o .word) ⌝ }
+    ensures { λ _. ⌜ ((n : ℕ) → offered n ≡ true → o ≡ offerOf n → sixSet n (now (information .entry)) ≡ false → now (word .exit) ≡ written (codeOf n) (encoded (codeOf n) (lifted (codeOf n) (bit (now (information .entry)))))) ⌝ }
 {
     let mut y = [0u64; 130];
     received::take(information, o.unsent, &mut y);
-    solver::encode(code, &mut y);
+    solver::encode(o, &mut y);
     received::write(&mut y, o.unsent, o.bits, word);
 }
 
@@ -122,7 +122,7 @@ pub fn encode(code: u8, information: &[u8], word: &mut [u8]) -> u8
     if six_set(o, information) {
         return 4;
     }
-    encode_taken(code, o, information, word);
+    encode_taken(o, information, word);
     0
 }
 

@@ -26,8 +26,8 @@ use Rattle.syndromes.specs.Rows.{rowed, within, wide}
 use Rattle.syndromes.proofs.Rowwise.{rowed-inside, rowed-past, rowed-same}
 use Rattle.syndromes.proofs.Trimming.{within-rowed}
 use Rattle.layout.specs.declared.Shape.{Shape}
-use Rattle.steps.specs.Steps.{ended, shifts, target, source, rowsIn, stepped, walked, steps16, steps32, steps64, steps511}
-use Rattle.solver.specs.Rows.{held, Kept, twoRows, Fits, copies, stepsOf, behind, informed, completed}
+use Rattle.steps.specs.Steps.{ended, shifts, target, source, rowsIn, stepped, walked}
+use Rattle.solver.specs.Rows.{held, Kept, twoRows, Fits, copies, behind, informed, completed}
 
 -- ---- the shifts of a step, one after the other
 
@@ -455,14 +455,7 @@ module _ (f : ℕ → Word) (q : ℕ → Bool) where
 pub slice-long : (s : List ℕ) (a n : ℕ) → a + n ≤ length s → length (take n (drop a s)) ≡ n
 slice-long s a n h = length-take-le n (drop a s) (omega (arith, length-drop a s))
 
--- ---- the list of steps for M
-
-pub steps-last : (M : ℕ) → (M ≡ 16 → ⊥) → (M ≡ 32 → ⊥) → (M ≡ 64 → ⊥) → stepsOf M ≡ steps511
-unfolding stepsOf
-steps-last M a b c =
-    ap (λ z. if z then steps16 else if eqb M 32 then steps32 else if eqb M 64 then steps64 else steps511) (ne-eqb M 16 a)
-    ∙ ap (λ z. if z then steps32 else if eqb M 64 then steps64 else steps511) (ne-eqb M 32 b)
-    ∙ ap (λ z. if z then steps64 else steps511) (ne-eqb M 64 c)
+-- ---- steps one after the other
 
 pub walked-none : (M : ℕ) (steps : List (List ℕ)) (f : ℕ → Word) → f ≡ walked M steps 0 f
 unfolding walked

@@ -51,7 +51,7 @@ encode-taken-requires c κs =
     let n = a .args .code in
     let is = f .before .of .ensures in
     let t = taken n is (f .before .of .result .offered) (offered-by n is) (length (a .args .information .now)) _ (length (a .args .word .now)) (f .before .of .result .word) (f .refusal .ensures) (i .if1 .left) in
-    (t .offers, is, information-long n is (t .offers) (t .input-is), word-long n is (t .offers) (t .output-is), sym (s .six-set .ensures n (t .offers) is) ∙ c .before .if2 .left)
+    (t .known, t .input-is, t .output-is)
 
 same-length : tie.Need-same-length
 same-length c = search needs
@@ -66,7 +66,7 @@ returns-3 c =
     let n = a .args .code in
     let is = f .before .of .ensures in
     let t = taken n is (f .before .of .result .offered) (offered-by n is) (length (a .args .information .now)) _ (length (a .args .word .now)) (f .before .of .result .word) (f .refusal .ensures) (i .if1 .left) in
-    ap (λ z. record { number = 0; out = z }) (k .encode-taken .ensures)
+    ap (λ z. record { number = 0; out = z }) (k .encode-taken .ensures n (t .offers) is (sym (s .six-set .ensures n (t .offers) is) ∙ k .before .before .if2 .left))
     ∙ sym (encode-taken n (a .args .information .now) (a .args .word .now) (is-offered n (t .offers)) (information-long n is (t .offers) (t .input-is)) (word-long n is (t .offers) (t .output-is))
     (sym (s .six-set .ensures n (t .offers) is) ∙ k .before .before .if2 .left))
 
