@@ -260,8 +260,9 @@ fn lay_checks(o: Offer, y: &[u64], s: &mut [u64])
     requires { ⌜ Known o × (length (now y) ≡ 130) × (length (now s) ≡ 16) × (wbit (now s) ≡ (λ n. false)) ⌝ }
     ensures { λ _. ⌜ ((n : ℕ) → offered n ≡ true → o ≡ offerOf n → wbit (now (s .exit)) ≡ laid (codeOf n) (o .shape) (wbit (now (y .entry)))) ⌝ }
 {
+    let of = o.shape;
     let mut t = [0u16; 64];
-    measured::checks(o, y, &mut t, s);
+    measured::checks(of.size, y, &mut t, s);
 }
 
 // Puts the parity after the information bits that y holds. Each shape stands in numbers, so that a compiler sees them in the walk.
