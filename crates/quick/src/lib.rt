@@ -14,7 +14,11 @@ ghost use Rattle.offer.specs.Offers.{offerOf, Known};
 ghost use Rattle.quick.specs.Quick.{read, asRead, refusedQuick, quickAnswer};
 ghost use Rattle.quick.specs.Groups.{Has, reached, placed, group};
 ghost use Rattle.quick.specs.Answers.{asQuick};
+ghost use Rattle.layout.specs.Rooms.{tableRoom};
+use layout::SYNDROME;
 use layout::Shape;
+use layout::TABLE;
+use layout::WORD;
 use offer::Offer;
 use vectors::Pair;
 
@@ -60,9 +64,9 @@ fn whole_lowest(o: Offer, word: &[u8]) -> u32
     requires { ⌜ Known o × (length (now word) ≡ o .word) ⌝ }
     ensures { λ r. ⌜ ((n : ℕ) → offered n ≡ true → o ≡ offerOf n → r ≡ lowestOf (codeOf n) (lifted (codeOf n) (bit (now (word .entry))))) ⌝ }
 {
-    let mut t = [0u16; 64];
-    let mut y = [0u64; 130];
-    let mut s = [0u64; 16];
+    let mut t = [0u16; TABLE];
+    let mut y = [0u64; WORD];
+    let mut s = [0u64; SYNDROME];
     let sh = measured::measure(o, word, &mut t, &mut y, &mut s);
     syndromes::lowest(&s, sh)
 }
@@ -142,7 +146,7 @@ fn wide_lowest(o: Offer, word: &[u8]) -> u32
     requires { ⌜ Known o × (length (now word) ≡ o .word) × (o .shape .size ≡ 511) ⌝ }
     ensures { λ r. ⌜ ((n : ℕ) → offered n ≡ true → o ≡ offerOf n → r ≡ lowestOf (codeOf n) (lifted (codeOf n) (bit (now (word .entry))))) ⌝ }
 {
-    let mut t = [0u16; 64];
+    let mut t = [0u16; TABLE];
     tables::lend511(&mut t);
     let sh = Shape {
         size: 511,
@@ -211,7 +215,7 @@ fn rows_lowest(y: &[u64], h: &[u16], sh: Shape) -> u32
 
 // The table of a code whose rows one word holds, lent. `lend` has the one caller that its speed rests on.
 fn lend_narrow(size: usize, t: &mut [u16]) -> Shape
-    requires { ⌜ (length (now t) ≡ 64) × (size ≡ 511 → ⊥) ⌝ }
+    requires { ⌜ (length (now t) ≡ tableRoom) × (size ≡ 511 → ⊥) ⌝ }
     ensures { λ r. ⌜ ((n : ℕ) → offered n ≡ true → size ≡ offerOf n .shape .size → Lends n (now (t .exit)) r) × (r .size ≤ 64) ⌝ }
 {
     if size == 16 {
@@ -247,7 +251,7 @@ fn narrow_lowest(o: Offer, word: &[u8]) -> u32
     ensures { λ r. ⌜ ((n : ℕ) → offered n ≡ true → o ≡ offerOf n → r ≡ lowestOf (codeOf n) (lifted (codeOf n) (bit (now (word .entry))))) ⌝ }
 {
     let of = o.shape;
-    let mut t = [0u16; 64];
+    let mut t = [0u16; TABLE];
     let sh = lend_narrow(of.size, &mut t);
     let mut y = [0u64; 17];
     vectors::load(word, &mut y);
