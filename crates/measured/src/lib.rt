@@ -14,7 +14,8 @@ ghost use Rattle.layout.specs.Rooms.{syndromeRoom, tableRoom, wordRoom};
 use layout::Shape;
 use offer::Offer;
 
-// The parity table of blocks of this size into t, its shape, and the syndrome of the bits that y holds into s, which is handed over as zeros.
+// The parity table of blocks of this size into t, its shape, and the syndrome of the bits that y holds into s, which is handed over
+// as zeros.
 pub fn checks(size: usize, y: &[u64], t: &mut [u16], s: &mut [u64]) -> Shape
     requires { ⌜ Size size × (length (now y) ≡ wordRoom) × (length (now t) ≡ tableRoom) × (length (now s) ≡ syndromeRoom) × (wbit (now s) ≡ (λ n. false)) ⌝ }
     ensures { λ r. ⌜ ((n : ℕ) → offered n ≡ true → size ≡ offerOf n .shape .size → (r ≡ offerOf n .shape) × Lends n (now (t .exit)) r × (wbit (now (s .exit)) ≡ laid (codeOf n) r (wbit (now (y .entry))))) ⌝ }

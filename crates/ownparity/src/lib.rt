@@ -12,7 +12,8 @@ ghost use Rattle.ownparity.specs.Odd.{oddBlock, oddTogether};
 ghost use Rattle.layout.specs.Rooms.{wordRoom};
 use layout::BLOCK;
 
-// For each parity block, the blocks that it is counted with: the information blocks whose printed row has an odd number of ones, and itself.
+// For each parity block, the blocks that it is counted with: the information blocks whose printed row has an odd number of ones, and
+// itself.
 const FIRST: u64 = 0x06E6;
 
 const SECOND: u64 = 0x0D7D;

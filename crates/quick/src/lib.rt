@@ -1,4 +1,5 @@
-// A quick no: the checks in order, up to the first group with a broken one. A group is worked out at once; the number reported is the definition's.
+// A quick no: the checks in order, up to the first group with a broken one. A group is worked out at once; the number reported is the
+// definition's.
 ghost use mathlib.Core.Path.{_≡_};
 ghost use mathlib.Core.Bool.{true};
 ghost use Prim.Native.Nat.{ℕ, _+_, _*_, _/_, _≤_, _<_};

@@ -53,9 +53,12 @@ pub record Ready (n : ℕ) (sh : Shape) : Type 0 where
   pub near : sh .size ≡ 511 → sh ≡ wideShape
   pub other : (sh .size ≡ 511 → ⊥) → sh ≡ narrowShape (sh .size)
   pub last : (sh .size ≡ 511 → ⊥) → (sh .size ≡ 16 → ⊥) → (sh .size ≡ 32 → ⊥) → sh .size ≡ 64
-  pub near-rows : sh .size ≡ 511 → (x : Word) → ((i : ℕ) → information (code n) ≤ i → x i ≡ false) → (p : ℕ) → p < bits (code n) - information (code n)
-      → endRows n (sh .size) x ((p / sh .size + 0) % sh .rows) (p % sh .size) ⊕ oddTogether x ((p / sh .size + 0) % sh .rows) ≡ parityBit (code n) x p
-  pub other-rows : (sh .size ≡ 511 → ⊥) → (x : Word) → ((i : ℕ) → information (code n) ≤ i → x i ≡ false) → (p : ℕ) → p < bits (code n) - information (code n)
+  pub near-rows : sh .size ≡ 511 → (x : Word) → ((i : ℕ) → information (code n) ≤ i → x i ≡ false) → (p : ℕ)
+      → p < bits (code n) - information (code n)
+      → endRows n (sh .size) x ((p / sh .size + 0) % sh .rows) (p % sh .size) ⊕ oddTogether x ((p / sh .size + 0) % sh .rows) ≡ parityBit
+      (code n) x p
+  pub other-rows : (sh .size ≡ 511 → ⊥) → (x : Word) → ((i : ℕ) → information (code n) ≤ i → x i ≡ false) → (p : ℕ)
+      → p < bits (code n) - information (code n)
       → endRows n (sh .size) x ((p / sh .size + 1) % sh .rows) (p % sh .size) ≡ parityBit (code n) x p
 
 within-by : (R : ℕ) (steps : List (List ℕ)) → T (below 15 (λ k. rowsIn R (getD steps k []))) → Within R steps
@@ -164,7 +167,8 @@ pub all-encoded : (n : ℕ) (sh : Shape) → Ready n sh → (first : ℕ) (f : �
     → ((p : ℕ) → p < bits (code n) - information (code n) → f ((p / sh .size + first) % sh .rows) (p % sh .size) ≡ parityBit (code n) x p)
     → upTo (sh .blocks * sh .size) (completed sh first f x) ≡ upTo (bits (code n)) (encoded (code n) x)
 unfolding behind
-all-encoded n sh r first f x parity = ap (λ z. upTo z (completed sh first f x)) (sym (r .bits-are)) ∙ fun-ext (λ i. ⊎-elim (past i) (inside i) (le-or-lt (bits c) i))
+all-encoded n sh r first f x parity = ap (λ z. upTo z (completed sh first f x)) (sym (r .bits-are))
+    ∙ fun-ext (λ i. ⊎-elim (past i) (inside i) (le-or-lt (bits c) i))
   where
     c : Code
     c = code n
@@ -188,7 +192,8 @@ all-encoded n sh r first f x parity = ap (λ z. upTo z (completed sh first f x))
         let place : i ≡ (J + p / M) * M + p % M = omega (arith, r .informs, add-mul J (p / M) M, div-add-mod' p M) in
         let same : J + p / M - J ≡ p / M = omega arith in
         joined-above (informed sh) i x (behind sh first f) (subst (λ z. z ≤ i) (r .informs) h)
-        ∙ ap₂ (λ q k. f ((q - J + first) % sh .rows) k) (ap (λ z. z / M) place ∙ digits-div (J + p / M) low) (ap (λ z. z % M) place ∙ digits-mod (J + p / M) low)
+        ∙ ap₂ (λ q k. f ((q - J + first) % sh .rows) k) (ap (λ z. z / M) place ∙ digits-div (J + p / M) low) (ap (λ z. z % M) place
+        ∙ digits-mod (J + p / M) low)
         ∙ ap (λ q. f ((q + first) % sh .rows) (p % M)) same
         ∙ parity p (omega arith)
         ∙ sym (encoded-parity c x i h)

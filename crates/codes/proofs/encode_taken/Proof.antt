@@ -49,7 +49,8 @@ returns c n off is six =
     let a = t .before .before .before .before in
     let u = unsent-is n is off in
     let x = t .take .ensures (code n) u in
-    let only = x ∙ information-only n off (a .args .information .now) (information-long n is off (a .pre .1)) six ∙ ap (upTo (information (code n))) (sym x) in
+    let only = x ∙ information-only n off (a .args .information .now) (information-long n is off (a .pre .1)) six
+    ∙ ap (upTo (information (code n))) (sym x) in
     w .write .ensures (code n) u (bits-are n is off) (word-long n is off (a .pre .2))
     ∙ ap (written (code n)) (e .encode .ensures n off is only) ∙ written-upTo n _ ∙ ap (λ z. written (code n) (encoded (code n) z)) x
 

@@ -26,8 +26,13 @@ narrow-steps-requires : tie.Need-narrow-steps-requires Inv-loop μ-loop
 narrow-steps-requires c κs = c .before .pre .4
 
 loop-holds : tie.Need-loop-holds Inv-loop μ-loop
-loop-holds c = let s = c .before .before in
-    (omega arith, s .pre .3, sym (c .narrow-steps .ensures), λ f e. e ∙ ap (held (s .args .sh)) (walked-none (s .args .sh .size) (stepsOf (s .args .sh .size)) f))
+loop-holds c = let s = c .before .before in (
+  omega arith,
+  s .pre .3,
+  sym (c .narrow-steps .ensures),
+  λ f e. e
+      ∙ ap (held (s .args .sh)) (walked-none (s .args .sh .size) (stepsOf (s .args .sh .size)) f),
+)
 
 mul-step-narrow : tie.Need-mul-step-narrow Inv-loop μ-loop
 mul-step-narrow c = omega arith
@@ -38,8 +43,14 @@ index-1-step-narrow c = omega arith
 step-narrow-requires : tie.Need-step-narrow-requires Inv-loop μ-loop
 step-narrow-requires c κs = let s = c .before .before .before .before .before .before .before in
     let l = c .before .before .before .before .loop in
-    let h : l .k < 15 = omega arith in
-    (s .pre .0, s .pre .1, search needs, subst (λ (z : List (List ℕ)). T (rowsIn (s .args .sh .rows) (getD z (l .k) []))) (l .inv .2) (s .pre .2 (l .k) h), l .inv .1)
+    let h : l .k < 15 = omega arith in (
+      s .pre .0,
+      s .pre .1,
+      search needs,
+      subst (λ (z : List (List ℕ)). T (rowsIn (s .args .sh .rows) (getD z (l .k) []))) (l .inv .2)
+          (s .pre .2 (l .k) h),
+      l .inv .1,
+    )
 
 add-k : tie.Need-add-k Inv-loop μ-loop
 add-k c = omega arith
@@ -57,7 +68,8 @@ loop-again c = let s = c .before .before .before .before .before .before .before
       l .inv .2,
       λ f e.
           let before = walked (sh .size) (stepsOf (sh .size)) (l .k) f in
-          step .ensures before (l .inv .3 f e) ∙ ap (λ (z : List (List ℕ)). held sh (stepped (sh .size) (getD z (l .k) []) before)) (sym (l .inv .2))
+          step .ensures before (l .inv .3 f e) ∙ ap (λ (z : List (List ℕ)). held sh (stepped (sh .size) (getD z (l .k) []) before))
+          (sym (l .inv .2))
           ∙ ap (held sh) (walked-more (sh .size) (stepsOf (sh .size)) (l .k) f),
     )
 

@@ -25,8 +25,15 @@ abbrev μ-loop : tie.MeasureT-loop
 
 loop-holds : tie.Need-loop-holds Inv-loop μ-loop
 unfolding stepsOf
-loop-holds c = let s = c .before in
-    (omega arith, s .pre .3, refl, s .pre .4, ap stepsOf (s .pre .1), λ f e. e ∙ ap (held (s .args .sh)) (walked-none (s .args .sh .size) (stepsOf (s .args .sh .size)) f))
+loop-holds c = let s = c .before in (
+  omega arith,
+  s .pre .3,
+  refl,
+  s .pre .4,
+  ap stepsOf (s .pre .1),
+  λ f e. e
+      ∙ ap (held (s .args .sh)) (walked-none (s .args .sh .size) (stepsOf (s .args .sh .size)) f),
+)
 
 mul-step-wide : tie.Need-mul-step-wide Inv-loop μ-loop
 mul-step-wide c = omega arith
@@ -40,8 +47,15 @@ slice-aggregate-step-wide c = sym (c .before .before .before .before .loop .inv 
 step-wide-requires : tie.Need-step-wide-requires Inv-loop μ-loop
 step-wide-requires c κs = let s = c .before .before .before .before .before .before .before in
     let l = c .before .before .before .before .before .loop in
-    let h : l .k < 15 = omega arith in
-    (s .pre .0, l .inv .2, search needs, subst (λ (z : List (List ℕ)). T (rowsIn (s .args .sh .rows) (getD z (l .k) []))) (l .inv .4) (s .pre .2 (l .k) h), l .inv .1, l .inv .3)
+    let h : l .k < 15 = omega arith in (
+      s .pre .0,
+      l .inv .2,
+      search needs,
+      subst (λ (z : List (List ℕ)). T (rowsIn (s .args .sh .rows) (getD z (l .k) []))) (l .inv .4)
+          (s .pre .2 (l .k) h),
+      l .inv .1,
+      l .inv .3,
+    )
 
 add-k : tie.Need-add-k Inv-loop μ-loop
 add-k c = omega arith
@@ -58,11 +72,13 @@ loop-again c = let s = c .before .before .before .before .before .before .before
       omega arith,
       step .kept .1 .1 .1 .0 ∙ l .inv .1,
       step .kept .1 .1 .0 ∙ l .inv .2,
-      held-kept sh (wide-some sh (s .pre .0)) (stepped (sh .size) (getD steps511 (l .k) []) own) (wbit (step .last .1 .1 .1 .0)) (step .ensures own (l .inv .3)),
+      held-kept sh (wide-some sh (s .pre .0)) (stepped (sh .size) (getD steps511 (l .k) []) own) (wbit (step .last .1 .1 .1 .0))
+          (step .ensures own (l .inv .3)),
       l .inv .4,
       λ f e.
           let before = walked (sh .size) (stepsOf (sh .size)) (l .k) f in
-          step .ensures before (l .inv .5 f e) ∙ ap (λ (z : List (List ℕ)). held sh (stepped (sh .size) (getD z (l .k) []) before)) (sym (l .inv .4))
+          step .ensures before (l .inv .5 f e) ∙ ap (λ (z : List (List ℕ)). held sh (stepped (sh .size) (getD z (l .k) []) before))
+          (sym (l .inv .4))
           ∙ ap (held sh) (walked-more (sh .size) (stepsOf (sh .size)) (l .k) f),
     )
 
