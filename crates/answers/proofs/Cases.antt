@@ -16,7 +16,8 @@ use Rattle.rules.specs.Codes.{code, code1, code4, code5, bits, checks, informat
 use Rattle.rules.specs.Checks.{covers, check, broken, lowest, degreeOf}
 use Rattle.rules.specs.Encoding.{rowBit, parityBit, encoded, lifted, sent, codeword, written, OwnParity}
 use Rattle.rules.specs.Flipping.{flip, byExcess, run, ended}
-use Rattle.answers.specs.Calls.{encodeAnswer, checkAnswer, openAnswer, judged, refusal, unless, refusedCorrect, ranCorrect, correctAnswer, refusedStep, nextStep, stepAnswer, ranFrom}
+use Rattle.answers.specs.Calls.{encodeAnswer, checkAnswer, openAnswer, judged, refusal, unless, refusedCorrect, ranCorrect}
+use Rattle.answers.specs.Calls.{correctAnswer, refusedStep, nextStep, stepAnswer, ranFrom}
 use Rattle.bits.proofs.Sums.{⊕-eq, sum-none, below-at, not-true, and-l}
 use Rattle.bits.proofs.Counting.{count-none, none-counted}
 use Rattle.rules.proofs.Blocks.{blk, checkIn, check-in}
@@ -56,12 +57,15 @@ Holds (encodes n info word) = (out : List ℕ) → length out ≡ code n .wordOc
 Holds (breaks n word ks) = (k : ℕ) → k < checks (code n) → check (code n) (lifted (code n) (bit word)) k ≡ among k ks
 Holds (steps n word k ex) =
     (out : List ℕ) → length out ≡ code n .wordOctets
-    → (stepAnswer n word out .number ≡ 0) × (stepAnswer n word out .quiet ≡ false) × (stepAnswer n word out .bit ≡ k) × (stepAnswer n word out .excess ≡ ex)
+    → (stepAnswer n word out .number ≡ 0) × (stepAnswer n word out .quiet ≡ false) × (stepAnswer n word out .bit ≡ k)
+    × (stepAnswer n word out .excess ≡ ex)
 Holds (opens n word part) = openAnswer n word ≡ record { number = 0; lowest = checks (code n); part = part }
 Holds (corrects n word limit number flips first last) =
     (out : List ℕ) → length out ≡ code n .wordOctets
-    → (correctAnswer n word limit out .number ≡ number) × (correctAnswer n word limit out .flips ≡ flips) × (correctAnswer n word limit out .first ≡ first) × (correctAnswer n word limit out .last ≡ last)
-Holds (lengths n long room number) = (word out : List ℕ) (limit : ℕ) → length word ≡ long → length out ≡ room → correctAnswer n word limit out ≡ refusedCorrect out number
+    → (correctAnswer n word limit out .number ≡ number) × (correctAnswer n word limit out .flips ≡ flips)
+    × (correctAnswer n word limit out .first ≡ first) × (correctAnswer n word limit out .last ≡ last)
+Holds (lengths n long room number) = (word out : List ℕ) (limit : ℕ) → length word ≡ long → length out ≡ room
+    → correctAnswer n word limit out ≡ refusedCorrect out number
 Holds (unoffered n) =
     ((info out : List ℕ) → encodeAnswer n info out ≡ record { number = 1; out = out })
     × ((word : List ℕ) → checkAnswer n word ≡ record { number = 1; broken = 0; lowest = 0 })
@@ -155,17 +159,21 @@ module _ (n : ℕ) (t : T (offered n && not (eqb n 5))) where
 
   -- a word with one bit set is the word of zeros with one wrong bit
   only-wrong : (b : ℕ) → only (code n .wordOctets) b ≡ oneWrong (code n) (replicate (code n .wordOctets) 0) b
-  only-wrong b = octets-same (code n .wordOctets) (λ k. eqb k b) (flipped (bit (replicate (code n .wordOctets) 0)) b) (λ i l. sym (ap (λ z. z ⊕ eqb i b) (bit-zeros (code n .wordOctets) i)))
+  only-wrong b = octets-same (code n .wordOctets) (λ k. eqb k b) (flipped (bit (replicate (code n .wordOctets) 0)) b)
+      (λ i l. sym (ap (λ z. z ⊕ eqb i b) (bit-zeros (code n .wordOctets) i)))
 
   -- its broken checks are those of the bit
-  only-breaks : (b : ℕ) → b < bits (code n) → (k : ℕ) → check (code n) (lifted (code n) (bit (only (code n .wordOctets) b))) k ≡ covers (code n) k b
+  only-breaks : (b : ℕ) → b < bits (code n) → (k : ℕ) → check (code n) (lifted (code n) (bit (only (code n .wordOctets) b))) k ≡ covers
+      (code n) k b
   unfolding check
   only-breaks b h k =
       ap (λ w. check (code n) (lifted (code n) (bit w)) k) (only-wrong b)
       ∙ ap (λ x. check (code n) x k) (lifted-whole (code n) (whole n t) (bit (oneWrong (code n) (replicate (code n .wordOctets) 0) b))
-      ∙ bit-one-wrong (code n) (replicate (code n .wordOctets) 0) b (length-replicate (code n .wordOctets) 0) (lt-of-lt-of-le h (le-of-eq (whole n t .full)))
+      ∙ bit-one-wrong (code n) (replicate (code n .wordOctets) 0) b (length-replicate (code n .wordOctets) 0)
+      (lt-of-lt-of-le h (le-of-eq (whole n t .full)))
       ∙ ap (λ x. flipped x b) (fun-ext (bit-zeros (code n .wordOctets))))
-      ∙ check-flip (code n) none b h k ∙ ap (λ z. z ⊕ covers (code n) k b) (sum-none (bits (code n)) _ (λ j l. and-false (covers (code n) k j)))
+      ∙ check-flip (code n) none b h k
+      ∙ ap (λ z. z ⊕ covers (code n) k b) (sum-none (bits (code n)) _ (λ j l. and-false (covers (code n) k j)))
 
 -- the checks that cover a bit, computed
 breaks-by : (n : ℕ) (f : ℕ → Bool) (ks : List ℕ) → T (below n (λ k. not (f k ⊕ among k ks))) → (k : ℕ) → k < n → f k ≡ among k ks
@@ -192,14 +200,17 @@ next1 : byExcess code1 (lifted code1 (bit (only 16 0))) ≡ flip 0 (pos 5)
 unfolding code code1 parity16
 next1 =
     ap (λ w. byExcess code1 (lifted code1 (bit w))) (only-wrong 1 tt 0)
-    ∙ ap (byExcess code1) (ap (lifted code1) (bit-one-wrong code1 (replicate 16 0) 0 refl (lit< tt)) ∙ lifted-flip code1 (bit (replicate 16 0)) 0 ∙ ap (λ x. flipped x 0) (zeros-are 1 tt))
-    ∙ one-next code1 (published1 .girth) none (none-met 1 tt) 0 (lit< tt) (by-excess code1 (published1 .some)) (by-greatest code1 (published1 .some)) zero-le ∙ ap (λ d. flip 0 (pos d)) degree1
+    ∙ ap (byExcess code1) (ap (lifted code1) (bit-one-wrong code1 (replicate 16 0) 0 refl (lit< tt))
+    ∙ lifted-flip code1 (bit (replicate 16 0)) 0 ∙ ap (λ x. flipped x 0) (zeros-are 1 tt))
+    ∙ one-next code1 (published1 .girth) none (none-met 1 tt) 0 (lit< tt) (by-excess code1 (published1 .some))
+    (by-greatest code1 (published1 .some)) zero-le ∙ ap (λ d. flip 0 (pos d)) degree1
 
 steps3 : Holds (steps 1 (only 16 0) 0 (pos 5))
 unfolding code code1 nextStep
 steps3 out lo =
     let e : stepAnswer 1 (only 16 0) out ≡ nextStep code1 (only 16 0) (lifted code1 (bit (only 16 0))) out (flip 0 (pos 5)) =
-    step-taken 1 (only 16 0) out tt (length-octets 16 (λ n. eqb n 0)) lo ∙ ap (nextStep code1 (only 16 0) (lifted code1 (bit (only 16 0))) out) next1 in
+    step-taken 1 (only 16 0) out tt (length-octets 16 (λ n. eqb n 0)) lo
+    ∙ ap (nextStep code1 (only 16 0) (lifted code1 (bit (only 16 0))) out) next1 in
     (ap (λ r. r .number) e, ap (λ r. r .quiet) e, ap (λ r. r .bit) e, ap (λ r. r .excess) e)
 
 -- code 1: the word of ones meets every check
@@ -265,7 +276,8 @@ block-no-codeword = go (codeword code4 (sent code4 blockBits)) refl
         ∙ codeword-bit code4 published4 (sent code4 blockBits) e 7154 (lit< tt)
         ∙ sent-bit code4 (encoded code4 (lifted code4 (sent code4 blockBits))) 7154 (lit< tt)
         ∙ encoded-parity code4 (lifted code4 (sent code4 blockBits)) 7154 (lit≤ tt)
-        ∙ parity-same code4 (lifted code4 (sent code4 blockBits)) blockBits (λ n l. lifted-sent code4 blockBits (λ n l. absurd (not-suc-le-zero l)) n (lt-of-lt-of-le l (published4 .after))) 0
+        ∙ parity-same code4 (lifted code4 (sent code4 blockBits)) blockBits
+        (λ n l. lifted-sent code4 blockBits (λ n l. absurd (not-suc-le-zero l)) n (lt-of-lt-of-le l (published4 .after))) 0
         ∙ block-parity 0) tt)
 
 near-long : 1022 ≡ code4 .wordOctets
@@ -288,12 +300,31 @@ corrects9 out lo =
     (ap (λ r. r .number) e ∙ eight, ap (λ r. r .flips) e, ap (λ r. r .first) e ∙ block-met, ap (λ r. r .last) e ∙ block-met)
 
 -- code 1, only bit 0 set: its five checks are broken, and one flip mends it
-only-first : (out : List ℕ) → length out ≡ 16 → correctAnswer 1 (only 16 0) 1 out ≡ record { number = 0; flips = 1; first = 5; last = 0; unlike = 1; lowest = lowest code1 (flipped (lifted code1 (bit (replicate 16 0))) 0); out = replicate 16 0 }
+only-first : (out : List ℕ) → length out ≡ 16
+    → correctAnswer 1 (only 16 0) 1 out ≡ record {
+      number = 0;
+      flips = 1;
+      first = 5;
+      last = 0;
+      unlike = 1;
+      lowest =
+          lowest code1 (flipped (lifted code1 (bit (replicate 16 0))) 0);
+      out = replicate 16 0;
+    }
 unfolding code code1 parity16
 only-first out lo =
     ap (λ w. correctAnswer 1 w 1 out) (only-wrong 1 tt 0)
     ∙ one-back 1 tt (replicate 16 0) out refl lo (zeros-octets 1 tt) (zeros-codeword 1 tt) 0 0 (lit< tt)
-    ∙ ap (λ d. record { number = 0; flips = 1; first = d; last = 0; unlike = 1; lowest = lowest code1 (flipped (lifted code1 (bit (replicate 16 0))) 0); out = replicate 16 0 }) degree1
+    ∙ ap (λ d. record {
+      number = 0;
+      flips = 1;
+      first = d;
+      last = 0;
+      unlike = 1;
+      lowest =
+          lowest code1 (flipped (lifted code1 (bit (replicate 16 0))) 0);
+      out = replicate 16 0;
+    }) degree1
 
 corrects11 : Holds (corrects 1 (only 16 0) 1 0 1 5 0)
 unfolding code code1
@@ -304,14 +335,17 @@ corrects11 out lo =
 first-five : broken code1 (lifted code1 (bit (only 16 0))) ≡ 5
 unfolding code code1 parity16 ranCorrect
 first-five =
-    sym (ap (λ r. r .first) (correct-taken 1 (only 16 0) 1 (replicate 16 0) tt (length-octets 16 (λ n. eqb n 0)) refl)) ∙ ap (λ r. r .first) (only-first (replicate 16 0) refl)
+    sym (ap (λ r. r .first) (correct-taken 1 (only 16 0) 1 (replicate 16 0) tt (length-octets 16 (λ n. eqb n 0)) refl))
+    ∙ ap (λ r. r .first) (only-first (replicate 16 0) refl)
 
 corrects10 : Holds (corrects 1 (only 16 0) 0 6 0 5 5)
 unfolding code code1 ranCorrect
 corrects10 out lo =
-    let e : correctAnswer 1 (only 16 0) 0 out ≡ ranCorrect code1 (lifted code1 (bit (only 16 0))) (ended 6 (lifted code1 (bit (only 16 0)))) out =
+    let e : correctAnswer 1 (only 16 0) 0 out ≡ ranCorrect code1 (lifted code1 (bit (only 16 0)))
+    (ended 6 (lifted code1 (bit (only 16 0)))) out =
     correct-taken 1 (only 16 0) 0 out tt (length-octets 16 (λ n. eqb n 0)) lo
-    ∙ ap (λ r. ranCorrect code1 (lifted code1 (bit (only 16 0))) r out) (run-limit (byExcess code1) (lifted code1 (bit (only 16 0))) 0 (pos 5) next1) in
+    ∙ ap (λ r. ranCorrect code1 (lifted code1 (bit (only 16 0))) r out) (run-limit (byExcess code1) (lifted code1 (bit (only 16 0))) 0
+    (pos 5) next1) in
     (ap (λ r. r .number) e, ap (λ r. r .flips) e, ap (λ r. r .first) e ∙ first-five, ap (λ r. r .last) e ∙ first-five)
 
 -- code 5, code 4's word of information bit 0: that bit is not sent, and no other is worth flipping

@@ -23,7 +23,8 @@ use Rattle.rules.proofs.Runs.{run-within, run-quiet, run-stuck, run-unchanged}
 use Rattle.rules.proofs.Ways.{Chooses, TakesGreatest, Girth, run-fall, limit-serves, run-half, half-serves, one-mended, first-count}
 use Rattle.rules.proofs.Choosing.{by-excess, by-greatest, broken-same, next-same, unsent-stuck}
 use Rattle.rules.proofs.Published.{Published, near-four}
-use Rattle.rules.proofs.Codewords.{own-codeword, codeword-own, codeword-quiet, codeword-sent, written-back, bit-written, lifted-unsent, lifted-sent-bit, lifted-back, check-same}
+use Rattle.rules.proofs.Codewords.{own-codeword, codeword-own, codeword-quiet, codeword-sent, written-back, bit-written, lifted-unsent}
+use Rattle.rules.proofs.Codewords.{lifted-sent-bit, lifted-back, check-same}
 use Rattle.answers.proofs.Differing.{differ-self, differ-one}
 use Rattle.answers.proofs.Answers.{refusal-cases, correct-cases, correct-taken}
 use Rattle.rules.proofs.Lowest.{quiet-lowest}
@@ -39,7 +40,8 @@ module _ (c : Code) (r : Run) where
   -- what is not quiet is not judged again
   pub judged-other : (m : ℕ) → r .number ≡ m → (m ≡ 0 → ⊥) → judged c r ≡ m
   judged-other m e d =
-      ap (λ b. if not b then r .number else if ltb 0 (count (c .unsent) (r .word)) then 7 else if not (codeword c (sent c (r .word))) then 8 else 0)
+      ap (λ b. if not b then r .number else if ltb 0 (count (c .unsent) (r .word)) then 7 else if not (codeword c (sent c (r .word))) then
+      8 else 0)
       (ne-eqb (r .number) 0 (λ q. d (sym e ∙ q)))
       ∙ e
 
@@ -50,10 +52,12 @@ module _ (c : Code) (r : Run) where
       spelled : (p q s : Bool) → eqb (r .number) 0 ≡ p → ltb 0 (count (c .unsent) (r .word)) ≡ q → codeword c (sent c (r .word)) ≡ s
           → (if not p then r .number else if q then 7 else if not s then 8 else 0) ≡ 6
       spelled p q s f g h =
-          sym (ap (λ p. if not p then r .number else if ltb 0 (count (c .unsent) (r .word)) then 7 else if not (codeword c (sent c (r .word))) then 8 else 0) f
+          sym (ap (λ p. if not p then r .number else if ltb 0 (count (c .unsent) (r .word)) then 7 else if not
+          (codeword c (sent c (r .word))) then 8 else 0) f
           ∙ ap₂ (λ q s. if not p then r .number else if q then 7 else if not s then 8 else 0) g h) ∙ e
 
-      go : (p q s : Bool) → eqb (r .number) 0 ≡ p → ltb 0 (count (c .unsent) (r .word)) ≡ q → codeword c (sent c (r .word)) ≡ s → r .number ≡ 6
+      go : (p q s : Bool) → eqb (r .number) 0 ≡ p → ltb 0 (count (c .unsent) (r .word)) ≡ q → codeword c (sent c (r .word)) ≡ s
+          → r .number ≡ 6
       go false q s f g h = spelled false q s f g h
       go true true s f g h = let z = spelled true true s f g h in absurd (omega arith)
       go true false true f g h = let z = spelled true false true f g h in absurd (omega arith)
@@ -62,8 +66,10 @@ module _ (c : Code) (r : Run) where
   -- a quiet end whose unsent bits are 0 and whose sent bits are a codeword is taken
   pub judged-done : r .number ≡ 0 → ((n : ℕ) → n < c .unsent → r .word n ≡ false) → codeword c (sent c (r .word)) ≡ true → judged c r ≡ 0
   judged-done e none is =
-      ap (λ p. if not p then r .number else if ltb 0 (count (c .unsent) (r .word)) then 7 else if not (codeword c (sent c (r .word))) then 8 else 0) (eq-eqb (r .number) 0 e)
-      ∙ ap₂ (λ q s. if q then 7 else if not s then 8 else 0) (le-ltb 0 (count (c .unsent) (r .word)) (le-of-eq (count-none (c .unsent) (r .word) none))) is
+      ap (λ p. if not p then r .number else if ltb 0 (count (c .unsent) (r .word)) then 7 else if not (codeword c (sent c (r .word))) then
+      8 else 0) (eq-eqb (r .number) 0 e)
+      ∙ ap₂ (λ q s. if q then 7 else if not s then 8 else 0)
+      (le-ltb 0 (count (c .unsent) (r .word)) (le-of-eq (count-none (c .unsent) (r .word) none))) is
 
 -- ---- the bounds, for every way of choosing
 
@@ -92,7 +98,8 @@ module _ (c : Code) {way : Way} (ch : Chooses c way) (x : Word) (limit : ℕ) (o
   ran-unchanged more no6 = ap (λ r. ranCorrect c x r out) (run-unchanged way more limit x (λ e. no6 (six e)))
     where
       six : run way limit x .number ≡ 6 → judged c (run way limit x) ≡ 6
-      six e = ap (λ z. if not (eqb z 0) then z else if ltb 0 (count (c .unsent) (run way limit x .word)) then 7 else if not (codeword c (sent c (run way limit x .word))) then 8 else 0) e
+      six e = ap (λ z. if not (eqb z 0) then z else if ltb 0 (count (c .unsent) (run way limit x .word)) then 7 else if not
+          (codeword c (sent c (run way limit x .word))) then 8 else 0) e
 
   -- where every bit has an even number of checks: never more than half
   module _ (even : (n : ℕ) → n < bits c → (h : ℕ) × (degreeOf c n ≡ 2 * h)) where
@@ -113,21 +120,25 @@ chooses n t = by-excess (code n) (published n t .some)
 module _ (n : ℕ) (word : List ℕ) (limit : ℕ) (out : List ℕ) where
   pub flips-within-limit : correctAnswer n word limit out .flips ≤ limit
   flips-within-limit =
-      correct-cases n word limit out (λ r. r .flips ≤ limit) zero-le zero-le zero-le (λ t lw lo. ran-within-limit (code n) (chooses n t) (lifted (code n) (bit word)) limit out)
+      correct-cases n word limit out (λ r. r .flips ≤ limit) zero-le zero-le zero-le
+      (λ t lw lo. ran-within-limit (code n) (chooses n t) (lifted (code n) (bit word)) limit out)
 
   pub flips-fall : correctAnswer n word limit out .flips + correctAnswer n word limit out .last ≤ correctAnswer n word limit out .first
   flips-fall =
-      correct-cases n word limit out (λ r. r .flips + r .last ≤ r .first) zero-le zero-le zero-le (λ t lw lo. ran-fall (code n) (chooses n t) (lifted (code n) (bit word)) limit out)
+      correct-cases n word limit out (λ r. r .flips + r .last ≤ r .first) zero-le zero-le zero-le
+      (λ t lw lo. ran-fall (code n) (chooses n t) (lifted (code n) (bit word)) limit out)
 
   pub flips-within-first : correctAnswer n word limit out .flips ≤ correctAnswer n word limit out .first
   flips-within-first = omega (arith, flips-fall)
 
   pub limit-enough : correctAnswer n word limit out .first ≤ limit → correctAnswer n word limit out .number ≡ 6 → ⊥
   limit-enough =
-      correct-cases n word limit out (λ r. r .first ≤ limit → r .number ≡ 6 → ⊥) (λ h e. omega arith) (λ h e. omega arith) (λ h e. omega arith)
+      correct-cases n word limit out (λ r. r .first ≤ limit → r .number ≡ 6 → ⊥) (λ h e. omega arith) (λ h e. omega arith)
+      (λ h e. omega arith)
       (λ t lw lo. ran-enough (code n) (chooses n t) (lifted (code n) (bit word)) limit out)
 
-  pub limit-unchanged : (more : ℕ) → (correctAnswer n word limit out .number ≡ 6 → ⊥) → correctAnswer n word (limit + more) out ≡ correctAnswer n word limit out
+  pub limit-unchanged : (more : ℕ) → (correctAnswer n word limit out .number ≡ 6 → ⊥)
+      → correctAnswer n word (limit + more) out ≡ correctAnswer n word limit out
   unfolding correctAnswer
   limit-unchanged more no6 =
       refusal-cases (offered n) (length word) (code n .wordOctets) (length out) (code n .wordOctets)
@@ -173,7 +184,8 @@ module _ (n : ℕ) (near : T (nearEarthed n)) (word : List ℕ) (limit : ℕ) (o
 
   pub half-enough : correctAnswer n word limit out .first ≤ 2 * limit + 1 → correctAnswer n word limit out .number ≡ 6 → ⊥
   half-enough =
-      correct-cases n word limit out (λ r. r .first ≤ 2 * limit + 1 → r .number ≡ 6 → ⊥) (λ h e. omega arith) (λ h e. omega arith) (λ h e. omega arith)
+      correct-cases n word limit out (λ r. r .first ≤ 2 * limit + 1 → r .number ≡ 6 → ⊥) (λ h e. omega arith) (λ h e. omega arith)
+      (λ h e. omega arith)
       (λ t lw lo. ran-half-enough (code n) (chooses n t) (lifted (code n) (bit word)) limit out even)
 
 -- ---- codewords, and codewords with one wrong bit
@@ -196,7 +208,8 @@ lifted-flip c y n = fun-ext (λ i. go i (decLt i (c .unsent)))
 abbrev pub oneWrong : Code → List ℕ → ℕ → List ℕ
 oneWrong c word b = octets (c .wordOctets) (flipped (bit word) b)
 
-pub bit-one-wrong : (c : Code) (word : List ℕ) (b : ℕ) → length word ≡ c .wordOctets → b < 8 * c .wordOctets → bit (oneWrong c word b) ≡ flipped (bit word) b
+pub bit-one-wrong : (c : Code) (word : List ℕ) (b : ℕ) → length word ≡ c .wordOctets → b < 8 * c .wordOctets
+    → bit (oneWrong c word b) ≡ flipped (bit word) b
 bit-one-wrong c word b lw h = fun-ext (λ i. bit-octets (c .wordOctets) (flipped (bit word) b) i ∙ go i (decLt i (8 * c .wordOctets)))
   where
     go : (i : ℕ) → Dec (i < 8 * c .wordOctets) → (ltb i (8 * c .wordOctets) && flipped (bit word) b i) ≡ flipped (bit word) b i
@@ -212,13 +225,23 @@ module _ (n : ℕ) (off : T (offered n)) (word out : List ℕ) (lw : length word
 
   -- a run that ends quiet at the codeword is taken, and gives the word
   pub mended : (r : Run) → r .number ≡ 0 → r .word ≡ lifted (code n) (bit word) → (x : Word)
-      → ranCorrect (code n) x r out ≡ record { number = 0; flips = length (r .flips); first = broken (code n) x; last = 0; unlike = differing (code n) x (lifted (code n) (bit word)); lowest = lowest (code n) x; out = word }
+      → ranCorrect (code n) x r out ≡ record {
+        number = 0;
+        flips = length (r .flips);
+        first = broken (code n) x;
+        last = 0;
+        unlike =
+            differing (code n) x (lifted (code n) (bit word));
+        lowest = lowest (code n) x;
+        out = word;
+      }
   unfolding ranCorrect
   mended r e w x =
       let zero-is : judged (code n) r ≡ 0 =
       judged-done (code n) r e (λ k h. ap (λ z. z k) w ∙ lifted-unsent (code n) (bit word) k h)
       (ap (λ z. codeword (code n) (sent (code n) z)) w
-      ∙ own-codeword (code n) (published n off) (lifted (code n) (bit word)) (codeword-own (code n) (published n off) (bit word) is) (λ k h. lifted-unsent (code n) (bit word) k h)) in
+      ∙ own-codeword (code n) (published n off) (lifted (code n) (bit word)) (codeword-own (code n) (published n off) (bit word) is)
+      (λ k h. lifted-unsent (code n) (bit word) k h)) in
       ap₂ (λ a b. record {
         number = a;
         flips = length (r .flips);
@@ -229,20 +252,41 @@ module _ (n : ℕ) (off : T (offered n)) (word out : List ℕ) (lw : length word
         out = if eqb a 0 then written (code n) (r .word) else out;
       })
       zero-is (ap (broken (code n)) w ∙ met)
-      ∙ ap₂ (λ d z. record { number = 0; flips = length (r .flips); first = broken (code n) x; last = 0; unlike = d; lowest = lowest (code n) x; out = z })
+      ∙ ap₂ (λ d z. record {
+        number = 0;
+        flips = length (r .flips);
+        first = broken (code n) x;
+        last = 0;
+        unlike = d;
+        lowest =
+            lowest (code n) x;
+        out = z;
+      })
       (ap (differing (code n) x) w)
-      (ap (written (code n)) w ∙ written-back (code n) (published n off) word lw oct (lifted (code n) (bit word)) (codeword-sent (code n) (published n off) (bit word) is))
+      (ap (written (code n)) w ∙ written-back (code n) (published n off) word lw oct (lifted (code n) (bit word))
+      (codeword-sent (code n) (published n off) (bit word) is))
 
   -- for every way of choosing: a codeword comes back with no flips, and with one wrong sent bit it comes back mended by one flip
   module _ {way : Way} (ch : Chooses (code n) way) where
     pub ran-back : (limit : ℕ) → ranCorrect (code n) (lifted (code n) (bit word)) (run way limit (lifted (code n) (bit word))) out
         ≡ record { number = 0; flips = 0; first = 0; last = 0; unlike = 0; lowest = checks (code n); out = word }
     ran-back limit =
-        ap (λ r. ranCorrect (code n) (lifted (code n) (bit word)) r out) (run-quiet way limit (lifted (code n) (bit word)) (ch .met-quiet (lifted (code n) (bit word)) met))
+        ap (λ r. ranCorrect (code n) (lifted (code n) (bit word)) r out)
+        (run-quiet way limit (lifted (code n) (bit word)) (ch .met-quiet (lifted (code n) (bit word)) met))
         ∙ mended (ended 0 (lifted (code n) (bit word))) refl refl (lifted (code n) (bit word))
-        ∙ ap₂ (λ z d. record { number = 0; flips = 0; first = z; last = 0; unlike = d; lowest = lowest (code n) (lifted (code n) (bit word)); out = word })
+        ∙ ap₂ (λ z d. record {
+          number = 0;
+          flips = 0;
+          first = z;
+          last = 0;
+          unlike = d;
+          lowest =
+              lowest (code n) (lifted (code n) (bit word));
+          out = word;
+        })
         met (differ-self (code n) (lifted (code n) (bit word)))
-        ∙ ap (λ k. record { number = 0; flips = 0; first = 0; last = 0; unlike = 0; lowest = k; out = word }) (quiet-lowest (code n) (lifted (code n) (bit word)) met)
+        ∙ ap (λ k. record { number = 0; flips = 0; first = 0; last = 0; unlike = 0; lowest = k; out = word })
+        (quiet-lowest (code n) (lifted (code n) (bit word)) met)
 
     pub ran-one-back : TakesGreatest (code n) way → (limit k : ℕ) → code n .unsent ≤ k → k < bits (code n)
         → ranCorrect (code n) (flipped (lifted (code n) (bit word)) k) (run way (suc limit) (flipped (lifted (code n) (bit word)) k)) out
@@ -257,8 +301,10 @@ module _ (n : ℕ) (off : T (offered n)) (word out : List ℕ) (lw : length word
         }
     ran-one-back takes limit k from h =
         let girth : Girth (code n) = published n off .girth in
-        ap (λ r. ranCorrect (code n) (flipped (lifted (code n) (bit word)) k) r out) (one-mended (code n) girth (lifted (code n) (bit word)) met k h ch takes from limit)
-        ∙ mended (after k (pos (degreeOf (code n) k)) (ended 0 (lifted (code n) (bit word)))) refl refl (flipped (lifted (code n) (bit word)) k)
+        ap (λ r. ranCorrect (code n) (flipped (lifted (code n) (bit word)) k) r out)
+        (one-mended (code n) girth (lifted (code n) (bit word)) met k h ch takes from limit)
+        ∙ mended (after k (pos (degreeOf (code n) k)) (ended 0 (lifted (code n) (bit word)))) refl refl
+        (flipped (lifted (code n) (bit word)) k)
         ∙ ap₂ (λ z d. record {
           number = 0;
           flips = 1;
@@ -290,7 +336,8 @@ module _ (n : ℕ) (off : T (offered n)) (word out : List ℕ) (lw : length word
       }
   one-back limit b h =
       let same : lifted (code n) (bit (oneWrong (code n) word b)) ≡ flipped (lifted (code n) (bit word)) (b + code n .unsent) =
-      ap (lifted (code n)) (bit-one-wrong (code n) word b lw (lt-of-lt-of-le h (published n off .fits))) ∙ lifted-flip (code n) (bit word) b in
+      ap (lifted (code n)) (bit-one-wrong (code n) word b lw (lt-of-lt-of-le h (published n off .fits)))
+      ∙ lifted-flip (code n) (bit word) b in
       correct-taken n (oneWrong (code n) word b) (suc limit) out off (length-octets (code n .wordOctets) (flipped (bit word) b)) lo
       ∙ ap (λ y. ranCorrect (code n) y (run (byExcess (code n)) (suc limit) y) out) same
       ∙ ran-one-back (chooses n off) (by-greatest (code n) (published n off .some)) limit (b + code n .unsent) (omega arith) (omega arith)
@@ -316,7 +363,16 @@ module _ (n : ℕ) (off : T (offered n)) (x : Word) (met : broken (code n) x ≡
   checks-are k l = check-same (code n) got (flipped x n₀) got-is k
 
   pub unsent-wrong : (limit : ℕ) (out : List ℕ) → length out ≡ code n .wordOctets → correctAnswer n (written (code n) x) limit out
-      ≡ record { number = 5; flips = 0; first = degreeOf (code n) n₀; last = degreeOf (code n) n₀; unlike = 0; lowest = lowest (code n) got; out = out }
+      ≡ record {
+        number = 5;
+        flips = 0;
+        first = degreeOf (code n) n₀;
+        last = degreeOf (code n) n₀;
+        unlike = 0;
+        lowest =
+            lowest (code n) got;
+        out = out;
+      }
   unfolding ranCorrect
   unsent-wrong limit out lo =
       let pb : Published (code n) = published n off in

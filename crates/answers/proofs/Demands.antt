@@ -17,16 +17,19 @@ use Rattle.rules.specs.Tables.{parity16, parity32, parity64, parity511, generat
 use Rattle.bits.proofs.Sums.{and-l, and-r}
 use Rattle.bits.proofs.Octets.{Octets, length-octets, bit-past}
 use Rattle.rules.proofs.Published.{Published, met-own1, met-own2, met-own3, nearInverted, near-inverted, inverted-near}
-use Rattle.rules.proofs.Codewords.{encoded-own, own-encoded, own-codeword, codeword-quiet, codeword-encoded, encoded-codeword, lifted-unsent, lifted-sent-bit, sent-bit, sent-fill}
+use Rattle.rules.proofs.Codewords.{encoded-own, own-encoded, own-codeword, codeword-quiet, codeword-encoded, encoded-codeword}
+use Rattle.rules.proofs.Codewords.{lifted-unsent, lifted-sent-bit, sent-bit, sent-fill}
 use Rattle.answers.proofs.Opening.{quiet-checked}
 use Rattle.answers.proofs.Answers.{encode-taken, encode-cases, check-taken}
 use Rattle.rules.proofs.Numbers.{five, published, telecommand-offered, met-codeword, three}
 
 -- ---- demand 2: every encoded word meets every check
 
-pub encoded-word-meets : (n : ℕ) (info out : List ℕ) → encodeAnswer n info out .number ≡ 0 → checkAnswer n (encodeAnswer n info out .out) ≡ record { number = 0; broken = 0; lowest = checks (code n) }
+pub encoded-word-meets : (n : ℕ) (info out : List ℕ) → encodeAnswer n info out .number ≡ 0
+    → checkAnswer n (encodeAnswer n info out .out) ≡ record { number = 0; broken = 0; lowest = checks (code n) }
 encoded-word-meets n info out =
-    encode-cases n info out (λ r. r .number ≡ 0 → checkAnswer n (r .out) ≡ record { number = 0; broken = 0; lowest = checks (code n) }) (λ k e. absurd (omega arith)) (λ t li lo six e.
+    encode-cases n info out (λ r. r .number ≡ 0 → checkAnswer n (r .out) ≡ record { number = 0; broken = 0; lowest = checks (code n) })
+    (λ k e. absurd (omega arith)) (λ t li lo six e.
     let word : List ℕ = written (code n) (encoded (code n) (lifted (code n) (bit info))) in
     check-taken n word t (length-octets (code n .wordOctets) (sent (code n) (encoded (code n) (lifted (code n) (bit info)))))
     ∙ quiet-checked n word (codeword-quiet (code n) (published n t) (bit word) (encoded-codeword (code n) (published n t) (bit info))))
@@ -36,7 +39,8 @@ encoded-word-meets n info out =
 not-six : (n : ℕ) → T (telecommanded n) → (info : List ℕ) → sixSet n info ≡ false
 not-six = three (λ n. (info : List ℕ) → sixSet n info ≡ false) (λ info. refl) (λ info. refl) (λ info. refl)
 
-pub met-is-encoding : (n : ℕ) → T (telecommanded n) → (word out : List ℕ) → Octets word → length word ≡ code n .wordOctets → length out ≡ code n .wordOctets
+pub met-is-encoding : (n : ℕ) → T (telecommanded n) → (word out : List ℕ) → Octets word → length word ≡ code n .wordOctets
+    → length out ≡ code n .wordOctets
     → checkAnswer n word .broken ≡ 0 → encodeAnswer n (take (code n .informationOctets) word) out ≡ record { number = 0; out = word }
 met-is-encoding n t word out oct lw lo e =
     let off : T (offered n) = telecommand-offered n t in

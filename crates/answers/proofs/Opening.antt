@@ -35,8 +35,10 @@ module _ (n : ℕ) (word : List ℕ) (off : T (offered n)) (lw : length word ≡
   same : checkAnswer n word ≡ checkedFrom n word
   same = check-taken n word off lw
 
-  pub checked-broken : checkAnswer n word .lowest < checks (code n) → check (code n) (lifted (code n) (bit word)) (checkAnswer n word .lowest) ≡ true
-  checked-broken = subst (λ (r : Checked). r .lowest < checks (code n) → check (code n) (lifted (code n) (bit word)) (r .lowest) ≡ true) (sym same)
+  pub checked-broken : checkAnswer n word .lowest < checks (code n)
+      → check (code n) (lifted (code n) (bit word)) (checkAnswer n word .lowest) ≡ true
+  checked-broken = subst (λ (r : Checked). r .lowest < checks (code n) → check (code n) (lifted (code n) (bit word)) (r .lowest) ≡ true)
+      (sym same)
       (lowest-broken (code n) (lifted (code n) (bit word)))
 
   pub checked-below : (k : ℕ) → k < checkAnswer n word .lowest → check (code n) (lifted (code n) (bit word)) k ≡ false
@@ -45,7 +47,8 @@ module _ (n : ℕ) (word : List ℕ) (off : T (offered n)) (lw : length word ≡
 
   pub checked-quiet : (checkAnswer n word .lowest ≡ checks (code n) → checkAnswer n word .broken ≡ 0)
       × (checkAnswer n word .broken ≡ 0 → checkAnswer n word .lowest ≡ checks (code n))
-  checked-quiet = subst (λ (r : Checked). (r .lowest ≡ checks (code n) → r .broken ≡ 0) × (r .broken ≡ 0 → r .lowest ≡ checks (code n))) (sym same)
+  checked-quiet = subst (λ (r : Checked). (r .lowest ≡ checks (code n) → r .broken ≡ 0) × (r .broken ≡ 0 → r .lowest ≡ checks (code n)))
+      (sym same)
       (lowest-quiet (code n) (lifted (code n) (bit word)), quiet-lowest (code n) (lifted (code n) (bit word)))
 
 -- ---- what is wrong with a word
@@ -90,7 +93,8 @@ module _ (n : ℕ) (word : List ℕ) where
   -- what is opened is a codeword
   pub clear-codeword : fault n word ≡ 0 → codeword (code n) (bit word) ≡ true
   clear-codeword =
-      fault-cases (λ k. k ≡ 0 → codeword (code n) (bit word) ≡ true) (λ e k. absurd (omega arith)) (λ e f k. absurd (omega arith)) (λ e f g k. absurd (omega arith)) (λ e f g k. g)
+      fault-cases (λ k. k ≡ 0 → codeword (code n) (bit word) ≡ true) (λ e k. absurd (omega arith)) (λ e f k. absurd (omega arith))
+      (λ e f g k. absurd (omega arith)) (λ e f g k. g)
 
 -- code 5's last two bits are 0 in a codeword
 two-clear : (word : List ℕ) → codeword (code 5) (bit word) ≡ true → (bit word 8158 || bit word 8159) ≡ false
@@ -110,13 +114,15 @@ codeword-two n word is = go (ℕ-discrete n 5)
 -- nothing is wrong with a codeword
 pub codeword-clear : (n : ℕ) → T (offered n) → (word : List ℕ) → codeword (code n) (bit word) ≡ true → fault n word ≡ 0
 codeword-clear n off word is =
-    fault-clear n word (eq-eqb (broken (code n) (lifted (code n) (bit word))) 0 (codeword-quiet (code n) (published n off) (bit word) is)) (codeword-two n word is) is
+    fault-clear n word (eq-eqb (broken (code n) (lifted (code n) (bit word))) 0 (codeword-quiet (code n) (published n off) (bit word) is))
+    (codeword-two n word is) is
 
 -- codes 1 to 3 give neither 14 nor 15
 pub telecommand-two : (n : ℕ) → T (telecommanded n) → (word : List ℕ) → lastTwoSet n word ≡ false
 telecommand-two = three (λ n. (word : List ℕ) → lastTwoSet n word ≡ false) (λ word. refl) (λ word. refl) (λ word. refl)
 
-pub telecommand-faults : (n : ℕ) → T (telecommanded n) → (word : List ℕ) → length word ≡ code n .wordOctets → (fault n word ≡ 14 → ⊥) × (fault n word ≡ 15 → ⊥)
+pub telecommand-faults : (n : ℕ) → T (telecommanded n) → (word : List ℕ) → length word ≡ code n .wordOctets → (fault n word ≡ 14 → ⊥)
+    × (fault n word ≡ 15 → ⊥)
 telecommand-faults n t word lw =
     fault-cases n word (λ k. (k ≡ 14 → ⊥) × (k ≡ 15 → ⊥))
     (λ e. ((λ k. omega arith), (λ k. omega arith)))
@@ -151,10 +157,12 @@ module _ (n : ℕ) (word : List ℕ) where
     pub fifteen : r .number ≡ 15 → (quiet? n word ≡ true) × (lastTwoSet n word ≡ false)
     pub some : (r .number ≡ 9) ⊎ (r .number ≡ 14) ⊎ (r .number ≡ 15)
 
-  pub unopened : T (offered n && not (eqb n 4)) → length word ≡ code n .wordOctets → codeword (code n) (bit word) ≡ false → Unopened (openAnswer n word)
+  pub unopened : T (offered n && not (eqb n 4)) → length word ≡ code n .wordOctets → codeword (code n) (bit word) ≡ false
+      → Unopened (openAnswer n word)
   unopened t lw other =
       subst Unopened (sym (open-from n word t lw))
-      (fault-cases n word (λ k. Unopened (record { number = k; lowest = place; part = if eqb k 0 then take (code n .informationOctets) word else [] }))
+      (fault-cases n word (λ k. Unopened
+      (record { number = k; lowest = place; part = if eqb k 0 then take (code n .informationOctets) word else [] }))
       (λ e. record {
         nothing = refl;
         place = refl;

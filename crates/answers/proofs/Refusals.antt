@@ -65,8 +65,11 @@ module _ (c : Code) {way : Way} (ch : Chooses c way) (limit : ℕ) (x : Word) (n
         where
           spelled : (b : Bool) → codeword c (sent c (run way limit x .word)) ≡ b → _≡_ {A = ℕ} (if not b then 8 else 0) 7
           spelled b is =
-              sym (ap (λ p. if not p then run way limit x .number else if ltb 0 (count (c .unsent) (run way limit x .word)) then 7 else if not (codeword c (sent c (run way limit x .word))) then 8 else 0) (eq-eqb (run way limit x .number) 0 f)
-              ∙ ap₂ (λ q s. if q then 7 else if not s then 8 else 0) (le-ltb 0 (count (c .unsent) (run way limit x .word)) (le-of-eq (count-none (c .unsent) (run way limit x .word) unsent-stay))) is) ∙ e
+              sym (ap (λ p. if not p then run way limit x .number else if ltb 0 (count (c .unsent) (run way limit x .word)) then 7 else
+              if not (codeword c (sent c (run way limit x .word))) then 8 else 0) (eq-eqb (run way limit x .number) 0 f)
+              ∙ ap₂ (λ q s. if q then 7 else if not s then 8 else 0)
+              (le-ltb 0 (count (c .unsent) (run way limit x .word))
+              (le-of-eq (count-none (c .unsent) (run way limit x .word) unsent-stay))) is) ∙ e
 
           by : (b : Bool) → codeword c (sent c (run way limit x .word)) ≡ b → ⊥
           by true is = let z = spelled true is in omega arith

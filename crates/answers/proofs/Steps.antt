@@ -23,7 +23,8 @@ use Rattle.answers.proofs.Answers.{correct-cases, step-cases, step-take
 use Rattle.rules.proofs.Numbers.{published, whole, lifted-whole, sent-whole, past-word}
 
 -- a step turns over the one bit that it names, and no other of the same excess
-pub one-turned : (c : Code) (word : List ℕ) (x : Word) (out : List ℕ) (k : ℕ) (e : ℤ) → nextStep c word x out (flip k e) .out ≡ written c (flipped x k)
+pub one-turned : (c : Code) (word : List ℕ) (x : Word) (out : List ℕ) (k : ℕ) (e : ℤ)
+    → nextStep c word x out (flip k e) .out ≡ written c (flipped x k)
 unfolding nextStep
 one-turned c word x out k e = refl
 
@@ -53,16 +54,20 @@ pub step-one : (n : ℕ) (word out : List ℕ) → stepAnswer n word out .number
     → (stepAnswer n word out .bit < 8 * length word) × (bit (stepAnswer n word out .out) ≡ flipped (bit word) (stepAnswer n word out .bit))
 unfolding nextStep
 step-one n word out =
-    step-cases n word out (λ r. r .number ≡ 0 → r .quiet ≡ false → (r .bit < 8 * length word) × (bit (r .out) ≡ flipped (bit word) (r .bit)))
-    (λ e q. absurd (omega arith)) (λ e q. absurd (omega arith)) (λ e q. absurd (omega arith)) (λ t lw lo. go t lw (byExcess (code n) (lifted (code n) (bit word))) refl)
+    step-cases n word out (λ r. r .number ≡ 0 → r .quiet ≡ false → (r .bit < 8 * length word)
+    × (bit (r .out) ≡ flipped (bit word) (r .bit)))
+    (λ e q. absurd (omega arith)) (λ e q. absurd (omega arith)) (λ e q. absurd (omega arith))
+    (λ t lw lo. go t lw (byExcess (code n) (lifted (code n) (bit word))) refl)
   where
     x : Word
     x = lifted (code n) (bit word)
 
     go : T (stepped n) → length word ≡ code n .wordOctets → (nx : Next) → byExcess (code n) (lifted (code n) (bit word)) ≡ nx
-        → nextStep (code n) word (lifted (code n) (bit word)) out nx .number ≡ 0 → nextStep (code n) word (lifted (code n) (bit word)) out nx .quiet ≡ false
+        → nextStep (code n) word (lifted (code n) (bit word)) out nx .number ≡ 0
+        → nextStep (code n) word (lifted (code n) (bit word)) out nx .quiet ≡ false
         → (nextStep (code n) word (lifted (code n) (bit word)) out nx .bit < 8 * length word)
-        × (bit (nextStep (code n) word (lifted (code n) (bit word)) out nx .out) ≡ flipped (bit word) (nextStep (code n) word (lifted (code n) (bit word)) out nx .bit))
+        × (bit (nextStep (code n) word (lifted (code n) (bit word)) out nx .out) ≡ flipped (bit word)
+        (nextStep (code n) word (lifted (code n) (bit word)) out nx .bit))
     go t lw quiet e z q = absurd (subst T q tt)
     go t lw (stuck k ex) e z q = absurd (omega arith)
     go t lw (flip k ex) e z q =
@@ -74,38 +79,48 @@ steps n zero word = word
 steps n (suc k) word = steps n k (stepAnswer n word word .out)
 
 -- where a run ends quiet, as many steps as it has flips give its word
-run-steps : (n : ℕ) → T (stepped n) → (limit : ℕ) (x : Word) → (word : List ℕ) → length word ≡ code n .wordOctets → Octets word → lifted (code n) (bit word) ≡ x
-    → run (byExcess (code n)) limit x .number ≡ 0 → steps n (length (run (byExcess (code n)) limit x .flips)) word ≡ written (code n) (run (byExcess (code n)) limit x .word)
+run-steps : (n : ℕ) → T (stepped n) → (limit : ℕ) (x : Word) → (word : List ℕ) → length word ≡ code n .wordOctets → Octets word
+    → lifted (code n) (bit word) ≡ x
+    → run (byExcess (code n)) limit x .number ≡ 0 → steps n (length (run (byExcess (code n)) limit x .flips)) word ≡ written (code n)
+    (run (byExcess (code n)) limit x .word)
 unfolding steps nextStep
 run-steps n t =
-    every-run (byExcess (code n)) (λ limit x r. (word : List ℕ) → length word ≡ code n .wordOctets → Octets word → lifted (code n) (bit word) ≡ x → r .number ≡ 0 → steps n (length (r .flips)) word ≡ written (code n) (r .word))
+    every-run (byExcess (code n)) (λ limit x r. (word : List ℕ) → length word ≡ code n .wordOctets → Octets word
+    → lifted (code n) (bit word) ≡ x → r .number ≡ 0 → steps n (length (r .flips)) word ≡ written (code n) (r .word))
     (λ limit x e word lw oct same z. sym (back word lw oct x same))
     (λ limit x k ex e word lw oct same z. absurd (omega arith))
     (λ x k ex e word lw oct same z. absurd (omega arith))
     (λ limit x k ex e r ih word lw oct same z. later k ex x e r ih word lw oct same z)
   where
-    back : (word : List ℕ) → length word ≡ code n .wordOctets → Octets word → (x : Word) → lifted (code n) (bit word) ≡ x → written (code n) x ≡ word
+    back : (word : List ℕ) → length word ≡ code n .wordOctets → Octets word → (x : Word) → lifted (code n) (bit word) ≡ x
+        → written (code n) x ≡ word
     back word lw oct x same =
         written-back (code n) (pb n t word lw) word lw oct x (λ i l. ap (λ z. z i)
-        (ap (sent (code n)) (sym same ∙ as-bits n t word lw) ∙ sent-whole (code n) (whole n t) (bit word) (past-word (code n) (whole n t) word lw)))
+        (ap (sent (code n)) (sym same ∙ as-bits n t word lw)
+        ∙ sent-whole (code n) (whole n t) (bit word) (past-word (code n) (whole n t) word lw)))
 
     later : (k : ℕ) (ex : ℤ) (x : Word) → byExcess (code n) x ≡ flip k ex → (r : Run)
-        → ((word : List ℕ) → length word ≡ code n .wordOctets → Octets word → lifted (code n) (bit word) ≡ flipped x k → r .number ≡ 0 → steps n (length (r .flips)) word ≡ written (code n) (r .word))
+        → ((word : List ℕ) → length word ≡ code n .wordOctets → Octets word → lifted (code n) (bit word) ≡ flipped x k → r .number ≡ 0
+        → steps n (length (r .flips)) word ≡ written (code n) (r .word))
         → (word : List ℕ) → length word ≡ code n .wordOctets → Octets word → lifted (code n) (bit word) ≡ x → r .number ≡ 0
         → steps n (length (r .flips)) (stepAnswer n word word .out) ≡ written (code n) (r .word)
     later k ex x e r ih word lw oct same z =
         let next : byExcess (code n) (lifted (code n) (bit word)) ≡ flip k ex = ap (byExcess (code n)) same ∙ e in
         let gives : stepAnswer n word word .out ≡ written (code n) (flipped (lifted (code n) (bit word)) k) =
-        ap (λ a. a .out) (step-taken n word word t lw lw) ∙ ap (λ nx. nextStep (code n) word (lifted (code n) (bit word)) word nx .out) next in
+        ap (λ a. a .out) (step-taken n word word t lw lw)
+        ∙ ap (λ nx. nextStep (code n) word (lifted (code n) (bit word)) word nx .out) next in
         ap (steps n (length (r .flips))) gives
-        ∙ ih (written (code n) (flipped (lifted (code n) (bit word)) k)) (length-octets (code n .wordOctets) (sent (code n) (flipped (lifted (code n) (bit word)) k)))
+        ∙ ih (written (code n) (flipped (lifted (code n) (bit word)) k))
+        (length-octets (code n .wordOctets) (sent (code n) (flipped (lifted (code n) (bit word)) k)))
         (octets-lt (code n .wordOctets) (sent (code n) (flipped (lifted (code n) (bit word)) k)))
-        (as-bits n t (written (code n) (flipped (lifted (code n) (bit word)) k)) (length-octets (code n .wordOctets) (sent (code n) (flipped (lifted (code n) (bit word)) k)))
+        (as-bits n t (written (code n) (flipped (lifted (code n) (bit word)) k))
+        (length-octets (code n .wordOctets) (sent (code n) (flipped (lifted (code n) (bit word)) k)))
         ∙ flip-bits n t word lw k (bit-lt n t word lw k ex next) ∙ ap (λ y. flipped y k) (sym (as-bits n t word lw) ∙ same))
         z
 
 -- where correct answers 0 for codes 1 to 4, as many steps as flips give correct's word
-pub steps-correct : (n : ℕ) → T (stepped n) → (word : List ℕ) → Octets word → (limit : ℕ) (out : List ℕ) → correctAnswer n word limit out .number ≡ 0
+pub steps-correct : (n : ℕ) → T (stepped n) → (word : List ℕ) → Octets word → (limit : ℕ) (out : List ℕ)
+    → correctAnswer n word limit out .number ≡ 0
     → steps n (correctAnswer n word limit out .flips) word ≡ correctAnswer n word limit out .out
 unfolding ranCorrect
 steps-correct n t word oct limit out =
@@ -117,12 +132,15 @@ steps-correct n t word oct limit out =
     r : Run
     r = run (byExcess (code n)) limit (lifted (code n) (bit word))
 
-    quiet-end : judged (code n) (run (byExcess (code n)) limit (lifted (code n) (bit word))) ≡ 0 → run (byExcess (code n)) limit (lifted (code n) (bit word)) .number ≡ 0
+    quiet-end : judged (code n) (run (byExcess (code n)) limit (lifted (code n) (bit word))) ≡ 0
+        → run (byExcess (code n)) limit (lifted (code n) (bit word)) .number ≡ 0
     quiet-end e = go (eqb (run (byExcess (code n)) limit (lifted (code n) (bit word)) .number) 0) refl
       where
-        go : (b : Bool) → eqb (run (byExcess (code n)) limit (lifted (code n) (bit word)) .number) 0 ≡ b → run (byExcess (code n)) limit (lifted (code n) (bit word)) .number ≡ 0
+        go : (b : Bool) → eqb (run (byExcess (code n)) limit (lifted (code n) (bit word)) .number) 0 ≡ b
+            → run (byExcess (code n)) limit (lifted (code n) (bit word)) .number ≡ 0
         go true f = eqb-true (run (byExcess (code n)) limit (lifted (code n) (bit word)) .number) 0 f
         go false f =
             sym (ap (λ b. if not b then run (byExcess (code n)) limit (lifted (code n) (bit word)) .number
             else if ltb 0 (count (code n .unsent) (run (byExcess (code n)) limit (lifted (code n) (bit word)) .word)) then 7
-            else if not (codeword (code n) (sent (code n) (run (byExcess (code n)) limit (lifted (code n) (bit word)) .word))) then 8 else 0) f) ∙ e
+            else if not (codeword (code n) (sent (code n) (run (byExcess (code n)) limit (lifted (code n) (bit word)) .word))) then 8 else
+            0) f) ∙ e

@@ -1,4 +1,5 @@
--- No promise for three: for each code a codeword with three wrong bits that is not mended, whatever the limit. Found by search, and proved: the
+-- No promise for three: for each code a codeword with three wrong bits that is not mended, whatever the limit. Found by search, and proved:
+-- the
 -- broken checks are listed, and what comes next is computed from the list.
 use mathlib.Core.Path.{_≡_, refl, sym, ap, ap₂, _∙_, fun-ext, subst}
 use mathlib.Core.Bool.{Bool, true, false, true≢false, not, _&&_, _||_, and-false}
@@ -55,8 +56,10 @@ wrongBits (b ∷ bs) = flipped (wrongBits bs) b
 count-among : (n : ℕ) (g : ℕ → Bool) (ks : List ℕ) → T (distinct ks) → T (under n ks) → count n (λ k. g k && among k ks) ≡ countOf ks g
 count-among n g [] d u = count-none n _ (λ k l. and-false (g k))
 count-among n g (j ∷ js) d u =
-    count-apart n (λ k. eqb k j && g k) (λ k. g k && among k js) (λ k. g k && (eqb k j || among k js)) (λ k l. apart k (ℕ-discrete k j) (g k))
-    ∙ ap₂ _+_ (count-pick n j g (ltb→lt j n (and-l (ltb j n) (under n js) u))) (count-among n g js (and-r (not (among j js)) (distinct js) d) (and-r (ltb j n) (under n js) u))
+    count-apart n (λ k. eqb k j && g k) (λ k. g k && among k js) (λ k. g k && (eqb k j || among k js))
+    (λ k l. apart k (ℕ-discrete k j) (g k))
+    ∙ ap₂ _+_ (count-pick n j g (ltb→lt j n (and-l (ltb j n) (under n js) u)))
+    (count-among n g js (and-r (not (among j js)) (distinct js) d) (and-r (ltb j n) (under n js) u))
   where
     alone : among j js ≡ false
     alone = not-true (among j js) (and-l (not (among j js)) (distinct js) d)
@@ -95,7 +98,8 @@ module _ (c : Code) where
     unfolding brokenOf
     broken-hits m =
         count-same (checks c) _ (λ k. covers c k m && among k ks) (λ k l. ap (λ z. covers c k m && z)
-        (check-wrong bs inside k ∙ ⊕-eq (over bs (covers c k)) (among k ks) (not-true (over bs (covers c k) ⊕ among k ks) (below-at (checks c) (λ k. not (over bs (covers c k) ⊕ among k ks)) listed k l))))
+        (check-wrong bs inside k ∙ ⊕-eq (over bs (covers c k)) (among k ks)
+        (not-true (over bs (covers c k) ⊕ among k ks) (below-at (checks c) (λ k. not (over bs (covers c k) ⊕ among k ks)) listed k l))))
         ∙ count-among (checks c) (λ k. covers c k m) ks once low
 
     all : (m : ℕ) → m < bits c → hits m + metOf c (wrongBits bs) m ≡ deg m
@@ -108,22 +112,27 @@ module _ (c : Code) where
 
       -- the greatest excess, the lowest of several: what is flipped
       pub flips : c .unsent ≤ m₀ → m₀ < bits c → T (ltb (deg m₀) (2 * hits m₀))
-          → T (below (bits c) (λ m. if ltb m m₀ then ltb (2 * hits m + deg m₀) (2 * hits m₀ + deg m) else leb (2 * hits m + deg m₀) (2 * hits m₀ + deg m)))
+          → T (below (bits c) (λ m. if ltb m m₀ then ltb (2 * hits m + deg m₀) (2 * hits m₀ + deg m) else leb (2 * hits m + deg m₀)
+          (2 * hits m₀ + deg m)))
           → byExcess c (wrongBits bs) ≡ flip m₀ (excess c (wrongBits bs) m₀)
       flips sent h up top =
           let at : chosen c (wrongBits bs) ≡ m₀ = chosen-is c some (wrongBits bs) m₀ sent h less more in
           flip-next c (wrongBits bs) not-quiet
           (ap (λ z. ltZ (pos 0) (excess c (wrongBits bs) z)) at ∙ above-is c (wrongBits bs) m₀
-          ∙ lt-ltb (metOf c (wrongBits bs) m₀) (brokenOf c (wrongBits bs) m₀) (omega (arith, all m₀ h, broken-hits m₀, ltb→lt (deg m₀) (2 * hits m₀) up)))
+          ∙ lt-ltb (metOf c (wrongBits bs) m₀) (brokenOf c (wrongBits bs) m₀)
+          (omega (arith, all m₀ h, broken-hits m₀, ltb→lt (deg m₀) (2 * hits m₀) up)))
           ∙ ap₂ flip at (ap (excess c (wrongBits bs)) at)
         where
-          tested : (m : ℕ) → m < bits c → T (if ltb m m₀ then ltb (2 * hits m + deg m₀) (2 * hits m₀ + deg m) else leb (2 * hits m + deg m₀) (2 * hits m₀ + deg m))
-          tested = below-at (bits c) (λ m. if ltb m m₀ then ltb (2 * hits m + deg m₀) (2 * hits m₀ + deg m) else leb (2 * hits m + deg m₀) (2 * hits m₀ + deg m)) top
+          tested : (m : ℕ) → m < bits c → T (if ltb m m₀ then ltb (2 * hits m + deg m₀) (2 * hits m₀ + deg m) else leb
+              (2 * hits m + deg m₀) (2 * hits m₀ + deg m))
+          tested = below-at (bits c) (λ m. if ltb m m₀ then ltb (2 * hits m + deg m₀) (2 * hits m₀ + deg m) else leb (2 * hits m + deg m₀)
+              (2 * hits m₀ + deg m)) top
 
           less : (m : ℕ) → m < m₀ → ltZ (excess c (wrongBits bs) m) (excess c (wrongBits bs) m₀) ≡ true
           less m l =
               let t = ltb→lt (2 * hits m + deg m₀) (2 * hits m₀ + deg m)
-              (subst (λ b. T (if b then ltb (2 * hits m + deg m₀) (2 * hits m₀ + deg m) else leb (2 * hits m + deg m₀) (2 * hits m₀ + deg m))) (lt-ltb m m₀ l) (tested m (omega arith))) in
+              (subst (λ b. T (if b then ltb (2 * hits m + deg m₀) (2 * hits m₀ + deg m) else leb (2 * hits m + deg m₀)
+              (2 * hits m₀ + deg m))) (lt-ltb m m₀ l) (tested m (omega arith))) in
               excess-order c (wrongBits bs) m m₀
               ∙ lt-ltb (brokenOf c (wrongBits bs) m + metOf c (wrongBits bs) m₀) (brokenOf c (wrongBits bs) m₀ + metOf c (wrongBits bs) m)
               (omega (arith, t, all m (omega arith), all m₀ h, broken-hits m, broken-hits m₀))
@@ -131,15 +140,18 @@ module _ (c : Code) where
           more : (m : ℕ) → m < bits c → ltZ (excess c (wrongBits bs) m₀) (excess c (wrongBits bs) m) ≡ false
           more m l = excess-order c (wrongBits bs) m₀ m ∙ by (decLt m m₀)
             where
-              by : Dec (m < m₀) → ltb (brokenOf c (wrongBits bs) m₀ + metOf c (wrongBits bs) m) (brokenOf c (wrongBits bs) m + metOf c (wrongBits bs) m₀) ≡ false
+              by : Dec (m < m₀) → ltb (brokenOf c (wrongBits bs) m₀ + metOf c (wrongBits bs) m)
+                  (brokenOf c (wrongBits bs) m + metOf c (wrongBits bs) m₀) ≡ false
               by (yes e) =
                   let t = ltb→lt (2 * hits m + deg m₀) (2 * hits m₀ + deg m)
-                  (subst (λ b. T (if b then ltb (2 * hits m + deg m₀) (2 * hits m₀ + deg m) else leb (2 * hits m + deg m₀) (2 * hits m₀ + deg m))) (lt-ltb m m₀ e) (tested m l)) in
+                  (subst (λ b. T (if b then ltb (2 * hits m + deg m₀) (2 * hits m₀ + deg m) else leb (2 * hits m + deg m₀)
+                  (2 * hits m₀ + deg m))) (lt-ltb m m₀ e) (tested m l)) in
                   le-ltb (brokenOf c (wrongBits bs) m₀ + metOf c (wrongBits bs) m) (brokenOf c (wrongBits bs) m + metOf c (wrongBits bs) m₀)
                   (omega (arith, t, all m l, all m₀ h, broken-hits m, broken-hits m₀))
               by (no d) =
                   let t = leb→le (2 * hits m + deg m₀) (2 * hits m₀ + deg m)
-                  (subst (λ b. T (if b then ltb (2 * hits m + deg m₀) (2 * hits m₀ + deg m) else leb (2 * hits m + deg m₀) (2 * hits m₀ + deg m))) (le-ltb m m₀ (omega (arith, lt-of-not-le d))) (tested m l)) in
+                  (subst (λ b. T (if b then ltb (2 * hits m + deg m₀) (2 * hits m₀ + deg m) else leb (2 * hits m + deg m₀)
+                  (2 * hits m₀ + deg m))) (le-ltb m m₀ (omega (arith, lt-of-not-le d))) (tested m l)) in
                   le-ltb (brokenOf c (wrongBits bs) m₀ + metOf c (wrongBits bs) m) (brokenOf c (wrongBits bs) m + metOf c (wrongBits bs) m₀)
                   (omega (arith, t, all m l, all m₀ h, broken-hits m, broken-hits m₀))
 
@@ -151,14 +163,17 @@ module _ (c : Code) where
           let h : n < bits c = omega (arith, chosen-greatest c some (wrongBits bs) .under) in
           let t = leb→le (2 * hits n) (deg n) (below-at (bits c) (λ m. leb (2 * hits m) (deg m)) none n h) in
           stuck-next c (wrongBits bs) not-quiet
-          (above-is c (wrongBits bs) n ∙ le-ltb (metOf c (wrongBits bs) n) (brokenOf c (wrongBits bs) n) (omega (arith, t, all n h, broken-hits n)))
+          (above-is c (wrongBits bs) n ∙ le-ltb (metOf c (wrongBits bs) n) (brokenOf c (wrongBits bs) n)
+          (omega (arith, t, all n h, broken-hits n)))
 
 -- ---- runs that do not end quiet
 
 stuck-run : (c : Code) (y : Word) (k : ℕ) (ex : ℤ) → byExcess c y ≡ stuck k ex → (limit : ℕ) → (run (byExcess c) limit y .number ≡ 0 → ⊥)
-stuck-run c y k ex e limit q = let z : _≡_ {A = ℕ} 5 0 = sym (ap (λ r. r .number) (run-stuck (byExcess c) limit y k ex e)) ∙ q in omega arith
+stuck-run c y k ex e limit q = let z : _≡_ {A = ℕ} 5 0 = sym (ap (λ r. r .number) (run-stuck (byExcess c) limit y k ex e))
+    ∙ q in omega arith
 
-flip-run : (c : Code) (y : Word) (k : ℕ) (ex : ℤ) → byExcess c y ≡ flip k ex → ((limit : ℕ) → run (byExcess c) limit (flipped y k) .number ≡ 0 → ⊥)
+flip-run : (c : Code) (y : Word) (k : ℕ) (ex : ℤ) → byExcess c y ≡ flip k ex
+    → ((limit : ℕ) → run (byExcess c) limit (flipped y k) .number ≡ 0 → ⊥)
     → (limit : ℕ) → (run (byExcess c) limit y .number ≡ 0 → ⊥)
 flip-run c y k ex e later zero q = let z : _≡_ {A = ℕ} 6 0 = sym (ap (λ r. r .number) (run-limit (byExcess c) y k ex e)) ∙ q in omega arith
 flip-run c y k ex e later (suc limit) q = later limit (sym (ap (λ r. r .number) (run-flip (byExcess c) limit y k ex e)) ∙ q)
@@ -173,9 +188,11 @@ run1 : (limit : ℕ) → (run (byExcess code1) limit (wrongBits (43 ∷ 27 ∷ 0
 unfolding code1 parity16
 run1 =
     flip-run code1 (wrongBits (43 ∷ 27 ∷ 0 ∷ [])) 106 _
-    (flips code1 (λ m. degree parity16 (m / 16)) deg1 (published1 .some) (43 ∷ 27 ∷ 0 ∷ []) (0 ∷ 13 ∷ 26 ∷ 28 ∷ 42 ∷ 43 ∷ 48 ∷ 50 ∷ 58 ∷ []) tt tt tt tt 106 tt zero-le (lit< tt) tt tt)
+    (flips code1 (λ m. degree parity16 (m / 16)) deg1 (published1 .some) (43 ∷ 27 ∷ 0 ∷ [])
+    (0 ∷ 13 ∷ 26 ∷ 28 ∷ 42 ∷ 43 ∷ 48 ∷ 50 ∷ 58 ∷ []) tt tt tt tt 106 tt zero-le (lit< tt) tt tt)
     (stuck-run code1 (wrongBits (106 ∷ 43 ∷ 27 ∷ 0 ∷ [])) _ _
-    (sticks code1 (λ m. degree parity16 (m / 16)) deg1 (published1 .some) (106 ∷ 43 ∷ 27 ∷ 0 ∷ []) (0 ∷ 28 ∷ 42 ∷ 43 ∷ 48 ∷ 50 ∷ []) tt tt tt tt 0 tt tt))
+    (sticks code1 (λ m. degree parity16 (m / 16)) deg1 (published1 .some) (106 ∷ 43 ∷ 27 ∷ 0 ∷ []) (0 ∷ 28 ∷ 42 ∷ 43 ∷ 48 ∷ 50 ∷ []) tt tt
+    tt tt 0 tt tt))
 
 deg2 : (m : ℕ) → m < bits code2 → degreeOf code2 m ≡ degree parity32 (m / 32)
 unfolding degreeOf code2 parity32 generator32
@@ -185,9 +202,11 @@ run2 : (limit : ℕ) → (run (byExcess code2) limit (wrongBits (188 ∷ 157 ∷
 unfolding code2 parity32
 run2 =
     flip-run code2 (wrongBits (188 ∷ 157 ∷ 32 ∷ [])) 241 _
-    (flips code2 (λ m. degree parity32 (m / 32)) deg2 (published2 .some) (188 ∷ 157 ∷ 32 ∷ []) (8 ∷ 17 ∷ 32 ∷ 34 ∷ 61 ∷ 92 ∷ 100 ∷ []) tt tt tt tt 241 tt zero-le (lit< tt) tt tt)
+    (flips code2 (λ m. degree parity32 (m / 32)) deg2 (published2 .some) (188 ∷ 157 ∷ 32 ∷ []) (8 ∷ 17 ∷ 32 ∷ 34 ∷ 61 ∷ 92 ∷ 100 ∷ []) tt
+    tt tt tt 241 tt zero-le (lit< tt) tt tt)
     (stuck-run code2 (wrongBits (241 ∷ 188 ∷ 157 ∷ 32 ∷ [])) _ _
-    (sticks code2 (λ m. degree parity32 (m / 32)) deg2 (published2 .some) (241 ∷ 188 ∷ 157 ∷ 32 ∷ []) (8 ∷ 32 ∷ 34 ∷ 100 ∷ []) tt tt tt tt 32 tt tt))
+    (sticks code2 (λ m. degree parity32 (m / 32)) deg2 (published2 .some) (241 ∷ 188 ∷ 157 ∷ 32 ∷ []) (8 ∷ 32 ∷ 34 ∷ 100 ∷ []) tt tt tt tt
+    32 tt tt))
 
 deg3 : (m : ℕ) → m < bits code3 → degreeOf code3 m ≡ degree parity64 (m / 64)
 unfolding degreeOf code3 parity64 generator64
@@ -197,22 +216,26 @@ run3 : (limit : ℕ) → (run (byExcess code3) limit (wrongBits (377 ∷ 325 ∷
 unfolding code3 parity64
 run3 =
     flip-run code3 (wrongBits (377 ∷ 325 ∷ 128 ∷ [])) 25 _
-    (flips code3 (λ m. degree parity64 (m / 64)) deg3 (published3 .some) (377 ∷ 325 ∷ 128 ∷ []) (26 ∷ 78 ∷ 128 ∷ 133 ∷ 137 ∷ 185 ∷ 246 ∷ []) tt tt tt tt 25 tt zero-le (lit< tt) tt tt)
+    (flips code3 (λ m. degree parity64 (m / 64)) deg3 (published3 .some) (377 ∷ 325 ∷ 128 ∷ [])
+    (26 ∷ 78 ∷ 128 ∷ 133 ∷ 137 ∷ 185 ∷ 246 ∷ []) tt tt tt tt 25 tt zero-le (lit< tt) tt tt)
     (stuck-run code3 (wrongBits (25 ∷ 377 ∷ 325 ∷ 128 ∷ [])) _ _
-    (sticks code3 (λ m. degree parity64 (m / 64)) deg3 (published3 .some) (25 ∷ 377 ∷ 325 ∷ 128 ∷ []) (25 ∷ 78 ∷ 97 ∷ 128 ∷ 133 ∷ 185 ∷ []) tt tt tt tt 6 tt tt))
+    (sticks code3 (λ m. degree parity64 (m / 64)) deg3 (published3 .some) (25 ∷ 377 ∷ 325 ∷ 128 ∷ []) (25 ∷ 78 ∷ 97 ∷ 128 ∷ 133 ∷ 185 ∷ [])
+    tt tt tt tt 6 tt tt))
 
 -- three bits of which each two share a check: each has as many checks met as broken
 run4 : (limit : ℕ) → (run (byExcess code4) limit (wrongBits (1216 ∷ 194 ∷ 18 ∷ [])) .number ≡ 0 → ⊥)
 unfolding code code4 parity511
 run4 =
     stuck-run code4 (wrongBits (1216 ∷ 194 ∷ 18 ∷ [])) _ _
-    (sticks code4 (λ m. 4) (near-degree 4 tt) (published4 .some) (1216 ∷ 194 ∷ 18 ∷ []) (569 ∷ 606 ∷ 745 ∷ 781 ∷ 941 ∷ 1018 ∷ []) tt tt tt tt 18 tt tt)
+    (sticks code4 (λ m. 4) (near-degree 4 tt) (published4 .some) (1216 ∷ 194 ∷ 18 ∷ []) (569 ∷ 606 ∷ 745 ∷ 781 ∷ 941 ∷ 1018 ∷ []) tt tt tt
+    tt 18 tt tt)
 
 run5 : (limit : ℕ) → (run (byExcess code5) limit (wrongBits (1216 ∷ 194 ∷ 18 ∷ [])) .number ≡ 0 → ⊥)
 unfolding code code5 parity511
 run5 =
     stuck-run code5 (wrongBits (1216 ∷ 194 ∷ 18 ∷ [])) _ _
-    (sticks code5 (λ m. 4) (near-degree 5 tt) (published5 .some) (1216 ∷ 194 ∷ 18 ∷ []) (569 ∷ 606 ∷ 745 ∷ 781 ∷ 941 ∷ 1018 ∷ []) tt tt tt tt 18 tt tt)
+    (sticks code5 (λ m. 4) (near-degree 5 tt) (published5 .some) (1216 ∷ 194 ∷ 18 ∷ []) (569 ∷ 606 ∷ 745 ∷ 781 ∷ 941 ∷ 1018 ∷ []) tt tt tt
+    tt 18 tt tt)
 
 -- ---- the same of correct
 
@@ -220,7 +243,8 @@ run5 =
 abbrev pub threeWrong : Code → ℕ → ℕ → ℕ → List ℕ
 threeWrong c a b d = oneWrong c (twoWrong c (replicate (c .wordOctets) 0) a b) d
 
-module _ (n : ℕ) (off : T (offered n)) (a b d : ℕ) (ha : a < 8 * code n .wordOctets) (hb : b < 8 * code n .wordOctets) (hd : d < 8 * code n .wordOctets) where
+module _ (n : ℕ) (off : T (offered n)) (a b d : ℕ) (ha : a < 8 * code n .wordOctets) (hb : b < 8 * code n .wordOctets)
+    (hd : d < 8 * code n .wordOctets) where
   zeros : bit (replicate (code n .wordOctets) 0) ≡ wrongBits []
   zeros = fun-ext (λ i. ap (λ z. digit 8 z (i % 8)) (zeros-at (code n .wordOctets) (i / 8)) ∙ digit-zero 8 (i % 8))
 
@@ -228,29 +252,38 @@ module _ (n : ℕ) (off : T (offered n)) (a b d : ℕ) (ha : a < 8 * code n .wor
   unfolding lifted
   none = fun-ext (λ i. and-false (not (ltb i (code n .unsent))))
 
-  lifted-three : lifted (code n) (bit (threeWrong (code n) a b d)) ≡ wrongBits ((d + code n .unsent) ∷ (b + code n .unsent) ∷ (a + code n .unsent) ∷ [])
+  lifted-three : lifted (code n) (bit (threeWrong (code n) a b d)) ≡ wrongBits
+      ((d + code n .unsent) ∷ (b + code n .unsent) ∷ (a + code n .unsent) ∷ [])
   lifted-three =
-      ap (lifted (code n)) (bit-one-wrong (code n) (twoWrong (code n) (replicate (code n .wordOctets) 0) a b) d (length-octets (code n .wordOctets) (flipped (bit (oneWrong (code n) (replicate (code n .wordOctets) 0) a)) b)) hd
-      ∙ ap (λ y. flipped y d) (bit-one-wrong (code n) (oneWrong (code n) (replicate (code n .wordOctets) 0) a) b (length-octets (code n .wordOctets) (flipped (bit (replicate (code n .wordOctets) 0)) a)) hb
-      ∙ ap (λ y. flipped y b) (bit-one-wrong (code n) (replicate (code n .wordOctets) 0) a (length-replicate (code n .wordOctets) 0) ha ∙ ap (λ y. flipped y a) zeros)))
+      ap (lifted (code n)) (bit-one-wrong (code n) (twoWrong (code n) (replicate (code n .wordOctets) 0) a b) d
+      (length-octets (code n .wordOctets) (flipped (bit (oneWrong (code n) (replicate (code n .wordOctets) 0) a)) b)) hd
+      ∙ ap (λ y. flipped y d) (bit-one-wrong (code n) (oneWrong (code n) (replicate (code n .wordOctets) 0) a) b
+      (length-octets (code n .wordOctets) (flipped (bit (replicate (code n .wordOctets) 0)) a)) hb
+      ∙ ap (λ y. flipped y b) (bit-one-wrong (code n) (replicate (code n .wordOctets) 0) a (length-replicate (code n .wordOctets) 0) ha
+      ∙ ap (λ y. flipped y a) zeros)))
       ∙ lifted-flip (code n) (flipped (flipped (wrongBits []) a) b) d ∙ ap (λ y. flipped y (d + code n .unsent))
-      (lifted-flip (code n) (flipped (wrongBits []) a) b ∙ ap (λ y. flipped y (b + code n .unsent)) (lifted-flip (code n) (wrongBits []) a ∙ ap (λ y. flipped y (a + code n .unsent)) none))
+      (lifted-flip (code n) (flipped (wrongBits []) a) b ∙ ap (λ y. flipped y (b + code n .unsent)) (lifted-flip (code n) (wrongBits []) a
+      ∙ ap (λ y. flipped y (a + code n .unsent)) none))
 
-  not-zero : ((limit : ℕ) → run (byExcess (code n)) limit (wrongBits ((d + code n .unsent) ∷ (b + code n .unsent) ∷ (a + code n .unsent) ∷ [])) .number ≡ 0 → ⊥)
+  not-zero : ((limit : ℕ) → run (byExcess (code n)) limit
+      (wrongBits ((d + code n .unsent) ∷ (b + code n .unsent) ∷ (a + code n .unsent) ∷ [])) .number ≡ 0 → ⊥)
       → (limit : ℕ) (out : List ℕ) → length out ≡ code n .wordOctets → correctAnswer n (threeWrong (code n) a b d) limit out .number ≡ 0 → ⊥
   unfolding ranCorrect
   not-zero ran limit out lo e =
       let r : Run = run (byExcess (code n)) limit (lifted (code n) (bit (threeWrong (code n) a b d))) in
       let z : r .number ≡ 0 → ⊥ = λ q. ran limit (ap (λ y. run (byExcess (code n)) limit y .number) (sym lifted-three) ∙ q) in
       let is : judged (code n) r ≡ 0 =
-      sym (ap (λ a. a .number) (correct-taken n (threeWrong (code n) a b d) limit out off (length-octets (code n .wordOctets) (flipped (bit (twoWrong (code n) (replicate (code n .wordOctets) 0) a b)) d)) lo)) ∙ e in
+      sym (ap (λ a. a .number) (correct-taken n (threeWrong (code n) a b d) limit out off
+      (length-octets (code n .wordOctets) (flipped (bit (twoWrong (code n) (replicate (code n .wordOctets) 0) a b)) d)) lo)) ∙ e in
       z (sym (judged-other (code n) r (r .number) refl z) ∙ is)
 
 -- For each code the zero word with three wrong bits: correct does not answer 0, whatever the limit.
 abbrev pub NotMended : ℕ → ℕ → ℕ → ℕ → Type 0
-NotMended n a b d = (limit : ℕ) (out : List ℕ) → length out ≡ code n .wordOctets → correctAnswer n (threeWrong (code n) a b d) limit out .number ≡ 0 → ⊥
+NotMended n a b d = (limit : ℕ) (out : List ℕ) → length out ≡ code n .wordOctets
+    → correctAnswer n (threeWrong (code n) a b d) limit out .number ≡ 0 → ⊥
 
-pub three-not-mended : NotMended 1 0 27 43 × NotMended 2 32 157 188 × NotMended 3 128 325 377 × NotMended 4 18 194 1216 × NotMended 5 0 176 1198
+pub three-not-mended : NotMended 1 0 27 43 × NotMended 2 32 157 188 × NotMended 3 128 325 377 × NotMended 4 18 194 1216
+    × NotMended 5 0 176 1198
 unfolding code code1 code2 code3 code4 code5
 three-not-mended = (
   not-zero 1 tt 0 27 43 (lit< tt) (lit< tt) (lit< tt) run1,

@@ -41,7 +41,8 @@ module _ {c : Code} {way : Way} (ch : Chooses c way) (x : Word) where
 
   pub run-near : (limit : ℕ) (y : Word) → Near c x y (run way limit y)
   run-near =
-      every-run way (λ limit y r. Near c x y r) (λ limit y e. stays y 0) (λ limit y n ex e. stays y 5) (λ y n ex e. stays y 6) (λ limit y n ex e r ih.
+      every-run way (λ limit y r. Near c x y r) (λ limit y e. stays y 0) (λ limit y n ex e. stays y 5) (λ y n ex e. stays y 6)
+      (λ limit y n ex e r ih.
       let f = differ-flip c x y n (ch .flips y n ex e .under) in
       let t = tally-few (x n ⊕ y n) in
       record { most = omega (arith, f, t, ih .most); even = omega (arith, f, t, ih .even) })
@@ -49,7 +50,8 @@ module _ {c : Code} {way : Way} (ch : Chooses c way) (x : Word) where
 -- ---- over the answers
 
 module _ (n : ℕ) (word : List ℕ) (limit : ℕ) (out : List ℕ) where
-  near : T (offered n) → Near (code n) (lifted (code n) (bit word)) (lifted (code n) (bit word)) (run (byExcess (code n)) limit (lifted (code n) (bit word)))
+  near : T (offered n) → Near (code n) (lifted (code n) (bit word)) (lifted (code n) (bit word))
+      (run (byExcess (code n)) limit (lifted (code n) (bit word)))
   near t = run-near (chooses n t) (lifted (code n) (bit word)) limit (lifted (code n) (bit word))
 
   -- never above the flips
@@ -74,8 +76,10 @@ places c pb word r e =
     ap (λ k. count k (λ i. lifted c (bit word) i ⊕ r .word i)) m
     ∙ count-add (c .unsent) (bits c - c .unsent) (λ i. lifted c (bit word) i ⊕ r .word i)
     ∙ ap₂ (λ a b. a + b)
-    (count-none (c .unsent) (λ i. lifted c (bit word) i ⊕ r .word i) (λ i l. ap₂ (λ a b. a ⊕ b) (lifted-unsent c (bit word) i l) (unsent i l)))
-    (count-same (bits c - c .unsent) (λ i. lifted c (bit word) (c .unsent + i) ⊕ r .word (c .unsent + i)) (λ i. bit word i ⊕ bit (written c (r .word)) i) (λ i l.
+    (count-none (c .unsent) (λ i. lifted c (bit word) i ⊕ r .word i)
+    (λ i l. ap₂ (λ a b. a ⊕ b) (lifted-unsent c (bit word) i l) (unsent i l)))
+    (count-same (bits c - c .unsent) (λ i. lifted c (bit word) (c .unsent + i) ⊕ r .word (c .unsent + i))
+    (λ i. bit word i ⊕ bit (written c (r .word)) i) (λ i l.
     let s : c .unsent + i ≡ i + c .unsent = omega arith in
     ap₂ (λ a b. a ⊕ b) (ap (lifted c (bit word)) s ∙ lifted-sent-bit c (bit word) i)
     (ap (r .word) s ∙ sym (bit-octets (c .wordOctets) (sent c (r .word)) i
@@ -91,18 +95,22 @@ places c pb word r e =
         go false true d f q = absurd (true≢false (sym (eq-eqb (r .number) 0 q) ∙ f))
 
     unsent : (i : ℕ) → i < c .unsent → r .word i ≡ false
-    unsent = none-counted (c .unsent) (r .word) (omega (arith, nltb→le 0 (count (c .unsent) (r .word)) (subst (λ b. T (not b)) (sym none) tt)))
+    unsent = none-counted (c .unsent) (r .word)
+        (omega (arith, nltb→le 0 (count (c .unsent) (r .word)) (subst (λ b. T (not b)) (sym none) tt)))
 
 pub unlike-places : (n : ℕ) (word : List ℕ) (limit : ℕ) (out : List ℕ) → correctAnswer n word limit out .number ≡ 0
-    → correctAnswer n word limit out .unlike ≡ count (bits (code n) - code n .unsent) (λ i. bit word i ⊕ bit (correctAnswer n word limit out .out) i)
+    → correctAnswer n word limit out .unlike ≡ count (bits (code n) - code n .unsent)
+    (λ i. bit word i ⊕ bit (correctAnswer n word limit out .out) i)
 unfolding ranCorrect
 unlike-places n word limit out =
-    correct-cases n word limit out (λ r. r .number ≡ 0 → r .unlike ≡ count (bits (code n) - code n .unsent) (λ i. bit word i ⊕ bit (r .out) i))
+    correct-cases n word limit out (λ r. r .number ≡ 0
+    → r .unlike ≡ count (bits (code n) - code n .unsent) (λ i. bit word i ⊕ bit (r .out) i))
     (λ q. absurd (omega (arith, q))) (λ q. absurd (omega (arith, q))) (λ q. absurd (omega (arith, q))) (λ t lw lo q.
     let x = lifted (code n) (bit word) in
     let r = run (byExcess (code n)) limit x in
     places (code n) (published n t) word r q
-    ∙ ap (λ b. count (bits (code n) - code n .unsent) (λ i. bit word i ⊕ bit (if b then written (code n) (r .word) else out) i)) (sym (eq-eqb (judged (code n) r) 0 q)))
+    ∙ ap (λ b. count (bits (code n) - code n .unsent) (λ i. bit word i ⊕ bit (if b then written (code n) (r .word) else out) i))
+    (sym (eq-eqb (judged (code n) r) 0 q)))
 
 -- a codeword: 0; one wrong covered bit: 1
 module _ (n : ℕ) (off : T (offered n)) (word out : List ℕ) (lw : length word ≡ code n .wordOctets) (lo : length out ≡ code n .wordOctets)

@@ -83,7 +83,8 @@ refusedOpen number = record { number = number; lowest = 0; part = [] }
 abbrev pub lastTwoSet : ℕ → List ℕ → Bool
 lastTwoSet n word = eqb n 5 && (bit word 8158 || bit word 8159)
 
--- What is wrong with a word: 9 if a check is broken, else 14 if code 5's last two bits are not 0, else 15 if the parity is not the encoder's.
+-- What is wrong with a word: 9 if a check is broken, else 14 if code 5's last two bits are not 0, else 15 if the parity is not the
+-- encoder's.
 -- 0 stands for none of these.
 abbrev pub fault : ℕ → List ℕ → ℕ
 fault n word =
@@ -130,7 +131,8 @@ judged c r =
 abbrev pub differing : Code → Word → Word → ℕ
 differing c x y = count (bits c) (λ n. x n ⊕ y n)
 
--- Refusals 1 to 4 return all other numbers as 0; refusals 5 to 8 return the flips made and the true counts. On 0 the output is written whole.
+-- Refusals 1 to 4 return all other numbers as 0; refusals 5 to 8 return the flips made and the true counts. On 0 the output is written
+-- whole.
 abbrev pub refusedCorrect : List ℕ → ℕ → Corrected
 refusedCorrect out number = record { number = number; flips = 0; first = 0; last = 0; unlike = 0; lowest = 0; out = out }
 
@@ -185,7 +187,8 @@ steppedFrom n word out =
 unfoldable pub stepAnswer : ℕ → List ℕ → List ℕ → Stepped
 stepAnswer n word out =
     let c = code n in
-    unless (refusal (offered n && not (eqb n 5)) (length word) (c .wordOctets) (length out) (c .wordOctets)) (refusedStep out) (steppedFrom n word out)
+    unless (refusal (offered n && not (eqb n 5)) (length word) (c .wordOctets) (length out) (c .wordOctets)) (refusedStep out)
+    (steppedFrom n word out)
 
 -- The octets of a word, and of its information, as the table of the codes has them; 0 for a code that is not offered.
 unfoldable pub wordOctetsAnswer : ℕ → ℕ

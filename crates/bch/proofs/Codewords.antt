@@ -53,7 +53,8 @@ last-left x j h =
     ∙ ap (λ p. p && not (x (56 + j))) (le-leb 56 (56 + j) (omega arith))
   where
     front : (i : ℕ) → i < 56 → (last x i && digit 7 (alone i) j) ≡ (last x i && eqb i (56 + j))
-    front i l = ap (λ p. (p && not (x i)) && digit 7 (alone i) j) (lt-leb 56 i l) ∙ sym (ap (λ p. (p && not (x i)) && eqb i (56 + j)) (lt-leb 56 i l))
+    front i l = ap (λ p. (p && not (x i)) && digit 7 (alone i) j) (lt-leb 56 i l)
+        ∙ sym (ap (λ p. (p && not (x i)) && eqb i (56 + j)) (lt-leb 56 i l))
 
     behind : (i : ℕ) → i < 63 → 56 ≤ i → (last x i && digit 7 (alone i) j) ≡ (last x i && eqb i (56 + j))
     behind i l g =
@@ -76,7 +77,8 @@ pub encoded-parity : (x : Word) (j : ℕ) → j < 7 → encoded x (56 + j) ≡ n
 unfolding encoded
 encoded-parity x j h =
     let e : 56 + j - 56 ≡ j = omega arith in
-    ap₂ (λ p q. if p then x (56 + j) else if q then not (parityBit x (56 + j - 56)) else false) (le-ltb (56 + j) 56 (omega arith)) (lt-ltb (56 + j) 63 (omega arith))
+    ap₂ (λ p q. if p then x (56 + j) else if q then not (parityBit x (56 + j - 56)) else false) (le-ltb (56 + j) 56 (omega arith))
+    (lt-ltb (56 + j) 63 (omega arith))
     ∙ ap (λ n. not (parityBit x n)) e
 
 pub encoded-fill : (x : Word) → encoded x 63 ≡ false
@@ -141,7 +143,8 @@ alone-lt i = remainder-lt 63 (λ k. eqb k i)
 pub codeword-flipped : (x : Word) (i : ℕ) → codeword (flipped x i) ≡ eqb (left x) (alone i)
 codeword-flipped x i =
     codeword-left (flipped x i)
-    ∙ sym (decided (eqb (left x) (alone i)) (left (flipped x i)) 0 (λ e. none (eqb-true (left x) (alone i) e)) (λ e. eq-eqb (left x) (alone i) (same e)))
+    ∙ sym (decided (eqb (left x) (alone i)) (left (flipped x i)) 0 (λ e. none (eqb-true (left x) (alone i) e))
+    (λ e. eq-eqb (left x) (alone i) (same e)))
   where
     same : left (flipped x i) ≡ 0 → left x ≡ alone i
     same e =
@@ -163,13 +166,15 @@ codeword-alone x is i h =
 -- no two codewords lie one bit from a word
 pub wrong-once : (x : Word) (i k : ℕ) → i < 63 → k < 63 → codeword (flipped x i) ≡ true → codeword (flipped x k) ≡ true → i ≡ k
 wrong-once x i k hi hk p q =
-    alone-apart i k hi hk (sym (eqb-true (left x) (alone i) (sym (codeword-flipped x i) ∙ p)) ∙ eqb-true (left x) (alone k) (sym (codeword-flipped x k) ∙ q))
+    alone-apart i k hi hk (sym (eqb-true (left x) (alone i) (sym (codeword-flipped x i) ∙ p))
+    ∙ eqb-true (left x) (alone k) (sym (codeword-flipped x k) ∙ q))
 
 -- what one wrong bit leaves
 pub left-once : (x : Word) → codeword x ≡ true → (i : ℕ) → left (flipped x i) ≡ alone i
 left-once x is i =
     same-digits 7 (left (flipped x i)) (alone i) (remainder-lt 63 (upright (flipped x i))) (alone-lt i) (λ j h.
-    left-flipped x i j ∙ ap (λ z. digit 7 z j ⊕ digit 7 (alone i) j) (codeword-none x is) ∙ ap (λ p. p ⊕ digit 7 (alone i) j) (digit-zero 7 j))
+    left-flipped x i j ∙ ap (λ z. digit 7 z j ⊕ digit 7 (alone i) j) (codeword-none x is)
+    ∙ ap (λ p. p ⊕ digit 7 (alone i) j) (digit-zero 7 j))
 
 -- two wrong bits leave an even number of coefficients, and not none
 module _ (x : Word) (is : codeword x ≡ true) (i k : ℕ) (hi : i < 63) (hk : k < 63) (d : i ≡ k → ⊥) where

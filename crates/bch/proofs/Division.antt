@@ -24,7 +24,8 @@ tally-lt b = omega (arith, tally-le b)
 -- the next coefficient is brought down behind the others
 brought-first : (r : ℕ) (b : Bool) → place (2 * r + tally b) 0 ≡ b
 brought-first r b =
-    ap (λ z. place (z + tally b) 0) (mul-comm 2 r) ∙ place-behind r (tally b) 1 (tally-lt b) 0 (lit< tt) ∙ ap (λ z. eqb (z % 2) 1) (unmoved (tally b)) ∙ tally-odd b
+    ap (λ z. place (z + tally b) 0) (mul-comm 2 r) ∙ place-behind r (tally b) 1 (tally-lt b) 0 (lit< tt)
+    ∙ ap (λ z. eqb (z % 2) 1) (unmoved (tally b)) ∙ tally-odd b
   where
     unmoved : (t : ℕ) → t / 1 ≡ t
     unmoved t = omega arith
@@ -78,8 +79,10 @@ remainder-linear zero j = record { none = place-zero j; plus = λ f g. place-zer
 remainder-linear (suc n) j = step (remainder-linear n)
   where
     next : ((i : ℕ) → Linear (λ x. place (remainder n x) i)) → (i : ℕ) → Linear (λ x. place (brought n x) i)
-    next ih zero = same-linear (λ x. place (brought n x) 0) (λ x. x n) (λ x. brought-first (remainder n x) (x n)) (record { none = refl; plus = λ f g. refl })
-    next ih (suc i) = same-linear (λ x. place (brought n x) (suc i)) (λ x. place (remainder n x) i) (λ x. brought-other (remainder n x) i (x n)) (ih i)
+    next ih zero = same-linear (λ x. place (brought n x) 0) (λ x. x n) (λ x. brought-first (remainder n x) (x n))
+        (record { none = refl; plus = λ f g. refl })
+    next ih (suc i) = same-linear (λ x. place (brought n x) (suc i)) (λ x. place (remainder n x) i)
+        (λ x. brought-other (remainder n x) i (x n)) (ih i)
 
     step : ((i : ℕ) → Linear (λ x. place (remainder n x) i)) → Linear (λ x. place (reduced (brought n x)) j)
     step ih =

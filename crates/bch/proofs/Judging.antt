@@ -37,7 +37,8 @@ module _ (information out : List ℕ) where
   unfolding bchEncodeAnswer
   encode-three e d = long information 7 (record { number = 2; out = out }) _ e ∙ other out 8 (record { number = 3; out = out }) _ d
 
-  pub encode-done : length information ≡ 7 → length out ≡ 8 → bchEncodeAnswer information out ≡ record { number = 0; out = octets 8 (encoded (bit information)) }
+  pub encode-done : length information ≡ 7 → length out ≡ 8
+      → bchEncodeAnswer information out ≡ record { number = 0; out = octets 8 (encoded (bit information)) }
   unfolding bchEncodeAnswer
   encode-done e f = long information 7 (record { number = 2; out = out }) _ e ∙ long out 8 (record { number = 3; out = out }) _ f
 
@@ -76,11 +77,13 @@ module _ (x : Word) (out : List ℕ) where
 
   pub judged-codeword : (d : Bool) → codeword x ≡ true → judged d x out ≡ whole
   unfolding judged
-  judged-codeword d e = ap (λ b. if b then whole else if d then refused 13 out else if ltb (wrongBit x) 63 then mended else refused 13 out) e
+  judged-codeword d e = ap (λ b. if b then whole else if d then refused 13 out else if ltb (wrongBit x) 63 then mended else refused 13 out)
+      e
 
   pub judged-detected : (d : Bool) → d ≡ true → codeword x ≡ false → judged d x out ≡ refused 13 out
   unfolding judged
-  judged-detected d t e = ap₂ (λ b c. if b then whole else if c then refused 13 out else if ltb (wrongBit x) 63 then mended else refused 13 out) e t
+  judged-detected d t e = ap₂ (λ b c. if b then whole else if c then refused 13 out else if ltb (wrongBit x) 63 then mended else refused 13
+      out) e t
 
   pub judged-mended : (d : Bool) → d ≡ false → codeword x ≡ false → wrongBit x < 63 → judged d x out ≡ mended
   unfolding judged
@@ -91,7 +94,8 @@ module _ (x : Word) (out : List ℕ) where
   pub judged-far : (d : Bool) → codeword x ≡ false → 63 ≤ wrongBit x → judged d x out ≡ refused 13 out
   unfolding judged
   judged-far d e l =
-      ap₂ (λ b c. if b then whole else if d then refused 13 out else if c then mended else refused 13 out) e (le-ltb (wrongBit x) 63 l) ∙ either d
+      ap₂ (λ b c. if b then whole else if d then refused 13 out else if c then mended else refused 13 out) e (le-ltb (wrongBit x) 63 l)
+      ∙ either d
     where
       either : (b : Bool) → (if b then refused 13 out else refused 13 out) ≡ refused 13 out
       either true = refl
@@ -107,7 +111,8 @@ lowest-holds (suc n) f l = go (f 0) refl l (lowest-holds n (λ k. f (suc k)))
     later : ℕ
     later = lowest n (λ k. f (suc k))
 
-    go : (b : Bool) → f 0 ≡ b → (if b then 0 else suc later) < suc n → (later < n → f (suc later) ≡ true) → f (if b then 0 else suc later) ≡ true
+    go : (b : Bool) → f 0 ≡ b → (if b then 0 else suc later) < suc n → (later < n → f (suc later) ≡ true)
+        → f (if b then 0 else suc later) ≡ true
     go true e h ih = e
     go false e h ih = ih (omega arith)
 
@@ -119,7 +124,8 @@ lowest-none (suc n) f l i h = go (f 0) refl l (lowest-none n (λ k. f (suc k))) 
     later : ℕ
     later = lowest n (λ k. f (suc k))
 
-    go : (b : Bool) → f 0 ≡ b → suc n ≤ (if b then 0 else suc later) → (n ≤ later → (i : ℕ) → i < n → f (suc i) ≡ false) → (i : ℕ) → i < suc n → f i ≡ false
+    go : (b : Bool) → f 0 ≡ b → suc n ≤ (if b then 0 else suc later) → (n ≤ later → (i : ℕ) → i < n → f (suc i) ≡ false) → (i : ℕ)
+        → i < suc n → f i ≡ false
     go true e k ih i h = absurd (omega arith)
     go false e k ih zero h = e
     go false e k ih (suc i) h = ih (omega arith) i (omega arith)
@@ -147,7 +153,8 @@ module _ (x : Word) (v r m : ℕ) (small : m < 2 ^ 64) (h : Holds v x) (e : r �
   mends i l = k i l ∙ ap (λ p. ltb i 63 && p) (ap (λ z. eqb z (alone i)) e ∙ sym (codeword-flipped x i))
 
   pub none-near : m ≡ 0 → 63 ≤ wrongBit x
-  none-near z = ⊎-elim (λ l. l) (λ l. absurd (true≢false (sym (set l) ∙ ap (λ n. digit 64 n (wrongBit x)) z ∙ digit-zero 64 (wrongBit x)))) (le-or-lt 63 (wrongBit x))
+  none-near z = ⊎-elim (λ l. l) (λ l. absurd (true≢false (sym (set l) ∙ ap (λ n. digit 64 n (wrongBit x)) z ∙ digit-zero 64 (wrongBit x))))
+      (le-or-lt 63 (wrongBit x))
     where
       set : wrongBit x < 63 → digit 64 m (wrongBit x) ≡ true
       set l = mends (wrongBit x) (omega arith) ∙ ap₂ (λ p q. p && q) (lt-ltb (wrongBit x) 63 l) (wrong-mends x l)

@@ -15,10 +15,12 @@ use Rattle.bits.proofs.Sums.{⊕-false, ⊕-self, ⊕-assoc, ⊕-eq}
 use Rattle.bits.proofs.Counting.{none-counted, count-none, count-same, count-pick}
 use Rattle.bits.proofs.Octets.{Octets, length-octets, bit-octets, octets-lt, octets-same, octets-bit}
 use Rattle.rules.proofs.Codewords.{agree-all, all-agree}
-use Rattle.bch.specs.Bch.{raised, parityBit, encoded, codeword, lowest, wrongBit, written, bchEncodeAnswer, Mended, refused, judged, bchCheckAnswer}
+use Rattle.bch.specs.Bch.{raised, parityBit, encoded, codeword, lowest, wrongBit, written, bchEncodeAnswer, Mended, refused, judged}
+use Rattle.bch.specs.Bch.{bchCheckAnswer}
 use Rattle.bch.proofs.Division.{remainder-same}
 use Rattle.bch.proofs.Codewords.{encoded-front, codeword-left, codeword-alone, twice-none, twice-near}
-use Rattle.bch.proofs.Judging.{encode-done, written-encoded, check-three, check-taken, judged-codeword, judged-detected, judged-mended, judged-far, wrong-is, wrong-mends}
+use Rattle.bch.proofs.Judging.{encode-done, written-encoded, check-three, check-taken, judged-codeword, judged-detected}
+use Rattle.bch.proofs.Judging.{judged-mended, judged-far, wrong-is, wrong-mends}
 
 -- ---- only the 63 bits count
 
@@ -47,7 +49,8 @@ judged-same : (d : Bool) (x y : Word) (out : List ℕ) → ((k : ℕ) → k < 63
 unfolding judged
 judged-same d x y out same =
     ap₂ (λ b w. choose b w (written x) (written (flipped x w))) (codeword-same x y same) (wrong-same x y same)
-    ∙ ap₂ (λ p q. choose (codeword y) (wrongBit y) p q) (written-same x y same) (written-same (flipped x (wrongBit y)) (flipped y (wrongBit y)) (flipped-same x y same (wrongBit y)))
+    ∙ ap₂ (λ p q. choose (codeword y) (wrongBit y) p q) (written-same x y same)
+    (written-same (flipped x (wrongBit y)) (flipped y (wrongBit y)) (flipped-same x y same (wrongBit y)))
   where
     choose : Bool → ℕ → List ℕ → List ℕ → Mended
     choose b w p q =
@@ -57,7 +60,8 @@ judged-same d x y out same =
         else refused 13 out
 
 -- two words of eight octets that agree in their 63 bits have one answer
-pub same-answer : (d : Bool) (u v out : List ℕ) → length u ≡ 8 → length v ≡ 8 → ((k : ℕ) → k < 63 → bit u k ≡ bit v k) → bchCheckAnswer d u out ≡ bchCheckAnswer d v out
+pub same-answer : (d : Bool) (u v out : List ℕ) → length u ≡ 8 → length v ≡ 8 → ((k : ℕ) → k < 63 → bit u k ≡ bit v k)
+    → bchCheckAnswer d u out ≡ bchCheckAnswer d v out
 same-answer d u v out hu hv same =
     ⊎-elim
     (λ (e : length out ≡ 8). check-taken d u out hu e ∙ judged-same d (bit u) (bit v) out same ∙ sym (check-taken d v out hv e))
@@ -87,7 +91,8 @@ fill-ignored d word out e =
 encoded-same : (x y : Word) → ((k : ℕ) → k < 56 → x k ≡ y k) → (k : ℕ) → encoded x k ≡ encoded y k
 unfolding encoded
 encoded-same x y same k =
-    ap (λ n. if ltb k 56 then x k else if ltb k 63 then not (digit 7 n (k - 56)) else false) (remainder-same 63 (raised x) (raised y) (λ i l. both i))
+    ap (λ n. if ltb k 56 then x k else if ltb k 63 then not (digit 7 n (k - 56)) else false)
+    (remainder-same 63 (raised x) (raised y) (λ i l. both i))
     ∙ front
   where
     both : (i : ℕ) → raised x i ≡ raised y i
@@ -97,7 +102,8 @@ encoded-same x y same k =
         (λ (h : i < 56). ap (λ b. ltb i 56 && b) (same i h))
         (le-or-lt 56 i)
 
-    front : (if ltb k 56 then x k else if ltb k 63 then not (parityBit y (k - 56)) else false) ≡ (if ltb k 56 then y k else if ltb k 63 then not (parityBit y (k - 56)) else false)
+    front : (if ltb k 56 then x k else if ltb k 63 then not (parityBit y (k - 56)) else false)
+        ≡ (if ltb k 56 then y k else if ltb k 63 then not (parityBit y (k - 56)) else false)
     front =
         ⊎-elim
         (λ (h : 56 ≤ k).
@@ -166,7 +172,8 @@ module _ (information out : List ℕ) (seven : length information ≡ 7) (eight 
       one-mended =
           once-taken false
           ∙ judged-mended once back false refl once-none (subst (λ n. n < 63) (sym once-wrong) hi)
-          ∙ ap (λ o. record { number = 0; mended = 1; out = o }) (ap (λ n. written (flipped once n)) once-wrong ∙ ap written (flipped-back (bit word) i) ∙ word-written)
+          ∙ ap (λ o. record { number = 0; mended = 1; out = o }) (ap (λ n. written (flipped once n)) once-wrong
+          ∙ ap written (flipped-back (bit word) i) ∙ word-written)
 
       -- in detect-only mode it is refused.
       pub one-detected : bchCheckAnswer true (spoilt word i) back ≡ refused 13 back
@@ -177,7 +184,8 @@ module _ (information out : List ℕ) (seven : length information ≡ 7) (eight 
       two-refused k hk apart d =
           check-taken d (spoilt (spoilt word i) k) back (length-octets 8 (flipped (bit (spoilt word i)) k)) room
           ∙ judged-same d (bit (spoilt (spoilt word i) k)) twice back (λ n l.
-          eight-bit (flipped (bit (spoilt word i)) k) n (omega arith) ∙ flipped-same (bit (spoilt word i)) once (λ m h. eight-bit once m (omega arith)) k n l)
+          eight-bit (flipped (bit (spoilt word i)) k) n (omega arith)
+          ∙ flipped-same (bit (spoilt word i)) once (λ m h. eight-bit once m (omega arith)) k n l)
           ∙ judged-far twice back d (twice-none (bit word) word-codeword i k hi hk apart) far
         where
           twice : Word
@@ -186,13 +194,15 @@ module _ (information out : List ℕ) (seven : length information ≡ 7) (eight 
           far : 63 ≤ wrongBit twice
           far =
               ⊎-elim (λ l. l)
-              (λ l. absurd (true≢false (sym (wrong-mends twice l) ∙ twice-near (bit word) word-codeword i k hi hk apart (wrongBit twice) l)))
+              (λ l. absurd (true≢false (sym (wrong-mends twice l)
+              ∙ twice-near (bit word) word-codeword i k hi hk apart (wrongBit twice) l)))
               (le-or-lt 63 (wrongBit twice))
 
 -- Distinct information gives distinct words.
 pub distinct-words : (i₁ i₂ out : List ℕ) → Octets i₁ → Octets i₂ → length i₁ ≡ 7 → length i₂ ≡ 7 → length out ≡ 8
     → bchEncodeAnswer i₁ out .out ≡ bchEncodeAnswer i₂ out .out → i₁ ≡ i₂
-distinct-words i₁ i₂ out o₁ o₂ h₁ h₂ room e = sym (information-first i₁ out h₁ room o₁) ∙ ap (take 7) e ∙ information-first i₂ out h₂ room o₂
+distinct-words i₁ i₂ out o₁ o₂ h₁ h₂ room e = sym (information-first i₁ out h₁ room o₁) ∙ ap (take 7) e
+    ∙ information-first i₂ out h₂ room o₂
 
 -- ---- what is taken, and what is refused
 
@@ -203,7 +213,8 @@ pub record Taken (word : List ℕ) (a : Mended) : Type 0 where
   pub mended : a .mended ≡ count 63 (λ k. bit word k ⊕ bit (a .out) k)
 
 -- At most one place of n: none, or one alone.
-at-most-one : (n : ℕ) (f : ℕ → Bool) → count n f ≤ 1 → ((k : ℕ) → k < n → f k ≡ false) ⊎ ((i : ℕ) × (i < n) × ((k : ℕ) → k < n → f k ≡ eqb k i))
+at-most-one : (n : ℕ) (f : ℕ → Bool) → count n f ≤ 1
+    → ((k : ℕ) → k < n → f k ≡ false) ⊎ ((i : ℕ) × (i < n) × ((k : ℕ) → k < n → f k ≡ eqb k i))
 unfolding count
 at-most-one zero f l = inl (λ k h. absurd (omega arith))
 at-most-one (suc n) f l = go (f n) refl (at-most-one n f)
@@ -259,18 +270,25 @@ module _ (word out : List ℕ) (eight : length word ≡ 8) (room : length out �
   -- what each mode does with a word, by whether it is a codeword and whether one is near
   whole-taken : (d : Bool) → codeword x ≡ true → (answer d .number ≡ 0) × Taken word (answer d)
   whole-taken d is =
-      let e = as-judged d ∙ judged-codeword x out d is in
-      (ap (λ a. a .number) e, out-taken x (answer d) is (ap (λ a. a .out) e) (ap (λ a. a .mended) e ∙ sym (count-none 63 (λ k. x k ⊕ x k) (λ k l. ⊕-self (x k)))))
+      let e = as-judged d ∙ judged-codeword x out d is in (
+        ap (λ a. a .number) e,
+        out-taken x (answer d) is (ap (λ a. a .out) e) (ap (λ a. a .mended) e
+            ∙ sym (count-none 63 (λ k. x k ⊕ x k) (λ k l. ⊕-self (x k)))),
+      )
 
   near-mended : codeword x ≡ false → wrongBit x < 63 → (answer false .number ≡ 0) × Taken word (answer false)
   near-mended n l =
-      let e = as-judged false ∙ judged-mended x out false refl n l in
-      (ap (λ a. a .number) e, out-taken (flipped x (wrongBit x)) (answer false) (wrong-mends x l) (ap (λ a. a .out) e) (ap (λ a. a .mended) e ∙ sym one))
+      let e = as-judged false ∙ judged-mended x out false refl n l in (
+        ap (λ a. a .number) e,
+        out-taken (flipped x (wrongBit x)) (answer false) (wrong-mends x l) (ap (λ a. a .out) e)
+            (ap (λ a. a .mended) e ∙ sym one),
+      )
     where
       one : count 63 (λ k. x k ⊕ flipped x (wrongBit x) k) ≡ 1
       one =
           count-same 63 (λ k. x k ⊕ flipped x (wrongBit x) k) (λ k. eqb k (wrongBit x) && true) (λ k h.
-          sym (⊕-assoc (x k) (x k) (eqb k (wrongBit x))) ∙ ap (λ b. b ⊕ eqb k (wrongBit x)) (⊕-self (x k)) ∙ sym (and-true (eqb k (wrongBit x))))
+          sym (⊕-assoc (x k) (x k) (eqb k (wrongBit x))) ∙ ap (λ b. b ⊕ eqb k (wrongBit x)) (⊕-self (x k))
+          ∙ sym (and-true (eqb k (wrongBit x))))
           ∙ count-pick 63 (wrongBit x) (λ k. true) l
 
   -- Detect-only takes exactly the codewords: what the encoder can give, to the 63rd bit.
@@ -280,12 +298,14 @@ module _ (word out : List ℕ) (eight : length word ≡ 8) (room : length out �
   pub detect-other : codeword x ≡ false → answer true .number ≡ 13
   detect-other n = ap (λ a. a .number) (as-judged true ∙ judged-detected x out true refl n)
 
-  pub detect-encoded : (information : List ℕ) → length information ≡ 7 → ((k : ℕ) → k < 63 → x k ≡ bit (bchEncodeAnswer information out .out) k) → answer true .number ≡ 0
+  pub detect-encoded : (information : List ℕ) → length information ≡ 7
+      → ((k : ℕ) → k < 63 → x k ≡ bit (bchEncodeAnswer information out .out) k) → answer true .number ≡ 0
   detect-encoded information seven same =
       detect-codeword (codeword-same x (bit (bchEncodeAnswer information out .out)) same ∙ word-codeword information out seven room)
 
   pub detect-takes : answer true .number ≡ 0
-      → (information : List ℕ) × (length information ≡ 7) × Octets information × ((k : ℕ) → k < 63 → x k ≡ bit (bchEncodeAnswer information out .out) k)
+      → (information : List ℕ) × (length information ≡ 7) × Octets information
+      × ((k : ℕ) → k < 63 → x k ≡ bit (bchEncodeAnswer information out .out) k)
   unfolding codeword
   detect-takes z = go (codeword x) refl
     where
@@ -298,7 +318,8 @@ module _ (word out : List ℕ) (eight : length word ≡ 8) (room : length out �
           ∙ encoded-same x (bit info) (λ i h. sym (bit-octets 7 x i ∙ ap (λ p. p && x i) (lt-ltb i 56 h))) k
           ∙ sym (word-bit info out (length-octets 7 x) room k l)
 
-      go : (b : Bool) → codeword x ≡ b → (information : List ℕ) × (length information ≡ 7) × Octets information × ((k : ℕ) → k < 63 → x k ≡ bit (bchEncodeAnswer information out .out) k)
+      go : (b : Bool) → codeword x ≡ b → (information : List ℕ) × (length information ≡ 7) × Octets information
+          × ((k : ℕ) → k < 63 → x k ≡ bit (bchEncodeAnswer information out .out) k)
       go true is = (info, length-octets 7 x, octets-lt 7 x, own is)
       go false is = absurd (omega (arith, z, detect-other is))
 
@@ -309,7 +330,8 @@ module _ (word out : List ℕ) (eight : length word ≡ 8) (room : length out �
       back : (a b : Bool) → a ⊕ (a ⊕ b) ≡ b
       back a b = sym (⊕-assoc a a b) ∙ ap (λ c. c ⊕ b) (⊕-self a)
 
-      near : (at : ((k : ℕ) → k < 63 → x k ⊕ y k ≡ false) ⊎ ((i : ℕ) × (i < 63) × ((k : ℕ) → k < 63 → x k ⊕ y k ≡ eqb k i))) → codeword x ≡ false → wrongBit x < 63
+      near : (at : ((k : ℕ) → k < 63 → x k ⊕ y k ≡ false) ⊎ ((i : ℕ) × (i < 63) × ((k : ℕ) → k < 63 → x k ⊕ y k ≡ eqb k i)))
+          → codeword x ≡ false → wrongBit x < 63
       near (inl all) n =
           absurd (true≢false (sym is ∙ sym (codeword-same x y (λ k l. ⊕-eq (x k) (y k) (all k l))) ∙ n))
       near (inr (i, hi, one)) n =

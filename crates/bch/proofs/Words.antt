@@ -50,7 +50,8 @@ row-sum j v h =
     and-comm (digit 64 (getD rows j 0) i) (digit 64 v i) ∙ ap (λ p. digit 64 v i && p) (sym (row-alone i j l h)))
     ∙ sym (remainder-sum 63 (7 - suc j) (digit 64 v))
 
-pub row-odd : (j v r : ℕ) → r ≡ tally (sum 64 (digit 64 (bitAnd (getD rows j 0) v))) → j < 7 → r ≡ tally (digit 7 (remainder 63 (digit 64 v)) j)
+pub row-odd : (j v r : ℕ) → r ≡ tally (sum 64 (digit 64 (bitAnd (getD rows j 0) v))) → j < 7
+    → r ≡ tally (digit 7 (remainder 63 (digit 64 v)) j)
 row-odd j v r e h = e ∙ ap tally (row-sum j v h)
 
 -- ---- the bits that alone leave r
@@ -74,7 +75,8 @@ module _ (r j m w : ℕ) (k : Like r j m) (row : (i : ℕ) → i < 63 → digit 
       so-far = agree j (digit 7 r) (digit 7 (alone i))
 
       fill : 63 ≤ i → ((ltb i 63 && so-far) && digit 64 w i) ≡ (ltb i 63 && agree (suc j) (digit 7 r) (digit 7 (alone i)))
-      fill l = ap (λ p. (p && so-far) && digit 64 w i) (le-ltb i 63 l) ∙ sym (ap (λ p. p && agree (suc j) (digit 7 r) (digit 7 (alone i))) (le-ltb i 63 l))
+      fill l = ap (λ p. (p && so-far) && digit 64 w i) (le-ltb i 63 l)
+          ∙ sym (ap (λ p. p && agree (suc j) (digit 7 r) (digit 7 (alone i))) (le-ltb i 63 l))
 
       sent : i < 63 → ((ltb i 63 && so-far) && digit 64 w i) ≡ (ltb i 63 && agree (suc j) (digit 7 r) (digit 7 (alone i)))
       sent l =
@@ -84,14 +86,16 @@ module _ (r j m w : ℕ) (k : Like r j m) (row : (i : ℕ) → i < 63 → digit 
 pub like-set : (r j m n : ℕ) → n ≡ bitAnd m (getD rows j 0) → j < 7 → digit 7 r j ≡ true → Like r j m → Like r (j + 1) n
 like-set r j m n q h e k =
     subst (Like r (j + 1)) (sym q)
-    (like-more r j m (getD rows j 0) k (λ i l. sym (row-alone i j l h) ∙ sym (twice (digit 7 (alone i) j)) ∙ ap (λ p. not (p ⊕ digit 7 (alone i) j)) (sym e)))
+    (like-more r j m (getD rows j 0) k (λ i l. sym (row-alone i j l h) ∙ sym (twice (digit 7 (alone i) j))
+    ∙ ap (λ p. not (p ⊕ digit 7 (alone i) j)) (sym e)))
   where
     twice : (b : Bool) → not (not b) ≡ b
     twice true = refl
     twice false = refl
 
 -- the row with every bit turned over
-pub like-clear : (r j m n : ℕ) → n ≡ bitAnd m (bitXor (getD rows j 0) 0xFFFFFFFFFFFFFFFF) → j < 7 → digit 7 r j ≡ false → Like r j m → Like r (j + 1) n
+pub like-clear : (r j m n : ℕ) → n ≡ bitAnd m (bitXor (getD rows j 0) 0xFFFFFFFFFFFFFFFF) → j < 7 → digit 7 r j ≡ false → Like r j m
+    → Like r (j + 1) n
 like-clear r j m n q h e k =
     subst (Like r (j + 1)) (sym q)
     (like-more r j m (bitXor (getD rows j 0) 0xFFFFFFFFFFFFFFFF) k (λ i l.
@@ -108,7 +112,8 @@ like-all r j m hr e k i h =
   where
     whole : (b : Bool) → agree 7 (digit 7 r) (digit 7 (alone i)) ≡ b → b ≡ eqb r (alone i)
     whole true t =
-        sym (eq-eqb r (alone i) (same-digits 7 r (alone i) hr (remainder-lt 63 (λ k. eqb k i)) (all-agree 7 (digit 7 r) (digit 7 (alone i)) t)))
+        sym (eq-eqb r (alone i) (same-digits 7 r (alone i) hr (remainder-lt 63 (λ k. eqb k i))
+        (all-agree 7 (digit 7 r) (digit 7 (alone i)) t)))
     whole false t =
         sym (ne-eqb r (alone i) (λ q. true≢false (sym (agree-all 7 (digit 7 r) (digit 7 (alone i)) (λ j l. ap (λ z. digit 7 z j) q)) ∙ t)))
 
@@ -117,7 +122,8 @@ like-all r j m hr e k i h =
 pub first-word : (ys o : List ℕ) → wbit ys ≡ bit o → Holds (getD ys 0 0) (bit o)
 first-word ys o e i h = sym (word-at ys i 0 i h (omega arith)) ∙ ap (λ (z : Word). z i) e
 
-pub written-first : (ys : List ℕ) (v n : ℕ) (x : Word) → n ≡ 8 → getD ys 0 0 ≡ bitAnd v 0xFFFFFFFFFFFFFFFE → Holds v x → octets n (from 0 (wbit ys)) ≡ written x
+pub written-first : (ys : List ℕ) (v n : ℕ) (x : Word) → n ≡ 8 → getD ys 0 0 ≡ bitAnd v 0xFFFFFFFFFFFFFFFE → Holds v x
+    → octets n (from 0 (wbit ys)) ≡ written x
 written-first ys v n x e first h =
     ap (λ z. octets z (from 0 (wbit ys))) e
     ∙ octets-same 8 (from 0 (wbit ys)) (λ k. ltb k 63 && x k) (λ i l.
@@ -154,7 +160,8 @@ module _ (o : List ℕ) (v r : ℕ) (seven : length o ≡ 7) (h : Holds v (bit o
     where
       front : i < 56 → x i ⊕ digit 64 (r * 2) i ⊕ (leb 56 i && ltb i 63) ≡ encoded x i
       front g =
-          ap₂ (λ p q. x i ⊕ p ⊕ (q && ltb i 63)) (place-above (r * 2) 8 (64 - suc i) (omega (arith, own, remainder-lt 63 (raised x))) (omega arith)) (lt-leb 56 i g)
+          ap₂ (λ p q. x i ⊕ p ⊕ (q && ltb i 63)) (place-above (r * 2) 8 (64 - suc i) (omega (arith, own, remainder-lt 63 (raised x)))
+          (omega arith)) (lt-leb 56 i g)
           ∙ ⊕-false (x i ⊕ false) ∙ ⊕-false (x i) ∙ sym (encoded-front x i g)
 
       past : 56 ≤ i → x i ≡ false

@@ -3,7 +3,8 @@ use mathlib.Core.Path.{_≡_, refl, sym, ap, ap₂, _∙_, fun-ext}
 use mathlib.Core.Bool.{Bool, true, false, not, _&&_}
 use mathlib.Core.List.{List, [], _∷_}
 use Prim.Native.Nat.{ℕ, zero, suc, _+_, _-_, _*_, _/_, _%_, _≤_, _<_, zero-le}
-use native.Mathlib.Nat.{le-step, lt-suc-self, le-refl, add-zero, add-suc, zero-add, add-comm, add-assoc, suc-mul, zero-mul, not-suc-le-zero, zero-lt-suc, add-div-left, add-mod-left, mod-eq-of-lt}
+use native.Mathlib.Nat.{le-step, lt-suc-self, le-refl, add-zero, add-suc, zero-add, add-comm, add-assoc, suc-mul, zero-mul, not-suc-le-zero}
+use native.Mathlib.Nat.{zero-lt-suc, add-div-left, add-mod-left, mod-eq-of-lt}
 use native.Mathlib.Numerals.{add-one}
 use native.Mathlib.Decide.{ℕ-discrete}
 use native.Mathlib.Omega.{arith}
@@ -84,14 +85,17 @@ unfolding count
 count-pick zero y g h = absurd (not-suc-le-zero h)
 count-pick (suc n) y g h = go (ℕ-discrete n y) (count-pick n y g)
   where
-    go : Dec (n ≡ y) → (y < n → count n (λ i. eqb i y && g i) ≡ tally (g y)) → count n (λ i. eqb i y && g i) + tally (eqb n y && g n) ≡ tally (g y)
+    go : Dec (n ≡ y) → (y < n → count n (λ i. eqb i y && g i) ≡ tally (g y))
+        → count n (λ i. eqb i y && g i) + tally (eqb n y && g n) ≡ tally (g y)
     go (yes e) ih =
-        ap₂ (λ a b. a + tally (b && g n)) (count-none n (λ i. eqb i y && g i) (λ i l. ap (λ z. z && g i) (ne-eqb i y (λ q. omega arith)))) (eq-eqb n y e)
+        ap₂ (λ a b. a + tally (b && g n)) (count-none n (λ i. eqb i y && g i) (λ i l. ap (λ z. z && g i) (ne-eqb i y (λ q. omega arith))))
+        (eq-eqb n y e)
         ∙ zero-add (tally (g n)) ∙ ap (λ z. tally (g z)) e
     go (no d) ih = ap₂ (λ a b. a + tally (b && g n)) (ih (omega arith)) (ne-eqb n y d) ∙ add-zero (tally (g y))
 
 -- two lots that have no place in common
-pub count-apart : (n : ℕ) (f g h : ℕ → Bool) → ((i : ℕ) → i < n → tally (h i) ≡ tally (f i) + tally (g i)) → count n h ≡ count n f + count n g
+pub count-apart : (n : ℕ) (f g h : ℕ → Bool) → ((i : ℕ) → i < n → tally (h i) ≡ tally (f i) + tally (g i))
+    → count n h ≡ count n f + count n g
 unfolding count
 count-apart zero f g h e = refl
 count-apart (suc n) f g h e = omega (arith, count-apart n f g h (λ i l. e i (le-step l)), e n (lt-suc-self n))
@@ -100,7 +104,8 @@ count-apart (suc n) f g h e = omega (arith, count-apart n f g h (λ i l. e i (le
 pub count-add : (a b : ℕ) (f : ℕ → Bool) → count (a + b) f ≡ count a f + count b (λ i. f (a + i))
 unfolding count
 count-add a zero f = ap (λ z. count z f) (add-zero a) ∙ sym (add-zero (count a f))
-count-add a (suc b) f = ap (λ z. count z f) (add-suc a b) ∙ ap (λ z. z + tally (f (a + b))) (count-add a b f) ∙ add-assoc (count a f) (count b (λ i. f (a + i))) (tally (f (a + b)))
+count-add a (suc b) f = ap (λ z. count z f) (add-suc a b) ∙ ap (λ z. z + tally (f (a + b))) (count-add a b f)
+    ∙ add-assoc (count a f) (count b (λ i. f (a + i))) (tally (f (a + b)))
 
 -- a sum over the rows of a table
 abbrev pub each : {A : Type 0} → List A → (A → ℕ) → ℕ
@@ -113,11 +118,13 @@ pub count-rows : {A : Type 0} (m : ℕ) (rows : List A) (d : A) (F : A → ℕ �
 unfolding count
 count-rows m [] d F = ap (λ z. count z (λ k. F d (k % suc m))) (zero-mul (suc m))
 count-rows m (row ∷ rows) d F =
-    ap (λ z. count z (λ k. F (getD (row ∷ rows) (k / suc m) d) (k % suc m))) (suc-mul (length rows) (suc m) ∙ add-comm (length rows * suc m) (suc m))
+    ap (λ z. count z (λ k. F (getD (row ∷ rows) (k / suc m) d) (k % suc m))) (suc-mul (length rows) (suc m)
+    ∙ add-comm (length rows * suc m) (suc m))
     ∙ count-add (suc m) (length rows * suc m) (λ k. F (getD (row ∷ rows) (k / suc m) d) (k % suc m))
     ∙ ap₂ (λ a b. a + b)
     (count-same (suc m) _ (F row) (λ i l. ap₂ (λ q r. F (getD (row ∷ rows) q d) r) (first-div i l) (first-mod i l)))
-    (ap (count (length rows * suc m)) (fun-ext (λ i. ap₂ (λ q r. F (getD (row ∷ rows) q d) r) (next-div i) (next-mod i))) ∙ count-rows m rows d F)
+    (ap (count (length rows * suc m)) (fun-ext (λ i. ap₂ (λ q r. F (getD (row ∷ rows) q d) r) (next-div i) (next-mod i)))
+    ∙ count-rows m rows d F)
   where
     first-div : (i : ℕ) → i < suc m → i / suc m ≡ 0
     first-div i l = ap (λ z. z / suc m) (sym (zero-add i) ∙ ap (λ z. z + i) (sym (zero-mul (suc m)))) ∙ digits-div 0 l

@@ -1,7 +1,8 @@
 -- Arithmetic modulo M.
 use mathlib.Core.Path.{_≡_, sym, ap, _∙_}
 use Prim.Native.Nat.{ℕ, suc, _+_, _-_, _*_, _%_, _<_}
-use native.Mathlib.Nat.{mod-eq-of-lt, mod-self, mod-add-mod, add-mul-mod-self-right, add-right-comm, mul-suc, add-assoc, add-comm, le-of-lt, add-sub-of-le}
+use native.Mathlib.Nat.{mod-eq-of-lt, mod-self, mod-add-mod, add-mul-mod-self-right, add-right-comm, mul-suc, add-assoc, add-comm, le-of-lt}
+use native.Mathlib.Nat.{add-sub-of-le}
 use lib.Dec.{eqb}
 use Rattle.bits.proofs.Sums.{eqb-iff}
 

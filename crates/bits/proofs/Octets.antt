@@ -3,7 +3,8 @@ use mathlib.Core.Path.{_≡_, refl, sym, ap, ap₂, _∙_, fun-ext, subst}
 use mathlib.Core.Bool.{Bool, true, false, _&&_}
 use mathlib.Core.List.{List, [], _∷_}
 use Prim.Native.Nat.{ℕ, zero, suc, _+_, _-_, _*_, _/_, _%_, _^_, _≤_, _<_, zero-le}
-use native.Mathlib.Nat.{zero-lt-suc, mod-lt, le-step, lt-suc-self, le-refl, zero-div, div-one, pow-suc, div-lt-iff-lt-mul, add-div-left, add-mod-left, div-eq-of-lt, mod-eq-of-lt, not-suc-le-zero, lt-of-not-le}
+use native.Mathlib.Nat.{zero-lt-suc, mod-lt, le-step, lt-suc-self, le-refl, zero-div, div-one, pow-suc, div-lt-iff-lt-mul, add-div-left}
+use native.Mathlib.Nat.{add-mod-left, div-eq-of-lt, mod-eq-of-lt, not-suc-le-zero, lt-of-not-le}
 use native.Mathlib.Decide.{ℕ-discrete, decLt}
 use native.Mathlib.Numerals.{add-one, one-add}
 use native.Mathlib.Omega.{arith}
@@ -50,7 +51,8 @@ digit-number (suc w) x k h = go (ℕ-discrete k w) (digit-number w x k)
     half = omega (arith, tally-le (x w))
 
     go : Dec (k ≡ w) → (k < w → digit w (number w x) k ≡ x k) → digit (suc w) (2 * number w x + tally (x w)) k ≡ x k
-    go (yes e) ih = ap (digit (suc w) (2 * number w x + tally (x w))) e ∙ digit-last w (2 * number w x + tally (x w)) ∙ odd (number w x) (x w) ∙ ap x (sym e)
+    go (yes e) ih = ap (digit (suc w) (2 * number w x + tally (x w))) e ∙ digit-last w (2 * number w x + tally (x w))
+        ∙ odd (number w x) (x w) ∙ ap x (sym e)
     go (no d) ih = digit-half w (2 * number w x + tally (x w)) k (omega arith) ∙ ap (λ z. digit w z k) half ∙ ih (omega arith)
 
 pub number-digit : (w v : ℕ) → v < 2 ^ w → number w (digit w v) ≡ v
@@ -104,8 +106,10 @@ unfolding octets
 bit-octets zero x i = bit-none i ∙ sym (ap (λ z. z && x i) (le-ltb i (8 * 0) zero-le))
 bit-octets (suc n) x i = go (decLt i 8) (bit-octets n (λ k. x (8 + k)) (i - 8))
   where
-    go : Dec (i < 8) → bit (octets n (λ k. x (8 + k))) (i - 8) ≡ (ltb (i - 8) (8 * n) && x (8 + (i - 8))) → bit (number 8 x ∷ octets n (λ k. x (8 + k))) i ≡ (ltb i (8 * suc n) && x i)
-    go (yes l) ih = this-octet (octets n (λ k. x (8 + k))) (number 8 x) i l ∙ digit-number 8 x i l ∙ sym (ap (λ z. z && x i) (lt-ltb i (8 * suc n) (omega arith)))
+    go : Dec (i < 8) → bit (octets n (λ k. x (8 + k))) (i - 8) ≡ (ltb (i - 8) (8 * n) && x (8 + (i - 8)))
+        → bit (number 8 x ∷ octets n (λ k. x (8 + k))) i ≡ (ltb i (8 * suc n) && x i)
+    go (yes l) ih = this-octet (octets n (λ k. x (8 + k))) (number 8 x) i l ∙ digit-number 8 x i l
+        ∙ sym (ap (λ z. z && x i) (lt-ltb i (8 * suc n) (omega arith)))
     go (no g) ih =
         let e : 8 + (i - 8) ≡ i = omega (arith, lt-of-not-le g) in
         ap (bit (number 8 x ∷ octets n (λ k. x (8 + k)))) (sym e) ∙ next-octet (octets n (λ k. x (8 + k))) (number 8 x) (i - 8) ∙ ih
@@ -123,7 +127,8 @@ pub octets-same : (n : ℕ) (x y : Word) → ((i : ℕ) → i < 8 * n → x i �
 unfolding octets
 octets-same zero x y h = refl
 octets-same (suc n) x y h =
-    ap₂ (λ a b. a ∷ b) (number-same 8 x y (λ k l. h k (omega arith))) (octets-same n (λ k. x (8 + k)) (λ k. y (8 + k)) (λ i l. h (8 + i) (omega arith)))
+    ap₂ (λ a b. a ∷ b) (number-same 8 x y (λ k l. h k (omega arith)))
+    (octets-same n (λ k. x (8 + k)) (λ k. y (8 + k)) (λ i l. h (8 + i) (omega arith)))
 
 -- and the octets of a list's bits are the list
 pub octets-bit : (o : List ℕ) → Octets o → octets (length o) (bit o) ≡ o

@@ -44,7 +44,8 @@ pub ⊕-comm : (a b : Bool) → a ⊕ b ≡ b ⊕ a
 ⊕-comm false false = refl
 
 pub ⊕-mid : (a b c d : Bool) → a ⊕ b ⊕ (c ⊕ d) ≡ a ⊕ c ⊕ (b ⊕ d)
-⊕-mid a b c d = ⊕-assoc a b (c ⊕ d) ∙ ap (λ x. a ⊕ x) (sym (⊕-assoc b c d) ∙ ap (λ x. x ⊕ d) (⊕-comm b c) ∙ ⊕-assoc c b d) ∙ sym (⊕-assoc a c (b ⊕ d))
+⊕-mid a b c d = ⊕-assoc a b (c ⊕ d) ∙ ap (λ x. a ⊕ x) (sym (⊕-assoc b c d) ∙ ap (λ x. x ⊕ d) (⊕-comm b c) ∙ ⊕-assoc c b d)
+    ∙ sym (⊕-assoc a c (b ⊕ d))
 
 pub and-⊕ : (a b c : Bool) → (a && (b ⊕ c)) ≡ (a && b) ⊕ (a && c)
 and-⊕ true b c = refl

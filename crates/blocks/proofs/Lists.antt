@@ -5,7 +5,8 @@ use mathlib.Core.List.{List, [], _∷_, _++_, append-assoc}
 use Prim.Native.Nat.{ℕ, zero, suc, _+_, _-_, _/_, _%_, _≤_, _<_}
 use native.Mathlib.Omega.{arith}
 use native.Mathlib.Numerals.{add-one}
-use lib.ListN.{length, getD, take, drop, set, replicate, replicate-append-replicate, drop-of-length-le, length-append, length-drop, length-take, length-replicate}
+use lib.ListN.{length, getD, take, drop, set, replicate, replicate-append-replicate, drop-of-length-le, length-append, length-drop}
+use lib.ListN.{length-take, length-replicate}
 use lib.Seq.{take-suc-set, drop-cons, take-length, take-at, length-take-le}
 use borrow.Author.Tests.{eq-eqb, ne-eqb}
 use lib.Pow.{shr-shr}

@@ -58,53 +58,67 @@ use Rattle.capi.proofs.pandoricchia_read.Reads as read-reads
 use Rattle.answers.specs.Calls.{Corrected}
 use Rattle.codes.specs.declared.Corrected.{Corrected as Numbers}
 
-pub word-octets-outcome : (κs : Lfts 0) (a : ArgsD word-octets.signature κs) (r₁ r₂ : ResD word-octets.signature κs) (s₁ s₂ : AtExit (endedOf 0 word-octets-kinds.ps word-octets-kinds.r) κs)
+pub word-octets-outcome : (κs : Lfts 0) (a : ArgsD word-octets.signature κs) (r₁ r₂ : ResD word-octets.signature κs)
+    (s₁ s₂ : AtExit (endedOf 0 word-octets-kinds.ps word-octets-kinds.r) κs)
     → word-octets-reads.Post κs a r₁ s₁ → word-octets-reads.Post κs a r₂ s₂ → r₁ ≡ r₂
 word-octets-outcome κs a r₁ r₂ s₁ s₂ p q = p ∙ sym q
 
-pub information-octets-outcome : (κs : Lfts 0) (a : ArgsD information-octets.signature κs) (r₁ r₂ : ResD information-octets.signature κs) (s₁ s₂ : AtExit (endedOf 0 information-octets-kinds.ps information-octets-kinds.r) κs)
+pub information-octets-outcome : (κs : Lfts 0) (a : ArgsD information-octets.signature κs) (r₁ r₂ : ResD information-octets.signature κs)
+    (s₁ s₂ : AtExit (endedOf 0 information-octets-kinds.ps information-octets-kinds.r) κs)
     → information-octets-reads.Post κs a r₁ s₁ → information-octets-reads.Post κs a r₂ s₂ → r₁ ≡ r₂
 information-octets-outcome κs a r₁ r₂ s₁ s₂ p q = p ∙ sym q
 
-pub encode-outcome : (κs : Lfts 2) (a : ArgsD encode.signature κs) (r₁ r₂ : ResD encode.signature κs) (s₁ s₂ : AtExit (endedOf 2 encode-kinds.ps encode-kinds.r) κs)
+pub encode-outcome : (κs : Lfts 2) (a : ArgsD encode.signature κs) (r₁ r₂ : ResD encode.signature κs)
+    (s₁ s₂ : AtExit (endedOf 2 encode-kinds.ps encode-kinds.r) κs)
     → encode-reads.Post κs a r₁ s₁ → encode-reads.Post κs a r₂ s₂ → (r₁ ≡ r₂) × (now (s₁ .1 .1 .0) ≡ now (s₂ .1 .1 .0))
 encode-outcome κs a r₁ r₂ s₁ s₂ p q = (ap (λ x. x .number) (p ∙ sym q), ap (λ x. x .out) (p ∙ sym q))
 
-pub check-outcome : (κs : Lfts 1) (a : ArgsD check.signature κs) (r₁ r₂ : ResD check.signature κs) (s₁ s₂ : AtExit (endedOf 1 check-kinds.ps check-kinds.r) κs)
+pub check-outcome : (κs : Lfts 1) (a : ArgsD check.signature κs) (r₁ r₂ : ResD check.signature κs)
+    (s₁ s₂ : AtExit (endedOf 1 check-kinds.ps check-kinds.r) κs)
     → check-reads.Post κs a r₁ s₁ → check-reads.Post κs a r₂ s₂ → r₁ ≡ r₂
 check-outcome κs a r₁ r₂ s₁ s₂ p q = ap (λ x. record { number = x .number; broken = x .broken; lowest = x .lowest }) (p ∙ sym q)
 
 -- The length of the part: its octets are the word's leading ones.
-pub open-outcome : (κs : Lfts 1) (a : ArgsD open-call.signature κs) (r₁ r₂ : ResD open-call.signature κs) (s₁ s₂ : AtExit (endedOf 1 open-kinds.ps open-kinds.r) κs)
+pub open-outcome : (κs : Lfts 1) (a : ArgsD open-call.signature κs) (r₁ r₂ : ResD open-call.signature κs)
+    (s₁ s₂ : AtExit (endedOf 1 open-kinds.ps open-kinds.r) κs)
     → open-reads.Post κs a r₁ s₁ → open-reads.Post κs a r₂ s₂ → r₁ ≡ r₂
 open-outcome κs a r₁ r₂ s₁ s₂ p q =
     ap₂ (λ k z. record { number = k; lowest = z; octets = r₁ .octets }) (p .0 ∙ sym (q .0)) (p .1 ∙ sym (q .1))
     ∙ ap (λ z. record { number = r₂ .number; lowest = r₂ .lowest; octets = z }) (p .2 ∙ sym (q .2))
 
-pub correct-outcome : (κs : Lfts 2) (a : ArgsD correct.signature κs) (r₁ r₂ : ResD correct.signature κs) (s₁ s₂ : AtExit (endedOf 2 correct-kinds.ps correct-kinds.r) κs)
+pub correct-outcome : (κs : Lfts 2) (a : ArgsD correct.signature κs) (r₁ r₂ : ResD correct.signature κs)
+    (s₁ s₂ : AtExit (endedOf 2 correct-kinds.ps correct-kinds.r) κs)
     → correct-reads.Post κs a r₁ s₁ → correct-reads.Post κs a r₂ s₂ → (r₁ ≡ r₂) × (now (s₁ .1 .1 .1 .0) ≡ now (s₂ .1 .1 .1 .0))
-correct-outcome κs a r₁ r₂ s₁ s₂ p q =
-    (ap (λ x. record { number = x .number; flips = x .flips; first = x .first; last = x .last; unlike = x .unlike; lowest = x .lowest }) (p ∙ sym q), ap (λ x. x .out) (p ∙ sym q))
+correct-outcome κs a r₁ r₂ s₁ s₂ p q = (
+  ap (λ x. record { number = x .number; flips = x .flips; first = x .first; last = x .last; unlike = x .unlike; lowest = x .lowest }) (p
+      ∙ sym q),
+  ap (λ x. x .out) (p ∙ sym q),
+)
 
-pub step-outcome : (κs : Lfts 2) (a : ArgsD step.signature κs) (r₁ r₂ : ResD step.signature κs) (s₁ s₂ : AtExit (endedOf 2 step-kinds.ps step-kinds.r) κs)
+pub step-outcome : (κs : Lfts 2) (a : ArgsD step.signature κs) (r₁ r₂ : ResD step.signature κs)
+    (s₁ s₂ : AtExit (endedOf 2 step-kinds.ps step-kinds.r) κs)
     → step-reads.Post κs a r₁ s₁ → step-reads.Post κs a r₂ s₂ → (r₁ ≡ r₂) × (now (s₁ .1 .1 .0) ≡ now (s₂ .1 .1 .0))
 step-outcome κs a r₁ r₂ s₁ s₂ p q =
     (ap (λ x. record { number = x .number; quiet = x .quiet; bit = x .bit; excess = x .excess }) (p ∙ sym q), ap (λ x. x .out) (p ∙ sym q))
 
-pub quick-outcome : (κs : Lfts 1) (a : ArgsD quick.signature κs) (r₁ r₂ : ResD quick.signature κs) (s₁ s₂ : AtExit (endedOf 1 quick-kinds.ps quick-kinds.r) κs)
+pub quick-outcome : (κs : Lfts 1) (a : ArgsD quick.signature κs) (r₁ r₂ : ResD quick.signature κs)
+    (s₁ s₂ : AtExit (endedOf 1 quick-kinds.ps quick-kinds.r) κs)
     → quick-reads.Post κs a r₁ s₁ → quick-reads.Post κs a r₂ s₂ → r₁ ≡ r₂
 quick-outcome κs a r₁ r₂ s₁ s₂ p q = ap (λ x. record { number = x .number; yes = x .yes; evaluated = x .evaluated }) (p ∙ sym q)
 
-pub nearest-outcome : (κs : Lfts 2) (a : ArgsD nearest.signature κs) (r₁ r₂ : ResD nearest.signature κs) (s₁ s₂ : AtExit (endedOf 2 nearest-kinds.ps nearest-kinds.r) κs)
+pub nearest-outcome : (κs : Lfts 2) (a : ArgsD nearest.signature κs) (r₁ r₂ : ResD nearest.signature κs)
+    (s₁ s₂ : AtExit (endedOf 2 nearest-kinds.ps nearest-kinds.r) κs)
     → nearest-reads.Post κs a r₁ s₁ → nearest-reads.Post κs a r₂ s₂ → (r₁ ≡ r₂) × (now (s₁ .1 .1 .0) ≡ now (s₂ .1 .1 .0))
 nearest-outcome κs a r₁ r₂ s₁ s₂ p q =
     (ap (λ x. record { number = x .number; least = x .least; bits = x .bits }) (p ∙ sym q), ap (λ x. x .out) (p ∙ sym q))
 
-pub unit-octets-outcome : (κs : Lfts 0) (a : ArgsD unit-octets.signature κs) (r₁ r₂ : ResD unit-octets.signature κs) (s₁ s₂ : AtExit (endedOf 0 unit-octets-kinds.ps unit-octets-kinds.r) κs)
+pub unit-octets-outcome : (κs : Lfts 0) (a : ArgsD unit-octets.signature κs) (r₁ r₂ : ResD unit-octets.signature κs)
+    (s₁ s₂ : AtExit (endedOf 0 unit-octets-kinds.ps unit-octets-kinds.r) κs)
     → unit-octets-reads.Post κs a r₁ s₁ → unit-octets-reads.Post κs a r₂ s₂ → r₁ ≡ r₂
 unit-octets-outcome κs a r₁ r₂ s₁ s₂ p q = p ∙ sym q
 
-pub write-unit-outcome : (κs : Lfts 2) (a : ArgsD write-unit.signature κs) (r₁ r₂ : ResD write-unit.signature κs) (s₁ s₂ : AtExit (endedOf 2 write-unit-kinds.ps write-unit-kinds.r) κs)
+pub write-unit-outcome : (κs : Lfts 2) (a : ArgsD write-unit.signature κs) (r₁ r₂ : ResD write-unit.signature κs)
+    (s₁ s₂ : AtExit (endedOf 2 write-unit-kinds.ps write-unit-kinds.r) κs)
     → write-unit-reads.Post κs a r₁ s₁ → write-unit-reads.Post κs a r₂ s₂ → (r₁ ≡ r₂) × (now (s₁ .1 .1 .0) ≡ now (s₂ .1 .1 .0))
 write-unit-outcome κs a r₁ r₂ s₁ s₂ p q = (ap (λ x. x .number) (p ∙ sym q), ap (λ x. x .out) (p ∙ sym q))
 
@@ -115,26 +129,44 @@ numbers r = record { number = r .number; flips = r .flips; first = r .first; las
 abbrev takerState : TakerAnswer → Taker
 takerState x = record { place = x .place; edition = x .told .edition; limit = x .told .limit; octets = x .octets }
 
-pub taker-outcome : (κs : Lfts 0) (a : ArgsD taker.signature κs) (r₁ r₂ : ResD taker.signature κs) (s₁ s₂ : AtExit (endedOf 0 taker-kinds.ps taker-kinds.r) κs)
+pub taker-outcome : (κs : Lfts 0) (a : ArgsD taker.signature κs) (r₁ r₂ : ResD taker.signature κs)
+    (s₁ s₂ : AtExit (endedOf 0 taker-kinds.ps taker-kinds.r) κs)
     → taker-reads.Post κs a r₁ s₁ → taker-reads.Post κs a r₂ s₂ → r₁ ≡ r₂
 taker-outcome κs a r₁ r₂ s₁ s₂ p q = ap (λ x. takerState x) (p ∙ sym q)
 
-pub taker-for-outcome : (κs : Lfts 0) (a : ArgsD taker-for.signature κs) (r₁ r₂ : ResD taker-for.signature κs) (s₁ s₂ : AtExit (endedOf 0 taker-for-kinds.ps taker-for-kinds.r) κs)
+pub taker-for-outcome : (κs : Lfts 0) (a : ArgsD taker-for.signature κs) (r₁ r₂ : ResD taker-for.signature κs)
+    (s₁ s₂ : AtExit (endedOf 0 taker-for-kinds.ps taker-for-kinds.r) κs)
     → taker-for-reads.Post κs a r₁ s₁ → taker-for-reads.Post κs a r₂ s₂ → r₁ ≡ r₂
 taker-for-outcome κs a r₁ r₂ s₁ s₂ p q = ap (λ x. record { number = x .number; taker = takerState (x .taker) }) (p ∙ sym q)
 
-pub take-outcome : (κs : Lfts 1) (a : ArgsD take.signature κs) (r₁ r₂ : ResD take.signature κs) (s₁ s₂ : AtExit (endedOf 1 take-kinds.ps take-kinds.r) κs)
+pub take-outcome : (κs : Lfts 1) (a : ArgsD take.signature κs) (r₁ r₂ : ResD take.signature κs)
+    (s₁ s₂ : AtExit (endedOf 1 take-kinds.ps take-kinds.r) κs)
     → take-reads.Post κs a r₁ s₁ → take-reads.Post κs a r₂ s₂ → r₁ ≡ r₂
 take-outcome κs a r₁ r₂ s₁ s₂ p q =
-    ap (λ x. record { next = takerState (x .next); taken = x .taken; complete = x .complete; corrected = numbers (x .corrected); word = x .corrected .out }) (p ∙ sym q)
+    ap (λ x. record {
+      next = takerState (x .next);
+      taken = x .taken;
+      complete = x .complete;
+      corrected = numbers (x .corrected);
+      word =
+          x .corrected .out;
+    }) (p ∙ sym q)
 
-pub reader-outcome : (κs : Lfts 1) (a : ArgsD reader.signature κs) (r₁ r₂ : ResD reader.signature κs) (s₁ s₂ : AtExit (endedOf 1 reader-kinds.ps reader-kinds.r) κs)
+pub reader-outcome : (κs : Lfts 1) (a : ArgsD reader.signature κs) (r₁ r₂ : ResD reader.signature κs)
+    (s₁ s₂ : AtExit (endedOf 1 reader-kinds.ps reader-kinds.r) κs)
     → reader-reads.Post κs a r₁ s₁ → reader-reads.Post κs a r₂ s₂ → r₁ ≡ r₂
-reader-outcome κs a r₁ r₂ s₁ s₂ p q = ap (λ x. record { kept = numbers (x .kept); code = x .code; limit = x .limit; place = x .place }) (p ∙ sym q)
+reader-outcome κs a r₁ r₂ s₁ s₂ p q = ap (λ x. record { kept = numbers (x .kept); code = x .code; limit = x .limit; place = x .place }) (p
+    ∙ sym q)
 
-pub read-outcome : (κs : Lfts 2) (a : ArgsD read.signature κs) (r₁ r₂ : ResD read.signature κs) (s₁ s₂ : AtExit (endedOf 2 read-kinds.ps read-kinds.r) κs)
+pub read-outcome : (κs : Lfts 2) (a : ArgsD read.signature κs) (r₁ r₂ : ResD read.signature κs)
+    (s₁ s₂ : AtExit (endedOf 2 read-kinds.ps read-kinds.r) κs)
     → read-reads.Post κs a r₁ s₁ → read-reads.Post κs a r₂ s₂ → (r₁ ≡ r₂) × (now (s₁ .1 .1 .0) ≡ now (s₂ .1 .1 .0))
 read-outcome κs a r₁ r₂ s₁ s₂ p q = (
-  ap (λ x. record { corrected = numbers (x .corrected); none = x .none; next = record { kept = numbers (x .next .kept); code = x .next .code; limit = x .next .limit; place = x .next .place } }) (p ∙ sym q),
+  ap (λ x. record {
+    corrected = numbers (x .corrected);
+    none = x .none;
+    next =
+        record { kept = numbers (x .next .kept); code = x .next .code; limit = x .next .limit; place = x .next .place };
+  }) (p ∙ sym q),
   ap (λ x. x .corrected .out) (p ∙ sym q),
 )

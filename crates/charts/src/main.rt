@@ -2,6 +2,8 @@
 ghost use mathlib.Core.Path.{_≡_};
 ghost use Prim.Native.Nat.{_<_, _≤_};
 ghost use lib.ListN.{length};
+ghost use Rattle.layout.specs.Rooms.{tableRoom};
+use layout::TABLE;
 use libc::STDOUT_FILENO;
 
 fn text(bytes: &[u8]) {
@@ -36,7 +38,7 @@ fn entry(code: u8, size: usize, blocks: usize, place: usize, shift: u16)
 }
 
 fn entries(code: u8, size: usize, blocks: usize, t: &[u16])
-    requires { ⌜ (0 < blocks) × (length (now t) ≡ 64) ⌝ }
+    requires { ⌜ (0 < blocks) × (length (now t) ≡ tableRoom) ⌝ }
 {
     let mut i: usize = 0;
     while i < t.len() {
@@ -50,7 +52,7 @@ fn entries(code: u8, size: usize, blocks: usize, t: &[u16])
 fn table(code: u8)
     requires { ⌜ (1 ≤ code) × (code ≤ 5) ⌝ }
 {
-    let mut t = [0u16; 64];
+    let mut t = [0u16; TABLE];
     let o = offer::of(code);
     let sh = o.shape;
     let lent = tables::lend(sh.size, &mut t);

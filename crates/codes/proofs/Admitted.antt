@@ -38,11 +38,14 @@ module _ (n : ℕ) {o : Offer} (is : o ≡ offerOf n) where
       → k ≡ refusal (offered n) input (code n .informationOctets) output (code n .wordOctets)
   encode-refusal input output e = e ∙ refusal-as input output (ap (λ z. z .offered) is ∙ offers n .all) information-is word-is
 
-  pub check-refusal : {k : ℕ} (input : ℕ) → k ≡ refusal (o .offered) input (o .word) 0 0 → k ≡ refusal (offered n) input (code n .wordOctets) 0 0
+  pub check-refusal : {k : ℕ} (input : ℕ) → k ≡ refusal (o .offered) input (o .word) 0 0
+      → k ≡ refusal (offered n) input (code n .wordOctets) 0 0
   check-refusal input e = e ∙ refusal-as input 0 {room = 0} {room′ = 0} (ap (λ z. z .offered) is ∙ offers n .all) word-is (λ f. refl)
 
-  pub open-refusal : {k : ℕ} (input : ℕ) → k ≡ refusal (o .opens) input (o .word) 0 0 → k ≡ refusal (offered n && not (eqb n 4)) input (code n .wordOctets) 0 0
-  open-refusal input e = e ∙ refusal-as input 0 {room = 0} {room′ = 0} (ap (λ z. z .opens) is ∙ offers n .opens) (λ f. word-is (first (offered n) _ f)) (λ f. refl)
+  pub open-refusal : {k : ℕ} (input : ℕ) → k ≡ refusal (o .opens) input (o .word) 0 0
+      → k ≡ refusal (offered n && not (eqb n 4)) input (code n .wordOctets) 0 0
+  open-refusal input e = e ∙ refusal-as input 0 {room = 0} {room′ = 0} (ap (λ z. z .opens) is ∙ offers n .opens)
+      (λ f. word-is (first (offered n) _ f)) (λ f. refl)
 
   pub correct-refusal : {k : ℕ} (input output : ℕ) → k ≡ refusal (o .offered) input (o .word) output (o .word)
       → k ≡ refusal (offered n) input (code n .wordOctets) output (code n .wordOctets)
@@ -50,7 +53,9 @@ module _ (n : ℕ) {o : Offer} (is : o ≡ offerOf n) where
 
   pub step-refusal : {k : ℕ} (input output : ℕ) → k ≡ refusal (o .steps) input (o .word) output (o .word)
       → k ≡ refusal (offered n && not (eqb n 5)) input (code n .wordOctets) output (code n .wordOctets)
-  step-refusal input output e = e ∙ refusal-as input output (ap (λ z. z .steps) is ∙ offers n .steps) (λ f. word-is (first (offered n) _ f)) (λ f. word-is (first (offered n) _ f))
+  step-refusal input output e = e
+      ∙ refusal-as input output (ap (λ z. z .steps) is ∙ offers n .steps) (λ f. word-is (first (offered n) _ f))
+      (λ f. word-is (first (offered n) _ f))
 
   -- a code that a call offers is offered
   pub offered-by : o .offered ≡ true → offered n ≡ true
@@ -76,7 +81,8 @@ module _ (n : ℕ) {o : Offer} (is : o ≡ offerOf n) where
     pub input-is : input ≡ long
     pub output-is : output ≡ room
 
-  pub taken : (b : Bool) → (b ≡ true → offered n ≡ true) → (input long output room : ℕ) {k : ℕ} → k ≡ refusal b input long output room → k ≡ 0 → Taken b input long output room
+  pub taken : (b : Bool) → (b ≡ true → offered n ≡ true) → (input long output room : ℕ) {k : ℕ} → k ≡ refusal b input long output room
+      → k ≡ 0 → Taken b input long output room
   taken b all input long output room e z =
       let r : Right b input long output room = refusal-right b input long output room (sym e ∙ z) in
       let t : b ≡ true = as-true b (r .offers) in

@@ -53,7 +53,8 @@ module _ (n : ℕ) (word t : List ℕ) (y s : Word) (sh : Shape) (m : Measured n
     ran-word = sym (to .word ∙ ap (λ r. r .word) same-run)
 
     pub ran-met : code n .unsent < bits (code n) → ran .number ≡ 0 → broken (code n) y′ ≡ 0
-    ran-met some e = ap (broken (code n)) (sym ran-word) ∙ run-met (by-excess (code n) some) limit (lifted (code n) (bit word)) (ran-number ∙ e)
+    ran-met some e = ap (broken (code n)) (sym ran-word) ∙ run-met (by-excess (code n) some) limit (lifted (code n) (bit word)) (ran-number
+        ∙ e)
 
     -- no bit that is not sent is set
     pub ran-unsent : code n .unsent < bits (code n) → (k : ℕ) → k < code n .unsent → y′ k ≡ false
@@ -64,7 +65,8 @@ module _ (n : ℕ) (word t : List ℕ) (y s : Word) (sh : Shape) (m : Measured n
     -- where no flip was made it is the received word
     pub ran-ends : code n .unsent < bits (code n) → EndsAt (code n) (bit word) y′ (ran .flips)
     ran-ends some = record {
-      same = λ e. sym ran-word ∙ no-flips (byExcess (code n)) limit (lifted (code n) (bit word)) (sym (to .flips ∙ ap (λ r. length (r .flips)) same-run) ∙ e);
+      same = λ e. sym ran-word ∙ no-flips (byExcess (code n)) limit (lifted (code n) (bit word))
+          (sym (to .flips ∙ ap (λ r. length (r .flips)) same-run) ∙ e);
       unsent = ran-unsent some;
     }
 
@@ -72,7 +74,8 @@ module _ (n : ℕ) (word t : List ℕ) (y s : Word) (sh : Shape) (m : Measured n
         (at-first : (c : Code) (h : List ℕ) (sh : Shape) (x : Word) → Fit h sh → Lent c h sh → s ≡ laid c sh x → first ≡ broken c x)
         (at-last : (c : Code) (h : List ℕ) (sh : Shape) (x : Word) → Fit h sh → Lent c h sh → s′ ≡ laid c sh x → last ≡ broken c x)
         (at-lowest : (c : Code) (h : List ℕ) (x : Word) → Fit h sh → Lent c h sh → s ≡ laid c sh x → low ≡ lowest c x)
-        (judge : number ≡ judged (code n) (run (byExcess (code n)) limit (lifted (code n) (bit word)))) (differs : unlike ≡ differing (code n) (lifted (code n) (bit word)) y′) (out out′ : List ℕ)
+        (judge : number ≡ judged (code n) (run (byExcess (code n)) limit (lifted (code n) (bit word))))
+        (differs : unlike ≡ differing (code n) (lifted (code n) (bit word)) y′) (out out′ : List ℕ)
         (wrote : out′ ≡ (if eqb number 0 then written (code n) y′ else out)) where
       pub corrected-is : numbers number (ran .flips) first last unlike low out′ ≡ ranFrom n word limit out
       unfolding ranCorrect
@@ -87,7 +90,8 @@ module _ (n : ℕ) (word t : List ℕ) (y s : Word) (sh : Shape) (m : Measured n
   -- ---- step
 
   module _ (out : List ℕ) (turn : Next) (nx : NextOf) (from : ℕ) (from-is : code n .unsent ≡ from)
-      (next : (c : Code) → Lent c t sh → c .unsent ≡ from → (x : Word) → s ≡ laid c sh x → byExcess c x ≡ comesNext turn) (is : comesNext turn ≡ nx) where
+      (next : (c : Code) → Lent c t sh → c .unsent ≡ from → (x : Word) → s ≡ laid c sh x → byExcess c x ≡ comesNext turn)
+      (is : comesNext turn ≡ nx) where
     comes : byExcess (code n) (lifted (code n) (bit word)) ≡ nx
     comes = ap (byExcess (code n)) (sym (m .bits)) ∙ next (code n) (m .lends .lent) from-is y (m .held) ∙ is
 

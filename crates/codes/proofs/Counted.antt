@@ -11,7 +11,8 @@ use Rattle.answers.specs.Calls.{differing}
 use Rattle.bits.proofs.Counting.{count-none, count-same, count-add}
 use Rattle.rules.proofs.Codewords.{lifted-unsent, lifted-sent-bit}
 
-pub sent-differ : (c : Code) (u m : ℕ) → u ≡ c .unsent → m ≡ bits c → c .unsent < bits c → (x y : Word) → ((i : ℕ) → i < c .unsent → y i ≡ false)
+pub sent-differ : (c : Code) (u m : ℕ) → u ≡ c .unsent → m ≡ bits c → c .unsent < bits c → (x y : Word)
+    → ((i : ℕ) → i < c .unsent → y i ≡ false)
     → count (m - u) (λ i. x i ⊕ y (u + i)) ≡ differing c (lifted c x) y
 sent-differ c u m e f some x y none =
     let k : bits c ≡ c .unsent + (bits c - c .unsent) = omega (arith, some) in

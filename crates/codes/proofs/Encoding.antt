@@ -6,7 +6,7 @@ use Prim.Native.Nat.{ℕ, zero, suc, _+_, _-_, _*_, _/_, _%_, _^_, _≤_, _<_}
 use native.Mathlib.Nat.{lt-of-not-le}
 use native.Mathlib.Decide.{decLt}
 use native.Mathlib.Omega.{arith}
-use lib.Dec.{T, eqb, lit≤}
+use lib.Dec.{T, eqb}
 use lib.ListN.{length, getD}
 use borrow.Author.Tests.{eq-eqb, eqb-true, lt-ltb, le-ltb}
 use Rattle.bits.specs.Bits.{Word, digit, bit, octets, if_then_else_}
@@ -28,11 +28,13 @@ use Rattle.offer.proofs.Offers.{is-offered}
 one-divides : (x : ℕ) → not (eqb (x % 1) 0) ≡ false
 one-divides x = ap not (eq-eqb (x % 1) 0 (omega arith))
 
-pub six-is : (n : ℕ) → offered n ≡ true → {o : Offer} → o ≡ offerOf n → (info : List ℕ) → not (eqb (getD info (o .information - 1) 0 % o .multiple) 0) ≡ sixSet n info
+pub six-is : (n : ℕ) → offered n ≡ true → {o : Offer} → o ≡ offerOf n → (info : List ℕ)
+    → not (eqb (getD info (o .information - 1) 0 % o .multiple) 0) ≡ sixSet n info
 six-is n off {o} is info =
     ap (λ z. not (eqb (getD info (z .information - 1) 0 % z .multiple) 0)) is
     ∙ five (λ k. not (eqb (getD info (offerOf k .information - 1) 0 % offerOf k .multiple) 0) ≡ sixSet k info)
-    (one-divides (getD info 7 0)) (one-divides (getD info 15 0)) (one-divides (getD info 31 0)) refl (one-divides (getD info 891 0)) n (is-offered n off)
+    (one-divides (getD info 7 0)) (one-divides (getD info 15 0)) (one-divides (getD info 31 0)) refl (one-divides (getD info 891 0)) n
+    (is-offered n off)
 
 -- ---- the information's octets hold the information bits and no more
 
@@ -42,7 +44,8 @@ Spare n = (i : ℕ) → information (code n) - code n .unsent ≤ i → i < 8 * 
 -- only code 4's octets hold more bits than its information has
 spare : (n : ℕ) → T (offered n) → Spare n
 unfolding code code1 code2 code3 code4 code5 generator16 generator32 generator64 generator511
-spare = five Spare (λ i l h. absurd (omega arith)) (λ i l h. absurd (omega arith)) (λ i l h. absurd (omega arith)) (λ i l h. refl) (λ i l h. absurd (omega arith))
+spare = five Spare (λ i l h. absurd (omega arith)) (λ i l h. absurd (omega arith)) (λ i l h. absurd (omega arith)) (λ i l h. refl)
+    (λ i l h. absurd (omega arith))
 
 -- its last six bits are 0
 last-six : (v k : ℕ) → v % 64 ≡ 0 → 2 ≤ k → k < 8 → digit 8 v k ≡ false
@@ -66,7 +69,8 @@ four-sizes : (information (code 4) - code 4 .unsent ≡ 7154) × (code 4 .inform
 unfolding code code4 generator511
 four-sizes = (refl, refl)
 
-module _ (n : ℕ) (off : offered n ≡ true) (info : List ℕ) (long : length info ≡ code n .informationOctets) (six : sixSet n info ≡ false) where
+module _ (n : ℕ) (off : offered n ≡ true) (info : List ℕ) (long : length info ≡ code n .informationOctets)
+    (six : sixSet n info ≡ false) where
   six-zero : n ≡ 4 → getD info 894 0 % 64 ≡ 0
   six-zero e = go (eqb (getD info 894 0 % 64) 0) refl
     where
@@ -89,17 +93,16 @@ module _ (n : ℕ) (off : offered n ≡ true) (info : List ℕ) (long : length i
   pub information-only : lifted (code n) (bit info) ≡ upTo (information (code n)) (lifted (code n) (bit info))
   information-only = fun-ext (λ i. go i (decLt i (information (code n))))
     where
-      go : (i : ℕ) → Dec (i < information (code n)) → lifted (code n) (bit info) i ≡ upTo (information (code n)) (lifted (code n) (bit info)) i
+      go : (i : ℕ) → Dec (i < information (code n))
+          → lifted (code n) (bit info) i ≡ upTo (information (code n)) (lifted (code n) (bit info)) i
       go i (yes l) = sym (ap (λ b. b && lifted (code n) (bit info) i) (lt-ltb i (information (code n)) l))
       go i (no g) =
           let e : i - code n .unsent + code n .unsent ≡ i = omega (arith, lt-of-not-le g, published n (is-offered n off) .before) in
-          ap (lifted (code n) (bit info)) (sym e) ∙ lifted-sent-bit (code n) (bit info) (i - code n .unsent) ∙ past (i - code n .unsent) (omega (arith, lt-of-not-le g))
+          ap (lifted (code n) (bit info)) (sym e) ∙ lifted-sent-bit (code n) (bit info) (i - code n .unsent)
+          ∙ past (i - code n .unsent) (omega (arith, lt-of-not-le g))
           ∙ sym (ap (λ b. b && lifted (code n) (bit info) i) (le-ltb i (information (code n)) (omega (arith, lt-of-not-le g))))
 
 -- only the bits that the checks are over are written
 pub written-upTo : (n : ℕ) (x : Word) → written (code n) (upTo (bits (code n)) x) ≡ written (code n) x
-written-upTo n x = ap (octets (code n .wordOctets)) (sent-same (code n) (upTo (bits (code n)) x) x (λ i l. ap (λ b. b && x i) (lt-ltb i (bits (code n)) l)))
-
-pub few-information : (n : ℕ) → offered n ≡ true → code n .informationOctets ≤ 1022
-unfolding code code1 code2 code3 code4 code5
-few-information n off = five (λ k. code k .informationOctets ≤ 1022) (lit≤ tt) (lit≤ tt) (lit≤ tt) (lit≤ tt) (lit≤ tt) n (is-offered n off)
+written-upTo n x = ap (octets (code n .wordOctets))
+    (sent-same (code n) (upTo (bits (code n)) x) x (λ i l. ap (λ b. b && x i) (lt-ltb i (bits (code n)) l)))

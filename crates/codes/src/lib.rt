@@ -13,6 +13,10 @@ ghost use Rattle.offer.specs.Offers.{offerOf, Known};
 ghost use Rattle.vectors.specs.Vectors.{wbit};
 ghost use Rattle.codes.specs.Ends.{EndsAt};
 ghost use Rattle.codes.specs.Answers.{asEncoded, asChecked, asOpened, asCorrected, asStepped};
+ghost use Rattle.layout.specs.Rooms.{wordRoom};
+use layout::SYNDROME;
+use layout::TABLE;
+use layout::WORD;
 use offer::Offer;
 use runs::Next;
 
@@ -94,13 +98,13 @@ fn six_set(o: Offer, information: &[u8]) -> bool
 }
 
 // The encoding of information of the right length, whose spare bits are 0, into a word of the right length.
-fn encode_taken(code: u8, o: Offer, information: &[u8], word: &mut [u8])
-    requires { ⌜ (offered code ≡ true) × (o ≡ offerOf code) × (length (now information) ≡ codeOf code .informationOctets) × (length (now word) ≡ codeOf code .wordOctets) × (sixSet code (now information) ≡ false) ⌝ }
-    ensures { λ _. ⌜ now (word .exit) ≡ written (codeOf code) (encoded (codeOf code) (lifted (codeOf code) (bit (now (information .entry))))) ⌝ }
+fn encode_taken(o: Offer, information: &[u8], word: &mut [u8])
+    requires { ⌜ Known o × (length (now information) ≡ o .information) × (length (now word) ≡ o .word) ⌝ }
+    ensures { λ _. ⌜ ((n : ℕ) → offered n ≡ true → o ≡ offerOf n → sixSet n (now (information .entry)) ≡ false → now (word .exit) ≡ written (codeOf n) (encoded (codeOf n) (lifted (codeOf n) (bit (now (information .entry)))))) ⌝ }
 {
-    let mut y = [0u64; 130];
+    let mut y = [0u64; WORD];
     received::take(information, o.unsent, &mut y);
-    solver::encode(code, &mut y);
+    solver::encode(o, &mut y);
     received::write(&mut y, o.unsent, o.bits, word);
 }
 
@@ -122,7 +126,7 @@ pub fn encode(code: u8, information: &[u8], word: &mut [u8]) -> u8
     if six_set(o, information) {
         return 4;
     }
-    encode_taken(code, o, information, word);
+    encode_taken(o, information, word);
     0
 }
 
@@ -135,9 +139,9 @@ pub fn check(code: u8, word: &[u8]) -> Checked
     if number != 0 {
         return refused_check(number);
     }
-    let mut t = [0u16; 64];
-    let mut y = [0u64; 130];
-    let mut s = [0u64; 16];
+    let mut t = [0u16; TABLE];
+    let mut y = [0u64; WORD];
+    let mut s = [0u64; SYNDROME];
     let sh = measured::measure(o, word, &mut t, &mut y, &mut s);
     Checked {
         number: 0,
@@ -151,9 +155,9 @@ fn fault_of(o: Offer, word: &[u8]) -> Found
     requires { ⌜ Known o × (length (now word) ≡ o .word) ⌝ }
     ensures { λ r. ⌜ ((n : ℕ) → offered n ≡ true → o ≡ offerOf n → (r .number ≡ fault n (now (word .entry))) × (r .lowest ≡ lowest (codeOf n) (lifted (codeOf n) (bit (now (word .entry)))))) ⌝ }
 {
-    let mut t = [0u16; 64];
-    let mut y = [0u64; 130];
-    let mut s = [0u64; 16];
+    let mut t = [0u16; TABLE];
+    let mut y = [0u64; WORD];
+    let mut s = [0u64; SYNDROME];
     let sh = measured::measure(o, word, &mut t, &mut y, &mut s);
     Found {
         number: judging::fault(o, &y, &s),
@@ -184,7 +188,7 @@ pub fn open<'a>(code: u8, word: &'a [u8], number: &mut u8, lowest: &mut u32) -> 
 
 // In how many bits the word at the end of a run differs from the received one: in none, where no flip was made.
 pub fn unlike_after(o: Offer, word: &[u8], y: &[u64], flips: u32) -> u32
-    requires { ⌜ Known o × (length (now word) ≡ o .word) × (length (now y) ≡ 130) ⌝ }
+    requires { ⌜ Known o × (length (now word) ≡ o .word) × (length (now y) ≡ wordRoom) ⌝ }
     ensures { λ r. ⌜ ((n : ℕ) → offered n ≡ true → o ≡ offerOf n → EndsAt (codeOf n) (bit (now (word .entry))) (wbit (now (y .entry))) flips → r ≡ differing (codeOf n) (lifted (codeOf n) (bit (now (word .entry)))) (wbit (now (y .entry)))) ⌝ }
 {
     if flips == 0 {
@@ -198,9 +202,9 @@ fn correct_taken(o: Offer, word: &[u8], limit: u16, out: &mut [u8]) -> Corrected
     requires { ⌜ Known o × (length (now word) ≡ o .word) × (length (now out) ≡ o .word) ⌝ }
     ensures { λ r. ⌜ ((n : ℕ) → offered n ≡ true → o ≡ offerOf n → asCorrected r (now (out .exit)) ≡ ranFrom n (now (word .entry)) limit (now (out .entry))) ⌝ }
 {
-    let mut t = [0u16; 64];
-    let mut y = [0u64; 130];
-    let mut s = [0u64; 16];
+    let mut t = [0u16; TABLE];
+    let mut y = [0u64; WORD];
+    let mut s = [0u64; SYNDROME];
     let sh = measured::measure(o, word, &mut t, &mut y, &mut s);
     let first = syndromes::broken(&s);
     let lowest = syndromes::lowest(&s, sh);
@@ -238,9 +242,9 @@ fn step_taken(o: Offer, word: &[u8], out: &mut [u8]) -> Stepped
     requires { ⌜ Known o × (length (now word) ≡ o .word) × (length (now out) ≡ o .word) ⌝ }
     ensures { λ r. ⌜ ((n : ℕ) → offered n ≡ true → o ≡ offerOf n → asStepped r (now (out .exit)) ≡ steppedFrom n (now (word .entry)) (now (out .entry))) ⌝ }
 {
-    let mut t = [0u16; 64];
-    let mut y = [0u64; 130];
-    let mut s = [0u64; 16];
+    let mut t = [0u16; TABLE];
+    let mut y = [0u64; WORD];
+    let mut s = [0u64; SYNDROME];
     let sh = measured::measure(o, word, &mut t, &mut y, &mut s);
     let next = runs::comes_next(&s, &t, sh, o.unsent);
     match next {

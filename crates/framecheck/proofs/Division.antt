@@ -7,7 +7,8 @@ use native.Mathlib.Nat.{suc-add, zero-add}
 use native.Mathlib.Omega.{arith}
 use lib.ListN.{length}
 use Rattle.framecheck.specs.FrameCheck.{plus, generator, remainder}
-use Rattle.framecheck.proofs.Polynomials.{zeros, plus-comm, plus-assoc, plus-mid, plus-self, plus-zeros, plus-longer, plus-le, plus-front}
+use Rattle.framecheck.proofs.Polynomials.{zeros, plus-comm, plus-assoc, plus-mid, plus-self, plus-zeros, plus-longer, plus-le}
+use Rattle.framecheck.proofs.Polynomials.{plus-front}
 
 pub remainder-none : (n : ℕ) → remainder n [] ≡ []
 unfolding remainder

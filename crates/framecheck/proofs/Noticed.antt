@@ -13,7 +13,9 @@ use Rattle.bits.specs.Bits.{Word, digit, bit, number, flipped, _⊕_}
 use Rattle.bits.proofs.Octets.{Octets, bit-past}
 use Rattle.bits.proofs.Sums.{⊕-eq, ⊕-self, ⊕-false, ⊕-assoc}
 use Rattle.framecheck.specs.FrameCheck.{coefficients, plus, remainder, value, frameCheck, sound}
-use Rattle.framecheck.proofs.Polynomials.{zeros, plus-comm, plus-assoc, plus-mid, plus-self, plus-longer, plus-le, plus-zeros, plus-append, length-coefficients, coefficients-plus, coefficients-append, coefficients-same, coefficients-zeros}
+use Rattle.framecheck.proofs.Polynomials.{zeros, plus-comm, plus-assoc, plus-mid, plus-self, plus-longer, plus-le, plus-zeros}
+use Rattle.framecheck.proofs.Polynomials.{plus-append, length-coefficients, coefficients-plus, coefficients-append}
+use Rattle.framecheck.proofs.Polynomials.{coefficients-same, coefficients-zeros}
 use Rattle.framecheck.proofs.Division.{remainder-zeros, remainder-plus, length-remainder}
 use Rattle.framecheck.proofs.Places.{digit-high, digit-low-of, this-octet, next-octet}
 use Rattle.framecheck.proofs.Registers.{register, register-value}

@@ -3,7 +3,8 @@ use mathlib.Core.Path.{_≡_, refl, sym, ap, ap₂, _∙_}
 use mathlib.Core.Bool.{Bool, true, false}
 use Prim.Native.Nat.{ℕ, zero, suc, _+_, _-_, _*_, _/_, _%_, _^_, _<_}
 use mathlib.Core.List.{List, _∷_}
-use native.Mathlib.Nat.{add-div-left, add-mod-left, div-eq-of-lt, mod-eq-of-lt, mod-lt, zero-lt-suc, mul-assoc, pow-suc, mul-mod-left, le-step, lt-suc-self}
+use native.Mathlib.Nat.{add-div-left, add-mod-left, div-eq-of-lt, mod-eq-of-lt, mod-lt, zero-lt-suc, mul-assoc, pow-suc, mul-mod-left}
+use native.Mathlib.Nat.{le-step, lt-suc-self}
 use native.Mathlib.Numerals.{add-one}
 use native.Mathlib.Omega.{arith}
 use lib.Dec.{eqb}

@@ -14,7 +14,8 @@ use lib.ListN.{length, getD, take, getD-replicate, length-append}
 use Rattle.bits.specs.Bits.{Word, _⊕_}
 use Rattle.bits.proofs.Sums.{⊕-eq, below-at, and-l, and-r, not-true, eqb-iff}
 use Rattle.framecheck.specs.FrameCheck.{coefficients, plus, generator, remainder}
-use Rattle.framecheck.proofs.Polynomials.{zeros, plus-longer, plus-front, plus-equal, plus-append, length-coefficients, coefficients-plus, coefficients-append, coefficients-same, coefficients-zeros, coefficient}
+use Rattle.framecheck.proofs.Polynomials.{zeros, plus-longer, plus-front, plus-equal, plus-append, length-coefficients}
+use Rattle.framecheck.proofs.Polynomials.{coefficients-plus, coefficients-append, coefficients-same, coefficients-zeros, coefficient}
 use Rattle.framecheck.proofs.Division.{remainder-plus, length-remainder}
 
 -- A remainder times x, divided again.

@@ -13,7 +13,9 @@ use Rattle.bits.specs.Bits.{digit, bit, number, _⊕_}
 use Rattle.bits.proofs.Octets.{digit-number, number-digit, bit-past}
 use Rattle.framecheck.specs.FrameCheck.{coefficients, plus, remainder, value, frameCheck}
 use Rattle.framecheck.specs.Table.{entry, table}
-use Rattle.framecheck.proofs.Polynomials.{zeros, plus-comm, plus-longer, plus-append, plus-front, plus-zeros, plus-assoc, length-coefficients, coefficients-plus, coefficients-append, coefficients-same, coefficients-zeros, coefficients-of, coefficient}
+use Rattle.framecheck.proofs.Polynomials.{zeros, plus-comm, plus-longer, plus-append, plus-front, plus-zeros, plus-assoc}
+use Rattle.framecheck.proofs.Polynomials.{length-coefficients, coefficients-plus, coefficients-append, coefficients-same}
+use Rattle.framecheck.proofs.Polynomials.{coefficients-zeros, coefficients-of, coefficient}
 use Rattle.framecheck.proofs.Division.{remainder-zeros, remainder-add, remainder-plus, length-remainder}
 use Rattle.framecheck.proofs.Places.{digit-xor, digit-high, digit-low, digit-none, number-same, this-octet, next-octet}
 use Rattle.framecheck.proofs.Rule.{at}

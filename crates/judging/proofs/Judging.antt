@@ -18,7 +18,8 @@ use Rattle.rules.specs.Flipping.{Run}
 use Rattle.answers.specs.Calls.{judged, lastTwoSet, fault}
 use Rattle.bits.proofs.Counting.{count-start, count-none, none-counted}
 use Rattle.rules.proofs.Published.{both, Published}
-use Rattle.rules.proofs.Codewords.{agree-all, own-encoded, own-codeword, codeword-own, sent-bit, sent-fill, lifted-sent-bit, lifted-sent, parity-same}
+use Rattle.rules.proofs.Codewords.{agree-all, own-encoded, own-codeword, codeword-own, sent-bit, sent-fill, lifted-sent-bit, lifted-sent}
+use Rattle.rules.proofs.Codewords.{parity-same}
 use Rattle.rules.proofs.Numbers.{published, met-own-telecommand, met-codeword}
 use Rattle.answers.proofs.Opening.{fault-broken, fault-two, fault-parity, fault-clear, telecommand-two}
 use Rattle.layout.specs.declared.Shape.{Shape}
@@ -65,9 +66,11 @@ module _ (n : ℕ) (off : offered n ≡ true) where
       → ((i : ℕ) → bits (code n) - code n .unsent ≤ i → i < 8 * code n .wordOctets → y i ≡ false) → codeword (code n) y ≡ true
   unfolding codeword
   fill-codeword y own fill =
-      agree-all (8 * code n .wordOctets) y (sent (code n) (encoded (code n) (lifted (code n) y))) (λ i l. go i l (decLt i (bits (code n) - code n .unsent)))
+      agree-all (8 * code n .wordOctets) y (sent (code n) (encoded (code n) (lifted (code n) y)))
+      (λ i l. go i l (decLt i (bits (code n) - code n .unsent)))
     where
-      go : (i : ℕ) → i < 8 * code n .wordOctets → Dec (i < bits (code n) - code n .unsent) → y i ≡ sent (code n) (encoded (code n) (lifted (code n) y)) i
+      go : (i : ℕ) → i < 8 * code n .wordOctets → Dec (i < bits (code n) - code n .unsent)
+          → y i ≡ sent (code n) (encoded (code n) (lifted (code n) y)) i
       go i l (yes h) =
           sym (sent-bit (code n) (encoded (code n) (lifted (code n) y)) i h
           ∙ own-encoded (code n) (lifted (code n) y) own (i + code n .unsent) (omega arith) ∙ lifted-sent-bit (code n) y i)
@@ -80,30 +83,36 @@ module _ (n : ℕ) (off : offered n ≡ true) where
   module _ (r : Run) where
     pub judged-other : (r .number ≡ 0 → ⊥) → r .number ≡ judged (code n) r
     judged-other d =
-        sym (ap (λ b. if not b then r .number else if ltb 0 (count (code n .unsent) (r .word)) then 7 else if not (codeword (code n) (sent (code n) (r .word))) then 8 else 0) (ne-eqb (r .number) 0 d))
+        sym (ap (λ b. if not b then r .number else if ltb 0 (count (code n .unsent) (r .word)) then 7 else if not
+        (codeword (code n) (sent (code n) (r .word))) then 8 else 0) (ne-eqb (r .number) 0 d))
 
     spelled : (a b : Bool) → r .number ≡ 0 → ltb 0 (count (code n .unsent) (r .word)) ≡ a → codeword (code n) (sent (code n) (r .word)) ≡ b
         → (if a then 7 else if not b then 8 else 0) ≡ judged (code n) r
     spelled a b e f g =
-        sym (ap (λ b. if not b then r .number else if ltb 0 (count (code n .unsent) (r .word)) then 7 else if not (codeword (code n) (sent (code n) (r .word))) then 8 else 0) (eq-eqb (r .number) 0 e)
+        sym (ap (λ b. if not b then r .number else if ltb 0 (count (code n .unsent) (r .word)) then 7 else if not
+        (codeword (code n) (sent (code n) (r .word))) then 8 else 0) (eq-eqb (r .number) 0 e)
         ∙ ap₂ (λ a b. if a then 7 else if not b then 8 else 0) f g)
 
     no-unsent : ((i : ℕ) → i < code n .unsent → r .word i ≡ false) → ltb 0 (count (code n .unsent) (r .word)) ≡ false
     no-unsent none = le-ltb 0 (count (code n .unsent) (r .word)) (le-of-eq (count-none (code n .unsent) (r .word) none))
 
     -- the parity is the encoder's
-    pub judged-own : r .number ≡ 0 → ((i : ℕ) → i < code n .unsent → r .word i ≡ false) → OwnParity (code n) (r .word) → 0 ≡ judged (code n) r
+    pub judged-own : r .number ≡ 0 → ((i : ℕ) → i < code n .unsent → r .word i ≡ false) → OwnParity (code n) (r .word)
+        → 0 ≡ judged (code n) r
     judged-own e none own = spelled false true e (no-unsent none) (own-codeword (code n) pb (r .word) own none)
 
     -- it is not
-    pub judged-other-parity : r .number ≡ 0 → ((i : ℕ) → i < code n .unsent → r .word i ≡ false) → (OwnParity (code n) (r .word) → ⊥) → 8 ≡ judged (code n) r
-    judged-other-parity e none no-own = spelled false false e (no-unsent none) (not-so (codeword (code n) (sent (code n) (r .word))) (λ is. no-own (back is)))
+    pub judged-other-parity : r .number ≡ 0 → ((i : ℕ) → i < code n .unsent → r .word i ≡ false) → (OwnParity (code n) (r .word) → ⊥)
+        → 8 ≡ judged (code n) r
+    judged-other-parity e none no-own = spelled false false e (no-unsent none)
+        (not-so (codeword (code n) (sent (code n) (r .word))) (λ is. no-own (back is)))
       where
         back : codeword (code n) (sent (code n) (r .word)) ≡ true → OwnParity (code n) (r .word)
         back is p h =
             sym (lifted-sent (code n) (r .word) none (information (code n) + p) (omega (arith, pb .after)))
             ∙ codeword-own (code n) pb (sent (code n) (r .word)) is p h
-            ∙ parity-same (code n) (lifted (code n) (sent (code n) (r .word))) (r .word) (λ i l. lifted-sent (code n) (r .word) none i (lt-of-lt-of-le l (pb .after))) p
+            ∙ parity-same (code n) (lifted (code n) (sent (code n) (r .word))) (r .word)
+            (λ i l. lifted-sent (code n) (r .word) none i (lt-of-lt-of-le l (pb .after))) p
 
 -- ---- counts
 
@@ -132,7 +141,8 @@ abbrev Tells : Code → Word → Bool → Type 0
 Tells c x r = (r ≡ true → OwnParity c x) × (OwnParity c x → r ≡ true)
 
 pub near-tells : (n : ℕ) → offered n ≡ true → 4 ≤ n → (x : Word) (r : Bool)
-    → ((wordOctets informationOctets unsent : ℕ) → broken (nearEarth wordOctets informationOctets unsent) x ≡ 0 → Tells (nearEarth wordOctets informationOctets unsent) x r)
+    → ((wordOctets informationOctets unsent : ℕ) → broken (nearEarth wordOctets informationOctets unsent) x ≡ 0
+    → Tells (nearEarth wordOctets informationOctets unsent) x r)
     → broken (code n) x ≡ 0 → Tells (code n) x r
 unfolding code code4 code5
 near-tells n off h x r tells = go (ℕ-discrete n 4)
@@ -146,7 +156,8 @@ near-tells n off h x r tells = go (ℕ-discrete n 4)
 -- ---- a run that ended quiet, judged by the code's tests
 
 module _ (n : ℕ) (off : offered n ≡ true) (o : Offer) (is : o ≡ offerOf n) (number : ℕ) (y : Word) (quiet : number ≡ 0)
-    (r : Run) (e : r .number ≡ number) (w : r .word ≡ y) (met : number ≡ 0 → broken (code n) y ≡ 0) (none : (i : ℕ) → i < code n .unsent → y i ≡ false) where
+    (r : Run) (e : r .number ≡ number) (w : r .word ≡ y) (met : number ≡ 0 → broken (code n) y ≡ 0) (none : (i : ℕ) → i < code n .unsent
+    → y i ≡ false) where
   none-set : (i : ℕ) → i < code n .unsent → r .word i ≡ false
   none-set i h = ap (λ x. x i) w ∙ none i h
 
@@ -157,7 +168,8 @@ module _ (n : ℕ) (off : offered n ≡ true) (o : Offer) (is : o ≡ offerOf n)
       (met-own-telecommand n t (r .word) (ap (broken (code n)) w ∙ met quiet))
 
   module _ (asked : o .asked ≡ true) (b : Bool)
-      (tells : (wordOctets informationOctets unsent : ℕ) → broken (nearEarth wordOctets informationOctets unsent) y ≡ 0 → Tells (nearEarth wordOctets informationOctets unsent) y b) where
+      (tells : (wordOctets informationOctets unsent : ℕ) → broken (nearEarth wordOctets informationOctets unsent) y ≡ 0
+      → Tells (nearEarth wordOctets informationOctets unsent) y b) where
     told : Tells (code n) y b
     told = near-tells n off (near n off is asked) y b tells (met quiet)
 
@@ -171,9 +183,11 @@ module _ (n : ℕ) (off : offered n ≡ true) (o : Offer) (is : o ≡ offerOf n)
 
 -- ---- a measured word, by what is found of it
 
-module _ (n : ℕ) (off : offered n ≡ true) (o : Offer) (is : o ≡ offerOf n) (y s : Word) (word t : List ℕ) (sh : Shape) (long : length word ≡ code n .wordOctets)
+module _ (n : ℕ) (off : offered n ≡ true) (o : Offer) (is : o ≡ offerOf n) (y s : Word) (word t : List ℕ) (sh : Shape)
+    (long : length word ≡ code n .wordOctets)
     (m : Measured n word t y s sh) (q : Bool)
-    (tells-quiet : (c : Code) (h : List ℕ) (sh : Shape) (x : Word) → Fit h sh → Lent c h sh → s ≡ laid c sh x → q ≡ eqb (broken c x) 0) where
+    (tells-quiet : (c : Code) (h : List ℕ) (sh : Shape) (x : Word) → Fit h sh → Lent c h sh → s ≡ laid c sh x
+    → q ≡ eqb (broken c x) 0) where
   found : q ≡ eqb (broken (code n) (lifted (code n) (bit word))) 0
   found = tells-quiet (code n) t sh y (m .lends .fit) (m .lends .lent) (m .held) ∙ ap (λ x. eqb (broken (code n) x) 0) (m .bits)
 
@@ -192,7 +206,8 @@ module _ (n : ℕ) (off : offered n ≡ true) (o : Offer) (is : o ≡ offerOf n)
   after : (i : ℕ) → y (bits (code n) + i) ≡ bit word (bits (code n) + i - code n .unsent)
   after i =
       let e : bits (code n) + i - code n .unsent + code n .unsent ≡ bits (code n) + i = omega (arith, pb n off .before, pb n off .after) in
-      ap (λ x. x (bits (code n) + i)) (m .bits) ∙ ap (lifted (code n) (bit word)) (sym e) ∙ lifted-sent-bit (code n) (bit word) (bits (code n) + i - code n .unsent)
+      ap (λ x. x (bits (code n) + i)) (m .bits) ∙ ap (lifted (code n) (bit word)) (sym e)
+      ∙ lifted-sent-bit (code n) (bit word) (bits (code n) + i - code n .unsent)
 
   here : o .bits ≡ bits (code n)
   here = ap (λ z. z .bits) is ∙ fixed n off .bits-are
@@ -227,16 +242,19 @@ module _ (n : ℕ) (off : offered n ≡ true) (o : Offer) (is : o ≡ offerOf n)
     finds-fill set = sym (fault-two n word (sym found ∙ quiet) (sym (two-found asked) ∙ sym set))
 
   module _ (quiet : q ≡ true) (asked : o .asked ≡ true) (none : false ≡ ltb 0 (count (o .fill) (from (o .bits) y))) (b : Bool)
-      (tells : (wordOctets informationOctets unsent : ℕ) → broken (nearEarth wordOctets informationOctets unsent) y ≡ 0 → Tells (nearEarth wordOctets informationOctets unsent) y b) where
+      (tells : (wordOctets informationOctets unsent : ℕ) → broken (nearEarth wordOctets informationOctets unsent) y ≡ 0
+      → Tells (nearEarth wordOctets informationOctets unsent) y b) where
     known : Tells (code n) (lifted (code n) (bit word)) b
-    known = subst (λ x. Tells (code n) x b) (m .bits) (near-tells n off (near n off is asked) y b tells (ap (broken (code n)) (m .bits) ∙ met quiet))
+    known = subst (λ x. Tells (code n) x b) (m .bits) (near-tells n off (near n off is asked) y b tells (ap (broken (code n)) (m .bits)
+        ∙ met quiet))
 
     zeros : (i : ℕ) → bits (code n) - code n .unsent ≤ i → i < 8 * code n .wordOctets → bit word i ≡ false
     zeros i l h =
         let k = i + code n .unsent - bits (code n) in
         let e : bits (code n) + k - code n .unsent ≡ i = omega (arith, pb n off .before, pb n off .after) in
         ap (bit word) (sym e) ∙ sym (after k) ∙ ap (λ z. y (z + k)) (sym here)
-        ∙ none-counted (o .fill) (from (o .bits) y) (zero-of (count (o .fill) (from (o .bits) y)) none) k (omega (arith, filled, here, pb n off .before, pb n off .after))
+        ∙ none-counted (o .fill) (from (o .bits) y) (zero-of (count (o .fill) (from (o .bits) y)) none) k
+        (omega (arith, filled, here, pb n off .before, pb n off .after))
 
     unset : lastTwoSet n word ≡ false
     unset = sym (two-found asked) ∙ sym none

@@ -14,11 +14,12 @@ ghost use Rattle.vectors.specs.Vectors.{wbit, from};
 ghost use Rattle.offer.specs.Offers.{offerOf, Known};
 ghost use Rattle.layout.specs.declared.Shape.{Shape};
 ghost use Rattle.measured.specs.Measured.{Measured};
+ghost use Rattle.layout.specs.Rooms.{syndromeRoom, wordRoom};
 use offer::Offer;
 
 // Whether one of n bits from bit `at` on is set.
 fn some_set(y: &[u64], at: usize, n: usize) -> bool
-    requires { ⌜ (length (now y) ≡ 130) × (n ≤ 64) × (at / 64 + 1 < 130) ⌝ }
+    requires { ⌜ (length (now y) ≡ wordRoom) × (n ≤ 64) × (at / 64 + 1 < 130) ⌝ }
     ensures { λ r. ⌜ r ≡ ltb 0 (count n (from at (wbit (now (y .entry))))) ⌝ }
 {
     let mut v = [0u64; 1];
@@ -28,7 +29,7 @@ fn some_set(y: &[u64], at: usize, n: usize) -> bool
 
 // The number of a run: after a quiet end 8 for parity unlike the encoder's. No run sets an unsent bit, so 7 is never given.
 pub fn judge(o: Offer, y: &[u64], number: u8) -> u8
-    requires { ⌜ Known o × (length (now y) ≡ 130) ⌝ }
+    requires { ⌜ Known o × (length (now y) ≡ wordRoom) ⌝ }
     ensures { λ r. ⌜ ((n : ℕ) → offered n ≡ true → o ≡ offerOf n → (run : Run) → run .number ≡ number → run .word ≡ wbit (now (y .entry)) → (number ≡ 0 → broken (codeOf n) (wbit (now (y .entry))) ≡ 0) → ((i : ℕ) → i < codeOf n .unsent → wbit (now (y .entry)) i ≡ false) → r ≡ judged (codeOf n) run) ⌝ }
 {
     if number != 0 {
@@ -42,7 +43,7 @@ pub fn judge(o: Offer, y: &[u64], number: u8) -> u8
 
 // What is wrong with a measured word: a broken check, a bit set after the parity, or parity unlike the encoder's; 0 for a codeword.
 pub fn fault(o: Offer, y: &[u64], s: &[u64]) -> u8
-    requires { ⌜ Known o × (length (now y) ≡ 130) × (length (now s) ≡ 16) ⌝ }
+    requires { ⌜ Known o × (length (now y) ≡ wordRoom) × (length (now s) ≡ syndromeRoom) ⌝ }
     ensures { λ r. ⌜ ((n : ℕ) → offered n ≡ true → o ≡ offerOf n → (word t : List ℕ) (sh : Shape) → length word ≡ codeOf n .wordOctets → Measured n word t (wbit (now (y .entry))) (wbit (now (s .entry))) sh → r ≡ faultOf n word) ⌝ }
 {
     if !syndromes::is_quiet(s) {

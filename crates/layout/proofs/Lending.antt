@@ -3,7 +3,8 @@ use mathlib.Core.Path.{_≡_, refl, sym, ap, ap₂, _∙_, fun-ext, subst}
 use mathlib.Core.Bool.{Bool, true, false, not, _&&_}
 use mathlib.Core.List.{List, [], _∷_}
 use Prim.Native.Nat.{ℕ, zero, suc, _+_, _-_, _*_, _/_, _%_, _<_}
-use native.Mathlib.Nat.{zero-lt-suc, not-suc-le-zero, le-of-suc-le-suc, mod-lt, zero-add, add-zero, add-assoc, le-step, lt-suc-self, le-trans, le-of-eq}
+use native.Mathlib.Nat.{zero-lt-suc, not-suc-le-zero, le-of-suc-le-suc, mod-lt, zero-add, add-zero, add-assoc, le-step, lt-suc-self}
+use native.Mathlib.Nat.{le-trans, le-of-eq}
 use lib.Arith.{digits-div, digits-mod, digits-lt}
 use lib.Dec.{T, eqb, leb, ltb, eqb→eq, leb→le, ltb→lt}
 use lib.ListN.{length, getD}
@@ -12,7 +13,8 @@ use Rattle.rules.specs.Codes.{Code, bits}
 use Rattle.rules.specs.Checks.{oneAt, check, brokenOf, degreeOf}
 use Rattle.bits.proofs.Sums.{and-l, and-r, below-at, sum-same, pick, blocks-sum}
 use Rattle.bits.proofs.Counting.{each}
-use Rattle.rules.proofs.Blocks.{blk, checkIn, brokenIn, degree, distinct, shaped, Row, shaped-at, at-shift, one-sum, withTables, check-in, broken-in, degree-in}
+use Rattle.rules.proofs.Blocks.{blk, checkIn, brokenIn, degree, distinct, shaped, Row, shaped-at, at-shift, one-sum, withTables, check-in}
+use Rattle.rules.proofs.Blocks.{broken-in, degree-in}
 use Rattle.rules.proofs.Flips.{check-flip}
 use Rattle.layout.specs.declared.Shape.{Shape}
 use Rattle.layout.specs.Lent.{shiftsOf, total, Lent}
@@ -29,7 +31,8 @@ pub same-list : (xs ys : List ℕ) → T (sameList xs ys) → xs ≡ ys
 same-list [] [] t = refl
 same-list [] (b ∷ ys) t = absurd t
 same-list (a ∷ xs) [] t = absurd t
-same-list (a ∷ xs) (b ∷ ys) t = ap₂ (λ z zs. z ∷ zs) (eqb→eq a b (and-l (eqb a b) (sameList xs ys) t)) (same-list xs ys (and-r (eqb a b) (sameList xs ys) t))
+same-list (a ∷ xs) (b ∷ ys) t = ap₂ (λ z zs. z ∷ zs) (eqb→eq a b (and-l (eqb a b) (sameList xs ys) t))
+    (same-list xs ys (and-r (eqb a b) (sameList xs ys) t))
 
 -- M, words and blocks are given; the rows are the table's
 abbrev pub shapeOf : ℕ → ℕ → ℕ → List (List (List ℕ)) → Shape
@@ -69,7 +72,8 @@ over-low M (s ∷ S) f g t h =
     (over-low M S f g (and-r (not (oneAt M S 0 s)) (distinct M S) (and-r (ltb s M) (not (oneAt M S 0 s) && distinct M S) t)) h)
 
 module _ (wordOctets informationOctets unsent m : ℕ) (H : List (List (List ℕ))) (gs : List (List ℕ)) (printed B words : ℕ) (h : List ℕ)
-    (shape : T (shaped (suc m) B H)) (wide : length (getD H 0 []) ≡ B) (same : T (sameTable m words B H h)) (low : T (below B (λ b. leb (degree H b) 7))) where
+    (shape : T (shaped (suc m) B H)) (wide : length (getD H 0 []) ≡ B) (same : T (sameTable m words B H h))
+    (low : T (below B (λ b. leb (degree H b) 7))) where
   abbrev c : Code
   c = withTables wordOctets informationOctets unsent m H gs printed
 
@@ -79,7 +83,8 @@ module _ (wordOctets informationOctets unsent m : ℕ) (H : List (List (List ℕ
   lent-block : (r b : ℕ) → r < length H → b < B → getD (getD H r []) b [] ≡ shiftsOf sh h r b
   lent-block r b hr hb =
       sym (same-list (shiftsOf sh h r b) (getD (getD H r []) b [])
-      (below-at B (λ b. sameList (shiftsOf sh h r b) (getD (getD H r []) b [])) (below-at (length H) (λ r. below B (λ b. sameList (shiftsOf sh h r b) (getD (getD H r []) b []))) same r hr) b hb))
+      (below-at B (λ b. sameList (shiftsOf sh h r b) (getD (getD H r []) b []))
+      (below-at (length H) (λ r. below B (λ b. sameList (shiftsOf sh h r b) (getD (getD H r []) b []))) same r hr) b hb))
 
   row-at : (r : ℕ) → r < length H → Row (suc m) B (getD H r [])
   row-at = shaped-at (suc m) B H shape
@@ -104,30 +109,35 @@ module _ (wordOctets informationOctets unsent m : ℕ) (H : List (List (List ℕ
       let S : List ℕ = getD (getD H r []) b [] in
       sym (pick (suc m) k (oneAt (suc m) (getD (getD H r []) b []) i) hk)
       ∙ one-sum m (getD (getD H r []) b []) i (λ t. eqb t k) (row-at r hr .apart b hb)
-      ∙ over-low (suc m) (getD (getD H r []) b []) (λ s. eqb ((i + s) % suc m) k) (λ s. eqb i ((k + (suc m - s)) % suc m)) (row-at r hr .apart b hb) (λ s l. at-shift m k s i hk l hi)
+      ∙ over-low (suc m) (getD (getD H r []) b []) (λ s. eqb ((i + s) % suc m) k) (λ s. eqb i ((k + (suc m - s)) % suc m))
+      (row-at r hr .apart b hb) (λ s l. at-shift m k s i hk l hi)
       ∙ ap (λ S. over S (λ s. eqb i ((k + (suc m - s)) % suc m))) (lent-block r b hr hb)
 
   bit-lt : (b k : ℕ) → b < B → k < suc m → b * suc m + k < bits c
   bit-lt b k hb hk = subst (λ z. b * suc m + k < z * suc m) (sym wide) (digits-lt hb hk)
 
   lent-flip : (x : Word) (b k r i : ℕ) → b < B → k < suc m → r < length H → i < suc m
-      → check c (flipped x (b * suc m + k)) (r * suc m + i) ≡ check c x (r * suc m + i) ⊕ over (shiftsOf sh h r b) (λ s. eqb i ((k + (suc m - s)) % suc m))
+      → check c (flipped x (b * suc m + k)) (r * suc m + i) ≡ check c x (r * suc m + i) ⊕ over (shiftsOf sh h r b)
+      (λ s. eqb i ((k + (suc m - s)) % suc m))
   lent-flip x b k r i hb hk hr hi =
       check-flip c x (b * suc m + k) (bit-lt b k hb hk) (r * suc m + i)
       ∙ ap (λ z. check c x (r * suc m + i) ⊕ z)
-      (ap₂ (λ q j. oneAt (suc m) (getD (getD H q []) ((b * suc m + k) / suc m) []) j ((b * suc m + k) % suc m)) (digits-div r hi) (digits-mod r hi)
+      (ap₂ (λ q j. oneAt (suc m) (getD (getD H q []) ((b * suc m + k) / suc m) []) j ((b * suc m + k) % suc m)) (digits-div r hi)
+      (digits-mod r hi)
       ∙ ap₂ (λ q j. oneAt (suc m) (getD (getD H r []) q []) i j) (digits-div b hk) (digits-mod b hk)
       ∙ one-over r b i k hr hb hi hk)
 
   lent-broken : (x : Word) (b k : ℕ) → b < B → k < suc m
-      → brokenOf c x (b * suc m + k) ≡ total (length H) (λ r. countOf (shiftsOf sh h r b) (λ s. check c x (r * suc m + (k + (suc m - s)) % suc m)))
+      → brokenOf c x (b * suc m + k) ≡ total (length H)
+      (λ r. countOf (shiftsOf sh h r b) (λ s. check c x (r * suc m + (k + (suc m - s)) % suc m)))
   unfolding brokenOf
   lent-broken x b k hb hk =
       broken-in wordOctets informationOctets unsent m H gs printed B shape x (b * suc m + k) (digits-lt hb hk)
       ∙ ap₂ (λ q j. brokenIn (suc m) H (blk (suc m) x) q j) (digits-div b hk) (digits-mod b hk)
       ∙ each-total H (λ row. countOf (getD row b []) (λ s. checkIn (suc m) row (blk (suc m) x) ((k + (suc m - s)) % suc m)))
       ∙ total-same (length H) _ _ (λ r hr.
-      ap (countOf (getD (getD H r []) b [])) (fun-ext (λ s. sym (in-row x r ((k + (suc m - s)) % suc m) hr (mod-lt (k + (suc m - s)) (zero-lt-suc m)))))
+      ap (countOf (getD (getD H r []) b []))
+      (fun-ext (λ s. sym (in-row x r ((k + (suc m - s)) % suc m) hr (mod-lt (k + (suc m - s)) (zero-lt-suc m)))))
       ∙ ap (λ S. countOf S (λ s. check c x (r * suc m + (k + (suc m - s)) % suc m))) (lent-block r b hr hb))
 
   lent-total : (b : ℕ) → b < B → degree H b ≡ total (length H) (λ r. length (shiftsOf sh h r b))

@@ -55,8 +55,10 @@ pub record Lent (c : Code) (h : List ℕ) (sh : Shape) : Type 0 where
       ≡ check c x (r * sh .size + i) ⊕ over (shiftsOf sh h r b) (λ s. eqb i ((k + (sh .size - s)) % sh .size))
   -- the broken checks of bit k of block b, and all its checks, which are at most 7
   pub broken-by : (x : Word) (b k : ℕ) → b < sh .blocks → k < sh .size
-      → brokenOf c x (b * sh .size + k) ≡ total (sh .rows) (λ r. countOf (shiftsOf sh h r b) (λ s. check c x (r * sh .size + (k + (sh .size - s)) % sh .size)))
-  pub degree-by : (b k : ℕ) → b < sh .blocks → k < sh .size → degreeOf c (b * sh .size + k) ≡ total (sh .rows) (λ r. length (shiftsOf sh h r b))
+      → brokenOf c x (b * sh .size + k) ≡ total (sh .rows)
+      (λ r. countOf (shiftsOf sh h r b) (λ s. check c x (r * sh .size + (k + (sh .size - s)) % sh .size)))
+  pub degree-by : (b k : ℕ) → b < sh .blocks → k < sh .size
+      → degreeOf c (b * sh .size + k) ≡ total (sh .rows) (λ r. length (shiftsOf sh h r b))
   pub few : (b : ℕ) → b < sh .blocks → total (sh .rows) (λ r. length (shiftsOf sh h r b)) ≤ 7
 
 -- A syndrome as it is held: row after row, each in whole 64-bit words, bit i of row r is check i of block row r; the rest is 0.

@@ -8,3 +8,15 @@ pub struct Shape {
     pub blocks: usize,
     pub rows: usize,
 }
+
+// How long the arrays are that hold a code's parts, whatever the code: the 64-bit words of a word, with two to read past it, of a
+// syndrome, of a block and of a doubled block; and the places of a parity table.
+pub const WORD: usize = 130;
+
+pub const SYNDROME: usize = 16;
+
+pub const BLOCK: usize = 8;
+
+pub const DOUBLED: usize = 16;
+
+pub const TABLE: usize = 64;

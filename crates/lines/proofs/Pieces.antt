@@ -27,7 +27,8 @@ starts-before long size k h l =
     (omega (arith, suc-mul k size), omega (arith, mul-le-mul-left k h))
 
 -- a word, or what is left
-pub piece : (r : List ℕ) (at size stop : ℕ) → stop ≡ (at + size) - ((at + size) - length r) → take (stop - at) (drop at r) ≡ take size (drop at r)
+pub piece : (r : List ℕ) (at size stop : ℕ) → stop ≡ (at + size) - ((at + size) - length r)
+    → take (stop - at) (drop at r) ≡ take size (drop at r)
 piece r at size stop e = go (leb (at + size) (length r)) refl
   where
     go : (t : Bool) → leb (at + size) (length r) ≡ t → take (stop - at) (drop at r) ≡ take size (drop at r)
@@ -36,7 +37,8 @@ piece r at size stop e = go (leb (at + size) (length r)) refl
         ap (λ n. take n (drop at r)) h
     go false f =
         let h : length r < at + size = leb-false (at + size) (length r) f in
-        take-all (stop - at) (drop at r) (omega (arith, length-drop at r)) ∙ sym (take-all size (drop at r) (omega (arith, length-drop at r)))
+        take-all (stop - at) (drop at r) (omega (arith, length-drop at r))
+        ∙ sym (take-all size (drop at r) (omega (arith, length-drop at r)))
 
 -- ---- a recording in parts
 
@@ -62,9 +64,11 @@ module _ (n limit index : ℕ) (a b : List ℕ) where
       ∙ ap (λ (o : List ℕ). take w o) (drop-append-add a b (i * w))
 
   -- A recording is read part after part. The lines of its parts, of which all but the last have whole words, are those of the whole.
-  pub in-parts : (j k : ℕ) → length a ≡ j * code n .wordOctets → lines n limit index (a ++ b) (j + k) ≡ lines n limit index a j ++ lines n limit (index + j) b k
+  pub in-parts : (j k : ℕ) → length a ≡ j * code n .wordOctets
+      → lines n limit index (a ++ b) (j + k) ≡ lines n limit index a j ++ lines n limit (index + j) b k
   unfolding lines
-  in-parts j zero h = ap (λ m. lines n limit index (a ++ b) m) (add-zero j) ∙ front j (omega arith) ∙ sym (append-nil (lines n limit index a j))
+  in-parts j zero h = ap (λ m. lines n limit index (a ++ b) m) (add-zero j) ∙ front j (omega arith)
+      ∙ sym (append-nil (lines n limit index a j))
   in-parts j (suc k) h =
       ap (λ m. lines n limit index (a ++ b) m) (add-suc j k)
       ∙ ap₂ (λ (p q : List ℕ). p ++ q) (in-parts j k h) (ap₂ (λ i o. wordLine n limit i o) (sym (add-assoc index j k)) (word-back j k h))

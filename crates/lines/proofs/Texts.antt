@@ -26,7 +26,8 @@ spelled n front = if ltb n 10 then ((48 + n) ∷ []) else front ++ ((48 + n % 10
 spelled-same : (n : ℕ) (a b : List ℕ) → (10 ≤ n → a ≡ b) → spelled n a ≡ spelled n b
 spelled-same n a b f = go (ltb n 10) refl
   where
-    go : (t : Bool) → ltb n 10 ≡ t → (if t then ((48 + n) ∷ []) else a ++ ((48 + n % 10) ∷ [])) ≡ (if t then ((48 + n) ∷ []) else b ++ ((48 + n % 10) ∷ []))
+    go : (t : Bool) → ltb n 10 ≡ t → (if t then ((48 + n) ∷ []) else a ++ ((48 + n % 10) ∷ []))
+        ≡ (if t then ((48 + n) ∷ []) else b ++ ((48 + n % 10) ∷ []))
     go true e = refl
     go false e = ap (λ (l : List ℕ). l ++ ((48 + n % 10) ∷ [])) (f (ltb-false n 10 e))
 
@@ -37,7 +38,8 @@ digits-enough zero (suc k) zero a b = refl
 digits-enough zero (suc k) (suc n) a b = absurd (omega arith)
 digits-enough (suc m) zero zero a b = refl
 digits-enough (suc m) zero (suc n) a b = absurd (omega arith)
-digits-enough (suc m) (suc k) n a b = spelled-same n (digits m (n / 10)) (digits k (n / 10)) (λ h. digits-enough m k (n / 10) (omega arith) (omega arith))
+digits-enough (suc m) (suc k) n a b = spelled-same n (digits m (n / 10)) (digits k (n / 10))
+    (λ h. digits-enough m k (n / 10) (omega arith) (omega arith))
 
 pub decimal-digit : (n : ℕ) → n < 10 → decimal n ≡ (48 + n) ∷ []
 unfolding digits
@@ -48,7 +50,8 @@ pub decimal-more : (n : ℕ) → 10 ≤ n → decimal n ≡ decimal (n / 10) ++ 
 unfolding digits
 decimal-more zero h = absurd (omega arith)
 decimal-more (suc n) h =
-    spelled-same (suc n) (digits n (suc n / 10)) (decimal (suc n / 10)) (λ l. digits-enough n (suc n / 10) (suc n / 10) (omega arith) (omega arith))
+    spelled-same (suc n) (digits n (suc n / 10)) (decimal (suc n / 10))
+    (λ l. digits-enough n (suc n / 10) (suc n / 10) (omega arith) (omega arith))
     ∙ rw (le-ltb (suc n) 10 h)
 
 pub digit-long : (n : ℕ) → n < 10 → length (decimal n) ≡ 1
@@ -86,7 +89,8 @@ pub one-more : (t p x : List ℕ) (end v : ℕ) → end < length t → take end 
 one-more t p x end v h e = rw add-one (take-suc-set t end v h ∙ ap (λ (l : List ℕ). l ++ (v ∷ [])) e ∙ append-assoc p x (v ∷ []))
 
 -- an octet, and what is put behind it
-pub one-before : (t u x : List ℕ) (at r v : ℕ) → at < length t → take r u ≡ take (at + 1) (set t at v) ++ x → take r u ≡ take at t ++ (v ∷ x)
+pub one-before : (t u x : List ℕ) (at r v : ℕ) → at < length t → take r u ≡ take (at + 1) (set t at v) ++ x
+    → take r u ≡ take at t ++ (v ∷ x)
 one-before t u x at r v h e =
     let f : take (at + 1) (set t at v) ≡ take at t ++ (v ∷ []) = rw add-one (take-suc-set t at v h) in
     e ∙ ap (λ (l : List ℕ). l ++ x) f ∙ append-assoc (take at t) (v ∷ []) x
@@ -104,7 +108,8 @@ text-more t p s end k h l e =
 pub fields-more : (ns : List ℕ) (n : ℕ) → fields (ns ++ (n ∷ [])) ≡ fields ns ++ (32 ∷ decimal n)
 unfolding fields
 fields-more [] n = ap (λ (l : List ℕ). 32 ∷ l) (append-nil (decimal n))
-fields-more (m ∷ ns) n = ap (λ (l : List ℕ). 32 ∷ l) (ap (λ (l : List ℕ). decimal m ++ l) (fields-more ns n) ∙ sym (append-assoc (decimal m) (fields ns) (32 ∷ decimal n)))
+fields-more (m ∷ ns) n = ap (λ (l : List ℕ). 32 ∷ l) (ap (λ (l : List ℕ). decimal m ++ l) (fields-more ns n)
+    ∙ sym (append-assoc (decimal m) (fields ns) (32 ∷ decimal n)))
 
 pub fields-next : (ns p t u : List ℕ) (k : ℕ) → k < length ns → t ≡ u ++ (32 ∷ decimal (getD ns k 0)) → u ≡ p ++ fields (take k ns)
     → t ≡ p ++ fields (take (k + 1) ns)
@@ -120,7 +125,8 @@ pub both : {m n : ℕ} {ms ns : List ℕ} → m ≡ n → ms ≡ ns → m ∷ ms
 both e f = ap₂ (λ (n : ℕ) (ns : List ℕ). n ∷ ns) e f
 
 -- index, numbers, the end of the line
-pub line-whole : {ns : List ℕ} (p t u : List ℕ) (i end : ℕ) (a : Corrected) → end < length t → take end t ≡ u ++ fields ns → u ≡ p ++ decimal i → ns ≡ numbers a
+pub line-whole : {ns : List ℕ} (p t u : List ℕ) (i end : ℕ) (a : Corrected) → end < length t → take end t ≡ u ++ fields ns
+    → u ≡ p ++ decimal i → ns ≡ numbers a
     → take (end + 1) (set t end 10) ≡ p ++ line i a
 unfolding line
 line-whole {ns} p t u i end a h e f g =
@@ -142,6 +148,7 @@ same-line i n word limit out other e =
     go : (k : ℕ) → line i (answer k out) ≡ line i (answer k other)
     go k = by (eqb k 0)
       where
-        by : (b : Bool) → line i (if b then ranFrom n word limit out else refusedCorrect out k) ≡ line i (if b then ranFrom n word limit other else refusedCorrect other k)
+        by : (b : Bool) → line i (if b then ranFrom n word limit out else refusedCorrect out k) ≡ line i
+            (if b then ranFrom n word limit other else refusedCorrect other k)
         by true = refl
         by false = refl

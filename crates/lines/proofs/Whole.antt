@@ -48,14 +48,16 @@ good-head h l e =
 -- ---- words behind the head
 
 -- the lines of what stands behind the three octets
-pub behind : (h octets : List ℕ) → length h ≡ 3 → bad h ≡ false → body (h ++ octets) ≡ lines (codeIn h) (limitIn h) 0 octets (words (codeIn h) octets)
+pub behind : (h octets : List ℕ) → length h ≡ 3 → bad h ≡ false
+    → body (h ++ octets) ≡ lines (codeIn h) (limitIn h) 0 octets (words (codeIn h) octets)
 unfolding body
 behind [] octets l e = absurd (omega arith)
 behind (a ∷ []) octets l e = absurd (omega arith)
 behind (a ∷ b ∷ []) octets l e = absurd (omega arith)
 behind (a ∷ b ∷ c ∷ []) octets l e =
     let f : ltb (length (a ∷ b ∷ c ∷ octets)) 3 ≡ false = le-ltb (length (a ∷ b ∷ c ∷ octets)) 3 (omega arith) in
-    ap₂ (λ (t u : Bool). if t || u then line 0 (refusedCorrect [] 1) else lines a (256 * b + c) 0 octets (words a octets)) f (neither (ltb 3 3) (not (offered a)) e .1)
+    ap₂ (λ (t u : Bool). if t || u then line 0 (refusedCorrect [] 1) else lines a (256 * b + c) 0 octets (words a octets)) f
+    (neither (ltb 3 3) (not (offered a)) e .1)
 behind (a ∷ b ∷ c ∷ d ∷ h) octets l e = absurd (omega arith)
 
 -- whole words, and what follows them
@@ -128,7 +130,8 @@ module _ (h : List ℕ) where
   texts read [] last = lines (codeIn h) (limitIn h) (read / size) last (words (codeIn h) last)
   texts read (b ∷ bs) last = lines (codeIn h) (limitIn h) (read / size) b (words (codeIn h) b) ++ texts (read + length b) bs last
 
-  blocks-grow : (before : List ℕ) (bs : List (List ℕ)) (last : List ℕ) → length h ≡ 3 → bad h ≡ false → length before % size ≡ 0 → Filled size bs
+  blocks-grow : (before : List ℕ) (bs : List (List ℕ)) (last : List ℕ) → length h ≡ 3 → bad h ≡ false → length before % size ≡ 0
+      → Filled size bs
       → log (h ++ (before ++ joined bs last)) ≡ log (h ++ before) ++ texts (length before) bs last
   blocks-grow before [] last l e m f = grows h before last l e m
   blocks-grow before (b ∷ bs) last l e m f =

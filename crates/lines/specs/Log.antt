@@ -28,7 +28,8 @@ unfoldable pub fields : List ℕ → List ℕ
 fields [] = []
 fields (n ∷ ns) = 32 ∷ (decimal n ++ fields ns)
 
--- What a line gives behind the index: number, flips, checks broken at start, at end, and in how many bits the words differ. The header has a name for each.
+-- What a line gives behind the index: number, flips, checks broken at start, at end, and in how many bits the words differ. The header has
+-- a name for each.
 abbrev pub numbers : Corrected → List ℕ
 numbers a = a .number ∷ a .flips ∷ a .first ∷ a .last ∷ a .unlike ∷ []
 

@@ -16,6 +16,9 @@ ghost use Rattle.offer.specs.Offers.{offerOf, Known};
 ghost use Rattle.lists.specs.Answers.{asEntries, asListed, listedAs};
 ghost use Rattle.lists.specs.declared.FlipRecord.{FlipRecord};
 ghost use Rattle.lists.specs.Listings.{wordOf, runOf, endsWith, Blank, Ends, Stands, Standing, Lists, Goes};
+use layout::SYNDROME;
+use layout::TABLE;
+use layout::WORD;
 use offer::Offer;
 use runs::Next;
 
@@ -187,9 +190,9 @@ fn count_flips(o: Offer, word: &[u8], limit: u16) -> usize
     requires { ⌜ Known o × (length (now word) ≡ o .word) ⌝ }
     ensures { λ r. ⌜ ((n : ℕ) → offered n ≡ true → o ≡ offerOf n → r ≡ length (runOf n (now (word .entry)) limit .flips)) ⌝ }
 {
-    let mut t = [0u16; 64];
-    let mut y = [0u64; 130];
-    let mut s = [0u64; 16];
+    let mut t = [0u16; TABLE];
+    let mut y = [0u64; WORD];
+    let mut s = [0u64; SYNDROME];
     let sh = measured::measure(o, word, &mut t, &mut y, &mut s);
     let ran = runs::run(&mut y, &mut s, &t, sh, o.unsent, limit);
     ran.flips as usize
@@ -277,9 +280,9 @@ pub fn begin(
 pub fn list(code: u8, word: &[u8], limit: u16, table: &mut [FlipRecord]) -> Listed
     ensures { λ r. ⌜ asListed r (now (table .exit)) ≡ listAnswer code (now (word .entry)) limit (asEntries (now (table .entry))) ⌝ }
 {
-    let mut t = [0u16; 64];
-    let mut y = [0u64; 130];
-    let mut s = [0u64; 16];
+    let mut t = [0u16; TABLE];
+    let mut y = [0u64; WORD];
+    let mut s = [0u64; SYNDROME];
     let mut l = begin(code, word, limit, table.len(), &mut t, &mut y, &mut s);
     while l.goes {
         table[l.place] = l.record;

@@ -1,13 +1,21 @@
 -- What is known of a word once it is measured.
 use mathlib.Core.Path.{_≡_}
+use mathlib.Core.Bool.{true}
 use mathlib.Core.List.{List}
 use Prim.Native.Nat.{ℕ}
 use Rattle.bits.specs.Bits.{Word, bit}
-use Rattle.rules.specs.Codes.{code}
+use Rattle.rules.specs.Codes.{code, offered}
 use Rattle.rules.specs.Encoding.{lifted}
 use Rattle.layout.specs.declared.Shape.{Shape}
 use Rattle.layout.specs.Lent.{laid}
+use Rattle.offer.specs.Offers.{offerOf}
 use Rattle.tables.specs.Flat.{Lends}
+
+-- The size of a block of some code.
+pub record Size (size : ℕ) : Type 0 where
+  pub number : ℕ
+  pub offers : offered number ≡ true
+  pub is : size ≡ offerOf number .shape .size
 
 -- The places t and the shape are the code's, y is the word, and s its syndrome.
 pub record Measured (n : ℕ) (word t : List ℕ) (y s : Word) (sh : Shape) : Type 0 where

@@ -1,7 +1,7 @@
 // What is measured of a word: its table, its bits and its syndrome.
 ghost use mathlib.Core.Path.{_≡_};
 ghost use mathlib.Core.Bool.{true, false};
-ghost use Prim.Native.Nat.{ℕ};
+ghost use Prim.Native.Nat.{ℕ, _≤_};
 ghost use lib.ListN.{length};
 ghost use Rattle.rules.specs.Codes.{offered};
 ghost use Rattle.rules.specs.Codes.{code as codeOf};
@@ -9,26 +9,43 @@ ghost use Rattle.vectors.specs.Vectors.{wbit};
 ghost use Rattle.layout.specs.Lent.{laid};
 ghost use Rattle.offer.specs.Offers.{offerOf, Known};
 ghost use Rattle.tables.specs.Flat.{Lends};
-ghost use Rattle.measured.specs.Measured.{Measured};
+ghost use Rattle.measured.specs.Measured.{Size, Measured};
+ghost use Rattle.layout.specs.Rooms.{syndromeRoom, tableRoom, wordRoom};
 use layout::Shape;
 use offer::Offer;
 
-// The parity table into t, its shape, and the syndrome of the bits that y holds into s, which is handed over as zeros.
-pub fn checks(o: Offer, y: &[u64], t: &mut [u16], s: &mut [u64]) -> Shape
-    requires { ⌜ Known o × (length (now y) ≡ 130) × (length (now t) ≡ 64) × (length (now s) ≡ 16) × (wbit (now s) ≡ (λ n. false)) ⌝ }
-    ensures { λ r. ⌜ (r ≡ o .shape) × ((n : ℕ) → offered n ≡ true → o ≡ offerOf n → Lends n (now (t .exit)) r × (wbit (now (s .exit)) ≡ laid (codeOf n) r (wbit (now (y .entry))))) ⌝ }
+// The parity table of blocks of this size into t, its shape, and the syndrome of the bits that y holds into s, which is handed over
+// as zeros.
+pub fn checks(size: usize, y: &[u64], t: &mut [u16], s: &mut [u64]) -> Shape
+    requires { ⌜ Size size × (length (now y) ≡ wordRoom) × (length (now t) ≡ tableRoom) × (length (now s) ≡ syndromeRoom) × (wbit (now s) ≡ (λ n. false)) ⌝ }
+    ensures { λ r. ⌜ ((n : ℕ) → offered n ≡ true → size ≡ offerOf n .shape .size → (r ≡ offerOf n .shape) × Lends n (now (t .exit)) r × (wbit (now (s .exit)) ≡ laid (codeOf n) r (wbit (now (y .entry))))) ⌝ }
 {
-    let of = o.shape;
-    let sh = tables::lend(of.size, t);
+    let sh = tables::lend(size, t);
     syndromes::syndrome(y, t, sh, s);
     sh
 }
 
+// What is measured, by the two numbers of a code's record that it takes: the record itself would be written out for each call.
+fn measure_by(
+    unsent: usize,
+    size: usize,
+    word: &[u8],
+    t: &mut [u16],
+    y: &mut [u64],
+    s: &mut [u64],
+) -> Shape
+    requires { ⌜ Size size × (unsent ≤ 18) × (length (now word) ≤ 1022) × (length (now t) ≡ tableRoom) × (length (now y) ≡ wordRoom) × (length (now s) ≡ syndromeRoom) × (wbit (now y) ≡ (λ n. false)) × (wbit (now s) ≡ (λ n. false)) ⌝ }
+    ensures { λ r. ⌜ ((n : ℕ) → offered n ≡ true → unsent ≡ offerOf n .unsent → size ≡ offerOf n .shape .size → (r ≡ offerOf n .shape) × Measured n (now (word .entry)) (now (t .exit)) (wbit (now (y .exit))) (wbit (now (s .exit))) r) ⌝ }
+{
+    received::take(word, unsent, y);
+    checks(size, y, t, s)
+}
+
 // The parity table into t, its shape, the word's bits into y, and its syndrome into s; y and s are handed over as zeros.
 pub fn measure(o: Offer, word: &[u8], t: &mut [u16], y: &mut [u64], s: &mut [u64]) -> Shape
-    requires { ⌜ Known o × (length (now word) ≡ o .word) × (length (now t) ≡ 64) × (length (now y) ≡ 130) × (length (now s) ≡ 16) × (wbit (now y) ≡ (λ n. false)) × (wbit (now s) ≡ (λ n. false)) ⌝ }
+    requires { ⌜ Known o × (length (now word) ≡ o .word) × (length (now t) ≡ tableRoom) × (length (now y) ≡ wordRoom) × (length (now s) ≡ syndromeRoom) × (wbit (now y) ≡ (λ n. false)) × (wbit (now s) ≡ (λ n. false)) ⌝ }
     ensures { λ r. ⌜ (r ≡ o .shape) × ((n : ℕ) → offered n ≡ true → o ≡ offerOf n → Measured n (now (word .entry)) (now (t .exit)) (wbit (now (y .exit))) (wbit (now (s .exit))) r) ⌝ }
 {
-    received::take(word, o.unsent, y);
-    checks(o, y, t, s)
+    let of = o.shape;
+    measure_by(o.unsent, of.size, word, t, y, s)
 }

@@ -20,7 +20,8 @@ pub offer-as : (n k : ℕ) → n ≡ k → {o : Offer} → o ≡ offerOf k → o
 offer-as n k e {o} q = subst (λ z. o ≡ offerOf z) (sym e) q
 
 pub offer-none : (n : ℕ) → (n ≡ 1 → ⊥) → (n ≡ 2 → ⊥) → (n ≡ 3 → ⊥) → (n ≡ 4 → ⊥) → (n ≡ 5 → ⊥) → offerOf 0 ≡ offerOf n
-offer-none n d1 d2 d3 d4 d5 = sym (go (eqb n 1) (eqb n 2) (eqb n 3) (eqb n 4) (eqb n 5) (ne-eqb n 1 d1) (ne-eqb n 2 d2) (ne-eqb n 3 d3) (ne-eqb n 4 d4) (ne-eqb n 5 d5))
+offer-none n d1 d2 d3 d4 d5 = sym (go (eqb n 1) (eqb n 2) (eqb n 3) (eqb n 4) (eqb n 5) (ne-eqb n 1 d1) (ne-eqb n 2 d2) (ne-eqb n 3 d3)
+    (ne-eqb n 4 d4) (ne-eqb n 5 d5))
   where
     chosen : Bool → Bool → Bool → Bool → Bool → Offer
     chosen a b d e f =
@@ -32,7 +33,8 @@ offer-none n d1 d2 d3 d4 d5 = sym (go (eqb n 1) (eqb n 2) (eqb n 3) (eqb n 4) (e
         else offerOf 0
 
     go : (a b d e f : Bool) → a ≡ false → b ≡ false → d ≡ false → e ≡ false → f ≡ false → chosen a b d e f ≡ offerOf 0
-    go a b d e f p q r s t = ap₂ (λ a b. chosen a b d e f) p q ∙ ap₂ (λ d e. chosen false false d e f) r s ∙ ap (chosen false false false false) t
+    go a b d e f p q r s t = ap₂ (λ a b. chosen a b d e f) p q ∙ ap₂ (λ d e. chosen false false d e f) r s
+        ∙ ap (chosen false false false false) t
 
 -- ---- what it fixes
 
@@ -65,7 +67,8 @@ offers n = go n
   where
     past : (n : ℕ) → 5 < n → Offers n
     past n l =
-        let o : offerOf 0 ≡ offerOf n = offer-none n (λ e. omega arith) (λ e. omega arith) (λ e. omega arith) (λ e. omega arith) (λ e. omega arith) in
+        let o : offerOf 0 ≡ offerOf n = offer-none n (λ e. omega arith) (λ e. omega arith) (λ e. omega arith) (λ e. omega arith)
+        (λ e. omega arith) in
         let f : false ≡ offered n = sym (not-offered n l) in
         record {
           all = ap (λ o. o .offered) (sym o) ∙ f;
@@ -74,7 +77,8 @@ offers n = go n
           some = subst (λ o. 1 ≤ o .shape .blocks) o (lit≤ tt);
         }
 
-    known : (n : ℕ) → offerOf n .offered ≡ offered n → offerOf n .opens ≡ (offered n && not (eqb n 4)) → offerOf n .steps ≡ (offered n && not (eqb n 5)) → 1 ≤ offerOf n .shape .blocks
+    known : (n : ℕ) → offerOf n .offered ≡ offered n → offerOf n .opens ≡ (offered n && not (eqb n 4))
+        → offerOf n .steps ≡ (offered n && not (eqb n 5)) → 1 ≤ offerOf n .shape .blocks
         → Offers n
     known n a b d e = record { all = a; opens = b; steps = d; some = e }
 
@@ -116,11 +120,116 @@ fixed-five : (n : ℕ) → T (offered n) → Fixed n
 unfolding code code1 code2 code3 code4 code5 parity16 parity32 parity64 parity511
 fixed-five =
     five Fixed
-    (record { word = refl; few = lit≤ tt; information = refl; some = lit≤ tt; less = lit≤ tt; multiple = lit≤ tt; unsent = refl; low = lit≤ tt; bits-are = refl; most = lit≤ tt; fill = refl; filled = lit≤ tt; within = lit< tt; sends = lit< tt; fits = lit≤ tt; full = lit< tt; plain = λ h. refl; blocks = lit≤ tt; asked = refl })
-    (record { word = refl; few = lit≤ tt; information = refl; some = lit≤ tt; less = lit≤ tt; multiple = lit≤ tt; unsent = refl; low = lit≤ tt; bits-are = refl; most = lit≤ tt; fill = refl; filled = lit≤ tt; within = lit< tt; sends = lit< tt; fits = lit≤ tt; full = lit< tt; plain = λ h. refl; blocks = lit≤ tt; asked = refl })
-    (record { word = refl; few = lit≤ tt; information = refl; some = lit≤ tt; less = lit≤ tt; multiple = lit≤ tt; unsent = refl; low = lit≤ tt; bits-are = refl; most = lit≤ tt; fill = refl; filled = lit≤ tt; within = lit< tt; sends = lit< tt; fits = lit≤ tt; full = lit< tt; plain = λ h. refl; blocks = lit≤ tt; asked = refl })
-    (record { word = refl; few = lit≤ tt; information = refl; some = lit≤ tt; less = lit≤ tt; multiple = lit≤ tt; unsent = refl; low = lit≤ tt; bits-are = refl; most = lit≤ tt; fill = refl; filled = lit≤ tt; within = lit< tt; sends = lit< tt; fits = lit≤ tt; full = lit< tt; plain = λ h. refl; blocks = lit≤ tt; asked = refl })
-    (record { word = refl; few = lit≤ tt; information = refl; some = lit≤ tt; less = lit≤ tt; multiple = lit≤ tt; unsent = refl; low = lit≤ tt; bits-are = refl; most = lit≤ tt; fill = refl; filled = lit≤ tt; within = lit< tt; sends = lit< tt; fits = lit≤ tt; full = lit< tt; plain = λ h. absurd (omega (arith, h)); blocks = lit≤ tt; asked = refl })
+    (record {
+      word = refl;
+      few = lit≤ tt;
+      information = refl;
+      some = lit≤ tt;
+      less = lit≤ tt;
+      multiple = lit≤ tt;
+      unsent = refl;
+      low =
+          lit≤ tt;
+      bits-are = refl;
+      most = lit≤ tt;
+      fill = refl;
+      filled = lit≤ tt;
+      within = lit< tt;
+      sends = lit< tt;
+      fits = lit≤ tt;
+      full = lit< tt;
+      plain = λ h. refl;
+      blocks = lit≤ tt;
+      asked = refl;
+    })
+    (record {
+      word = refl;
+      few = lit≤ tt;
+      information = refl;
+      some = lit≤ tt;
+      less = lit≤ tt;
+      multiple = lit≤ tt;
+      unsent = refl;
+      low =
+          lit≤ tt;
+      bits-are = refl;
+      most = lit≤ tt;
+      fill = refl;
+      filled = lit≤ tt;
+      within = lit< tt;
+      sends = lit< tt;
+      fits = lit≤ tt;
+      full = lit< tt;
+      plain = λ h. refl;
+      blocks = lit≤ tt;
+      asked = refl;
+    })
+    (record {
+      word = refl;
+      few = lit≤ tt;
+      information = refl;
+      some = lit≤ tt;
+      less = lit≤ tt;
+      multiple = lit≤ tt;
+      unsent = refl;
+      low =
+          lit≤ tt;
+      bits-are = refl;
+      most = lit≤ tt;
+      fill = refl;
+      filled = lit≤ tt;
+      within = lit< tt;
+      sends = lit< tt;
+      fits = lit≤ tt;
+      full = lit< tt;
+      plain = λ h. refl;
+      blocks = lit≤ tt;
+      asked = refl;
+    })
+    (record {
+      word = refl;
+      few = lit≤ tt;
+      information = refl;
+      some = lit≤ tt;
+      less = lit≤ tt;
+      multiple = lit≤ tt;
+      unsent = refl;
+      low =
+          lit≤ tt;
+      bits-are = refl;
+      most = lit≤ tt;
+      fill = refl;
+      filled = lit≤ tt;
+      within = lit< tt;
+      sends = lit< tt;
+      fits = lit≤ tt;
+      full = lit< tt;
+      plain = λ h. refl;
+      blocks = lit≤ tt;
+      asked = refl;
+    })
+    (record {
+      word = refl;
+      few = lit≤ tt;
+      information = refl;
+      some = lit≤ tt;
+      less = lit≤ tt;
+      multiple = lit≤ tt;
+      unsent = refl;
+      low =
+          lit≤ tt;
+      bits-are = refl;
+      most = lit≤ tt;
+      fill = refl;
+      filled = lit≤ tt;
+      within = lit< tt;
+      sends = lit< tt;
+      fits = lit≤ tt;
+      full = lit< tt;
+      plain = λ h. absurd (omega (arith, h));
+      blocks = lit≤ tt;
+      asked = refl;
+    })
 
 pub fixed : (n : ℕ) → offered n ≡ true → Fixed n
 fixed n o = fixed-five n (is-offered n o)

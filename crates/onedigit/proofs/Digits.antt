@@ -21,7 +21,8 @@ another-digit k front digit behind x hd hx hb =
     (xor-zero-r behind)
 
 -- From any digit to any other there is such an x from 1 to 15, and only to another one.
-pub every-other : below 16 (λ d. below 16 (λ e. eqb d e || (ltb 0 (bitXor d e) && ltb (bitXor d e) 16 && eqb (bitXor d (bitXor d e)) e))) ≡ true
+pub every-other : below 16 (λ d. below 16 (λ e. eqb d e || (ltb 0 (bitXor d e) && ltb (bitXor d e) 16 && eqb (bitXor d (bitXor d e)) e)))
+    ≡ true
 every-other = refl
 
 pub only-others : below 16 (λ d. below 15 (λ x. ltb (bitXor d (x + 1)) 16 && not (eqb (bitXor d (x + 1)) d))) ≡ true

@@ -5,13 +5,15 @@ ghost use lib.ListN.{length};
 ghost use Rattle.rules.specs.Tables.{parity16, parity32, parity64, parity511, generator16, generator32, generator64, generator511};
 ghost use Rattle.ties.specs.Flat.{parityOf, generatorOf};
 ghost use Rattle.onedigit.specs.Laid.{thirdNone, threes, words4, words28};
+ghost use Rattle.layout.specs.Rooms.{tableRoom};
+use layout::TABLE;
 
 // A place without a shift.
 const NO: u16 = 65535;
 
 // Place i of three for each block: the library's two, and one for an entry too many.
 fn place(t: &[u16], i: usize) -> u16
-    requires { ⌜ (length (now t) ≡ 64) × (i < 96) ⌝ }
+    requires { ⌜ (length (now t) ≡ tableRoom) × (i < 96) ⌝ }
     ensures { λ r. ⌜ r ≡ thirdNone (now (t .entry)) i ⌝ }
 {
     if i % 3 == 2 {
@@ -21,7 +23,7 @@ fn place(t: &[u16], i: usize) -> u16
 }
 
 fn spread(t: &[u16]) -> [u16; 96]
-    requires { ⌜ length (now t) ≡ 64 ⌝ }
+    requires { ⌜ length (now t) ≡ tableRoom ⌝ }
     ensures { λ r. ⌜ r ≡ threes (now (t .entry)) ⌝ }
 {
     let mut p = [NO; 96];
@@ -61,7 +63,7 @@ fn flat28(h: &[[[u64; 8]; 2]; 14]) -> [u64; 224]
 pub fn parity_16() -> [u16; 96]
     ensures { λ r. ⌜ parityOf 16 4 8 r ≡ parity16 ⌝ }
 {
-    let mut t = [0u16; 64];
+    let mut t = [0u16; TABLE];
     tables::lend16(&mut t);
     spread(&t)
 }
@@ -76,7 +78,7 @@ pub fn generator_16() -> [u64; 16]
 pub fn parity_32() -> [u16; 96]
     ensures { λ r. ⌜ parityOf 32 4 8 r ≡ parity32 ⌝ }
 {
-    let mut t = [0u16; 64];
+    let mut t = [0u16; TABLE];
     tables::lend32(&mut t);
     spread(&t)
 }
@@ -91,7 +93,7 @@ pub fn generator_32() -> [u64; 16]
 pub fn parity_64() -> [u16; 96]
     ensures { λ r. ⌜ parityOf 64 4 8 r ≡ parity64 ⌝ }
 {
-    let mut t = [0u16; 64];
+    let mut t = [0u16; TABLE];
     tables::lend64(&mut t);
     spread(&t)
 }
@@ -106,7 +108,7 @@ pub fn generator_64() -> [u64; 16]
 pub fn parity_511() -> [u16; 96]
     ensures { λ r. ⌜ parityOf 511 2 16 r ≡ parity511 ⌝ }
 {
-    let mut t = [0u16; 64];
+    let mut t = [0u16; TABLE];
     tables::lend511(&mut t);
     spread(&t)
 }

@@ -42,7 +42,8 @@ whole = refl
 row-marked : (j b : ℕ) → j < 14 → b < 2 → digit 16 (getD counted b 0) j ≡ printedOdd j b
 row-marked j b hj hb =
     ⊕-eq (digit 16 (getD counted b 0) j) (printedOdd j b)
-    (not-true (digit 16 (getD counted b 0) j ⊕ printedOdd j b) (below-at 2 (marked j) (below-at 14 (λ j. below 2 (marked j)) rows j hj) b hb))
+    (not-true (digit 16 (getD counted b 0) j ⊕ printedOdd j b)
+    (below-at 2 (marked j) (below-at 14 (λ j. below 2 (marked j)) rows j hj) b hb))
 
 -- the information blocks that are counted with a parity block, and then itself alone
 split : (x : Word) (b : ℕ) → b < 2 → oddTogether x b ≡ sum 14 (λ j. digit 16 (getD counted b 0) j && oddBlock x j) ⊕ oddBlock x (14 + b)
@@ -56,7 +57,8 @@ module _ (wordOctets informationOctets unsent : ℕ) where
   c = nearEarth wordOctets informationOctets unsent
 
   -- where the parity differs from the encoder's by whole inverted blocks, the test tells which
-  pub together : (x f : Word) → ((p : ℕ) → p < 1022 → x (7154 + p) ≡ parityBit c x p ⊕ f (p / 511)) → (b : ℕ) → b < 2 → oddTogether x b ≡ f b
+  pub together : (x f : Word) → ((p : ℕ) → p < 1022 → x (7154 + p) ≡ parityBit c x p ⊕ f (p / 511)) → (b : ℕ) → b < 2
+      → oddTogether x b ≡ f b
   unfolding generator511
   together x f h b hb =
       let E = oddPairs 511 512 generator511 x b in
@@ -75,9 +77,11 @@ module _ (wordOctets informationOctets unsent : ℕ) where
       none : (b : ℕ) → b < 2 → oddTogether x b ≡ false
       none = together x (λ b. false) (λ p l. own p l ∙ sym (⊕-false (parityBit c x p)))
 
-  pub together-inverted : (x : Word) → broken c x ≡ 0 → (b : ℕ) → b < 2 → oddTogether x b ≡ nearInverted wordOctets informationOctets unsent x b
+  pub together-inverted : (x : Word) → broken c x ≡ 0 → (b : ℕ) → b < 2
+      → oddTogether x b ≡ nearInverted wordOctets informationOctets unsent x b
   unfolding parity511 generator511
-  together-inverted x e = together x (nearInverted wordOctets informationOctets unsent x) (near-inverted wordOctets informationOctets unsent x e)
+  together-inverted x e = together x (nearInverted wordOctets informationOctets unsent x)
+      (near-inverted wordOctets informationOctets unsent x e)
 
   pub even-own : (x : Word) → broken c x ≡ 0 → evenTogether x ≡ true → OwnParity c x
   unfolding parity511 generator511

@@ -34,7 +34,8 @@ module _ (wordOctets informationOctets unsent m : ℕ) (H : List (List (List ℕ
   row-odd : (b n : ℕ) → sum (suc m) (λ k. rowBit c n (b * suc m + k)) ≡ row b (n / suc m)
   row-odd b n =
       sum-same (suc m) _ (λ k. drawn (suc m) printed (getD (getD gs (n / suc m) []) b 0) ((k + (suc m - n % suc m)) % suc m)) (λ k l.
-      ap₂ (λ q r. drawn (suc m) printed (getD (getD gs (n / suc m) []) q 0) ((r + (suc m - n % suc m)) % suc m)) (digits-div b l) (digits-mod b l))
+      ap₂ (λ q r. drawn (suc m) printed (getD (getD gs (n / suc m) []) q 0) ((r + (suc m - n % suc m)) % suc m)) (digits-div b l)
+      (digits-mod b l))
       ∙ turn m (suc m - n % suc m) (drawn (suc m) printed (getD (getD gs (n / suc m) []) b 0))
 
   -- the encoder's parity block b
@@ -43,7 +44,8 @@ module _ (wordOctets informationOctets unsent m : ℕ) (H : List (List (List ℕ
   parity-odd x b =
       swap (sum (suc m)) (sum-linear (suc m)) (length gs * suc m) (λ k n. x n && rowBit c n (b * suc m + k))
       ∙ ap (sum (length gs * suc m)) (fun-ext (λ n.
-      into (sum (suc m)) (sum-linear (suc m)) (x n) (λ k. rowBit c n (b * suc m + k)) ∙ ap (λ z. x n && z) (row-odd b n) ∙ and-comm (x n) (row b (n / suc m))))
+      into (sum (suc m)) (sum-linear (suc m)) (x n) (λ k. rowBit c n (b * suc m + k)) ∙ ap (λ z. x n && z) (row-odd b n)
+      ∙ and-comm (x n) (row b (n / suc m))))
       ∙ sum-blocks (length gs) (suc m) (λ n. row b (n / suc m) && x n)
       ∙ ap (sum (length gs)) (fun-ext (λ j.
       sum-same (suc m) _ (λ t. row b j && x (j * suc m + t)) (λ t l. ap (λ z. row b z && x (j * suc m + t)) (digits-div j l))

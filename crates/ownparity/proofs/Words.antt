@@ -49,7 +49,8 @@ pub fold-start : (ws : List ℕ) → sum 64 (digit 64 0) ≡ sum 0 (oddWord ws)
 unfolding sum
 fold-start ws = sum-none 64 (digit 64 0) (λ i l. digit-zero 64 i)
 
-pub fold-more : (ws : List ℕ) (v k : ℕ) → sum 64 (digit 64 v) ≡ sum k (oddWord ws) → sum 64 (digit 64 (bitXor v (getD ws k 0))) ≡ sum (k + 1) (oddWord ws)
+pub fold-more : (ws : List ℕ) (v k : ℕ) → sum 64 (digit 64 v) ≡ sum k (oddWord ws)
+    → sum 64 (digit 64 (bitXor v (getD ws k 0))) ≡ sum (k + 1) (oddWord ws)
 unfolding sum
 fold-more ws v k e =
     ap (sum 64) (fun-ext (λ i. digit-xor 64 v (getD ws k 0) i))
@@ -60,11 +61,13 @@ fold-more ws v k e =
 pub fold-all : (ws : List ℕ) (n : ℕ) → sum n (oddWord ws) ≡ sum (n * 64) (wbit ws)
 fold-all ws n =
     ap (sum n) (fun-ext (λ k.
-    sum-same 64 (digit 64 (getD ws k 0)) (λ i. wbit ws (k * 64 + i)) (λ i l. word-holds ws k i l ∙ ap (λ z. wbit ws (z + i)) (mul-comm 64 k))))
+    sum-same 64 (digit 64 (getD ws k 0)) (λ i. wbit ws (k * 64 + i)) (λ i l. word-holds ws k i l
+    ∙ ap (λ z. wbit ws (z + i)) (mul-comm 64 k))))
     ∙ sym (sum-blocks n 64 (wbit ws))
 
 -- the sum of the words of m bits that were cut out
-pub fold-cut : (ws : List ℕ) (m r : ℕ) (x : Word) → wbit ws ≡ upTo m x → m ≤ length ws * 64 → sum 64 (digit 64 r) ≡ sum (length ws * 64) (wbit ws)
+pub fold-cut : (ws : List ℕ) (m r : ℕ) (x : Word) → wbit ws ≡ upTo m x → m ≤ length ws * 64
+    → sum 64 (digit 64 r) ≡ sum (length ws * 64) (wbit ws)
     → tally (sum 64 (digit 64 r)) ≡ tally (sum m x)
 fold-cut ws m r x e h f = ap tally (f ∙ ap (sum (length ws * 64)) e) ∙ odd-upTo m (length ws * 64) x h
 
@@ -78,7 +81,8 @@ pub number-more : (n v : ℕ) (x : Word) → v ≡ number n x → 2 * v + tally 
 unfolding number
 number-more n v x e = ap (λ z. 2 * z + tally (x n)) e ∙ ap (λ z. number z x) (sym (add-one n))
 
-pub shared-odd : (w u v r : ℕ) (x : Word) → v ≡ number w x → u < 2 ^ w → ((k : ℕ) → bitAnd u v < 2 ^ k → r ≡ tally (sum k (digit k (bitAnd u v))))
+pub shared-odd : (w u v r : ℕ) (x : Word) → v ≡ number w x → u < 2 ^ w
+    → ((k : ℕ) → bitAnd u v < 2 ^ k → r ≡ tally (sum k (digit k (bitAnd u v))))
     → r ≡ tally (sum w (λ i. digit w u i && x i))
 shared-odd w u v r x e h odd =
     odd w (lt-of-le-of-lt (and-le-l u v) h)

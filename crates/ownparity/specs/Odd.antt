@@ -9,7 +9,8 @@ use Rattle.bits.specs.Bits.{Word, digit, sum, below}
 abbrev pub oddBlock : Word → ℕ → Bool
 oddBlock x j = sum 511 (λ k. x (j * 511 + k))
 
--- For each parity block, a bit for each of the 16 blocks: the information blocks whose printed row has an odd number of ones, and the parity block itself.
+-- For each parity block, a bit for each of the 16 blocks: the information blocks whose printed row has an odd number of ones, and the
+-- parity block itself.
 abbrev pub counted : List ℕ
 counted = 0x06E6 ∷ 0x0D7D ∷ []
 

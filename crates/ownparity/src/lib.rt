@@ -9,8 +9,11 @@ ghost use Rattle.rules.specs.Checks.{broken};
 ghost use Rattle.rules.specs.Encoding.{OwnParity};
 ghost use Rattle.vectors.specs.Vectors.{wbit, from};
 ghost use Rattle.ownparity.specs.Odd.{oddBlock, oddTogether};
+ghost use Rattle.layout.specs.Rooms.{wordRoom};
+use layout::BLOCK;
 
-// For each parity block, the blocks that it is counted with: the information blocks whose printed row has an odd number of ones, and itself.
+// For each parity block, the blocks that it is counted with: the information blocks whose printed row has an odd number of ones, and
+// itself.
 const FIRST: u64 = 0x06E6;
 
 const SECOND: u64 = 0x0D7D;
@@ -40,14 +43,14 @@ fn odd(y: &[u64], p: usize, m: usize) -> u64
     requires { ⌜ (m ≤ 512) × (p / 64 + 8 < length (now y)) ⌝ }
     ensures { λ r. ⌜ (r < 2) × (r ≡ tally (sum m (from p (wbit (now (y .entry)))))) ⌝ }
 {
-    let mut v = [0u64; 8];
+    let mut v = [0u64; BLOCK];
     vectors::cut(y, p, m, &mut v);
     odd_word(folded(&v))
 }
 
 // For each of the 16 blocks, whether an odd number of its bits are set.
 fn odd_blocks(y: &[u64]) -> u64
-    requires { ⌜ length (now y) ≡ 130 ⌝ }
+    requires { ⌜ length (now y) ≡ wordRoom ⌝ }
     ensures { λ r. ⌜ r ≡ number 16 (oddBlock (wbit (now (y .entry)))) ⌝ }
 {
     let mut v: u64 = 0;
@@ -66,7 +69,7 @@ pub struct Together {
 }
 
 pub fn odd_together(y: &[u64]) -> Together
-    requires { ⌜ length (now y) ≡ 130 ⌝ }
+    requires { ⌜ length (now y) ≡ wordRoom ⌝ }
     ensures { λ r. ⌜ (r .first ≡ tally (oddTogether (wbit (now (y .entry))) 0)) × (r .second ≡ tally (oddTogether (wbit (now (y .entry))) 1)) ⌝ }
 {
     let v = odd_blocks(y);
@@ -78,7 +81,7 @@ pub fn odd_together(y: &[u64]) -> Together
 
 // Whether the parity of a word that meets every check is the encoder's.
 pub fn own_parity(y: &[u64]) -> bool
-    requires { ⌜ length (now y) ≡ 130 ⌝ }
+    requires { ⌜ length (now y) ≡ wordRoom ⌝ }
     ensures { λ r. ⌜ ((wordOctets informationOctets unsent : ℕ) → broken (nearEarth wordOctets informationOctets unsent) (wbit (now (y .entry))) ≡ 0
         → (r ≡ true → OwnParity (nearEarth wordOctets informationOctets unsent) (wbit (now (y .entry))))
         × (OwnParity (nearEarth wordOctets informationOctets unsent) (wbit (now (y .entry))) → r ≡ true)) ⌝ }

@@ -1,5 +1,5 @@
-// Tries every pair of wrong bits of codes 1, 2 and 3 on the word of zeros: which are not mended by two flips, and how many are. A run does not
-// depend on the codeword that was sent, so what is found holds for every codeword.
+// Tries every pair of wrong bits of codes 1, 2 and 3 on the word of zeros: which are not mended by two flips, and how many are. A run
+// does not depend on the codeword that was sent, so what is found holds for every codeword.
 ghost use Prim.Native.Nat.{_+_, _*_, _≤_, _<_};
 ghost use mathlib.Core.Path.{_≡_};
 ghost use lib.ListN.{length};

@@ -46,7 +46,8 @@ raised-above a k =
     let z : k - k ≡ 0 = omega arith in
     ap (λ (n : ℤ). ltZ n (subℕ a k)) (sym (more-is k k (le-refl k) ∙ ap pos z)) ∙ raised-lt k a k
 
-module _ (f : ℕ → ℤ) (g : ℕ → ℕ) (K from n bit score : ℕ) (raised : (i : ℕ) → i < from + n → f i ≡ subℕ (g i) K) (t : Top g from (from + n) bit score) where
+module _ (f : ℕ → ℤ) (g : ℕ → ℕ) (K from n bit score : ℕ) (raised : (i : ℕ) → i < from + n → f i ≡ subℕ (g i) K)
+    (t : Top g from (from + n) bit score) where
   same-order : (i j : ℕ) → i < from + n → j < from + n → ltZ (f i) (f j) ≡ ltb (g i) (g j)
   same-order i j hi hj = ap₂ ltZ (raised i hi) (raised j hj) ∙ raised-lt (g i) (g j) K
 
@@ -60,9 +61,11 @@ module _ (f : ℕ → ℤ) (g : ℕ → ℕ) (K from n bit score : ℕ) (raised 
       go : Dec (greatest from n f < bit) → Dec (bit < greatest from n f) → greatest from n f ≡ bit
       go (yes l) q =
           let less : g (greatest from n f) < g bit = omega (arith, t .first (greatest from n f) (b .from) l, t .is) in
-          clashℤ (ltZ-yes (subst T (sym (same-order (greatest from n f) bit (b .under) (t .under))) (lt→ltb (g (greatest from n f)) (g bit) less))) (b .most bit (t .above) (t .under))
+          clashℤ (ltZ-yes (subst T (sym (same-order (greatest from n f) bit (b .under) (t .under)))
+          (lt→ltb (g (greatest from n f)) (g bit) less))) (b .most bit (t .above) (t .under))
       go (no p) (yes l) =
-          let less : g bit < g (greatest from n f) = ltb→lt (g bit) (g (greatest from n f)) (subst T (same-order bit (greatest from n f) (t .under) (b .under)) (b .lowest bit (t .above) l .lt)) in
+          let less : g bit < g (greatest from n f) = ltb→lt (g bit) (g (greatest from n f))
+          (subst T (same-order bit (greatest from n f) (t .under) (b .under)) (b .lowest bit (t .above) l .lt)) in
           absurd (omega (arith, t .is, t .most (greatest from n f) (b .from) (b .under)))
       go (no p) (no q) = omega (arith, lt-of-not-le p, lt-of-not-le q)
 

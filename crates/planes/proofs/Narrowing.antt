@@ -32,7 +32,11 @@ module _ (mask plane : ℕ) where
   narrow-none h e = record {
     some = h;
     digit-le = lit≤ tt;
-    kept = λ i q. (q, plane-zero (digit 64 mask i) (digit 64 plane i) (sym (digit-and 64 mask plane i) ∙ ap (λ (n : ℕ). digit 64 n i) e ∙ digit-zero 64 i) q);
+    kept = λ i q. (
+      q,
+      plane-zero (digit 64 mask i) (digit 64 plane i) (sym (digit-and 64 mask plane i) ∙ ap (λ (n : ℕ). digit 64 n i) e
+          ∙ digit-zero 64 i) q,
+    );
     rest = λ i q. inr q;
   }
 

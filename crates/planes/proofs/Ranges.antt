@@ -96,7 +96,8 @@ running-none g from = record { seen = le-refl from; none = λ e. refl; best = λ
 
 -- Over no numbers, the next best takes over, unless its score is 0: then it is the first number itself.
 from-none : (g : ℕ → ℕ) (from to score bit : ℕ) → Top g from to bit score
-    → Top g from to (greaterOf (record { score = 0; bit = from }) score bit .bit) (greaterOf (record { score = 0; bit = from }) score bit .score)
+    → Top g from to (greaterOf (record { score = 0; bit = from }) score bit .bit)
+    (greaterOf (record { score = 0; bit = from }) score bit .score)
 from-none g from to score bit t = go (decLt 0 score) (decLt from bit)
   where
     start : Best
@@ -111,7 +112,8 @@ from-none g from to score bit t = go (decLt 0 score) (decLt from bit)
         subst (λ (r : Best). Top g from to (r .bit) (r .score)) (sym (earlier start score bit (omega arith)))
         (subst (λ (k : ℕ). Top g from to k 0) b (subst (λ (k : ℕ). Top g from to bit k) s t))
 
-pub running-more : {g : ℕ → ℕ} {from mid to : ℕ} {b : Best} (score bit : ℕ) → Running g from mid b → Top g mid to bit score → Running g from to (greaterOf b score bit)
+pub running-more : {g : ℕ → ℕ} {from mid to : ℕ} {b : Best} (score bit : ℕ) → Running g from mid b → Top g mid to bit score
+    → Running g from to (greaterOf b score bit)
 running-more {g} {from} {mid} {to} {b} score bit r t = record {
   seen = omega (arith, r .seen, t .above, t .under);
   none = λ e. absurd (omega (arith, r .seen, t .above, t .under));

@@ -15,7 +15,11 @@ ghost use Rattle.offer.specs.Offers.{offerOf, Known};
 ghost use Rattle.quick.specs.Quick.{read, asRead, refusedQuick, quickAnswer};
 ghost use Rattle.quick.specs.Groups.{Has, reached, placed, group, Twofold, Begun, Full, Inside, behind};
 ghost use Rattle.quick.specs.Answers.{asQuick};
+ghost use Rattle.layout.specs.Rooms.{tableRoom};
+use layout::BLOCK;
 use layout::Shape;
+use layout::TABLE;
+use layout::WORD;
 use offer::Offer;
 use vectors::Pair;
 
@@ -130,7 +134,7 @@ fn double_block(y: &[u64], p: usize, m: usize, d: &mut [u64])
     requires { ⌜ (1 ≤ m) × (m ≤ 512) × (p / 64 + 8 < length (now y)) × (length (now d) ≡ 16) ⌝ }
     ensures { λ _. ⌜ wbit (now (d .exit)) ≡ twice m (upTo m (from p (wbit (now (y .entry))))) ⌝ }
 {
-    let mut block = [0u64; 8];
+    let mut block = [0u64; BLOCK];
     vectors::cut(y, p, m, &mut block);
     vectors::double(&block, m, d);
 }
@@ -226,7 +230,7 @@ fn whole_lowest(octets: &[u8], u: usize, h: &[u16], sh: Shape) -> u32
     requires { ⌜ Fit (now h) sh × Full (now h) sh × (448 < sh .size) × (sh .blocks ≡ 16) × (u ≤ 18) × (length (now octets) ≤ 1022) ⌝ }
     ensures { λ r. ⌜ ((c : Code) → Lent c (now (h .entry)) sh → u ≡ c .unsent → r ≡ lowestOf c (lifted c (bit (now (octets .entry))))) ⌝ }
 {
-    let mut y = [0u64; 130];
+    let mut y = [0u64; WORD];
     received::take(octets, u, &mut y);
     let mut d = [0u64; 256];
     double_blocks(&y, sh, &mut d);
@@ -239,7 +243,7 @@ fn wide_lowest(o: Offer, word: &[u8]) -> u32
     requires { ⌜ Known o × (length (now word) ≡ o .word) × (o .shape .size ≡ 511) ⌝ }
     ensures { λ r. ⌜ ((n : ℕ) → offered n ≡ true → o ≡ offerOf n → r ≡ lowestOf (codeOf n) (lifted (codeOf n) (bit (now (word .entry))))) ⌝ }
 {
-    let mut t = [0u16; 64];
+    let mut t = [0u16; TABLE];
     tables::lend511(&mut t);
     let sh = Shape {
         size: 511,
@@ -308,7 +312,7 @@ fn rows_lowest(y: &[u64], h: &[u16], sh: Shape) -> u32
 
 // The table of a code whose rows one word holds, lent. `lend` has the one caller that its speed rests on.
 fn lend_narrow(size: usize, t: &mut [u16]) -> Shape
-    requires { ⌜ (length (now t) ≡ 64) × (size ≡ 511 → ⊥) ⌝ }
+    requires { ⌜ (length (now t) ≡ tableRoom) × (size ≡ 511 → ⊥) ⌝ }
     ensures { λ r. ⌜ ((n : ℕ) → offered n ≡ true → size ≡ offerOf n .shape .size → Lends n (now (t .exit)) r) × (r .size ≤ 64) ⌝ }
 {
     if size == 16 {
@@ -344,7 +348,7 @@ fn narrow_lowest(o: Offer, word: &[u8]) -> u32
     ensures { λ r. ⌜ ((n : ℕ) → offered n ≡ true → o ≡ offerOf n → r ≡ lowestOf (codeOf n) (lifted (codeOf n) (bit (now (word .entry))))) ⌝ }
 {
     let of = o.shape;
-    let mut t = [0u16; 64];
+    let mut t = [0u16; TABLE];
     let sh = lend_narrow(of.size, &mut t);
     let mut y = [0u64; 17];
     vectors::load(word, &mut y);

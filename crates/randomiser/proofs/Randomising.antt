@@ -22,10 +22,12 @@ use Rattle.randomiser.proofs.Sequences.{number-same}
 ⊕-twice a b = ⊕-assoc a b b ∙ ap (λ z. a ⊕ z) (⊕-self b) ∙ ⊕-false a
 
 -- an octet randomised is the octet and that of the sequence, added bit by bit
-pub added-octet : (g : Generator) (n octet : ℕ) → octet < 256 → number 8 (λ k. digit 8 octet k ⊕ sequence g (8 * n + k)) ≡ bitXor octet (sequenceOctet g n)
+pub added-octet : (g : Generator) (n octet : ℕ) → octet < 256 → number 8 (λ k. digit 8 octet k ⊕ sequence g (8 * n + k)) ≡ bitXor octet
+    (sequenceOctet g n)
 added-octet g n octet h =
     same-digits 8 (number 8 (λ k. digit 8 octet k ⊕ sequence g (8 * n + k))) (bitXor octet (sequenceOctet g n))
-    (number-lt 8 (λ k. digit 8 octet k ⊕ sequence g (8 * n + k))) (xor-lt 8 octet (sequenceOctet g n) h (number-lt 8 (λ k. sequence g (8 * n + k))))
+    (number-lt 8 (λ k. digit 8 octet k ⊕ sequence g (8 * n + k)))
+    (xor-lt 8 octet (sequenceOctet g n) h (number-lt 8 (λ k. sequence g (8 * n + k))))
     (λ i l. digit-number 8 (λ k. digit 8 octet k ⊕ sequence g (8 * n + k)) i l
     ∙ sym (digit-xor 8 octet (sequenceOctet g n) i ∙ ap (λ z. digit 8 octet i ⊕ z) (digit-number 8 (λ k. sequence g (8 * n + k)) i l)))
 
@@ -47,7 +49,8 @@ module _ (g : Generator) where
   randomised-append n [] b = ap (λ z. randomised g z b) (sym (add-zero n))
   randomised-append n (octet ∷ a) b =
       ap (λ r. number 8 (λ k. digit 8 octet k ⊕ sequence g (8 * n + k)) ∷ r)
-      (randomised-append (suc n) a b ∙ ap (λ z. randomised g (suc n) a ++ randomised g z b) (suc-add n (length a) ∙ sym (add-suc n (length a))))
+      (randomised-append (suc n) a b ∙ ap (λ z. randomised g (suc n) a ++ randomised g z b) (suc-add n (length a)
+      ∙ sym (add-suc n (length a))))
 
   -- randomising twice gives the octets back
   pub randomised-twice : (n : ℕ) (o : List ℕ) → Octets o → randomised g n (randomised g n o) ≡ o
@@ -55,8 +58,10 @@ module _ (g : Generator) where
   randomised-twice n [] h = refl
   randomised-twice n (octet ∷ o) h =
       ap₂ (λ a r. a ∷ r)
-      (number-same 8 (λ k. digit 8 (number 8 (λ k. digit 8 octet k ⊕ sequence g (8 * n + k))) k ⊕ sequence g (8 * n + k)) (digit 8 octet) (λ k l.
-      ap (λ z. z ⊕ sequence g (8 * n + k)) (digit-number 8 (λ k. digit 8 octet k ⊕ sequence g (8 * n + k)) k l) ∙ ⊕-twice (digit 8 octet k) (sequence g (8 * n + k)))
+      (number-same 8 (λ k. digit 8 (number 8 (λ k. digit 8 octet k ⊕ sequence g (8 * n + k))) k ⊕ sequence g (8 * n + k)) (digit 8 octet)
+      (λ k l.
+      ap (λ z. z ⊕ sequence g (8 * n + k)) (digit-number 8 (λ k. digit 8 octet k ⊕ sequence g (8 * n + k)) k l)
+      ∙ ⊕-twice (digit 8 octet k) (sequence g (8 * n + k)))
       ∙ number-digit 8 octet (h 0))
       (randomised-twice (suc n) o (λ i. h (suc i)))
 
@@ -95,13 +100,15 @@ module _ (g : Generator) where
       ∙ ap (λ z. octets z (bit (randomised g n wrong))) long
       ∙ octets-same (length o) (bit (randomised g n wrong)) (flipped (bit (randomised g n o)) b) (λ i l.
       bit-randomised n wrong i (omega (arith, length-octets (length o) (flipped (bit o) b)))
-      ∙ ap (λ z. z ⊕ sequence g (8 * n + i)) (bit-octets (length o) (flipped (bit o) b) i ∙ ap (λ z. z && flipped (bit o) b i) (lt-ltb i (8 * length o) l))
+      ∙ ap (λ z. z ⊕ sequence g (8 * n + i)) (bit-octets (length o) (flipped (bit o) b) i
+      ∙ ap (λ z. z && flipped (bit o) b i) (lt-ltb i (8 * length o) l))
       ∙ ⊕-assoc (bit o i) (eqb i b) (sequence g (8 * n + i)) ∙ ap (λ z. bit o i ⊕ z) (⊕-comm (eqb i b) (sequence g (8 * n + i)))
       ∙ sym (⊕-assoc (bit o i) (sequence g (8 * n + i)) (eqb i b))
       ∙ ap (λ z. z ⊕ eqb i b) (sym (bit-randomised n o i l)))
 
   -- one octet more in place
-  pub randomised-more : (n : ℕ) (o out : List ℕ) (i v : ℕ) → i < length o → getD out i 0 < 256 → out ≡ randomised g n (take i o) ++ drop i o → v ≡ sequenceOctet g (n + i)
+  pub randomised-more : (n : ℕ) (o out : List ℕ) (i v : ℕ) → i < length o → getD out i 0 < 256
+      → out ≡ randomised g n (take i o) ++ drop i o → v ≡ sequenceOctet g (n + i)
       → set out i (bitXor (getD out i 0) v) ≡ randomised g n (take (i + 1) o) ++ drop (i + 1) o
   unfolding randomised
   randomised-more n o out i v h low e ev =

@@ -23,7 +23,8 @@ moved-at powers r i h =
     List·getD-append (drop 1 r) (over powers (λ power. getD r power false) ∷ []) false i (omega (arith, length-drop 1 r))
     ∙ getD-drop 1 r i false ∙ ap (λ k. getD r k false) (omega arith)
 
-moved-last : (powers : List ℕ) (r : List Bool) (k : ℕ) → length r ≡ suc k → getD (moved powers r) k false ≡ over powers (λ power. getD r power false)
+moved-last : (powers : List ℕ) (r : List Bool) (k : ℕ) → length r ≡ suc k
+    → getD (moved powers r) k false ≡ over powers (λ power. getD r power false)
 moved-last powers r k e = getD-at (drop 1 r) (over powers (λ power. getD r power false)) [] false k (omega (arith, length-drop 1 r))
 
 -- every power lies within a register of k bits
@@ -34,7 +35,8 @@ within (power ∷ powers) k = ltb power k && within powers k
 over-same : (powers : List ℕ) (k : ℕ) (f g : ℕ → Bool) → T (within powers k) → ((i : ℕ) → i < k → f i ≡ g i) → over powers f ≡ over powers g
 over-same [] k f g t h = refl
 over-same (p ∷ powers) k f g t h =
-    ap₂ (λ a b. a ⊕ b) (h p (ltb→lt p k (and-l (ltb p k) (within powers k) t))) (over-same powers k f g (and-r (ltb p k) (within powers k) t) h)
+    ap₂ (λ a b. a ⊕ b) (h p (ltb→lt p k (and-l (ltb p k) (within powers k) t)))
+    (over-same powers k f g (and-r (ltb p k) (within powers k) t) h)
 
 pub number-same : (w : ℕ) (x y : Word) → ((k : ℕ) → k < w → x k ≡ y k) → number w x ≡ number w y
 unfolding number
@@ -60,7 +62,8 @@ module _ (g : Generator) (some : 0 < length (g .first)) where
   unfolding register
   sequence-first i h = ap (sequence g) (sym (zero-add i)) ∙ sym (register-at 0 i h)
 
-  pub sequence-next : T (within (g .powers) (length (g .first))) → (n : ℕ) → sequence g (n + length (g .first)) ≡ over (g .powers) (λ power. sequence g (n + power))
+  pub sequence-next : T (within (g .powers) (length (g .first))) → (n : ℕ)
+      → sequence g (n + length (g .first)) ≡ over (g .powers) (λ power. sequence g (n + power))
   unfolding register
   sequence-next t n =
       let k = length (g .first) - 1 in
@@ -68,7 +71,8 @@ module _ (g : Generator) (some : 0 < length (g .first)) where
       ap (sequence g) e
       ∙ sym (register-at (suc n) k (omega arith))
       ∙ moved-last (g .powers) (register g n) k (omega (arith, register-length n))
-      ∙ over-same (g .powers) (length (g .first)) (λ power. getD (register g n) power false) (λ power. sequence g (n + power)) t (register-at n)
+      ∙ over-same (g .powers) (length (g .first)) (λ power. getD (register g n) power false) (λ power. sequence g (n + power)) t
+      (register-at n)
 
   -- a register that is the first one again has the sequence come again
   pub comes-again : (p : ℕ) → register g p ≡ g .first → (n : ℕ) → register g (n + p) ≡ register g n
@@ -79,7 +83,8 @@ module _ (g : Generator) (some : 0 < length (g .first)) where
   pub again-times : (p : ℕ) → register g p ≡ g .first → (times n : ℕ) → register g (n + times * p) ≡ register g n
   again-times p e zero n = let z : n + zero * p ≡ n = omega arith in ap (register g) z
   again-times p e (suc times) n =
-      ap (register g) (ap (λ z. n + z) (suc-mul times p) ∙ sym (add-assoc n (times * p) p)) ∙ comes-again p e (n + times * p) ∙ again-times p e times n
+      ap (register g) (ap (λ z. n + z) (suc-mul times p) ∙ sym (add-assoc n (times * p) p)) ∙ comes-again p e (n + times * p)
+      ∙ again-times p e times n
 
   -- and only such a register does
   pub only-again : (p : ℕ) → ((n : ℕ) → sequence g (n + p) ≡ sequence g n) → register g p ≡ g .first
@@ -98,7 +103,8 @@ unfolding telecommand
 telecommand-some = omega arith
 
 -- the sequence starts FF 39 9E 5A 68
-pub telecommand-starts : (sequenceOctet telecommand 0 ∷ sequenceOctet telecommand 1 ∷ sequenceOctet telecommand 2 ∷ sequenceOctet telecommand 3 ∷ sequenceOctet telecommand 4 ∷ [])
+pub telecommand-starts : (sequenceOctet telecommand 0 ∷ sequenceOctet telecommand 1 ∷ sequenceOctet telecommand 2
+    ∷ sequenceOctet telecommand 3 ∷ sequenceOctet telecommand 4 ∷ [])
     ≡ 0xFF ∷ 0x39 ∷ 0x9E ∷ 0x5A ∷ 0x68 ∷ []
 unfolding register telecommand number
 telecommand-starts = refl
@@ -124,9 +130,11 @@ none-full powers (suc n) r = not (full r) && none-full powers n (moved powers r)
 none-full-at : (g : Generator) (n m : ℕ) → T (none-full (g .powers) n (register g m)) → (i : ℕ) → i < n → full (register g (m + i)) ≡ false
 unfolding register
 none-full-at g zero m t i h = absurd (omega arith)
-none-full-at g (suc n) m t zero h = ap (λ z. full (register g z)) (add-zero m) ∙ not-true (full (register g m)) (and-l (not (full (register g m))) (none-full (g .powers) n (register g (suc m))) t)
+none-full-at g (suc n) m t zero h = ap (λ z. full (register g z)) (add-zero m)
+    ∙ not-true (full (register g m)) (and-l (not (full (register g m))) (none-full (g .powers) n (register g (suc m))) t)
 none-full-at g (suc n) m t (suc i) h =
-    ap (λ z. full (register g z)) (add-suc m i ∙ sym (suc-add m i)) ∙ none-full-at g n (suc m) (and-r (not (full (register g m))) (none-full (g .powers) n (register g (suc m))) t) i (omega arith)
+    ap (λ z. full (register g z)) (add-suc m i ∙ sym (suc-add m i))
+    ∙ none-full-at g n (suc m) (and-r (not (full (register g m))) (none-full (g .powers) n (register g (suc m))) t) i (omega arith)
 
 telecommand-others : T (none-full (telecommand .powers) 254 (register telecommand 1))
 unfolding register telecommand
@@ -155,7 +163,8 @@ abbrev pub walked : List ℕ → ℕ → List Bool → List ℕ
 walked powers zero r = []
 walked powers (suc n) r = number 8 (λ k. getD r k false) ∷ walked powers n (eight powers r)
 
-walked-at : (g : Generator) (n m i : ℕ) → i < n → getD (walked (g .powers) n (register g m)) i 0 ≡ number 8 (λ k. getD (register g (m + 8 * i)) k false)
+walked-at : (g : Generator) (n m i : ℕ) → i < n
+    → getD (walked (g .powers) n (register g m)) i 0 ≡ number 8 (λ k. getD (register g (m + 8 * i)) k false)
 unfolding register
 walked-at g zero m i h = absurd (omega arith)
 walked-at g (suc n) m zero h = ap (λ z. number 8 (λ k. getD (register g z) k false)) (sym (add-zero m))
@@ -187,7 +196,8 @@ telecommand-octets n h = walked-octets telecommand (omega arith) 319 n h
 pub telecommand-mod : (n : ℕ) → sequenceOctet telecommand (n % 255) ≡ sequenceOctet telecommand n
 telecommand-mod n = number-same 8 (λ k. sequence telecommand (8 * (n % 255) + k)) (λ k. sequence telecommand (8 * n + k)) (λ k l.
     let e : 8 * (n % 255) + k + 8 * (n / 255) * 255 ≡ 8 * n + k = omega (arith, div-add-mod' n 255) in
-    sym (ap (λ z. getD (register telecommand z) 0 false) (sym e) ∙ ap (λ r. getD r 0 false) (again-times telecommand telecommand-some 255 back (8 * (n / 255)) (8 * (n % 255) + k))))
+    sym (ap (λ z. getD (register telecommand z) 0 false) (sym e)
+    ∙ ap (λ r. getD r 0 false) (again-times telecommand telecommand-some 255 back (8 * (n / 255)) (8 * (n % 255) + k))))
 
 -- the octet i places on from a place within the 255
 pub telecommand-place : (n i : ℕ) → sequenceOctet telecommand (n % 255 + i) ≡ sequenceOctet telecommand (n + i)

@@ -11,7 +11,8 @@ pub record Generator : Type 0 where
   pub powers : List ℕ
   pub first : List Bool
 
--- The register holds the next bits of the sequence. It moves on by one: the bit in front leaves, and the sum modulo 2 of those at the powers comes in behind.
+-- The register holds the next bits of the sequence. It moves on by one: the bit in front leaves, and the sum modulo 2 of those at the
+-- powers comes in behind.
 abbrev pub moved : List ℕ → List Bool → List Bool
 moved powers register = drop 1 register ++ (over powers (λ power. getD register power false) ∷ [])
 

@@ -7,10 +7,11 @@ ghost use Rattle.bits.specs.Bits.{bit};
 ghost use Rattle.rules.specs.Codes.{Code, bits as bitsOf};
 ghost use Rattle.rules.specs.Encoding.{lifted, written};
 ghost use Rattle.vectors.specs.Vectors.{wbit};
+ghost use Rattle.layout.specs.Rooms.{wordRoom};
 
 // The bits that the checks are over, from octets that are handed in, into a vector of zeros; the unsent ones stand in front as zeros.
 pub fn take(octets: &[u8], unsent: usize, y: &mut [u64])
-    requires { ⌜ (length (now octets) ≤ 1022) × (unsent ≤ 18) × (length (now y) ≡ 130) × (wbit (now y) ≡ (λ n. false)) ⌝ }
+    requires { ⌜ (length (now octets) ≤ 1022) × (unsent ≤ 18) × (length (now y) ≡ wordRoom) × (wbit (now y) ≡ (λ n. false)) ⌝ }
     ensures { λ _. ⌜ ((c : Code) → unsent ≡ c .unsent → wbit (now (y .exit)) ≡ lifted c (bit (now (octets .entry)))) ⌝ }
 {
     vectors::load(octets, y);
@@ -22,7 +23,7 @@ pub fn take(octets: &[u8], unsent: usize, y: &mut [u64])
 // The octets of a word as it is sent: the unsent bits are left out, and zero bits follow the last of its bits. Where none follow,
 // all are sent.
 pub fn write(y: &mut [u64], unsent: usize, bits: usize, out: &mut [u8])
-    requires { ⌜ (length (now y) ≡ 130) × (unsent ≤ 18) × (length (now out) ≤ 1022) × (8 * length (now out) + unsent ≤ bits → unsent ≡ 0) ⌝ }
+    requires { ⌜ (length (now y) ≡ wordRoom) × (unsent ≤ 18) × (length (now out) ≤ 1022) × (8 * length (now out) + unsent ≤ bits → unsent ≡ 0) ⌝ }
     ensures { λ _. ⌜ ((c : Code) → unsent ≡ c .unsent → bits ≡ bitsOf c → length (now (out .entry)) ≡ c .wordOctets → now (out .exit) ≡ written c (wbit (now (y .entry)))) ⌝ }
 {
     if bits < 8 * out.len() + unsent {

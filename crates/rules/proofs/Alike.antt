@@ -18,7 +18,8 @@ plus x e n = x n ⊕ e n
 pub check-plus : (c : Code) (x e : Word) (k : ℕ) → check c (plus x e) k ≡ check c x k ⊕ check c e k
 unfolding check
 check-plus c x e k =
-    ap (sum (bits c)) (fun-ext (λ n. and-⊕ (covers c k n) (x n) (e n))) ∙ sum-linear (bits c) .plus (λ n. covers c k n && x n) (λ n. covers c k n && e n)
+    ap (sum (bits c)) (fun-ext (λ n. and-⊕ (covers c k n) (x n) (e n)))
+    ∙ sum-linear (bits c) .plus (λ n. covers c k n && x n) (λ n. covers c k n && e n)
 
 module _ (c : Code) (x : Word) (met : broken c x ≡ 0) where
   pub check-alike : (e : Word) (k : ℕ) → k < checks c → check c (plus x e) k ≡ check c e k

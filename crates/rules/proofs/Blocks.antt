@@ -3,7 +3,9 @@ use mathlib.Core.Path.{_≡_, refl, sym, ap, ap₂, _∙_, fun-ext, subst}
 use mathlib.Core.Bool.{Bool, true, false, not, _&&_, _||_, and-true, and-comm}
 use mathlib.Core.List.{List, [], _∷_}
 use Prim.Native.Nat.{ℕ, zero, suc, _+_, _-_, _*_, _/_, _%_, _<_, zero-le, suc-le-suc}
-use native.Mathlib.Nat.{zero-lt-suc, mod-lt, add-zero, zero-add, add-comm, add-assoc, add-suc, suc-mul, zero-mul, mod-eq-of-lt, mod-add-mod, add-mod-right, le-of-lt, sub-add-cancel, add-sub-of-le, not-suc-le-zero, le-of-suc-le-suc, div-lt-iff-lt-mul, lt-of-le-of-lt}
+use native.Mathlib.Nat.{zero-lt-suc, mod-lt, add-zero, zero-add, add-comm, add-assoc, add-suc, suc-mul, zero-mul, mod-eq-of-lt, mod-add-mod}
+use native.Mathlib.Nat.{add-mod-right, le-of-lt, sub-add-cancel, add-sub-of-le, not-suc-le-zero, le-of-suc-le-suc, div-lt-iff-lt-mul}
+use native.Mathlib.Nat.{lt-of-le-of-lt}
 use native.Mathlib.Numerals.{one-add}
 use lib.Arith.{digits-div, digits-mod}
 use lib.Dec.{T, eqb, eqb→eq, ltb, ltb→lt}
@@ -64,8 +66,10 @@ row-shaped M B row t = record {
 
 pub shaped-at : (M B : ℕ) (H : List (List (List ℕ))) → T (shaped M B H) → (r : ℕ) → r < length H → Row M B (getD H r [])
 shaped-at M B [] t r h = absurd (not-suc-le-zero h)
-shaped-at M B (row ∷ H) t zero h = row-shaped M B row (and-l (eqb (length row) B && below B (λ b. distinct M (getD row b []))) (shaped M B H) t)
-shaped-at M B (row ∷ H) t (suc r) h = shaped-at M B H (and-r (eqb (length row) B && below B (λ b. distinct M (getD row b []))) (shaped M B H) t) r (le-of-suc-le-suc h)
+shaped-at M B (row ∷ H) t zero h =
+    row-shaped M B row (and-l (eqb (length row) B && below B (λ b. distinct M (getD row b []))) (shaped M B H) t)
+shaped-at M B (row ∷ H) t (suc r) h =
+    shaped-at M B H (and-r (eqb (length row) B && below B (λ b. distinct M (getD row b []))) (shaped M B H) t) r (le-of-suc-le-suc h)
 
 -- ---- sums and counts along a circulant
 
@@ -85,7 +89,8 @@ module _ (m : ℕ) where
       eqb-iff ((i + s) % suc m) k i ((k + (suc m - s)) % suc m)
       (λ e. sym (sym (ap (λ z. (z + (suc m - s)) % suc m) e) ∙ mod-add-mod (i + s) (suc m) (suc m - s) ∙ around i ∙ mod-eq-of-lt hi) ∙ refl)
       (λ e. ap (λ z. (z + s) % suc m) e ∙ mod-add-mod (k + (suc m - s)) (suc m) s
-      ∙ ap (λ z. z % suc m) (add-assoc k (suc m - s) s ∙ ap (λ z. k + z) (sub-add-cancel (le-of-lt hs))) ∙ add-mod-right k (suc m) ∙ mod-eq-of-lt hk)
+      ∙ ap (λ z. z % suc m) (add-assoc k (suc m - s) s ∙ ap (λ z. k + z) (sub-add-cancel (le-of-lt hs))) ∙ add-mod-right k (suc m)
+      ∙ mod-eq-of-lt hk)
     where
       around : (i : ℕ) → (i + s + (suc m - s)) % suc m ≡ i % suc m
       around i = ap (λ z. z % suc m) (add-assoc i s (suc m - s) ∙ ap (λ z. i + z) (add-sub-of-le (le-of-lt hs))) ∙ add-mod-right i (suc m)
@@ -98,7 +103,8 @@ module _ (m : ℕ) where
       moved : eqb ((i + s₀) % suc m) ((i + s) % suc m) ≡ eqb ((0 + s₀) % suc m) s
       moved =
           eqb-iff ((i + s₀) % suc m) ((i + s) % suc m) ((0 + s₀) % suc m) s
-          (λ q. ap (λ z. z % suc m) (zero-add s₀) ∙ cancel m s₀ s i (ap (λ z. z % suc m) (add-comm s₀ i) ∙ q ∙ ap (λ z. z % suc m) (add-comm i s)) ∙ mod-eq-of-lt h)
+          (λ q. ap (λ z. z % suc m) (zero-add s₀)
+          ∙ cancel m s₀ s i (ap (λ z. z % suc m) (add-comm s₀ i) ∙ q ∙ ap (λ z. z % suc m) (add-comm i s)) ∙ mod-eq-of-lt h)
           (λ q. ap (λ z. z % suc m) (add-comm i s₀) ∙ sym (mod-add-mod s₀ (suc m) i)
           ∙ ap (λ z. (z + i) % suc m) (sym (ap (λ z. z % suc m) (zero-add s₀)) ∙ q) ∙ ap (λ z. z % suc m) (add-comm s i))
 
@@ -111,20 +117,24 @@ module _ (m : ℕ) where
   low s S t = ltb→lt s (suc m) (and-l (ltb s (suc m)) (not (oneAt (suc m) S 0 s) && distinct (suc m) S) t)
 
   alone : (s : ℕ) (S : List ℕ) → T (distinct (suc m) (s ∷ S)) → oneAt (suc m) S 0 s ≡ false
-  alone s S t = not-true (oneAt (suc m) S 0 s) (and-l (not (oneAt (suc m) S 0 s)) (distinct (suc m) S) (and-r (ltb s (suc m)) (not (oneAt (suc m) S 0 s) && distinct (suc m) S) t))
+  alone s S t = not-true (oneAt (suc m) S 0 s)
+      (and-l (not (oneAt (suc m) S 0 s)) (distinct (suc m) S) (and-r (ltb s (suc m)) (not (oneAt (suc m) S 0 s) && distinct (suc m) S) t))
 
   rest : (s : ℕ) (S : List ℕ) → T (distinct (suc m) (s ∷ S)) → T (distinct (suc m) S)
-  rest s S t = and-r (not (oneAt (suc m) S 0 s)) (distinct (suc m) S) (and-r (ltb s (suc m)) (not (oneAt (suc m) S 0 s) && distinct (suc m) S) t)
+  rest s S t = and-r (not (oneAt (suc m) S 0 s)) (distinct (suc m) S)
+      (and-r (ltb s (suc m)) (not (oneAt (suc m) S 0 s) && distinct (suc m) S) t)
 
   -- the bits at the ones of row i
-  pub one-sum : (S : List ℕ) (i : ℕ) (y : Word) → T (distinct (suc m) S) → sum (suc m) (λ t. oneAt (suc m) S i t && y t) ≡ over S (λ s. y ((i + s) % suc m))
+  pub one-sum : (S : List ℕ) (i : ℕ) (y : Word) → T (distinct (suc m) S)
+      → sum (suc m) (λ t. oneAt (suc m) S i t && y t) ≡ over S (λ s. y ((i + s) % suc m))
   one-sum [] i y t = sum-linear (suc m) .none
   one-sum (s ∷ S) i y t =
       ap (sum (suc m)) (fun-ext (λ k. or-apart (eqb ((i + s) % suc m) k) (oneAt (suc m) S i k) (y k) (λ e.
       ap (oneAt (suc m) S i) (sym (eqb→eq ((i + s) % suc m) k (subst T (sym e) tt))) ∙ one-elsewhere S i s (low s S t) (alone s S t))))
       ∙ sum-linear (suc m) .plus (λ k. eqb ((i + s) % suc m) k && y k) (λ k. oneAt (suc m) S i k && y k)
       ∙ ap₂ (λ a b. a ⊕ b)
-      (ap (sum (suc m)) (fun-ext (λ k. and-comm (eqb ((i + s) % suc m) k) (y k) ∙ ap (λ z. y k && z) (eqb-iff ((i + s) % suc m) k k ((i + s) % suc m) sym sym)))
+      (ap (sum (suc m)) (fun-ext (λ k. and-comm (eqb ((i + s) % suc m) k) (y k)
+      ∙ ap (λ z. y k && z) (eqb-iff ((i + s) % suc m) k k ((i + s) % suc m) sym sym)))
       ∙ pick (suc m) ((i + s) % suc m) y (mod-lt (i + s) (zero-lt-suc m)))
       (one-sum S i y (rest s S t))
 
@@ -156,7 +166,8 @@ module _ (m : ℕ) where
 pub sum-add : (a b : ℕ) (f : ℕ → Bool) → sum (a + b) f ≡ sum a f ⊕ sum b (λ i. f (a + i))
 unfolding sum
 sum-add a zero f = ap (λ z. sum z f) (add-zero a) ∙ sym (⊕-false (sum a f))
-sum-add a (suc b) f = ap (λ z. sum z f) (add-suc a b) ∙ ap (λ z. z ⊕ f (a + b)) (sum-add a b f) ∙ ⊕-assoc (sum a f) (sum b (λ i. f (a + i))) (f (a + b))
+sum-add a (suc b) f = ap (λ z. sum z f) (add-suc a b) ∙ ap (λ z. z ⊕ f (a + b)) (sum-add a b f)
+    ∙ ⊕-assoc (sum a f) (sum b (λ i. f (a + i))) (f (a + b))
 
 pub sum-blocks : (J M : ℕ) (f : ℕ → Bool) → sum (J * M) f ≡ sum J (λ j. sum M (λ t. f (j * M + t)))
 unfolding sum
@@ -177,7 +188,8 @@ withTables wordOctets informationOctets unsent m H gs printed = record {
   printed = printed;
 }
 
-module _ (wordOctets informationOctets unsent m : ℕ) (H : List (List (List ℕ))) (gs : List (List ℕ)) (printed B : ℕ) (shape : T (shaped (suc m) B H)) where
+module _ (wordOctets informationOctets unsent m : ℕ) (H : List (List (List ℕ))) (gs : List (List ℕ)) (printed B : ℕ)
+    (shape : T (shaped (suc m) B H)) where
   abbrev c : Code
   c = withTables wordOctets informationOctets unsent m H gs printed
 
@@ -198,7 +210,8 @@ module _ (wordOctets informationOctets unsent m : ℕ) (H : List (List (List ℕ
       ap₂ (λ q r. oneAt (suc m) (getD (getD H (k / suc m) []) q []) (k % suc m) r && x (b * suc m + t)) (digits-div b l′) (digits-mod b l′))
       ∙ one-sum m (getD (getD H (k / suc m) []) b []) (k % suc m) (λ t. x (b * suc m + t)) (here .apart b l)
       ∙ ap (λ z. over (getD (getD H (k / suc m) []) b []) (λ s. x (z * suc m + (k % suc m + s) % suc m))) (sym (zero-add b)))
-      ∙ ap (λ z. sum z (λ b. over (getD (getD H (k / suc m) []) b []) (λ s. blk (suc m) x (0 + b) ((k % suc m + s) % suc m)))) (sym (here .long))
+      ∙ ap (λ z. sum z (λ b. over (getD (getD H (k / suc m) []) b []) (λ s. blk (suc m) x (0 + b) ((k % suc m + s) % suc m))))
+      (sym (here .long))
       ∙ sym (blocks-sum (getD H (k / suc m) []) 0 (λ b s. blk (suc m) x b ((k % suc m + s) % suc m)))
 
   -- what holds of the checks of a bit, by the shifts of its block
@@ -215,18 +228,23 @@ module _ (wordOctets informationOctets unsent m : ℕ) (H : List (List (List ℕ
       go (row ∷ H) t =
           ap₂ (λ a b. a + b)
           (one-count m (getD row (n / suc m) []) (n % suc m) (G row) (mod-lt n (zero-lt-suc m))
-          (row-shaped (suc m) B row (and-l (eqb (length row) B && below B (λ b. distinct (suc m) (getD row b []))) (shaped (suc m) B H) t) .apart (n / suc m) (div-lt-iff-lt-mul (zero-lt-suc m) .1 h)))
+          (row-shaped (suc m) B row (and-l (eqb (length row) B && below B (λ b. distinct (suc m) (getD row b [])))
+          (shaped (suc m) B H) t) .apart (n / suc m) (div-lt-iff-lt-mul (zero-lt-suc m) .1 h)))
           (go H (and-r (eqb (length row) B && below B (λ b. distinct (suc m) (getD row b []))) (shaped (suc m) B H) t))
 
-  pub broken-in : (x : Word) (n : ℕ) → n < B * suc m → count (checks c) (λ k. covers c k n && check c x k) ≡ brokenIn (suc m) H (blk (suc m) x) (n / suc m) (n % suc m)
+  pub broken-in : (x : Word) (n : ℕ) → n < B * suc m → count (checks c) (λ k. covers c k n && check c x k) ≡ brokenIn (suc m) H
+      (blk (suc m) x) (n / suc m) (n % suc m)
   broken-in x n h =
-      count-same (checks c) _ (λ k. covers c k n && checkIn (suc m) (getD H (k / suc m) []) (blk (suc m) x) (k % suc m)) (λ k l. ap (λ z. covers c k n && z) (check-in x k l))
+      count-same (checks c) _ (λ k. covers c k n && checkIn (suc m) (getD H (k / suc m) []) (blk (suc m) x) (k % suc m))
+      (λ k l. ap (λ z. covers c k n && z) (check-in x k l))
       ∙ cover-rows (λ row. checkIn (suc m) row (blk (suc m) x)) n h
 
   pub degree-in : (n : ℕ) → n < B * suc m → count (checks c) (λ k. covers c k n) ≡ degree H (n / suc m)
-  degree-in n h = count-same (checks c) _ (λ k. covers c k n && true) (λ k l. sym (and-true (covers c k n))) ∙ cover-rows (λ row i. true) n h ∙ go H
+  degree-in n h = count-same (checks c) _ (λ k. covers c k n && true) (λ k l. sym (and-true (covers c k n)))
+      ∙ cover-rows (λ row i. true) n h ∙ go H
     where
-      go : (H : List (List (List ℕ))) → each H (λ row. countOf (getD row (n / suc m) []) (λ s. true)) ≡ each H (λ row. length (getD row (n / suc m) []))
+      go : (H : List (List (List ℕ))) → each H (λ row. countOf (getD row (n / suc m) []) (λ s. true)) ≡ each H
+          (λ row. length (getD row (n / suc m) []))
       go [] = refl
       go (row ∷ H) = ap₂ (λ a b. a + b) (count-all (getD row (n / suc m) [])) (go H)
 
@@ -242,4 +260,5 @@ module _ (wordOctets informationOctets unsent m : ℕ) (H : List (List (List ℕ
       go : (row : List (List ℕ)) → ((b : ℕ) → b < length row → T (distinct (suc m) (getD row b [])))
           → each row (λ S. count (suc m) (oneAt (suc m) S (k % suc m))) ≡ each row length
       go [] t = refl
-      go (S ∷ row) t = ap₂ (λ a b. a + b) (one-wide m S (k % suc m) (t 0 (zero-lt-suc (length row)))) (go row (λ b l. t (suc b) (suc-le-suc l)))
+      go (S ∷ row) t = ap₂ (λ a b. a + b) (one-wide m S (k % suc m) (t 0 (zero-lt-suc (length row))))
+          (go row (λ b l. t (suc b) (suc-le-suc l)))

@@ -73,7 +73,11 @@ module _ (c : Code) (x : Word) where
 
   above-zero : (n : ℕ) → ltZ (pos 0) (excess c x n) ≡ true → metOf c x n < brokenOf c x n
   above-zero n e =
-      omega (arith, ltb-true (0 + metOf c x n) (brokenOf c x n + 0) (sym (ap (ltZ (pos 0)) (excess-is c x n) ∙ sub-order 0 0 (brokenOf c x n) (metOf c x n)) ∙ e))
+      omega (
+        arith,
+        ltb-true (0 + metOf c x n) (brokenOf c x n + 0)
+            (sym (ap (ltZ (pos 0)) (excess-is c x n) ∙ sub-order 0 0 (brokenOf c x n) (metOf c x n)) ∙ e),
+      )
 
   pub next-flip : (n : ℕ) (ex : ℤ) → byExcess c x ≡ flip n ex → Flips n ex
   next-flip n ex q = go (eqb (broken c x) 0) (ltZ (pos 0) (excess c x chosen)) refl refl
@@ -84,7 +88,12 @@ module _ (c : Code) (x : Word) where
           let w = next-by false true e f in
           let is : n ≡ chosen = cc in
           let val : ex ≡ excess c x chosen = cc in
-          record { bit = is; value = val ∙ ap (excess c x) (sym is); above = subst (λ z. metOf c x z < brokenOf c x z) (sym is) (above-zero chosen f) }
+          record {
+            bit = is;
+            value = val ∙ ap (excess c x) (sym is);
+            above = subst (λ z. metOf c x z < brokenOf c x z) (sym is)
+                (above-zero chosen f);
+          }
       go false false e f = let w = next-by false false e f in let z : _≡_ {A = ℕ} 0 1 = cc in absurd (omega arith)
 
 -- what is chosen is sent, and no bit that is sent is above it
@@ -99,7 +108,13 @@ module _ (c : Code) (some : c .unsent < bits c) where
     quiet-met = next-quiet c;
     flips = λ x n ex e.
         let f = next-flip c x n ex e in
-        record { sent = omega (arith, f .bit, chosen-greatest x .from); under = omega (arith, f .bit, chosen-greatest x .under); value = f .value; above = f .above };
+        record {
+          sent = omega (arith, f .bit, chosen-greatest x .from);
+          under = omega (arith, f .bit, chosen-greatest x .under);
+          value =
+              f .value;
+          above = f .above;
+        };
   }
 
   -- a bit that no earlier sent bit equals and no later one is above
@@ -111,15 +126,18 @@ module _ (c : Code) (some : c .unsent < bits c) where
       g = chosen-greatest x
 
       go : Dec (chosen c x < n) → Dec (n < chosen c x) → chosen c x ≡ n
-      go (yes l) q = absurd (true≢false (sym (before (chosen c x) l) ∙ not-less (excess c x n) (excess c x (chosen c x)) (g .most n sent (omega arith))))
+      go (yes l) q = absurd (true≢false (sym (before (chosen c x) l)
+          ∙ not-less (excess c x n) (excess c x (chosen c x)) (g .most n sent (omega arith))))
       go (no p) (yes l) = absurd (subst T (after (chosen c x) (omega (arith, g .under))) (g .lowest n sent l .lt))
       go (no p) (no q) = omega (arith, lt-of-not-le p, lt-of-not-le q)
 
 pub by-greatest : (c : Code) → c .unsent < bits c → TakesGreatest c (byExcess c)
 by-greatest c some = record {
   most = λ x n ex e m sent under.
-      ap (λ k. ltZ (excess c x k) (excess c x m)) (next-flip c x n ex e .bit) ∙ not-less (excess c x m) (excess c x (chosen c x)) (chosen-greatest c some x .most m sent (omega arith));
-  sticks = λ x n ex e m sent under. not-over (excess c x m) (excess c x (chosen c x)) (chosen-greatest c some x .most m sent (omega arith)) (next-stuck c x n ex e);
+      ap (λ k. ltZ (excess c x k) (excess c x m)) (next-flip c x n ex e .bit)
+      ∙ not-less (excess c x m) (excess c x (chosen c x)) (chosen-greatest c some x .most m sent (omega arith));
+  sticks = λ x n ex e m sent under. not-over (excess c x m) (excess c x (chosen c x)) (chosen-greatest c some x .most m sent (omega arith))
+      (next-stuck c x n ex e);
 }
 
 -- ---- what comes next depends on the checks alone
@@ -132,12 +150,14 @@ module _ (c : Code) (x y : Word) (e : (k : ℕ) → k < checks c → check c x k
   excess-same : excess c x ≡ excess c y
   unfolding excess brokenOf metOf
   excess-same = fun-ext (λ n.
-      ap₂ subℕ (count-same (checks c) _ _ (λ k l. ap (λ b. covers c k n && b) (e k l))) (count-same (checks c) _ _ (λ k l. ap (λ b. covers c k n && not b) (e k l))))
+      ap₂ subℕ (count-same (checks c) _ _ (λ k l. ap (λ b. covers c k n && b) (e k l)))
+      (count-same (checks c) _ _ (λ k l. ap (λ b. covers c k n && not b) (e k l))))
 
   pub next-same : byExcess c x ≡ byExcess c y
   unfolding byExcess greatestSent
   next-same =
-      ap₂ (λ b f. if eqb b 0 then quiet else flipAbove (greatest (c .unsent) (bits c - c .unsent) f) (f (greatest (c .unsent) (bits c - c .unsent) f))) broken-same excess-same
+      ap₂ (λ b f. if eqb b 0 then quiet else flipAbove (greatest (c .unsent) (bits c - c .unsent) f)
+      (f (greatest (c .unsent) (bits c - c .unsent) f))) broken-same excess-same
 
 -- ---- where the one wrong bit is not sent the run is stuck
 
@@ -149,9 +169,15 @@ module _ (c : Code) (some : c .unsent < bits c) (girth : Girth c) (x : Word) (me
   not-above =
       let n = chosen c wrong in
       let under : n < bits c = omega (arith, chosen-greatest c some wrong .under) in
-      let few : brokenOf c wrong n ≤ 1 = le-trans (le-of-eq (broken-shared c girth x met n₀ (omega arith) n)) (girth .few n n₀ under (omega arith) (λ q. omega (arith, chosen-greatest c some wrong .from))) in
+      let few : brokenOf c wrong n ≤ 1 = le-trans (le-of-eq (broken-shared c girth x met n₀ (omega arith) n))
+      (girth .few n n₀ under (omega arith) (λ q. omega (arith, chosen-greatest c some wrong .from))) in
       ap (ltZ (pos 0)) (excess-is c wrong n) ∙ sub-order 0 0 (brokenOf c wrong n) (metOf c wrong n)
       ∙ le-ltb (0 + metOf c wrong n) (brokenOf c wrong n + 0) (omega (arith, few, broken-met c wrong n, girth .many n under))
 
   pub unsent-stuck : byExcess c wrong ≡ stuck (chosen c wrong) (excess c wrong (chosen c wrong))
-  unsent-stuck = stuck-next c wrong (λ e. omega (arith, sym (first-count c girth x met n₀ (omega arith)) ∙ e, girth .many n₀ (omega arith))) not-above
+  unsent-stuck = stuck-next c wrong (λ e. omega (
+    arith,
+    sym (first-count c girth x met n₀ (omega arith))
+        ∙ e,
+    girth .many n₀ (omega arith),
+  )) not-above

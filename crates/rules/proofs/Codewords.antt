@@ -154,8 +154,10 @@ module _ (c : Code) (pb : Published c) where
   pub own-codeword : (x : Word) → OwnParity c x → ((n : ℕ) → n < c .unsent → x n ≡ false) → codeword c (sent c x) ≡ true
   unfolding codeword
   own-codeword x own none =
-      agree-all (8 * c .wordOctets) (sent c x) (sent c (encoded c (lifted c (sent c x)))) (λ i l. ap (λ w. w i) (sent-same c x (encoded c (lifted c (sent c x))) (λ n h.
-      sym (own-encoded c x own n h) ∙ ap (λ w. w n) (encoded-same c x (lifted c (sent c x)) (λ k k-lt. sym (lifted-sent c x none k (lt-of-lt-of-le k-lt (pb .after))))))))
+      agree-all (8 * c .wordOctets) (sent c x) (sent c (encoded c (lifted c (sent c x))))
+      (λ i l. ap (λ w. w i) (sent-same c x (encoded c (lifted c (sent c x))) (λ n h.
+      sym (own-encoded c x own n h) ∙ ap (λ w. w n)
+      (encoded-same c x (lifted c (sent c x)) (λ k k-lt. sym (lifted-sent c x none k (lt-of-lt-of-le k-lt (pb .after))))))))
 
   module _ (y : Word) (is : codeword c y ≡ true) where
     pub codeword-bit : (n : ℕ) → n < 8 * c .wordOctets → y n ≡ sent c (encoded c (lifted c y)) n
@@ -190,7 +192,8 @@ module _ (c : Code) (pb : Published c) where
 
   module _ (word : List ℕ) (long : length word ≡ c .wordOctets) (is-octets : Octets word) where
     pub written-back : (x : Word) → ((n : ℕ) → n < 8 * c .wordOctets → sent c x n ≡ bit word n) → written c x ≡ word
-    written-back x h = octets-same (c .wordOctets) (sent c x) (bit word) h ∙ ap (λ z. octets z (bit word)) (sym long) ∙ octets-bit word is-octets
+    written-back x h = octets-same (c .wordOctets) (sent c x) (bit word) h ∙ ap (λ z. octets z (bit word)) (sym long)
+        ∙ octets-bit word is-octets
 
     -- a codeword is what the encoder gives for its information octets
     pub codeword-encoded : codeword c (bit word) ≡ true
@@ -209,8 +212,10 @@ module _ (c : Code) (pb : Published c) where
             go (yes l) = lifted-unsent c (bit (take (c .informationOctets) word)) n l ∙ sym (lifted-unsent c (bit word) n l)
             go (no g) =
                 let e : n - c .unsent + c .unsent ≡ n = omega (arith, lt-of-not-le g) in
-                ap (lifted c (bit (take (c .informationOctets) word))) (sym e) ∙ lifted-sent-bit c (bit (take (c .informationOctets) word)) (n - c .unsent)
-                ∙ taken (n - c .unsent) (omega (arith, lt-of-not-le g, pb .room)) ∙ sym (lifted-sent-bit c (bit word) (n - c .unsent)) ∙ ap (lifted c (bit word)) e
+                ap (lifted c (bit (take (c .informationOctets) word))) (sym e)
+                ∙ lifted-sent-bit c (bit (take (c .informationOctets) word)) (n - c .unsent)
+                ∙ taken (n - c .unsent) (omega (arith, lt-of-not-le g, pb .room)) ∙ sym (lifted-sent-bit c (bit word) (n - c .unsent))
+                ∙ ap (lifted c (bit word)) e
 
   -- what the encoder gives is a codeword
   pub encoded-codeword : (y : Word) → codeword c (bit (written c (encoded c (lifted c y)))) ≡ true

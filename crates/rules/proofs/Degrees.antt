@@ -1,4 +1,5 @@
--- How many bits a check covers, in how many checks a bit lies, and what excess it can have: document 01's sentences on the tables, by code number.
+-- How many bits a check covers, in how many checks a bit lies, and what excess it can have: document 01's sentences on the tables, by code
+-- number.
 use mathlib.Core.Path.{_≡_, refl, sym, ap, _∙_, subst}
 use mathlib.Core.Bool.{Bool, true, false, not}
 use mathlib.Core.List.{List, []}

@@ -55,7 +55,8 @@ sub-order a b a′ b′ = go (ltb a b) (ltb a′ b′) refl refl
     no-lt p q e = nltb→le p q (subst (λ t. T (not t)) (sym e) tt)
 
     cases : (s t : Bool) → ltb a b ≡ s → ltb a′ b′ ≡ t
-        → ltZ (mathlib.Core.Bool.cond s (negsuc (b - suc a)) (pos (a - b))) (mathlib.Core.Bool.cond t (negsuc (b′ - suc a′)) (pos (a′ - b′))) ≡ ltb (a + b′) (a′ + b)
+        → ltZ (mathlib.Core.Bool.cond s (negsuc (b - suc a)) (pos (a - b)))
+        (mathlib.Core.Bool.cond t (negsuc (b′ - suc a′)) (pos (a′ - b′))) ≡ ltb (a + b′) (a′ + b)
     cases true true e f =
         let h = yes-lt a b e in let h′ = yes-lt a′ b′ f in
         ltb-iff (b′ - suc a′) (b - suc a) (a + b′) (a′ + b) (λ l. omega arith) (λ l. omega arith)
@@ -70,8 +71,11 @@ sub-order a b a′ b′ = go (ltb a b) (ltb a′ b′) refl refl
         ltb-iff (a - b) (a′ - b′) (a + b′) (a′ + b) (λ l. omega arith) (λ l. omega arith)
 
     go : (s t : Bool) → ltb a b ≡ s → ltb a′ b′ ≡ t → ltZ (subℕ a b) (subℕ a′ b′) ≡ ltb (a + b′) (a′ + b)
-    go s t e f = ap₂ (λ s t. ltZ (mathlib.Core.Bool.cond s (negsuc (b - suc a)) (pos (a - b))) (mathlib.Core.Bool.cond t (negsuc (b′ - suc a′)) (pos (a′ - b′)))) e f ∙ cases s t e f
+    go s t e f = ap₂ (λ s t. ltZ (mathlib.Core.Bool.cond s (negsuc (b - suc a)) (pos (a - b)))
+        (mathlib.Core.Bool.cond t (negsuc (b′ - suc a′)) (pos (a′ - b′)))) e f ∙ cases s t e f
 
 -- one bit's excess is below another's
-pub excess-order : (c : Code) (x : Word) (n n′ : ℕ) → ltZ (excess c x n) (excess c x n′) ≡ ltb (brokenOf c x n + metOf c x n′) (brokenOf c x n′ + metOf c x n)
-excess-order c x n n′ = ap₂ ltZ (excess-is c x n) (excess-is c x n′) ∙ sub-order (brokenOf c x n) (metOf c x n) (brokenOf c x n′) (metOf c x n′)
+pub excess-order : (c : Code) (x : Word) (n n′ : ℕ) → ltZ (excess c x n) (excess c x n′) ≡ ltb (brokenOf c x n + metOf c x n′)
+    (brokenOf c x n′ + metOf c x n)
+excess-order c x n n′ = ap₂ ltZ (excess-is c x n) (excess-is c x n′)
+    ∙ sub-order (brokenOf c x n) (metOf c x n) (brokenOf c x n′) (metOf c x n′)

@@ -86,7 +86,8 @@ greatest-has first (suc (suc n)) f h =
     go (ltZ (f (greatest first (suc n) f)) (f (first + suc n))) refl (greatest-has first (suc n) f (zero-lt-suc n))
   where
     -- Of every number below first + n + 2: it is below first + n + 1, or that.
-    more : (P : ℕ → Type 0) → ((i : ℕ) → first ≤ i → i < first + suc n → P i) → P (first + suc n) → (i : ℕ) → first ≤ i → i < first + suc (suc n) → P i
+    more : (P : ℕ → Type 0) → ((i : ℕ) → first ≤ i → i < first + suc n → P i) → P (first + suc n) → (i : ℕ) → first ≤ i
+        → i < first + suc (suc n) → P i
     more P below here i a l = pick (ℕ-discrete i (first + suc n))
       where
         pick : Dec (i ≡ first + suc n) → P i

@@ -16,8 +16,10 @@ use Rattle.rules.specs.Encoding.{parityBit, encoded, inverted, lifted, s
 use Rattle.rules.specs.Tables.{parity16, parity32, parity64, parity511, generator511}
 use Rattle.bits.proofs.Sums.{⊕-self, ⊕-false, ⊕-assoc, and-l, and-r}
 use Rattle.bits.proofs.Octets.{bit-past}
-use Rattle.rules.proofs.Published.{Published, published1, published2, published3, published4, published5, met-own1, met-own2, met-own3, nearInverted, near-inverted, inverted-near}
-use Rattle.rules.proofs.Codewords.{parity-same, encoded-information, encoded-parity, encoded-own, own-encoded, own-codeword, lifted-unsent, lifted-sent-bit, sent-bit, sent-fill}
+use Rattle.rules.proofs.Published.{Published, published1, published2, published3, published4, published5, met-own1, met-own2}
+use Rattle.rules.proofs.Published.{met-own3, nearInverted, near-inverted, inverted-near}
+use Rattle.rules.proofs.Codewords.{parity-same, encoded-information, encoded-parity, encoded-own, own-encoded, own-codeword}
+use Rattle.rules.proofs.Codewords.{lifted-unsent, lifted-sent-bit, sent-bit, sent-fill}
 
 -- ---- code numbers
 
@@ -65,7 +67,8 @@ pub met-own-telecommand : (n : ℕ) → T (telecommanded n) → (x : Word) → b
 unfolding code
 met-own-telecommand = three (λ n. (x : Word) → broken (code n) x ≡ 0 → OwnParity (code n) x) met-own1 met-own2 met-own3
 
-pub met-encoded : (n : ℕ) → T (telecommanded n) → (x : Word) → broken (code n) x ≡ 0 → (k : ℕ) → k < bits (code n) → encoded (code n) x k ≡ x k
+pub met-encoded : (n : ℕ) → T (telecommanded n) → (x : Word) → broken (code n) x ≡ 0 → (k : ℕ) → k < bits (code n)
+    → encoded (code n) x k ≡ x k
 met-encoded n t x e = own-encoded (code n) x (met-own-telecommand n t x e)
 
 -- codes 1 to 4 send every bit, in whole octets
@@ -74,11 +77,13 @@ pub record Whole (c : Code) : Type 0 where
   pub full : bits c ≡ 8 * c .wordOctets
 
 pub four : (P : ℕ → Type 0) → P 1 → P 2 → P 3 → P 4 → (n : ℕ) → T (offered n && not (eqb n 5)) → P n
-four P p1 p2 p3 p4 n t = five (λ n. T (not (eqb n 5)) → P n) (λ u. p1) (λ u. p2) (λ u. p3) (λ u. p4) (λ u. absurd u) n (and-l (offered n) (not (eqb n 5)) t) (and-r (offered n) (not (eqb n 5)) t)
+four P p1 p2 p3 p4 n t = five (λ n. T (not (eqb n 5)) → P n) (λ u. p1) (λ u. p2) (λ u. p3) (λ u. p4) (λ u. absurd u) n
+    (and-l (offered n) (not (eqb n 5)) t) (and-r (offered n) (not (eqb n 5)) t)
 
 pub whole : (n : ℕ) → T (offered n && not (eqb n 5)) → Whole (code n)
 unfolding code code1 code2 code3 code4 parity16 parity32 parity64 parity511
-whole = four (λ n. Whole (code n)) (record { unsent = refl; full = refl }) (record { unsent = refl; full = refl }) (record { unsent = refl; full = refl }) (record { unsent = refl; full = refl })
+whole = four (λ n. Whole (code n)) (record { unsent = refl; full = refl }) (record { unsent = refl; full = refl })
+    (record { unsent = refl; full = refl }) (record { unsent = refl; full = refl })
 
 module _ (c : Code) (w : Whole c) where
   pub lifted-whole : (y : Word) → lifted c y ≡ y
@@ -110,11 +115,13 @@ met-codeword n t word lw e =
     let same : sent (code n) (lifted (code n) (bit word)) ≡ bit word =
     ap (sent (code n)) (lifted-whole (code n) w (bit word)) ∙ sent-whole (code n) w (bit word) (past-word (code n) w word lw) in
     ap (codeword (code n)) (sym same)
-    ∙ own-codeword (code n) (published n (telecommand-offered n t)) (lifted (code n) (bit word)) (met-own-telecommand n t (lifted (code n) (bit word)) e) (λ k h. lifted-unsent (code n) (bit word) k h)
+    ∙ own-codeword (code n) (published n (telecommand-offered n t)) (lifted (code n) (bit word))
+    (met-own-telecommand n t (lifted (code n) (bit word)) e) (λ k h. lifted-unsent (code n) (bit word) k h)
 
 -- ---- demand 2: code 4, where whole parity blocks may be inverted
 
-pub quiet-four : (x : Word) → broken code4 x ≡ 0 → (p : ℕ) → p < 1022 → x (7154 + p) ≡ parityBit code4 x p ⊕ nearInverted 1022 895 0 x (p / 511)
+pub quiet-four : (x : Word) → broken code4 x ≡ 0 → (p : ℕ) → p < 1022
+    → x (7154 + p) ≡ parityBit code4 x p ⊕ nearInverted 1022 895 0 x (p / 511)
 unfolding code4 parity511 generator511
 quiet-four x e p h = near-inverted 1022 895 0 x e p h
 
@@ -149,7 +156,8 @@ module _ (x : Word) (first second : Bool) where
 
   inform : (n : ℕ) → n < 7154 → fourWord x first second n ≡ encoded code4 x n
   unfolding inverted code4 generator511
-  inform n h = ap (λ b. encoded code4 x n ⊕ (not b && (if ltb n 7665 then first else second))) (lt-ltb n 7154 h) ∙ ⊕-false (encoded code4 x n)
+  inform n h = ap (λ b. encoded code4 x n ⊕ (not b && (if ltb n 7665 then first else second))) (lt-ltb n 7154 h)
+      ∙ ⊕-false (encoded code4 x n)
 
   -- each has the information bits
   pub four-information : (n : ℕ) → n < 7154 → fourWord x first second n ≡ x n
@@ -166,18 +174,22 @@ module _ (x : Word) (first second : Bool) where
   pub four-meet : broken code4 (fourWord x first second) ≡ 0
   four-meet = four-quiet (fourWord x first second) (λ b. if eqb b 0 then first else second) (λ p h. at p h (decLt p 511))
     where
-      at : (p : ℕ) → p < 1022 → Dec (p < 511) → fourWord x first second (7154 + p) ≡ parityBit code4 (fourWord x first second) p ⊕ (if eqb (p / 511) 0 then first else second)
+      at : (p : ℕ) → p < 1022 → Dec (p < 511)
+          → fourWord x first second (7154 + p) ≡ parityBit code4 (fourWord x first second) p ⊕ (if eqb (p / 511) 0 then first else second)
       at p h (yes l) =
           let q : p / 511 ≡ 0 = omega arith in
-          in-first (7154 + p) (omega arith) (omega arith) ∙ ap₂ (λ a b. a ⊕ (if b then first else second)) (parity-at p) (sym (eq-eqb (p / 511) 0 q))
+          in-first (7154 + p) (omega arith) (omega arith)
+          ∙ ap₂ (λ a b. a ⊕ (if b then first else second)) (parity-at p) (sym (eq-eqb (p / 511) 0 q))
       at p h (no g) =
           let q : p / 511 ≡ 1 = omega (arith, lt-of-not-le g) in
-          in-second (7154 + p) (omega (arith, lt-of-not-le g)) ∙ ap₂ (λ a b. a ⊕ (if b then first else second)) (parity-at p) (sym (ap (λ z. eqb z 0) q))
+          in-second (7154 + p) (omega (arith, lt-of-not-le g))
+          ∙ ap₂ (λ a b. a ⊕ (if b then first else second)) (parity-at p) (sym (ap (λ z. eqb z 0) q))
 
 -- they are different words
 pub four-differ : (x : Word) (a b a′ b′ : Bool) → ((n : ℕ) → n < 8176 → fourWord x a b n ≡ fourWord x a′ b′ n) → (a ≡ a′) × (b ≡ b′)
 four-differ x a b a′ b′ same = (
-  ⊕-cancel (encoded code4 x 7154) a a′ (sym (in-first x a b 7154 (lit≤ tt) (lit< tt)) ∙ same 7154 (lit< tt) ∙ in-first x a′ b′ 7154 (lit≤ tt) (lit< tt)),
+  ⊕-cancel (encoded code4 x 7154) a a′ (sym (in-first x a b 7154 (lit≤ tt) (lit< tt)) ∙ same 7154 (lit< tt)
+      ∙ in-first x a′ b′ 7154 (lit≤ tt) (lit< tt)),
   ⊕-cancel (encoded code4 x 7665) b b′ (sym (in-second x a b 7665 (lit≤ tt)) ∙ same 7665 (lit< tt) ∙ in-second x a′ b′ 7665 (lit≤ tt)),
 )
 
@@ -199,7 +211,8 @@ four-all x y same e = record { first = i; second = j; is = λ n h. at n h (decLt
     parity : (p : ℕ) → parityBit code4 y p ≡ encoded code4 x (7154 + p)
     parity p =
         parity-same code4 y x (λ n h. same n (lt-of-lt-of-le h (le-of-eq four-size))) p
-        ∙ sym (ap (λ k. encoded code4 x (k + p)) (sym four-size) ∙ encoded-parity code4 x (information code4 + p) (omega arith) ∙ ap (parityBit code4 x) (omega arith))
+        ∙ sym (ap (λ k. encoded code4 x (k + p)) (sym four-size) ∙ encoded-parity code4 x (information code4 + p) (omega arith)
+        ∙ ap (parityBit code4 x) (omega arith))
 
     at : (n : ℕ) → n < 8176 → Dec (n < 7154) → Dec (n < 7665) → y n ≡ fourWord x i j n
     at n h (yes l) q = same n l ∙ sym (four-information x i j n l)
@@ -207,9 +220,13 @@ four-all x y same e = record { first = i; second = j; is = λ n h. at n h (decLt
         let p = n - 7154 in
         let is : 7154 + p ≡ n = omega (arith, lt-of-not-le g) in
         let q : p / 511 ≡ 0 = omega (arith, lt-of-not-le g) in
-        ap y (sym is) ∙ quiet-four y e p (omega arith) ∙ ap₂ (λ a b. a ⊕ nearInverted 1022 895 0 y b) (parity p ∙ ap (encoded code4 x) is) q ∙ sym (in-first x i j n (omega (arith, lt-of-not-le g)) l)
+        ap y (sym is) ∙ quiet-four y e p (omega arith)
+        ∙ ap₂ (λ a b. a ⊕ nearInverted 1022 895 0 y b) (parity p ∙ ap (encoded code4 x) is) q
+        ∙ sym (in-first x i j n (omega (arith, lt-of-not-le g)) l)
     at n h (no g) (no d) =
         let p = n - 7154 in
         let is : 7154 + p ≡ n = omega (arith, lt-of-not-le g) in
         let q : p / 511 ≡ 1 = omega (arith, lt-of-not-le d) in
-        ap y (sym is) ∙ quiet-four y e p (omega arith) ∙ ap₂ (λ a b. a ⊕ nearInverted 1022 895 0 y b) (parity p ∙ ap (encoded code4 x) is) q ∙ sym (in-second x i j n (omega (arith, lt-of-not-le d)))
+        ap y (sym is) ∙ quiet-four y e p (omega arith)
+        ∙ ap₂ (λ a b. a ⊕ nearInverted 1022 895 0 y b) (parity p ∙ ap (encoded code4 x) is) q
+        ∙ sym (in-second x i j n (omega (arith, lt-of-not-le d)))

@@ -36,7 +36,8 @@ parity-sum M printed [] j w c k = refl
 parity-sum M printed (g ∷ gs) j w c k =
     ap₂ (λ a b. a ⊕ b) (ap (λ z. shiftedSum M (drawn M printed (getD g c 0)) (w z) k) (sym (add-zero j)))
     (parity-sum M printed gs (suc j) w c k
-    ∙ ap (sum (length gs)) (fun-ext (λ i. ap (λ z. shiftedSum M (drawn M printed (getD (getD gs i []) c 0)) (w z) k) (suc-add j i ∙ sym (add-suc j i)))))
+    ∙ ap (sum (length gs)) (fun-ext (λ i. ap (λ z. shiftedSum M (drawn M printed (getD (getD gs i []) c 0)) (w z) k) (suc-add j i
+    ∙ sym (add-suc j i)))))
     ∙ sym (sum-front (length gs) (λ i. shiftedSum M (drawn M printed (getD (getD (g ∷ gs) i []) c 0)) (w (j + i)) k))
 
 ⊕-move : (a b c : Bool) → a ⊕ b ≡ c → b ≡ a ⊕ c
@@ -44,7 +45,8 @@ parity-sum M printed (g ∷ gs) j w c k =
 
 -- C parity blocks follow the information blocks
 module _ (wordOctets informationOctets unsent m : ℕ) (H : List (List (List ℕ))) (gs : List (List ℕ)) (printed B C : ℕ)
-    (shape : T (shaped (suc m) B H)) (room : bits (withTables wordOctets informationOctets unsent m H gs printed) - information (withTables wordOctets informationOctets unsent m H gs printed) ≡ C * suc m) where
+    (shape : T (shaped (suc m) B H)) (room : bits (withTables wordOctets informationOctets unsent m H gs printed) - information
+    (withTables wordOctets informationOctets unsent m H gs printed) ≡ C * suc m) where
   abbrev c : Code
   c = withTables wordOctets informationOctets unsent m H gs printed
 
@@ -53,8 +55,10 @@ module _ (wordOctets informationOctets unsent m : ℕ) (H : List (List (List ℕ
   parity-in x p =
       sum-blocks (length gs) (suc m) _
       ∙ ap (sum (length gs)) (fun-ext (λ j. sum-same (suc m) _ _ (λ t l.
-      ap₂ (λ a b. x (j * suc m + t) && drawn (suc m) printed (getD (getD gs a []) (p / suc m) 0) ((p % suc m + (suc m - b)) % suc m)) (digits-div j l) (digits-mod j l)
-      ∙ ap (λ z. x (z * suc m + t) && drawn (suc m) printed (getD (getD gs j []) (p / suc m) 0) ((p % suc m + (suc m - t)) % suc m)) (sym (zero-add j)))))
+      ap₂ (λ a b. x (j * suc m + t) && drawn (suc m) printed (getD (getD gs a []) (p / suc m) 0) ((p % suc m + (suc m - b)) % suc m))
+      (digits-div j l) (digits-mod j l)
+      ∙ ap (λ z. x (z * suc m + t) && drawn (suc m) printed (getD (getD gs j []) (p / suc m) 0) ((p % suc m + (suc m - t)) % suc m))
+      (sym (zero-add j)))))
       ∙ sym (parity-sum (suc m) printed gs 0 (blk (suc m) x) (p / suc m) (p % suc m))
 
   -- the place of bit k of parity block b
@@ -64,7 +68,8 @@ module _ (wordOctets informationOctets unsent m : ℕ) (H : List (List (List ℕ
   in-room : {p : ℕ} → p < bits c - information c → p < C * suc m
   in-room {p} = subst (λ z. p < z) room
 
-  own-blocks : (x : Word) → OwnParity c x → (b k : ℕ) → b < C → k < suc m → blk (suc m) x (length gs + b) k ≡ parityIn (suc m) printed gs 0 (blk (suc m) x) b k
+  own-blocks : (x : Word) → OwnParity c x → (b k : ℕ) → b < C → k < suc m
+      → blk (suc m) x (length gs + b) k ≡ parityIn (suc m) printed gs 0 (blk (suc m) x) b k
   own-blocks x own b k hb hk =
       place b k x ∙ own (b * suc m + k) (subst (λ z. b * suc m + k < z) (sym room) (digits-lt hb hk)) ∙ parity-in x (b * suc m + k)
       ∙ ap₂ (λ q r. parityIn (suc m) printed gs 0 (blk (suc m) x) q r) (digits-div b hk) (digits-mod b hk)
@@ -85,7 +90,8 @@ module _ (wordOctets informationOctets unsent m : ℕ) (H : List (List (List ℕ
   unfolding broken
   met-all x h =
       count-none (checks c) (check c x) (λ k l.
-      check-in wordOctets informationOctets unsent m H gs printed B shape x k l ∙ h (k / suc m) (k % suc m) (div-lt-iff-lt-mul (zero-lt-suc m) .1 l))
+      check-in wordOctets informationOctets unsent m H gs printed B shape x k l
+      ∙ h (k / suc m) (k % suc m) (div-lt-iff-lt-mul (zero-lt-suc m) .1 l))
 
   -- a word with the encoder's parity meets every check
   pub own-met : T (rowsTied (suc m) printed H gs) → T (sized C (drops (length gs) H)) → (x : Word) → OwnParity c x → broken c x ≡ 0
@@ -95,7 +101,8 @@ module _ (wordOctets informationOctets unsent m : ℕ) (H : List (List (List ℕ
   pub met-own : (R : List (List ℕ)) → Invertible m printed C (λ d. eqb d 0) H gs R → (x : Word) → broken c x ≡ 0 → OwnParity c x
   met-own R inv x e p l =
       at-block x p
-      ∙ unique m printed C H gs R inv (blk (suc m) x) (all-met x e) (p / suc m) (p % suc m) (div-lt-iff-lt-mul (zero-lt-suc m) .1 (in-room l)) (mod-lt p (zero-lt-suc m))
+      ∙ unique m printed C H gs R inv (blk (suc m) x) (all-met x e) (p / suc m) (p % suc m)
+      (div-lt-iff-lt-mul (zero-lt-suc m) .1 (in-room l)) (mod-lt p (zero-lt-suc m))
       ∙ sym (parity-in x p)
 
   -- where it has one up to whole blocks: the parity is the encoder's, or a block of it is inverted
@@ -107,8 +114,10 @@ module _ (wordOctets informationOctets unsent m : ℕ) (H : List (List (List ℕ
   unfolding differ inverted
   met-inverted R inv x e p l =
       at-block x p
-      ∙ ⊕-move (parityIn (suc m) printed gs 0 (blk (suc m) x) (p / suc m) (p % suc m)) (blk (suc m) x (length gs + p / suc m) (p % suc m)) (inverted x (p / suc m))
-      (constant m printed C H gs R inv (blk (suc m) x) (all-met x e) (p / suc m) (p % suc m) (div-lt-iff-lt-mul (zero-lt-suc m) .1 (in-room l)) (mod-lt p (zero-lt-suc m)))
+      ∙ ⊕-move (parityIn (suc m) printed gs 0 (blk (suc m) x) (p / suc m) (p % suc m)) (blk (suc m) x (length gs + p / suc m) (p % suc m))
+      (inverted x (p / suc m))
+      (constant m printed C H gs R inv (blk (suc m) x) (all-met x e) (p / suc m) (p % suc m)
+      (div-lt-iff-lt-mul (zero-lt-suc m) .1 (in-room l)) (mod-lt p (zero-lt-suc m)))
       ∙ ap (λ z. z ⊕ inverted x (p / suc m)) (sym (parity-in x p))
 
   -- and each such word meets every check
@@ -119,6 +128,7 @@ module _ (wordOctets informationOctets unsent m : ℕ) (H : List (List (List ℕ
       met-all x (λ r i hr. turned m printed C H gs (blk (suc m) x) f tied size ev (λ b k hb hk.
       ap (λ z. parityIn (suc m) printed gs 0 (blk (suc m) x) b k ⊕ z)
       (place b k x ∙ h (b * suc m + k) (subst (λ z. b * suc m + k < z) (sym room) (digits-lt hb hk))
-      ∙ ap₂ (λ q r. q ⊕ f r) (parity-in x (b * suc m + k) ∙ ap₂ (λ q r. parityIn (suc m) printed gs 0 (blk (suc m) x) q r) (digits-div b hk) (digits-mod b hk)) (digits-div b hk))
+      ∙ ap₂ (λ q r. q ⊕ f r) (parity-in x (b * suc m + k)
+      ∙ ap₂ (λ q r. parityIn (suc m) printed gs 0 (blk (suc m) x) q r) (digits-div b hk) (digits-mod b hk)) (digits-div b hk))
       ∙ sym (⊕-assoc (parityIn (suc m) printed gs 0 (blk (suc m) x) b k) (parityIn (suc m) printed gs 0 (blk (suc m) x) b k) (f b))
       ∙ ap (λ z. z ⊕ f b) (⊕-self (parityIn (suc m) printed gs 0 (blk (suc m) x) b k))) r i hr)

@@ -23,10 +23,12 @@ use Rattle.rules.proofs.Parity.{own-met, met-own, inverted, met-inverte
 
 -- ---- the tests of one pair of tables
 
-pub record Tests (wordOctets informationOctets unsent m : ℕ) (H : List (List (List ℕ))) (gs : List (List ℕ)) (printed B C : ℕ) : Type 0 where
+pub record Tests (wordOctets informationOctets unsent m : ℕ) (H : List (List (List ℕ))) (gs : List (List ℕ))
+    (printed B C : ℕ) : Type 0 where
   pub shape : T (shaped (suc m) B H)
   pub wide : length (getD H 0 []) ≡ B
-  pub room : bits (withTables wordOctets informationOctets unsent m H gs printed) - information (withTables wordOctets informationOctets unsent m H gs printed) ≡ C * suc m
+  pub room : bits (withTables wordOctets informationOctets unsent m H gs printed) - information
+      (withTables wordOctets informationOctets unsent m H gs printed) ≡ C * suc m
   pub tables : T (rowsTied (suc m) printed H gs)
   pub size : T (sized C (drops (length gs) H))
   pub many : T (below B (λ b. leb 3 (degree H b)))
@@ -45,7 +47,8 @@ pub record Published (c : Code) : Type 0 where
   pub girth : Girth c
   pub own-quiet : (x : Word) → OwnParity c x → broken c x ≡ 0
 
-module _ (wordOctets informationOctets unsent m : ℕ) (H : List (List (List ℕ))) (gs : List (List ℕ)) (printed B C : ℕ) (t : Tests wordOctets informationOctets unsent m H gs printed B C) where
+module _ (wordOctets informationOctets unsent m : ℕ) (H : List (List (List ℕ))) (gs : List (List ℕ)) (printed B C : ℕ)
+    (t : Tests wordOctets informationOctets unsent m H gs printed B C) where
   abbrev c : Code
   c = withTables wordOctets informationOctets unsent m H gs printed
 
@@ -58,8 +61,11 @@ module _ (wordOctets informationOctets unsent m : ℕ) (H : List (List (List ℕ
 
   pub tested-girth : Girth c
   tested-girth = record {
-    few = λ n n₀ h h₀ d. shared-few wordOctets informationOctets unsent m H gs printed B (t .shape) (t .apart) n n₀ (inside h) (inside h₀) d;
-    many = λ n h. le-trans (leb→le 3 (degree H (n / suc m)) (below-at B (λ b. leb 3 (degree H b)) (t .many) (n / suc m) (div-lt-iff-lt-mul (zero-lt-suc m) .1 (inside h)))) (le-of-eq (sym (tested-degree n h)));
+    few = λ n n₀ h h₀ d. shared-few wordOctets informationOctets unsent m H gs printed B (t .shape) (t .apart) n n₀ (inside h)
+        (inside h₀) d;
+    many = λ n h. le-trans (leb→le 3 (degree H (n / suc m))
+        (below-at B (λ b. leb 3 (degree H b)) (t .many) (n / suc m) (div-lt-iff-lt-mul (zero-lt-suc m) .1 (inside h))))
+        (le-of-eq (sym (tested-degree n h)));
   }
 
   pub tested-quiet : (x : Word) → OwnParity c x → broken c x ≡ 0
@@ -90,7 +96,16 @@ rows511 = tt
 
 pub nearTests : (wordOctets informationOctets unsent : ℕ) → Tests wordOctets informationOctets unsent 510 parity511 generator511 512 16 2
 unfolding parity511 generator511
-nearTests wordOctets informationOctets unsent = record { shape = tt; wide = refl; room = refl; tables = rows511; size = tt; many = tt; apart = apart511 }
+nearTests wordOctets informationOctets unsent = record {
+  shape = tt;
+  wide = refl;
+  room = refl;
+  tables = rows511;
+  size = tt;
+  many =
+      tt;
+  apart = apart511;
+}
 
 pub published1 : Published code1
 unfolding code1 parity16 generator16
@@ -196,15 +211,18 @@ tied5 = both (rowsTied 511 512 parity511 generator511) (allPadded 511 generator5
 
 pub met-own1 : (x : Word) → broken code1 x ≡ 0 → OwnParity code1 x
 unfolding code1 parity16 generator16 inverse16
-met-own1 = met-own 16 8 0 15 parity16 generator16 16 8 4 (tests1 .shape) (tests1 .room) inverse16 (record { table = tests1 .tables; size = tests1 .size; inverse = tt; rank = refl })
+met-own1 = met-own 16 8 0 15 parity16 generator16 16 8 4 (tests1 .shape) (tests1 .room) inverse16
+    (record { table = tests1 .tables; size = tests1 .size; inverse = tt; rank = refl })
 
 pub met-own2 : (x : Word) → broken code2 x ≡ 0 → OwnParity code2 x
 unfolding code2 parity32 generator32 inverse32
-met-own2 = met-own 32 16 0 31 parity32 generator32 32 8 4 (tests2 .shape) (tests2 .room) inverse32 (record { table = tests2 .tables; size = tests2 .size; inverse = tt; rank = refl })
+met-own2 = met-own 32 16 0 31 parity32 generator32 32 8 4 (tests2 .shape) (tests2 .room) inverse32
+    (record { table = tests2 .tables; size = tests2 .size; inverse = tt; rank = refl })
 
 pub met-own3 : (x : Word) → broken code3 x ≡ 0 → OwnParity code3 x
 unfolding code3 parity64 generator64 inverse64
-met-own3 = met-own 64 32 0 63 parity64 generator64 64 8 4 (tests3 .shape) (tests3 .room) inverse64 (record { table = tests3 .tables; size = tests3 .size; inverse = tt; rank = refl })
+met-own3 = met-own 64 32 0 63 parity64 generator64 64 8 4 (tests3 .shape) (tests3 .room) inverse64
+    (record { table = tests3 .tables; size = tests3 .size; inverse = tt; rank = refl })
 
 -- ---- codes 4 and 5: every bit has four checks, and parity blocks may be inverted
 
@@ -227,19 +245,27 @@ module _ (wordOctets informationOctets unsent : ℕ) where
   pub near-four : (n : ℕ) → n < bits near → degreeOf near n ≡ 4
   unfolding parity511 generator511
   near-four n h =
-      tested-degree wordOctets informationOctets unsent 510 parity511 generator511 512 16 2 (nearTests wordOctets informationOctets unsent) n h
-      ∙ eqb→eq (degree parity511 (n / 511)) 4 (below-at 16 (λ b. eqb (degree parity511 b) 4) fours511 (n / 511) (div-lt-iff-lt-mul (zero-lt-suc 510) .1 h))
+      tested-degree wordOctets informationOctets unsent 510 parity511 generator511 512 16 2 (nearTests wordOctets informationOctets unsent)
+      n h
+      ∙ eqb→eq (degree parity511 (n / 511)) 4 (below-at 16 (λ b. eqb (degree parity511 b) 4) fours511 (n / 511)
+      (div-lt-iff-lt-mul (zero-lt-suc 510) .1 h))
 
   -- whether parity block b of a word that meets every check is inverted
   pub nearInverted : Word → ℕ → Bool
-  nearInverted = inverted wordOctets informationOctets unsent 510 parity511 generator511 512 16 2 (nearTests wordOctets informationOctets unsent .shape) (nearTests wordOctets informationOctets unsent .room)
+  nearInverted = inverted wordOctets informationOctets unsent 510 parity511 generator511 512 16 2
+      (nearTests wordOctets informationOctets unsent .shape) (nearTests wordOctets informationOctets unsent .room)
 
-  pub near-inverted : (x : Word) → broken near x ≡ 0 → (p : ℕ) → p < bits near - information near → x (information near + p) ≡ parityBit near x p ⊕ nearInverted x (p / 511)
+  pub near-inverted : (x : Word) → broken near x ≡ 0 → (p : ℕ) → p < bits near - information near
+      → x (information near + p) ≡ parityBit near x p ⊕ nearInverted x (p / 511)
   unfolding nearInverted
-  near-inverted = met-inverted wordOctets informationOctets unsent 510 parity511 generator511 512 16 2 (nearTests wordOctets informationOctets unsent .shape) (nearTests wordOctets informationOctets unsent .room) inverse511 inverse511-test
+  near-inverted = met-inverted wordOctets informationOctets unsent 510 parity511 generator511 512 16 2
+      (nearTests wordOctets informationOctets unsent .shape) (nearTests wordOctets informationOctets unsent .room) inverse511
+      inverse511-test
 
-  pub inverted-near : (x f : Word) → ((p : ℕ) → p < bits near - information near → x (information near + p) ≡ parityBit near x p ⊕ f (p / 511)) → broken near x ≡ 0
+  pub inverted-near : (x f : Word)
+      → ((p : ℕ) → p < bits near - information near → x (information near + p) ≡ parityBit near x p ⊕ f (p / 511)) → broken near x ≡ 0
   unfolding generator511
   inverted-near =
-      inverted-met wordOctets informationOctets unsent 510 parity511 generator511 512 16 2 (nearTests wordOctets informationOctets unsent .shape) (nearTests wordOctets informationOctets unsent .room)
+      inverted-met wordOctets informationOctets unsent 510 parity511 generator511 512 16 2
+      (nearTests wordOctets informationOctets unsent .shape) (nearTests wordOctets informationOctets unsent .room)
       rows511 (nearTests wordOctets informationOctets unsent .size) evens511

@@ -8,7 +8,8 @@ use lib.Dec.{T, eqb, eqb→eq}
 use lib.ListN.{getD, length, drop}
 use Rattle.bits.specs.Bits.{digit, _⊕_, sum, below, over, blocks}
 use Rattle.rules.specs.Identity.{cancels, rowTied, rowsTied}
-use Rattle.bits.proofs.Sums.{⊕-eq, ⊕-self, ⊕-assoc, and-⊕, into, swap, sum-linear, over-linear, blocks-linear, blocks′, sum-same, sum-none, pick, blocks-from, blocks-same, and-l, and-r, below-at, not-true}
+use Rattle.bits.proofs.Sums.{⊕-eq, ⊕-self, ⊕-assoc, and-⊕, into, swap, sum-linear, over-linear, blocks-linear, blocks′, sum-same, sum-none}
+use Rattle.bits.proofs.Sums.{pick, blocks-from, blocks-same, and-l, and-r, below-at, not-true}
 use Rattle.bits.proofs.Cyclic.{either, near}
 use Rattle.rules.proofs.Blocks.{checkIn}
 
@@ -47,7 +48,8 @@ module _ (m printed : ℕ) where
   -- a bit is the sum of all bits of its block, each times 1 where it is the bit and 0 elsewhere
   pub itself : (u : ℕ → Bool) (x : ℕ) → x < suc m → u x ≡ shiftedSum (suc m) (λ d. eqb d 0) u x
   itself u x h =
-      sym (sum-same (suc m) (λ t. u t && eqb ((x + (suc m - t)) % suc m) 0) (λ t. u t && eqb t x) (λ t l. ap (λ z. u t && z) (near m x t h l))
+      sym (sum-same (suc m) (λ t. u t && eqb ((x + (suc m - t)) % suc m) 0) (λ t. u t && eqb t x)
+      (λ t l. ap (λ z. u t && z) (near m x t h l))
       ∙ pick (suc m) x u h)
 
   -- shifts of a convolution: those of its row
@@ -73,7 +75,8 @@ module _ (m printed : ℕ) where
   -- one information block and what it adds to the parity blocks
   one : (P : List (List ℕ)) (S : List ℕ) (g : List ℕ) (u : ℕ → Bool) (i : ℕ)
       → T (below (suc m) (cancels (suc m) printed S P g))
-      → over S (λ s. u ((i + s) % suc m)) ⊕ blocks P 0 (λ c s. shiftedSum (suc m) (drawn (suc m) printed (getD g c 0)) u ((i + s) % suc m)) ≡ false
+      → over S (λ s. u ((i + s) % suc m)) ⊕ blocks P 0 (λ c s. shiftedSum (suc m) (drawn (suc m) printed (getD g c 0)) u ((i + s) % suc m))
+      ≡ false
   one P S g u i t′ =
       ap₂ (λ x y. x ⊕ y)
       (ap (over S) (fun-ext (λ s. itself u ((i + s) % suc m) (mod-lt (i + s) (zero-lt-suc m)))) ∙ moved-over S (λ d. eqb d 0) u i)
@@ -82,20 +85,26 @@ module _ (m printed : ℕ) where
       (λ t. u t && over S (λ s. eqb (((i + (suc m - t)) % suc m + s) % suc m) 0))
       (λ t. u t && blocks P 0 (λ c s. drawn (suc m) printed (getD g c 0) (((i + (suc m - t)) % suc m + s) % suc m))))
       ∙ sum-none (suc m) _ (λ t l.
-      sym (and-⊕ (u t) (over S (λ s. eqb (((i + (suc m - t)) % suc m + s) % suc m) 0)) (blocks P 0 (λ c s. drawn (suc m) printed (getD g c 0) (((i + (suc m - t)) % suc m + s) % suc m))))
-      ∙ ap (λ z. u t && z) (not-true (over S (λ s. eqb (((i + (suc m - t)) % suc m + s) % suc m) 0) ⊕ blocks P 0 (λ c s. drawn (suc m) printed (getD g c 0) (((i + (suc m - t)) % suc m + s) % suc m))) (below-at (suc m) (cancels (suc m) printed S P g) t′ ((i + (suc m - t)) % suc m) (mod-lt (i + (suc m - t)) (zero-lt-suc m))))
+      sym (and-⊕ (u t) (over S (λ s. eqb (((i + (suc m - t)) % suc m + s) % suc m) 0))
+      (blocks P 0 (λ c s. drawn (suc m) printed (getD g c 0) (((i + (suc m - t)) % suc m + s) % suc m))))
+      ∙ ap (λ z. u t && z) (not-true (over S (λ s. eqb (((i + (suc m - t)) % suc m + s) % suc m) 0) ⊕ blocks P 0
+      (λ c s. drawn (suc m) printed (getD g c 0) (((i + (suc m - t)) % suc m + s) % suc m)))
+      (below-at (suc m) (cancels (suc m) printed S P g) t′ ((i + (suc m - t)) % suc m) (mod-lt (i + (suc m - t)) (zero-lt-suc m))))
       ∙ and-false (u t))
 
   -- the information blocks of a row, one after the other
   pub rows : (P Ss gs : List (List ℕ)) (j : ℕ) (w : ℕ → ℕ → Bool) (i : ℕ) → T (rowTied (suc m) printed P Ss gs)
       → blocks Ss j (λ b s. w b ((i + s) % suc m))
-      ≡ blocks P 0 (λ c s. parityIn (suc m) printed gs j w c ((i + s) % suc m)) ⊕ blocks (drop (length gs) Ss) (j + length gs) (λ b s. w b ((i + s) % suc m))
+      ≡ blocks P 0 (λ c s. parityIn (suc m) printed gs j w c ((i + s) % suc m)) ⊕ blocks (drop (length gs) Ss) (j + length gs)
+      (λ b s. w b ((i + s) % suc m))
   rows P Ss [] j w i t =
       sym (ap₂ (λ x y. x ⊕ y) (blocks-linear P 0 .none) (ap (λ z. blocks Ss z (λ b s. w b ((i + s) % suc m))) (add-zero j)))
   rows P [] (g ∷ gs) j w i t = absurd t
   rows P (S ∷ Ss) (g ∷ gs) j w i t =
       ap₂ (λ x y. x ⊕ y)
-      (⊕-eq (over S (λ s. w j ((i + s) % suc m))) (blocks P 0 (λ c s. shiftedSum (suc m) (drawn (suc m) printed (getD g c 0)) (w j) ((i + s) % suc m))) (one P S g (w j) i (and-l (below (suc m) (cancels (suc m) printed S P g)) (rowTied (suc m) printed P Ss gs) t)))
+      (⊕-eq (over S (λ s. w j ((i + s) % suc m)))
+      (blocks P 0 (λ c s. shiftedSum (suc m) (drawn (suc m) printed (getD g c 0)) (w j) ((i + s) % suc m)))
+      (one P S g (w j) i (and-l (below (suc m) (cancels (suc m) printed S P g)) (rowTied (suc m) printed P Ss gs) t)))
       (rows P Ss gs (suc j) w i (and-r (below (suc m) (cancels (suc m) printed S P g)) (rowTied (suc m) printed P Ss gs) t))
       ∙ sym (⊕-assoc
       (blocks P 0 (λ c s. shiftedSum (suc m) (drawn (suc m) printed (getD g c 0)) (w j) ((i + s) % suc m)))
@@ -126,12 +135,15 @@ module _ (m printed : ℕ) where
   pub reduce-all : (H : List (List (List ℕ))) (gs : List (List ℕ)) (w : ℕ → ℕ → Bool) → T (rowsTied (suc m) printed H gs)
       → (r i : ℕ) → r < length H → checkIn (suc m) (getD H r []) w i ≡ checkIn (suc m) (getD (drops (length gs) H) r []) (differ gs w) i
   reduce-all [] gs w t r i h = absurd (not-suc-le-zero h)
-  reduce-all (row ∷ H) gs w t zero i h = reduce row gs w (and-l (rowTied (suc m) printed (drop (length gs) row) row gs) (rowsTied (suc m) printed H gs) t) i
+  reduce-all (row ∷ H) gs w t zero i h =
+      reduce row gs w (and-l (rowTied (suc m) printed (drop (length gs) row) row gs) (rowsTied (suc m) printed H gs) t) i
   reduce-all (row ∷ H) gs w t (suc r) i h =
-      reduce-all H gs w (and-r (rowTied (suc m) printed (drop (length gs) row) row gs) (rowsTied (suc m) printed H gs) t) r i (le-of-suc-le-suc h)
+      reduce-all H gs w (and-r (rowTied (suc m) printed (drop (length gs) row) row gs) (rowsTied (suc m) printed H gs) t) r i
+      (le-of-suc-le-suc h)
 
   -- a word whose parity blocks are the encoder's meets every check
-  pub quiet-all : (C : ℕ) (H : List (List (List ℕ))) (gs : List (List ℕ)) (w : ℕ → ℕ → Bool) → T (rowsTied (suc m) printed H gs) → T (sized C (drops (length gs) H))
+  pub quiet-all : (C : ℕ) (H : List (List (List ℕ))) (gs : List (List ℕ)) (w : ℕ → ℕ → Bool) → T (rowsTied (suc m) printed H gs)
+      → T (sized C (drops (length gs) H))
       → ((c k : ℕ) → c < C → k < suc m → w (length gs + c) k ≡ parityIn (suc m) printed gs 0 w c k)
       → (r i : ℕ) → r < length H → checkIn (suc m) (getD H r []) w i ≡ false
   unfolding differ
@@ -140,6 +152,7 @@ module _ (m printed : ℕ) where
       let wide : length P ≡ C = sized-at C (drops (length gs) H) sz r (subst (λ z. r < z) (sym (length-drops (length gs) H)) h) in
       reduce-all H gs w t r i h
       ∙ blocks-same (getD (drops (length gs) H) r []) _ (λ c s. false) (λ c s l.
-      ap (λ z. parityIn (suc m) printed gs 0 w c ((i + s) % suc m) ⊕ z) (enc c ((i + s) % suc m) (subst (λ z. c < z) wide l) (mod-lt (i + s) (zero-lt-suc m)))
+      ap (λ z. parityIn (suc m) printed gs 0 w c ((i + s) % suc m) ⊕ z)
+      (enc c ((i + s) % suc m) (subst (λ z. c < z) wide l) (mod-lt (i + s) (zero-lt-suc m)))
       ∙ ⊕-self (parityIn (suc m) printed gs 0 w c ((i + s) % suc m)))
       ∙ blocks-linear (getD (drops (length gs) H) r []) 0 .none

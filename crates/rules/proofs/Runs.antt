@@ -24,7 +24,8 @@ module _ (way : Way) where
   unfolding run
   run-limit x n ex e = rw (e, run)
 
-  pub run-flip : (limit : ℕ) (x : Word) (n : ℕ) (ex : ℤ) → way x ≡ flip n ex → run way (suc limit) x ≡ after n ex (run way limit (flipped x n))
+  pub run-flip : (limit : ℕ) (x : Word) (n : ℕ) (ex : ℤ) → way x ≡ flip n ex
+      → run way (suc limit) x ≡ after n ex (run way limit (flipped x n))
   unfolding run
   run-flip limit x n ex e = rw (e, run)
 
@@ -33,7 +34,8 @@ module _ (way : Way) where
       (at-quiet : (limit : ℕ) (x : Word) → way x ≡ quiet → P limit x (ended 0 x))
       (at-stuck : (limit : ℕ) (x : Word) (n : ℕ) (ex : ℤ) → way x ≡ stuck n ex → P limit x (ended 5 x))
       (at-limit : (x : Word) (n : ℕ) (ex : ℤ) → way x ≡ flip n ex → P 0 x (ended 6 x))
-      (at-flip : (limit : ℕ) (x : Word) (n : ℕ) (ex : ℤ) → way x ≡ flip n ex → (r : Run) → P limit (flipped x n) r → P (suc limit) x (after n ex r)) where
+      (at-flip : (limit : ℕ) (x : Word) (n : ℕ) (ex : ℤ) → way x ≡ flip n ex → (r : Run) → P limit (flipped x n) r
+      → P (suc limit) x (after n ex r)) where
     pub every-run : (limit : ℕ) (x : Word) → P limit x (run way limit x)
     every-run zero x = go (way x) refl
       where
@@ -43,18 +45,22 @@ module _ (way : Way) where
         go (flip n ex) e = subst (P 0 x) (sym (run-limit x n ex e)) (at-limit x n ex e)
     every-run (suc limit) x = go (way x) refl (λ n. every-run limit (flipped x n))
       where
-        go : (nx : Next) → way x ≡ nx → ((n : ℕ) → P limit (flipped x n) (run way limit (flipped x n))) → P (suc limit) x (run way (suc limit) x)
+        go : (nx : Next) → way x ≡ nx → ((n : ℕ) → P limit (flipped x n) (run way limit (flipped x n)))
+            → P (suc limit) x (run way (suc limit) x)
         go quiet e ih = subst (P (suc limit) x) (sym (run-quiet (suc limit) x e)) (at-quiet (suc limit) x e)
         go (stuck n ex) e ih = subst (P (suc limit) x) (sym (run-stuck (suc limit) x n ex e)) (at-stuck (suc limit) x n ex e)
-        go (flip n ex) e ih = subst (P (suc limit) x) (sym (run-flip limit x n ex e)) (at-flip limit x n ex e (run way limit (flipped x n)) (ih n))
+        go (flip n ex) e ih = subst (P (suc limit) x) (sym (run-flip limit x n ex e))
+            (at-flip limit x n ex e (run way limit (flipped x n)) (ih n))
 
   -- a run makes no more flips than its limit
   pub run-within : (limit : ℕ) (x : Word) → length (run way limit x .flips) ≤ limit
-  run-within = every-run (λ limit x r. length (r .flips) ≤ limit) (λ limit x e. zero-le) (λ limit x n ex e. zero-le) (λ x n ex e. zero-le) (λ limit x n ex e r ih. suc-le-suc ih)
+  run-within = every-run (λ limit x r. length (r .flips) ≤ limit) (λ limit x e. zero-le) (λ limit x n ex e. zero-le) (λ x n ex e. zero-le)
+      (λ limit x n ex e r ih. suc-le-suc ih)
 
   -- a run without flips stays where it was
   pub no-flips : (limit : ℕ) (x : Word) → length (run way limit x .flips) ≡ 0 → run way limit x .word ≡ x
-  no-flips = every-run (λ limit x r. length (r .flips) ≡ 0 → r .word ≡ x) (λ limit x e z. refl) (λ limit x n ex e z. refl) (λ x n ex e z. refl)
+  no-flips = every-run (λ limit x r. length (r .flips) ≡ 0 → r .word ≡ x) (λ limit x e z. refl) (λ limit x n ex e z. refl)
+      (λ x n ex e z. refl)
       (λ limit x n ex e r ih z. absurd (omega (arith, z)))
 
   -- how a run ends
@@ -65,7 +71,8 @@ module _ (way : Way) where
 
   pub run-ends : (limit : ℕ) (x : Word) → End limit (run way limit x)
   run-ends = every-run (λ limit x r. End limit r)
-      (λ limit x e. ends-quiet refl e) (λ limit x n ex e. ends-stuck refl n ex e) (λ x n ex e. ends-limit refl refl n ex e) (λ limit x n ex e r ih. later limit n ex r ih)
+      (λ limit x e. ends-quiet refl e) (λ limit x n ex e. ends-stuck refl n ex e) (λ x n ex e. ends-limit refl refl n ex e)
+      (λ limit x n ex e r ih. later limit n ex r ih)
     where
       later : (limit n : ℕ) (ex : ℤ) (r : Run) → End limit r → End (suc limit) (after n ex r)
       later limit n ex r (ends-quiet e w) = ends-quiet e w
@@ -81,21 +88,22 @@ module _ (way : Way) where
       (λ limit x n ex e r ih no6. ap (λ z. run way z x) (suc-add limit more) ∙ run-flip (limit + more) x n ex e ∙ ap (after n ex) (ih no6))
 
   -- where each flip takes at least d from a measure, the flips are bounded by it
-  module _ (measure : Word → ℕ) (d : ℕ) (falls : (x : Word) (n : ℕ) (ex : ℤ) → way x ≡ flip n ex → d + measure (flipped x n) ≤ measure x) where
-    pub run-falls : (limit : ℕ) (x : Word) → d * length (run way limit x .flips) + measure (run way limit x .word) ≤ measure x
-    run-falls = every-run (λ limit x r. d * length (r .flips) + measure (r .word) ≤ measure x)
-        (λ limit x e. stays x) (λ limit x n ex e. stays x) (λ x n ex e. stays x)
-        (λ limit x n ex e r ih. omega (arith, mul-suc d (length (r .flips)), falls x n ex e, ih))
-      where
-        stays : (x : Word) → d * 0 + measure x ≤ measure x
-        stays x = le-of-eq (ap (λ z. z + measure x) (mul-zero d) ∙ zero-add (measure x))
+  module _ (measure : Word → ℕ) (d : ℕ) (falls : (x : Word) (n : ℕ) (ex : ℤ) → way x ≡ flip n ex → d + measure (flipped x n) ≤ measure x)
+    where
+      pub run-falls : (limit : ℕ) (x : Word) → d * length (run way limit x .flips) + measure (run way limit x .word) ≤ measure x
+      run-falls = every-run (λ limit x r. d * length (r .flips) + measure (r .word) ≤ measure x)
+          (λ limit x e. stays x) (λ limit x n ex e. stays x) (λ x n ex e. stays x)
+          (λ limit x n ex e r ih. omega (arith, mul-suc d (length (r .flips)), falls x n ex e, ih))
+        where
+          stays : (x : Word) → d * 0 + measure x ≤ measure x
+          stays x = le-of-eq (ap (λ z. z + measure x) (mul-zero d) ∙ zero-add (measure x))
 
-    -- so a limit no smaller than that bound is never the cause of a refusal
-    pub run-enough : (limit : ℕ) (x : Word) → measure x < d * suc limit → run way limit x .number ≡ 6 → ⊥
-    run-enough limit x h six = go (run-ends limit x)
-      where
-        go : End limit (run way limit x) → ⊥
-        go (ends-quiet e w) = let z : _≡_ {A = ℕ} 0 6 = sym e ∙ six in omega arith
-        go (ends-stuck e n ex w) = let z : _≡_ {A = ℕ} 5 6 = sym e ∙ six in omega arith
-        go (ends-limit e l n ex w) =
-            omega (arith, run-falls limit x, falls (run way limit x .word) n ex w, ap (λ z. d * z) l, mul-suc d limit)
+      -- so a limit no smaller than that bound is never the cause of a refusal
+      pub run-enough : (limit : ℕ) (x : Word) → measure x < d * suc limit → run way limit x .number ≡ 6 → ⊥
+      run-enough limit x h six = go (run-ends limit x)
+        where
+          go : End limit (run way limit x) → ⊥
+          go (ends-quiet e w) = let z : _≡_ {A = ℕ} 0 6 = sym e ∙ six in omega arith
+          go (ends-stuck e n ex w) = let z : _≡_ {A = ℕ} 5 6 = sym e ∙ six in omega arith
+          go (ends-limit e l n ex w) =
+              omega (arith, run-falls limit x, falls (run way limit x .word) n ex w, ap (λ z. d * z) l, mul-suc d limit)

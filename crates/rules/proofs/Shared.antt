@@ -3,7 +3,8 @@ use mathlib.Core.Path.{_≡_, refl, sym, ap, ap₂, _∙_, subst}
 use mathlib.Core.Bool.{Bool, true, false, _&&_, _||_}
 use mathlib.Core.List.{List, [], _∷_}
 use Prim.Native.Nat.{ℕ, zero, suc, _+_, _-_, _*_, _/_, _%_, _≤_, _<_, zero-le}
-use native.Mathlib.Nat.{zero-lt-suc, mod-lt, zero-add, add-assoc, add-comm, mod-add-mod, mod-eq-of-lt, add-mod-right, sub-add-cancel, le-of-lt, le-trans, le-of-eq, div-lt-iff-lt-mul, div-add-mod'}
+use native.Mathlib.Nat.{zero-lt-suc, mod-lt, zero-add, add-assoc, add-comm, mod-add-mod, mod-eq-of-lt, add-mod-right, sub-add-cancel}
+use native.Mathlib.Nat.{le-of-lt, le-trans, le-of-eq, div-lt-iff-lt-mul, div-add-mod'}
 use native.Mathlib.Decide.{ℕ-discrete}
 use native.Mathlib.Omega.{arith}
 use lib.Dec.{T, eqb, eqb→eq}
@@ -71,7 +72,8 @@ occurs-once d (x ∷ xs) t = go (ℕ-discrete x d) (occurs-once d xs (and-r (eqb
 
 occurs-nonzero : (d : ℕ) (xs : List ℕ) → (d ≡ 0 → ⊥) → occurs d (nonzero xs) ≡ occurs d xs
 occurs-nonzero d [] n = refl
-occurs-nonzero d (zero ∷ xs) n = occurs-nonzero d xs n ∙ sym (ap (λ a. tally a + occurs d xs) (ne-eqb 0 d (λ e. n (sym e))) ∙ zero-add (occurs d xs))
+occurs-nonzero d (zero ∷ xs) n = occurs-nonzero d xs n ∙ sym (ap (λ a. tally a + occurs d xs) (ne-eqb 0 d (λ e. n (sym e)))
+    ∙ zero-add (occurs d xs))
 occurs-nonzero d (suc x ∷ xs) n = ap (λ z. tally (eqb (suc x) d) + z) (occurs-nonzero d xs n)
 
 module _ (m : ℕ) where
@@ -85,10 +87,12 @@ module _ (m : ℕ) where
       ap (λ z. eqb z k₀) (mod-add-mod (k + y) (suc m) s₀ ∙ ap (λ z. z % suc m) (add-assoc k y s₀))
       ∙ eqb-iff ((k + (y + s₀)) % suc m) k₀ ((y + s₀) % suc m) ((k₀ + (suc m - k)) % suc m)
       (λ e. cancel m (y + s₀) (k₀ + (suc m - k)) k (ap (λ z. z % suc m) (add-comm (y + s₀) k) ∙ e ∙ sym round))
-      (λ e. ap (λ z. z % suc m) (add-comm k (y + s₀)) ∙ sym (mod-add-mod (y + s₀) (suc m) k) ∙ ap (λ z. (z + k) % suc m) e ∙ mod-add-mod (k₀ + (suc m - k)) (suc m) k ∙ round)
+      (λ e. ap (λ z. z % suc m) (add-comm k (y + s₀)) ∙ sym (mod-add-mod (y + s₀) (suc m) k) ∙ ap (λ z. (z + k) % suc m) e
+      ∙ mod-add-mod (k₀ + (suc m - k)) (suc m) k ∙ round)
     where
       round : (k₀ + (suc m - k) + k) % suc m ≡ k₀
-      round = ap (λ z. z % suc m) (add-assoc k₀ (suc m - k) k ∙ ap (λ z. k₀ + z) (sub-add-cancel (le-of-lt hk))) ∙ add-mod-right k₀ (suc m) ∙ mod-eq-of-lt hk₀
+      round = ap (λ z. z % suc m) (add-assoc k₀ (suc m - k) k ∙ ap (λ z. k₀ + z) (sub-add-cancel (le-of-lt hk))) ∙ add-mod-right k₀ (suc m)
+          ∙ mod-eq-of-lt hk₀
 
   one-few : (S₀ rest : List ℕ) (k k₀ s : ℕ) → k < suc m → k₀ < suc m
       → tally (oneAt (suc m) S₀ ((k + (suc m - s)) % suc m) k₀) + occurs (gap k k₀) rest ≤ occurs (gap k k₀) (apart (suc m) s S₀ rest)
@@ -102,23 +106,28 @@ module _ (m : ℕ) where
       )
 
   block-few : (S S₀ rest : List ℕ) (k k₀ : ℕ) → k < suc m → k₀ < suc m
-      → countOf S (λ s. oneAt (suc m) S₀ ((k + (suc m - s)) % suc m) k₀) + occurs (gap k k₀) rest ≤ occurs (gap k k₀) (aparts (suc m) S S₀ rest)
+      → countOf S (λ s. oneAt (suc m) S₀ ((k + (suc m - s)) % suc m) k₀) + occurs (gap k k₀) rest ≤ occurs (gap k k₀)
+      (aparts (suc m) S S₀ rest)
   block-few [] S₀ rest k k₀ hk hk₀ = le-of-eq (zero-add (occurs (gap k k₀) rest))
   block-few (s ∷ S) S₀ rest k k₀ hk hk₀ =
       omega (arith, one-few S₀ (aparts (suc m) S S₀ rest) k k₀ s hk hk₀, block-few S S₀ rest k k₀ hk hk₀)
 
   rows-few : (H : List (List (List ℕ))) (b b₀ k k₀ : ℕ) → k < suc m → k₀ < suc m
-      → each H (λ row. countOf (getD row b []) (λ s. oneAt (suc m) (getD row b₀ []) ((k + (suc m - s)) % suc m) k₀)) ≤ occurs (gap k k₀) (differences (suc m) H b b₀)
+      → each H (λ row. countOf (getD row b []) (λ s. oneAt (suc m) (getD row b₀ []) ((k + (suc m - s)) % suc m) k₀)) ≤ occurs (gap k k₀)
+      (differences (suc m) H b b₀)
   rows-few [] b b₀ k k₀ hk hk₀ = zero-le
   rows-few (row ∷ H) b b₀ k k₀ hk hk₀ =
       omega (arith, block-few (getD row b []) (getD row b₀ []) (differences (suc m) H b b₀) k k₀ hk hk₀, rows-few H b b₀ k k₀ hk hk₀)
 
-module _ (wordOctets informationOctets unsent m : ℕ) (H : List (List (List ℕ))) (gs : List (List ℕ)) (printed B : ℕ) (shape : T (shaped (suc m) B H)) (test : T (sharedOnce (suc m) B H)) where
+module _ (wordOctets informationOctets unsent m : ℕ) (H : List (List (List ℕ))) (gs : List (List ℕ)) (printed B : ℕ)
+    (shape : T (shaped (suc m) B H)) (test : T (sharedOnce (suc m) B H)) where
   -- no two bits share two checks
-  pub shared-few : (n n₀ : ℕ) → n < B * suc m → n₀ < B * suc m → (n ≡ n₀ → ⊥) → shared (withTables wordOctets informationOctets unsent m H gs printed) n n₀ ≤ 1
+  pub shared-few : (n n₀ : ℕ) → n < B * suc m → n₀ < B * suc m → (n ≡ n₀ → ⊥)
+      → shared (withTables wordOctets informationOctets unsent m H gs printed) n n₀ ≤ 1
   unfolding shared gap
   shared-few n n₀ h h₀ d =
-      le-trans (le-of-eq (cover-rows wordOctets informationOctets unsent m H gs printed B shape (λ row i. oneAt (suc m) (getD row (n₀ / suc m) []) i (n₀ % suc m)) n h))
+      le-trans (le-of-eq (cover-rows wordOctets informationOctets unsent m H gs printed B shape
+      (λ row i. oneAt (suc m) (getD row (n₀ / suc m) []) i (n₀ % suc m)) n h))
       (le-trans (rows-few m H (n / suc m) (n₀ / suc m) (n % suc m) (n₀ % suc m) k-lt k₀-lt) (go (ℕ-discrete (n / suc m) (n₀ / suc m))))
     where
       k-lt : n % suc m < suc m
@@ -136,7 +145,8 @@ module _ (wordOctets informationOctets unsent m : ℕ) (H : List (List (List ℕ
       tested : T (once (others (eqb (n / suc m) (n₀ / suc m)) (differences (suc m) H (n / suc m) (n₀ / suc m))))
       tested =
           below-at B (λ b₀. once (others (eqb (n / suc m) b₀) (differences (suc m) H (n / suc m) b₀)))
-          (below-at B (λ b. below B (λ b₀. once (others (eqb b b₀) (differences (suc m) H b b₀)))) test (n / suc m) (div-lt-iff-lt-mul (zero-lt-suc m) .1 h))
+          (below-at B (λ b. below B (λ b₀. once (others (eqb b b₀) (differences (suc m) H b b₀)))) test (n / suc m)
+          (div-lt-iff-lt-mul (zero-lt-suc m) .1 h))
           (n₀ / suc m) (div-lt-iff-lt-mul (zero-lt-suc m) .1 h₀)
 
       same : n / suc m ≡ n₀ / suc m → n % suc m ≡ n₀ % suc m → n ≡ n₀
@@ -144,6 +154,8 @@ module _ (wordOctets informationOctets unsent m : ℕ) (H : List (List (List ℕ
 
       go : Dec (n / suc m ≡ n₀ / suc m) → occurs place diffs ≤ 1
       go (yes e) =
-          le-trans (le-of-eq (sym (occurs-nonzero place diffs (λ z. d (same e (eqb→eq (n % suc m) (n₀ % suc m) (subst T (near m (n₀ % suc m) (n % suc m) k₀-lt k-lt) (subst (λ y. T (eqb y 0)) (sym z) tt))))))))
+          le-trans (le-of-eq (sym (occurs-nonzero place diffs
+          (λ z. d (same e (eqb→eq (n % suc m) (n₀ % suc m)
+          (subst T (near m (n₀ % suc m) (n % suc m) k₀-lt k-lt) (subst (λ y. T (eqb y 0)) (sym z) tt))))))))
           (occurs-once place (nonzero diffs) (subst (λ z. T (once (others z diffs))) (eq-eqb (n / suc m) (n₀ / suc m) e) tested))
       go (no n) = occurs-once place diffs (subst (λ z. T (once (others z diffs))) (ne-eqb _ _ n) tested)

@@ -21,7 +21,8 @@ use Rattle.rules.proofs.Ways.{Chosen, Chooses, TakesGreatest, FlipsOne,
 
 -- two flips may change places
 pub flip-swap : (x : Word) (a b : ℕ) → flipped (flipped x a) b ≡ flipped (flipped x b) a
-flip-swap x a b = fun-ext (λ i. ⊕-assoc (x i) (eqb i a) (eqb i b) ∙ ap (λ z. x i ⊕ z) (⊕-comm (eqb i a) (eqb i b)) ∙ sym (⊕-assoc (x i) (eqb i b) (eqb i a)))
+flip-swap x a b = fun-ext (λ i. ⊕-assoc (x i) (eqb i a) (eqb i b) ∙ ap (λ z. x i ⊕ z) (⊕-comm (eqb i a) (eqb i b))
+    ∙ sym (⊕-assoc (x i) (eqb i b) (eqb i a)))
 
 and-own : (p q : Bool) → (p && (p ⊕ q)) ≡ (p && not q)
 and-own true true = refl
@@ -47,15 +48,18 @@ module _ (c : Code) (girth : Girth c) (four : (n : ℕ) → n < bits c → 4 ≤
   own : shared c a b + brokenOf c both a ≡ degreeOf c a
   unfolding shared brokenOf degreeOf
   own =
-      ap (λ z. count (checks c) (λ k. covers c k a && covers c k b) + z) (count-same (checks c) _ _ (λ k l. ap (λ z. covers c k a && z) (check-both k l) ∙ and-own (covers c k a) (covers c k b)))
+      ap (λ z. count (checks c) (λ k. covers c k a && covers c k b) + z)
+      (count-same (checks c) _ _ (λ k l. ap (λ z. covers c k a && z) (check-both k l) ∙ and-own (covers c k a) (covers c k b)))
       ∙ count-split (checks c) (λ k. covers c k b) (λ k. covers c k a)
 
   -- of any bit, those that it shares with either
   others : (n : ℕ) → brokenOf c both n ≤ shared c n a + shared c n b
   unfolding shared brokenOf
   others n =
-      let same : count (checks c) (λ k. covers c k n && check c both k) ≡ count (checks c) (λ k. (covers c k n && covers c k a) ⊕ (covers c k n && covers c k b)) =
-      count-same (checks c) _ _ (λ k l. ap (λ z. covers c k n && z) (check-both k l) ∙ and-⊕ (covers c k n) (covers c k a) (covers c k b)) in
+      let same : count (checks c) (λ k. covers c k n && check c both k) ≡ count (checks c)
+      (λ k. (covers c k n && covers c k a) ⊕ (covers c k n && covers c k b)) =
+      count-same (checks c) _ _ (λ k l. ap (λ z. covers c k n && z) (check-both k l)
+      ∙ and-⊕ (covers c k n) (covers c k a) (covers c k b)) in
       omega (arith, same, count-xor (checks c) (λ k. covers c k n && covers c k a) (λ k. covers c k n && covers c k b))
 
   above : metOf c both a < brokenOf c both a
@@ -66,7 +70,18 @@ module _ (c : Code) (girth : Girth c) (four : (n : ℕ) → n < bits c → 4 ≤
   less n h da db =
       excess-order c both n a
       ∙ lt-ltb (brokenOf c both n + metOf c both a) (brokenOf c both a + metOf c both n)
-      (omega (arith, own, others n, girth .few a b ha hb apart, girth .few n a h ha da, girth .few n b h hb db, four a ha, four n h, broken-met c both a, broken-met c both n))
+      (omega (
+        arith,
+        own,
+        others n,
+        girth .few a b ha hb apart,
+        girth .few n a h ha da,
+        girth .few n b h hb db,
+        four a ha,
+        four n h,
+        broken-met c both a,
+        broken-met c both n,
+      ))
 
   module _ {way : Way} (ch : Chooses c way) (takes : TakesGreatest c way) (sa : c .unsent ≤ a) (sb : c .unsent ≤ b) where
     -- one of the two is flipped, and then the other
@@ -80,10 +95,12 @@ module _ (c : Code) (girth : Girth c) (four : (n : ℕ) → n < bits c → 4 ≤
             chosen = ch .flips both (f .bit) (f .value) (f .is)
 
             -- what is left is one wrong bit
-            then : (m : ℕ) (hm : m < bits c) → c .unsent ≤ m → flipped both (f .bit) ≡ flipped x m → Mends x 2 (run way (suc (suc limit)) both)
+            then : (m : ℕ) (hm : m < bits c) → c .unsent ≤ m → flipped both (f .bit) ≡ flipped x m
+                → Mends x 2 (run way (suc (suc limit)) both)
             then m hm sm left =
                 subst (Mends x 2)
-                (sym (run-flip way (suc limit) both (f .bit) (f .value) (f .is) ∙ ap (λ y. after (f .bit) (f .value) (run way (suc limit) y)) left
+                (sym (run-flip way (suc limit) both (f .bit) (f .value) (f .is)
+                ∙ ap (λ y. after (f .bit) (f .value) (run way (suc limit) y)) left
                 ∙ ap (after (f .bit) (f .value)) (one-mended c girth x met m hm ch takes sm limit)))
                 (record { number = refl; word = refl; flips = refl })
 

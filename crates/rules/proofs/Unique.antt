@@ -10,7 +10,8 @@ use lib.Dec.{T, eqb}
 use lib.ListN.{getD, length}
 use Rattle.bits.specs.Bits.{digit, _⊕_, sum, below, over, blocks}
 use Rattle.rules.specs.Identity.{rowsTied}
-use Rattle.bits.proofs.Sums.{⊕-eq, and-⊕, into, swap, sum-linear, over-linear, sum-same, sum-none, pick, turn, blocks-sum, blocks-same, and-l, and-r, below-at, not-true, eqb-iff}
+use Rattle.bits.proofs.Sums.{⊕-eq, and-⊕, into, swap, sum-linear, over-linear, sum-same, sum-none, pick, turn, blocks-sum, blocks-same}
+use Rattle.bits.proofs.Sums.{and-l, and-r, below-at, not-true, eqb-iff}
 use Rattle.rules.proofs.Quiet.{parityIn, drops, sized, differ, reduce-all, sized-at, length-drops}
 use Rattle.bits.proofs.Cyclic.{either, near, undo}
 use Rattle.rules.proofs.Blocks.{checkIn}
@@ -73,15 +74,18 @@ module _ (m printed : ℕ) where
   weigh P r v x =
       ap (sum (suc m)) (fun-ext (λ i.
       ap (λ z. r ((i + x) % suc m) && z) (blocks-sum P 0 (λ b s. v b ((i + s) % suc m)))
-      ∙ sym (into (sum (length P)) (sum-linear (length P)) (r ((i + x) % suc m)) (λ c. over (getD P c []) (λ s. v (0 + c) ((i + s) % suc m))))))
-      ∙ swap (sum (suc m)) (sum-linear (suc m)) (length P) (λ i c. r ((i + x) % suc m) && over (getD P c []) (λ s. v (0 + c) ((i + s) % suc m)))
+      ∙ sym (into (sum (length P)) (sum-linear (length P)) (r ((i + x) % suc m))
+      (λ c. over (getD P c []) (λ s. v (0 + c) ((i + s) % suc m))))))
+      ∙ swap (sum (suc m)) (sum-linear (suc m)) (length P)
+      (λ i c. r ((i + x) % suc m) && over (getD P c []) (λ s. v (0 + c) ((i + s) % suc m)))
       ∙ ap (sum (length P)) (fun-ext (λ c. block c))
     where
       block : (c : ℕ) → sum (suc m) (λ i. r ((i + x) % suc m) && over (getD P c []) (λ s. v (0 + c) ((i + s) % suc m)))
           ≡ sum (suc m) (λ n. v c n && over (getD P c []) (λ s. r (((n + x) % suc m + s * (suc m - 1)) % suc m)))
       block c =
           ap (λ b. sum (suc m) (λ i. r ((i + x) % suc m) && over (getD P c []) (λ s. v b ((i + s) % suc m)))) (zero-add c)
-          ∙ ap (sum (suc m)) (fun-ext (λ i. sym (into (over (getD P c [])) (over-linear (getD P c [])) (r ((i + x) % suc m)) (λ s. v c ((i + s) % suc m)))))
+          ∙ ap (sum (suc m)) (fun-ext (λ i. sym (into (over (getD P c [])) (over-linear (getD P c [])) (r ((i + x) % suc m))
+          (λ s. v c ((i + s) % suc m)))))
           ∙ sym (swap (over (getD P c [])) (over-linear (getD P c [])) (suc m) (λ s i. r ((i + x) % suc m) && v c ((i + s) % suc m)))
           ∙ ap (over (getD P c [])) (fun-ext (λ s.
           ap (sum (suc m)) (fun-ext (λ i. ap (λ z. r z && v c ((i + s) % suc m)) (sym (back i s x))))
@@ -102,15 +106,20 @@ module _ (m printed : ℕ) where
       sum-none C _ (λ c l. sum-none (suc m) (λ n. v c n && false) (λ n l′. and-false (v c n)))
   combined C (r ∷ rs) (P ∷ Ps) v x len met =
       ap (sum C) (fun-ext (λ c.
-      ap (sum (suc m)) (fun-ext (λ n. and-⊕ (v c n) (over (getD P c []) (λ s. digit (suc m) r (((n + x) % suc m + s * (suc m - 1)) % suc m))) (column (suc m) rs Ps c ((n + x) % suc m))))
-      ∙ sum-linear (suc m) .plus (λ n. v c n && over (getD P c []) (λ s. digit (suc m) r (((n + x) % suc m + s * (suc m - 1)) % suc m))) (λ n. v c n && column (suc m) rs Ps c ((n + x) % suc m))))
+      ap (sum (suc m)) (fun-ext (λ n. and-⊕ (v c n)
+      (over (getD P c []) (λ s. digit (suc m) r (((n + x) % suc m + s * (suc m - 1)) % suc m))) (column (suc m) rs Ps c ((n + x) % suc m))))
+      ∙ sum-linear (suc m) .plus (λ n. v c n && over (getD P c []) (λ s. digit (suc m) r (((n + x) % suc m + s * (suc m - 1)) % suc m)))
+      (λ n. v c n && column (suc m) rs Ps c ((n + x) % suc m))))
       ∙ sum-linear C .plus
       (λ c. sum (suc m) (λ n. v c n && over (getD P c []) (λ s. digit (suc m) r (((n + x) % suc m + s * (suc m - 1)) % suc m))))
       (λ c. sum (suc m) (λ n. v c n && column (suc m) rs Ps c ((n + x) % suc m)))
       ∙ ap₂ (λ a b. a ⊕ b)
-      (ap (λ z. sum z (λ c. sum (suc m) (λ n. v c n && over (getD P c []) (λ s. digit (suc m) r (((n + x) % suc m + s * (suc m - 1)) % suc m))))) (sym (len 0 (zero-lt-suc (length Ps))))
+      (ap (λ z. sum z (λ c. sum (suc m)
+      (λ n. v c n && over (getD P c []) (λ s. digit (suc m) r (((n + x) % suc m + s * (suc m - 1)) % suc m)))))
+      (sym (len 0 (zero-lt-suc (length Ps))))
       ∙ sym (weigh P (digit (suc m) r) v x)
-      ∙ sum-none (suc m) _ (λ i l. ap (λ z. digit (suc m) r ((i + x) % suc m) && z) (met 0 i (zero-lt-suc (length Ps)) l) ∙ and-false (digit (suc m) r ((i + x) % suc m))))
+      ∙ sum-none (suc m) _ (λ i l. ap (λ z. digit (suc m) r ((i + x) % suc m) && z) (met 0 i (zero-lt-suc (length Ps)) l)
+      ∙ and-false (digit (suc m) r ((i + x) % suc m))))
       (combined C rs Ps v x (λ a l. len (suc a) (suc-le-suc l)) (λ a i l l′. met (suc a) i (suc-le-suc l) l′))
 
   -- so what the inverse makes of a block is 0
@@ -121,16 +130,19 @@ module _ (m printed : ℕ) where
       → sum (suc m) (λ n. v b n && e ((n + (suc m - k)) % suc m)) ≡ false
   made C e b k rs Ps v hb len met t =
       sym (pick C b (λ c. sum (suc m) (λ n. v c n && e ((n + (suc m - k)) % suc m))) hb)
-      ∙ sum-same C (λ c. sum (suc m) (λ n. v c n && e ((n + (suc m - k)) % suc m)) && eqb c b) (λ c. sum (suc m) (λ n. v c n && column (suc m) rs Ps c ((n + (suc m - k)) % suc m))) each
+      ∙ sum-same C (λ c. sum (suc m) (λ n. v c n && e ((n + (suc m - k)) % suc m)) && eqb c b)
+      (λ c. sum (suc m) (λ n. v c n && column (suc m) rs Ps c ((n + (suc m - k)) % suc m))) each
       ∙ combined C rs Ps v (suc m - k) len met
     where
-      each : (c : ℕ) → c < C → (sum (suc m) (λ n. v c n && e ((n + (suc m - k)) % suc m)) && eqb c b) ≡ sum (suc m) (λ n. v c n && column (suc m) rs Ps c ((n + (suc m - k)) % suc m))
+      each : (c : ℕ) → c < C → (sum (suc m) (λ n. v c n && e ((n + (suc m - k)) % suc m)) && eqb c b) ≡ sum (suc m)
+          (λ n. v c n && column (suc m) rs Ps c ((n + (suc m - k)) % suc m))
       each c l =
           and-comm (sum (suc m) (λ n. v c n && e ((n + (suc m - k)) % suc m))) (eqb c b)
           ∙ sym (into (sum (suc m)) (sum-linear (suc m)) (eqb c b) (λ n. v c n && e ((n + (suc m - k)) % suc m)))
           ∙ ap (sum (suc m)) (fun-ext (λ n.
           and-left (eqb c b) (v c n) (e ((n + (suc m - k)) % suc m))
-          ∙ ap (λ z. v c n && z) (sym (same-eq (eqb c b && e ((n + (suc m - k)) % suc m)) (column (suc m) rs Ps c ((n + (suc m - k)) % suc m))
+          ∙ ap (λ z. v c n && z) (sym (same-eq (eqb c b && e ((n + (suc m - k)) % suc m))
+          (column (suc m) rs Ps c ((n + (suc m - k)) % suc m))
           (below-at (suc m) (λ d. same (eqb c b && e d) (column (suc m) rs Ps c d))
           (below-at C (λ c. below (suc m) (λ d. same (eqb c b && e d) (column (suc m) rs Ps c d))) t c l)
           ((n + (suc m - k)) % suc m) (mod-lt (n + (suc m - k)) (zero-lt-suc m)))))))
@@ -146,7 +158,8 @@ module _ (m printed : ℕ) where
       → (b : ℕ) → b < length R → T (inverseRow (suc m) C e Ps (j + b) (getD R b []))
   inverse-at C e Ps j [] t b h = absurd (not-suc-le-zero h)
   inverse-at C e Ps j (rs ∷ R) t zero h =
-      subst (λ z. T (inverseRow (suc m) C e Ps z rs)) (sym (add-zero j)) (and-l (inverseRow (suc m) C e Ps j rs) (inverseTest (suc m) C e Ps (suc j) R) t)
+      subst (λ z. T (inverseRow (suc m) C e Ps z rs)) (sym (add-zero j))
+      (and-l (inverseRow (suc m) C e Ps j rs) (inverseTest (suc m) C e Ps (suc j) R) t)
   inverse-at C e Ps j (rs ∷ R) t (suc b) h =
       subst (λ z. T (inverseRow (suc m) C e Ps z (getD R b []))) (suc-add j b ∙ sym (add-suc j b))
       (inverse-at C e Ps (suc j) R (and-r (inverseRow (suc m) C e Ps j rs) (inverseTest (suc m) C e Ps (suc j) R) t) b (le-of-suc-le-suc h))
@@ -176,7 +189,8 @@ module _ (m printed : ℕ) where
       → (c k : ℕ) → c < C → k < suc m → w (length gs + c) k ≡ parityIn (suc m) printed gs 0 w c k
   unfolding differ
   unique C H gs R code w met c k hc hk =
-      sym (⊕-eq (parityIn (suc m) printed gs 0 w c k) (w (length gs + c) k) (sym (only (differ m printed gs w c) k hk) ∙ left C (λ d. eqb d 0) H gs R code w met c k hc))
+      sym (⊕-eq (parityIn (suc m) printed gs 0 w c k) (w (length gs + c) k) (sym (only (differ m printed gs w c) k hk)
+      ∙ left C (λ d. eqb d 0) H gs R code w met c k hc))
 
   -- code 4: each parity block is the encoder's, or the encoder's with every bit the other way
   pub constant : (C : ℕ) (H : List (List (List ℕ))) (gs R : List (List ℕ)) → Invertible C (λ d. not (eqb d 0)) H gs R
@@ -184,7 +198,8 @@ module _ (m printed : ℕ) where
       → (c k : ℕ) → c < C → k < suc m → differ m printed gs w c k ≡ sum (suc m) (differ m printed gs w c)
   constant C H gs R code w met c k hc hk =
       sym (only (differ m printed gs w c) k hk)
-      ∙ sym (⊕-eq (sum (suc m) (differ m printed gs w c)) (sum (suc m) (λ n. differ m printed gs w c n && eqb ((n + (suc m - k)) % suc m) 0))
+      ∙ sym (⊕-eq (sum (suc m) (differ m printed gs w c))
+      (sum (suc m) (λ n. differ m printed gs w c n && eqb ((n + (suc m - k)) % suc m) 0))
       (sym (sum-linear (suc m) .plus (differ m printed gs w c) (λ n. differ m printed gs w c n && eqb ((n + (suc m - k)) % suc m) 0))
       ∙ ap (sum (suc m)) (fun-ext (λ n. and-not (differ m printed gs w c n) (eqb ((n + (suc m - k)) % suc m) 0)))
       ∙ left C (λ d. not (eqb d 0)) H gs R code w met c k hc))
@@ -210,5 +225,6 @@ module _ (m printed : ℕ) where
   turned C H gs w f t sz ev d r i h =
       reduce-all m printed H gs w t r i h
       ∙ blocks-same (getD (drops (length gs) H) r []) _ (λ c s. f c) (λ c s l. d c ((i + s) % suc m)
-      (subst (λ z. c < z) (sized-at C (drops (length gs) H) sz r (subst (λ z. r < z) (sym (length-drops (length gs) H)) h)) l) (mod-lt (i + s) (zero-lt-suc m)))
+      (subst (λ z. c < z) (sized-at C (drops (length gs) H) sz r (subst (λ z. r < z) (sym (length-drops (length gs) H)) h)) l)
+      (mod-lt (i + s) (zero-lt-suc m)))
       ∙ even-none (getD (drops (length gs) H) r []) 0 f (evens-at (drops (length gs) H) ev r)

@@ -17,7 +17,8 @@ use Rattle.rules.specs.Flipping.{Next, quiet, stuck, flip, Way, run, end
 use Rattle.bits.proofs.Sums.{⊕-false}
 use Rattle.bits.proofs.Counting.{count-same, count-none, none-counted}
 use Rattle.rules.proofs.Flips.{broken-met, excess-is, excess-order, check-flip, broken-flip, sub-order, flip-back}
-use Rattle.rules.proofs.Runs.{every-run, run-quiet, run-flip, run-falls, run-enough, run-ends, End, ends-quiet, ends-stuck, ends-limit}
+use Rattle.rules.proofs.Runs.{every-run, run-quiet, run-flip, run-falls, run-enough, run-ends, End, ends-quiet, ends-stuck}
+use Rattle.rules.proofs.Runs.{ends-limit}
 
 -- ---- what is needed of a way
 
@@ -36,7 +37,8 @@ pub record Chooses (c : Code) (way : Way) : Type 0 where
 
 -- of the sent bits none is above what is flipped, and where nothing is, none is above 0
 pub record TakesGreatest (c : Code) (way : Way) : Type 0 where
-  pub most : (x : Word) (n : ℕ) (ex : ℤ) → way x ≡ flip n ex → (m : ℕ) → c .unsent ≤ m → m < bits c → ltZ (excess c x n) (excess c x m) ≡ false
+  pub most : (x : Word) (n : ℕ) (ex : ℤ) → way x ≡ flip n ex → (m : ℕ) → c .unsent ≤ m → m < bits c
+      → ltZ (excess c x n) (excess c x m) ≡ false
   pub sticks : (x : Word) (n : ℕ) (ex : ℤ) → way x ≡ stuck n ex → (m : ℕ) → c .unsent ≤ m → m < bits c → ltZ (pos 0) (excess c x m) ≡ false
 
 -- ---- the bounds
@@ -96,9 +98,11 @@ above-is c x n =
 -- where no check is broken none of a bit's is
 pub none-broken : (c : Code) (x : Word) → broken c x ≡ 0 → (n : ℕ) → brokenOf c x n ≡ 0
 unfolding broken brokenOf
-none-broken c x e n = count-none (checks c) _ (λ k l. ap (λ b. covers c k n && b) (none-counted (checks c) (check c x) e k l) ∙ and-false (covers c k n))
+none-broken c x e n = count-none (checks c) _ (λ k l. ap (λ b. covers c k n && b) (none-counted (checks c) (check c x) e k l)
+    ∙ and-false (covers c k n))
 
-module _ {c : Code} {way : Way} (ch : Chooses c way) (takes : TakesGreatest c way) (x : Word) (m : ℕ) (sent : c .unsent ≤ m) (under : m < bits c) (above : metOf c x m < brokenOf c x m) where
+module _ {c : Code} {way : Way} (ch : Chooses c way) (takes : TakesGreatest c way) (x : Word) (m : ℕ) (sent : c .unsent ≤ m)
+    (under : m < bits c) (above : metOf c x m < brokenOf c x m) where
   pub record FlipsOne : Type 0 where
     pub bit : ℕ
     pub value : ℤ
@@ -110,7 +114,8 @@ module _ {c : Code} {way : Way} (ch : Chooses c way) (takes : TakesGreatest c wa
     where
       go : (nx : Next) → way x ≡ nx → FlipsOne
       go quiet e = absurd (omega (arith, none-broken c x (ch .quiet-met x e) m))
-      go (stuck n ex) e = absurd (true≢false (sym (above-is c x m ∙ lt-ltb (metOf c x m) (brokenOf c x m) above) ∙ takes .sticks x n ex e m sent under))
+      go (stuck n ex) e = absurd (true≢false (sym (above-is c x m ∙ lt-ltb (metOf c x m) (brokenOf c x m) above)
+          ∙ takes .sticks x n ex e m sent under))
       go (flip n ex) e = record { bit = n; value = ex; is = e; low = takes .most x n ex e m sent under }
 
 -- ---- one wrong bit
@@ -154,7 +159,8 @@ module _ (c : Code) (girth : Girth c) (x : Word) (met : broken c x ≡ 0) (n₀ 
   above-others n h d =
       let one : brokenOf c (flipped x n₀) n ≤ 1 = le-trans (le-of-eq (broken-shared n)) (girth .few n n₀ h h₀ d) in
       excess-order c (flipped x n₀) n n₀
-      ∙ lt-ltb (brokenOf c (flipped x n₀) n + metOf c (flipped x n₀) n₀) (brokenOf c (flipped x n₀) n₀ + metOf c (flipped x n₀) n) (omega (arith, one, own, none-met, girth .many n₀ h₀))
+      ∙ lt-ltb (brokenOf c (flipped x n₀) n + metOf c (flipped x n₀) n₀) (brokenOf c (flipped x n₀) n₀ + metOf c (flipped x n₀) n)
+      (omega (arith, one, own, none-met, girth .many n₀ h₀))
 
   excess-own : excess c (flipped x n₀) n₀ ≡ pos (degreeOf c n₀)
   excess-own = excess-is c (flipped x n₀) n₀ ∙ ap₂ subℕ own none-met ∙ whole (degreeOf c n₀)
@@ -164,7 +170,8 @@ module _ (c : Code) (girth : Girth c) (x : Word) (met : broken c x ≡ 0) (n₀ 
     pub one-next : way (flipped x n₀) ≡ flip n₀ (pos (degreeOf c n₀))
     one-next = go (flips-one ch takes (flipped x n₀) n₀ sent h₀ (omega (arith, own, none-met, girth .many n₀ h₀)))
       where
-        go : FlipsOne ch takes (flipped x n₀) n₀ sent h₀ (omega (arith, own, none-met, girth .many n₀ h₀)) → way (flipped x n₀) ≡ flip n₀ (pos (degreeOf c n₀))
+        go : FlipsOne ch takes (flipped x n₀) n₀ sent h₀ (omega (arith, own, none-met, girth .many n₀ h₀))
+            → way (flipped x n₀) ≡ flip n₀ (pos (degreeOf c n₀))
         go f = by (ℕ-discrete (f .bit) n₀)
           where
             chosen : Chosen c (flipped x n₀) (f .bit) (f .value)

@@ -12,7 +12,8 @@ use Rattle.rules.specs.Codes.{Code, bits, information}
 abbrev pub printedBit : Code → ℕ → ℕ → ℕ → Bool
 printedBit c block part k = digit (c .printed) (getD (getD (c .generator) block []) part 0) (c .printed - c .size + k)
 
--- Bit p of the row of information bit n: the printed row of the bit's block, each part of it shifted right circularly by the bit's place there.
+-- Bit p of the row of information bit n: the printed row of the bit's block, each part of it shifted right circularly by the bit's place
+-- there.
 abbrev pub rowBit : Code → ℕ → ℕ → Bool
 rowBit c n p =
     let M = c .size in

@@ -8,7 +8,8 @@ use Rattle.bits.specs.Bits.{Word, flipped, if_then_else_}
 use Rattle.rules.specs.Codes.{Code, bits}
 use Rattle.rules.specs.Checks.{broken, excess}
 
--- What comes next for a word: no check is broken; or no bit that is sent has an excess above 0, the greatest being this bit's; or this bit, of this excess,
+-- What comes next for a word: no check is broken; or no bit that is sent has an excess above 0, the greatest being this bit's; or this bit,
+-- of this excess,
 -- is to be flipped.
 pub data Next : Type 0 where
   quiet : Next

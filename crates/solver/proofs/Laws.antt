@@ -26,8 +26,8 @@ use Rattle.syndromes.specs.Rows.{rowed, within, wide}
 use Rattle.syndromes.proofs.Rowwise.{rowed-inside, rowed-past, rowed-same}
 use Rattle.syndromes.proofs.Trimming.{within-rowed}
 use Rattle.layout.specs.declared.Shape.{Shape}
-use Rattle.steps.specs.Steps.{ended, shifts, target, source, rowsIn, stepped, walked, steps16, steps32, steps64, steps511}
-use Rattle.solver.specs.Rows.{held, Kept, twoRows, Fits, copies, stepsOf, behind, informed, completed}
+use Rattle.steps.specs.Steps.{ended, shifts, target, source, rowsIn, stepped, walked}
+use Rattle.solver.specs.Rows.{held, Kept, twoRows, Fits, copies, behind, informed, completed}
 
 -- ---- the shifts of a step, one after the other
 
@@ -35,7 +35,8 @@ rest-ended : (M : ℕ) (l : List ℕ) (f g : ℕ → Bool) → ((s : ℕ) → s 
 rest-ended M [] f g h = refl
 rest-ended M (s ∷ l) f g h = go (ltb s M) refl (rest-ended M l f g h)
   where
-    go : (b : Bool) → ltb s M ≡ b → over (ended M l) f ≡ over (ended M l) g → over (if b then s ∷ ended M l else []) f ≡ over (if b then s ∷ ended M l else []) g
+    go : (b : Bool) → ltb s M ≡ b → over (ended M l) f ≡ over (ended M l) g
+        → over (if b then s ∷ ended M l else []) f ≡ over (if b then s ∷ ended M l else []) g
     go true e ih = ap₂ (λ a b. a ⊕ b) (h s (ltb→lt s M (subst T (sym e) tt))) ih
     go false e ih = refl
 
@@ -65,7 +66,8 @@ pub rest-past : (M : ℕ) (step : List ℕ) (d : Word) (k : ℕ) → length step
 rest-past M step d k h = fun-ext (λ i. ap (λ p. over (ended M p) (λ s. from s d i)) (drop-all step k h))
 
 -- copies of a doubled row, turned
-pub copies-are : (M : ℕ) (step : List ℕ) (v : Word) (i : ℕ) → i < M → copies M step (twice M (upTo M v)) i ≡ over (shifts M step) (λ s. v ((i + s) % M))
+pub copies-are : (M : ℕ) (step : List ℕ) (v : Word) (i : ℕ) → i < M
+    → copies M step (twice M (upTo M v)) i ≡ over (shifts M step) (λ s. v ((i + s) % M))
 copies-are M step v i h =
     rest-ended M (drop 2 step) (λ s. from s (twice M (upTo M v)) i) (λ s. v ((i + s) % M)) (λ s l.
     twice-turned M s i (upTo M v) l h ∙ upTo-below M ((i + s) % M) v (mod-lt (i + s) (omega arith)))
@@ -94,7 +96,9 @@ module _ (w : ℕ) (some : 0 < w) (R t : ℕ) (here : t < R) where
       same n d =
           ⊎-elim
           (λ (l : R ≤ n / w). rowed-past w some R f n l ∙ sym (rowed-past w some R h n l))
-          (λ (l : n / w < R). rowed-inside w some R f n l ∙ sym (rowed-inside w some R h n l ∙ ap (λ b. f (n / w) (n % w) ⊕ (b && g (n % w))) (ne-eqb (n / w) t d) ∙ ⊕-false (f (n / w) (n % w))))
+          (λ (l : n / w < R). rowed-inside w some R f n l
+          ∙ sym (rowed-inside w some R h n l ∙ ap (λ b. f (n / w) (n % w) ⊕ (b && g (n % w))) (ne-eqb (n / w) t d)
+          ∙ ⊕-false (f (n / w) (n % w))))
           (le-or-lt R (n / w))
 
       other : (n : ℕ) → (n / w ≡ t → ⊥) → added x (w * t) (w * (t + 1)) g n ≡ rowed w R h n
@@ -167,7 +171,8 @@ abbrev pub Added : ℕ → List ℕ → Word → Word → ℕ → ℕ → Word �
 Added M step d x a e y k = added y a e (rest M step d k) ≡ added x a e (copies M step d)
 
 module _ (M : ℕ) (step : List ℕ) (d x : Word) (a e : ℕ) (y : Word) (k : ℕ) (so-far : Added M step d x a e y k) where
-  pub added-more : (z : Word) → k < length step → getD step k 0 < M → z ≡ added y a e (from (getD step k 0) d) → Added M step d x a e z (k + 1)
+  pub added-more : (z : Word) → k < length step → getD step k 0 < M → z ≡ added y a e (from (getD step k 0) d)
+      → Added M step d x a e z (k + 1)
   added-more z h l is =
       ap (λ u. added u a e (rest M step d (k + 1))) is
       ∙ added-twice y a e (from (getD step k 0) d) (rest M step d (k + 1))
@@ -175,7 +180,8 @@ module _ (M : ℕ) (step : List ℕ) (d x : Word) (a e : ℕ) (y : Word) (k : �
       ∙ so-far
 
   pub added-all : rest M step d k ≡ (λ i. false) → y ≡ added x a e (copies M step d)
-  added-all none = fun-ext (λ n. sym (ap (λ b. y n ⊕ b) (and-false (leb a n && ltb n e)) ∙ ⊕-false (y n))) ∙ ap (added y a e) (sym none) ∙ so-far
+  added-all none = fun-ext (λ n. sym (ap (λ b. y n ⊕ b) (and-false (leb a n && ltb n e)) ∙ ⊕-false (y n))) ∙ ap (added y a e) (sym none)
+      ∙ so-far
 
 -- ---- bounds
 
@@ -208,8 +214,10 @@ module _ (sh : Shape) (fit : Fits sh) where
 
 -- ---- reading a row
 
-pub held-at : (sh : Shape) → 0 < wide sh → (f : ℕ → Word) (x : Word) → x ≡ held sh f → (r i : ℕ) → r < sh .rows → i < wide sh → x (wide sh * r + i) ≡ upTo (sh .size) (f r) i
-held-at sh some f x e r i hr hi = ap (λ z. z (wide sh * r + i)) e ∙ rowed-at (wide sh) some (sh .rows) (λ r. upTo (sh .size) (f r)) r i hr hi
+pub held-at : (sh : Shape) → 0 < wide sh → (f : ℕ → Word) (x : Word) → x ≡ held sh f → (r i : ℕ) → r < sh .rows → i < wide sh
+    → x (wide sh * r + i) ≡ upTo (sh .size) (f r) i
+held-at sh some f x e r i hr hi = ap (λ z. z (wide sh * r + i)) e
+    ∙ rowed-at (wide sh) some (sh .rows) (λ r. upTo (sh .size) (f r)) r i hr hi
 
 cut-twice : (M i : ℕ) (x : Word) → upTo M (upTo M x) i ≡ upTo M x i
 cut-twice M i x = go (ltb i M)
@@ -234,7 +242,8 @@ slice-past : (s : List ℕ) (a n m : ℕ) → 64 * n ≤ m → wbit (take n (dro
 slice-past s a n m h = word-past (take n (drop a s)) m (omega (arith, length-take n (drop a s)))
 
 -- a row, as the words that hold it
-pub row-slice : (sh : Shape) → 0 < wide sh → sh .size ≤ wide sh → (f : ℕ → Word) (s : List ℕ) → wbit s ≡ held sh f → (r n : ℕ) → r < sh .rows → n ≡ sh .words
+pub row-slice : (sh : Shape) → 0 < wide sh → sh .size ≤ wide sh → (f : ℕ → Word) (s : List ℕ) → wbit s ≡ held sh f → (r n : ℕ)
+    → r < sh .rows → n ≡ sh .words
     → wbit (take n (drop (r * sh .words) s)) ≡ upTo (sh .size) (f r)
 row-slice sh some size f s e r n hr en = fun-ext (λ m. ⊎-elim (past m) (inside m) (le-or-lt (64 * n) m))
   where
@@ -249,9 +258,11 @@ row-slice sh some size f s e r n hr en = fun-ext (λ m. ⊎-elim (past m) (insid
 -- ---- adding piece by piece
 
 pub added-start : (x : Word) (a e : ℕ) (g : Word) → e ≤ a → x ≡ added x a e g
-added-start x a e g h = fun-ext (λ n. ⊎-elim (λ (l : a ≤ n). sym (added-after x g a e n l (omega arith))) (λ (l : n < a). sym (added-before x g a e n l)) (le-or-lt a n))
+added-start x a e g h = fun-ext (λ n. ⊎-elim (λ (l : a ≤ n). sym (added-after x g a e n l (omega arith)))
+    (λ (l : n < a). sym (added-before x g a e n l)) (le-or-lt a n))
 
-pub added-append : (x : Word) (a b e : ℕ) (g h : Word) → a ≤ b → b ≤ e → ((n : ℕ) → b ≤ n → n < e → h (n - b) ≡ g (n - a)) → added (added x a b g) b e h ≡ added x a e g
+pub added-append : (x : Word) (a b e : ℕ) (g h : Word) → a ≤ b → b ≤ e → ((n : ℕ) → b ≤ n → n < e → h (n - b) ≡ g (n - a))
+    → added (added x a b g) b e h ≡ added x a e g
 added-append x a b e g h ab be same = fun-ext (λ n. ⊎-elim (behind n) (front n) (le-or-lt b n))
   where
     y : Word
@@ -270,26 +281,31 @@ added-append x a b e g h ab be same = fun-ext (λ n. ⊎-elim (behind n) (front 
         ⊎-elim
         (λ (k : e ≤ n). added-after y h b e n l k ∙ added-after x g a b n (omega arith) l ∙ sym (added-after x g a e n (omega arith) k))
         (λ (k : n < e).
-        added-inside y h b e n l k ∙ ap₂ (λ p q. p ⊕ q) (added-after x g a b n (omega arith) l) (same n l k) ∙ sym (added-inside x g a e n (omega arith) k))
+        added-inside y h b e n l k ∙ ap₂ (λ p q. p ⊕ q) (added-after x g a b n (omega arith) l) (same n l k)
+        ∙ sym (added-inside x g a e n (omega arith) k))
         (le-or-lt e n)
 
 -- a row ends at bit M of those that are added
 pub added-size : (x : Word) (p M w : ℕ) (g : Word) → M ≤ w → added x p (p + w) (upTo M g) ≡ added x p (p + M) g
-added-size x p M w g h = fun-ext (λ n. ⊎-elim (behind n) (λ (l : n < p). added-before x (upTo M g) p (p + w) n l ∙ sym (added-before x g p (p + M) n l)) (le-or-lt p n))
+added-size x p M w g h = fun-ext (λ n. ⊎-elim (behind n) (λ (l : n < p). added-before x (upTo M g) p (p + w) n l
+    ∙ sym (added-before x g p (p + M) n l)) (le-or-lt p n))
   where
     behind : (n : ℕ) → p ≤ n → added x p (p + w) (upTo M g) n ≡ added x p (p + M) g n
     behind n l =
         ⊎-elim
         (λ (k : p + M ≤ n).
         ⊎-elim (λ (j : p + w ≤ n). added-after x (upTo M g) p (p + w) n l j)
-        (λ (j : n < p + w). added-inside x (upTo M g) p (p + w) n l j ∙ ap (λ b. x n ⊕ b) (upTo-above M (n - p) g (omega arith)) ∙ ⊕-false (x n)) (le-or-lt (p + w) n)
+        (λ (j : n < p + w). added-inside x (upTo M g) p (p + w) n l j ∙ ap (λ b. x n ⊕ b) (upTo-above M (n - p) g (omega arith))
+        ∙ ⊕-false (x n)) (le-or-lt (p + w) n)
         ∙ sym (added-after x g p (p + M) n l k))
         (λ (k : n < p + M).
-        added-inside x (upTo M g) p (p + w) n l (omega arith) ∙ ap (λ b. x n ⊕ b) (upTo-below M (n - p) g (omega arith)) ∙ sym (added-inside x g p (p + M) n l k))
+        added-inside x (upTo M g) p (p + w) n l (omega arith) ∙ ap (λ b. x n ⊕ b) (upTo-below M (n - p) g (omega arith))
+        ∙ sym (added-inside x g p (p + M) n l k))
         (le-or-lt (p + M) n)
 
 pub added-same : (x : Word) (a e : ℕ) (g h : Word) → ((i : ℕ) → a + i < e → g i ≡ h i) → added x a e g ≡ added x a e h
-added-same x a e g h same = fun-ext (λ n. ⊎-elim (behind n) (λ (l : n < a). added-before x g a e n l ∙ sym (added-before x h a e n l)) (le-or-lt a n))
+added-same x a e g h same = fun-ext (λ n. ⊎-elim (behind n) (λ (l : n < a). added-before x g a e n l ∙ sym (added-before x h a e n l))
+    (le-or-lt a n))
   where
     behind : (n : ℕ) → a ≤ n → added x a e g n ≡ added x a e h n
     behind n l =
@@ -314,7 +330,8 @@ module _ (y u : Word) (p : ℕ) (before : (n : ℕ) → n < 64 → u n ≡ false
       front : (n : ℕ) → n < p → added y a e (from (64 - p % 64) u) n ≡ added y p (p + 64) (from 64 u) n
       front n h =
           ⊎-elim
-          (λ (l : a ≤ n). added-inside y (from (64 - p % 64) u) a e n l (omega arith) ∙ ap (λ b. y n ⊕ b) (before (64 - p % 64 + (n - a)) (omega arith)) ∙ ⊕-false (y n))
+          (λ (l : a ≤ n). added-inside y (from (64 - p % 64) u) a e n l (omega arith)
+          ∙ ap (λ b. y n ⊕ b) (before (64 - p % 64 + (n - a)) (omega arith)) ∙ ⊕-false (y n))
           (λ (l : n < a). added-before y (from (64 - p % 64) u) a e n l)
           (le-or-lt a n)
           ∙ sym (added-before y (from 64 u) p (p + 64) n h)
@@ -325,13 +342,15 @@ module _ (y u : Word) (p : ℕ) (before : (n : ℕ) → n < 64 → u n ≡ false
           inside : n < p + 64 → added y a e (from (64 - p % 64) u) n ≡ added y p (p + 64) (from 64 u) n
           inside l =
               let same : 64 - p % 64 + (n - a) ≡ 64 + (n - p) = omega arith in
-              added-inside y (from (64 - p % 64) u) a e n (omega arith) (omega arith) ∙ ap (λ i. y n ⊕ u i) same ∙ sym (added-inside y (from 64 u) p (p + 64) n h l)
+              added-inside y (from (64 - p % 64) u) a e n (omega arith) (omega arith) ∙ ap (λ i. y n ⊕ u i) same
+              ∙ sym (added-inside y (from 64 u) p (p + 64) n h l)
 
           past : p + 64 ≤ n → added y a e (from (64 - p % 64) u) n ≡ added y p (p + 64) (from 64 u) n
           past l =
               ⊎-elim
               (λ (g : e ≤ n). added-after y (from (64 - p % 64) u) a e n (omega arith) g)
-              (λ (g : n < e). added-inside y (from (64 - p % 64) u) a e n (omega arith) g ∙ ap (λ b. y n ⊕ b) (after (64 - p % 64 + (n - a)) (omega arith)) ∙ ⊕-false (y n))
+              (λ (g : n < e). added-inside y (from (64 - p % 64) u) a e n (omega arith) g
+              ∙ ap (λ b. y n ⊕ b) (after (64 - p % 64 + (n - a)) (omega arith)) ∙ ⊕-false (y n))
               (le-or-lt e n)
               ∙ sym (added-after y (from 64 u) p (p + 64) n h l)
 
@@ -347,7 +366,8 @@ module _ (v : ℕ) where
   between-here i h = word-at between (64 + i) 1 i h (omega arith)
 
   pub between-after : (n : ℕ) → 128 ≤ n → wbit between n ≡ false
-  between-after n h = word-at between n (n / 64) (n % 64) (omega arith) (omega arith) ∙ ap (λ z. digit 64 z (n % 64)) (zeros (n / 64) (omega arith)) ∙ digit-zero 64 (n % 64)
+  between-after n h = word-at between n (n / 64) (n % 64) (omega arith) (omega arith)
+      ∙ ap (λ z. digit 64 z (n % 64)) (zeros (n / 64) (omega arith)) ∙ digit-zero 64 (n % 64)
     where
       zeros : (q : ℕ) → 2 ≤ q → _≡_ {A = ℕ} (getD between q 0) 0
       zeros zero l = absurd (omega arith)
@@ -371,10 +391,13 @@ module _ (sh : Shape) (some : 1 ≤ sh .size) (fewer : sh .rows ≤ sh .blocks) 
       ∙ fun-ext (λ n. ⊎-elim
       (λ (h : (J + 0) * sh .size ≤ n). upTo-above ((J + 0) * sh .size) n x h ∙ sym (upTo-above ((J + 0) * sh .size) n whole h))
       (λ (h : n < (J + 0) * sh .size).
-      upTo-below ((J + 0) * sh .size) n x h ∙ sym (upTo-below ((J + 0) * sh .size) n whole h ∙ joined-below (J * sh .size) n x (behind sh first f) (subst (λ z. n < z * sh .size) (add-zero J) h)))
+      upTo-below ((J + 0) * sh .size) n x h
+      ∙ sym (upTo-below ((J + 0) * sh .size) n whole h
+      ∙ joined-below (J * sh .size) n x (behind sh first f) (subst (λ z. n < z * sh .size) (add-zero J) h)))
       (le-or-lt ((J + 0) * sh .size) n))
 
-  pub rows-more : (a : ℕ) → added (upTo ((J + a) * sh .size) whole) ((J + a) * sh .size) ((J + a) * sh .size + sh .size) (f ((a + first) % sh .rows)) ≡ upTo ((J + (a + 1)) * sh .size) whole
+  pub rows-more : (a : ℕ) → added (upTo ((J + a) * sh .size) whole) ((J + a) * sh .size) ((J + a) * sh .size + sh .size)
+      (f ((a + first) % sh .rows)) ≡ upTo ((J + (a + 1)) * sh .size) whole
   unfolding behind
   rows-more a = fun-ext (λ n. ⊎-elim (from-at n) (front n) (le-or-lt at n))
     where
@@ -407,14 +430,17 @@ module _ (sh : Shape) (some : 1 ≤ sh .size) (fewer : sh .rows ≤ sh .blocks) 
           let inside : n - at < M = omega arith in
           let same : J + a - J ≡ a = omega arith in
           sym (joined-above (J * M) n x (behind sh first f) (omega (arith, add-mul J a M))
-          ∙ ap₂ (λ q i. f ((q - J + first) % sh .rows) i) (ap (λ z. z / M) place ∙ digits-div (J + a) inside) (ap (λ z. z % M) place ∙ digits-mod (J + a) inside)
+          ∙ ap₂ (λ q i. f ((q - J + first) % sh .rows) i) (ap (λ z. z / M) place ∙ digits-div (J + a) inside) (ap (λ z. z % M) place
+          ∙ digits-mod (J + a) inside)
           ∙ ap (λ z. f ((z + first) % sh .rows) (n - at)) same)
 
       from-at : (n : ℕ) → at ≤ n → added y at (at + M) row n ≡ upTo end whole n
       from-at n h =
           ⊎-elim
-          (λ (l : at + M ≤ n). added-after y row at (at + M) n h l ∙ upTo-above at n whole h ∙ sym (upTo-above end n whole (omega (arith, next))))
-          (λ (l : n < at + M). added-inside y row at (at + M) n h l ∙ ap₂ (λ p q. p ⊕ q) (upTo-above at n whole h) (here n h l) ∙ sym (upTo-below end n whole (omega (arith, next))))
+          (λ (l : at + M ≤ n). added-after y row at (at + M) n h l ∙ upTo-above at n whole h
+          ∙ sym (upTo-above end n whole (omega (arith, next))))
+          (λ (l : n < at + M). added-inside y row at (at + M) n h l ∙ ap₂ (λ p q. p ⊕ q) (upTo-above at n whole h) (here n h l)
+          ∙ sym (upTo-below end n whole (omega (arith, next))))
           (le-or-lt (at + M) n)
 
 -- ---- rows inverted
@@ -446,28 +472,24 @@ module _ (f : ℕ → Word) (q : ℕ → Bool) where
   both-rows (suc zero) i h false = refl
   both-rows (suc (suc r)) i h false = absurd (omega arith)
 
-  pub two-inverted : added (added (twoRows f) (512 * 0) (512 * (0 + 1)) (upTo 511 (λ i. q 0))) (512 * 1) (512 * (1 + 1)) (upTo 511 (λ i. q 1)) ≡ twoRows (λ r i. f r i ⊕ q r)
+  pub two-inverted : added (added (twoRows f) (512 * 0) (512 * (0 + 1)) (upTo 511 (λ i. q 0))) (512 * 1) (512 * (1 + 1))
+      (upTo 511 (λ i. q 1)) ≡ twoRows (λ r i. f r i ⊕ q r)
   two-inverted =
-      ap (λ z. added z (512 * 1) (512 * (1 + 1)) (upTo 511 (λ i. q 1))) (row-added 512 (lit< tt) 2 0 (lit< tt) (λ r. upTo 511 (f r)) (upTo 511 (λ i. q 0)))
+      ap (λ z. added z (512 * 1) (512 * (1 + 1)) (upTo 511 (λ i. q 1)))
+      (row-added 512 (lit< tt) 2 0 (lit< tt) (λ r. upTo 511 (f r)) (upTo 511 (λ i. q 0)))
       ∙ row-added 512 (lit< tt) 2 1 (lit< tt) (λ r i. upTo 511 (f r) i ⊕ (eqb r 0 && upTo 511 (λ i. q 0) i)) (upTo 511 (λ i. q 1))
       ∙ rowed-same 512 (lit< tt) 2 _ (λ r. upTo 511 (λ i. f r i ⊕ q r)) (λ r i hr hi. both-rows r i hr (ltb i 511))
 
 pub slice-long : (s : List ℕ) (a n : ℕ) → a + n ≤ length s → length (take n (drop a s)) ≡ n
 slice-long s a n h = length-take-le n (drop a s) (omega (arith, length-drop a s))
 
--- ---- the list of steps for M
-
-pub steps-last : (M : ℕ) → (M ≡ 16 → ⊥) → (M ≡ 32 → ⊥) → (M ≡ 64 → ⊥) → stepsOf M ≡ steps511
-unfolding stepsOf
-steps-last M a b c =
-    ap (λ z. if z then steps16 else if eqb M 32 then steps32 else if eqb M 64 then steps64 else steps511) (ne-eqb M 16 a)
-    ∙ ap (λ z. if z then steps32 else if eqb M 64 then steps64 else steps511) (ne-eqb M 32 b)
-    ∙ ap (λ z. if z then steps64 else steps511) (ne-eqb M 64 c)
+-- ---- steps one after the other
 
 pub walked-none : (M : ℕ) (steps : List (List ℕ)) (f : ℕ → Word) → f ≡ walked M steps 0 f
 unfolding walked
 walked-none M steps f = refl
 
-pub walked-more : (M : ℕ) (steps : List (List ℕ)) (k : ℕ) (f : ℕ → Word) → stepped M (getD steps k []) (walked M steps k f) ≡ walked M steps (k + 1) f
+pub walked-more : (M : ℕ) (steps : List (List ℕ)) (k : ℕ) (f : ℕ → Word)
+    → stepped M (getD steps k []) (walked M steps k f) ≡ walked M steps (k + 1) f
 unfolding walked
 walked-more M steps k f = ap (λ n. walked M steps n f) (sym (add-one k))

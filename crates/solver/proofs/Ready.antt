@@ -25,6 +25,7 @@ use Rattle.layout.specs.Lent.{laid}
 use Rattle.syndromes.specs.Rows.{rowed, wide}
 use Rattle.syndromes.proofs.Laid.{laid-rows}
 use Rattle.rules.specs.Checks.{check}
+use Rattle.offer.specs.declared.Offer.{Offer}
 use Rattle.offer.specs.Offers.{offerOf}
 use Rattle.ownparity.specs.Odd.{oddTogether}
 use Rattle.steps.specs.Steps.{rowsIn, walked, checkRows}
@@ -36,16 +37,28 @@ use Rattle.solver.specs.Rows.{held, Fits, stepsOf, Within, behind, infor
 abbrev pub endRows : ℕ → ℕ → Word → ℕ → Word
 endRows n M x = walked M (stepsOf M) 15 (checkRows (code n) x)
 
+-- the shapes as the encoder has them in numbers
+abbrev pub wideShape : Shape
+wideShape = record { size = 511; words = 8; blocks = 16; rows = 2 }
+
+abbrev pub narrowShape : ℕ → Shape
+narrowShape M = record { size = M; words = 1; blocks = 8; rows = 4 }
+
 pub record Ready (n : ℕ) (sh : Shape) : Type 0 where
   pub fits : Fits sh
   pub inside : Within (sh .rows) (stepsOf (sh .size))
   pub size-is : code n .size ≡ sh .size
   pub informs : information (code n) ≡ informed sh
   pub bits-are : bits (code n) ≡ sh .blocks * sh .size
-  pub near : sh .size ≡ 511 → sh ≡ record { size = 511; words = 8; blocks = 16; rows = 2 }
-  pub near-rows : sh .size ≡ 511 → (x : Word) → ((i : ℕ) → information (code n) ≤ i → x i ≡ false) → (p : ℕ) → p < bits (code n) - information (code n)
-      → endRows n (sh .size) x ((p / sh .size + 0) % sh .rows) (p % sh .size) ⊕ oddTogether x ((p / sh .size + 0) % sh .rows) ≡ parityBit (code n) x p
-  pub other-rows : (sh .size ≡ 511 → ⊥) → (x : Word) → ((i : ℕ) → information (code n) ≤ i → x i ≡ false) → (p : ℕ) → p < bits (code n) - information (code n)
+  pub near : sh .size ≡ 511 → sh ≡ wideShape
+  pub other : (sh .size ≡ 511 → ⊥) → sh ≡ narrowShape (sh .size)
+  pub last : (sh .size ≡ 511 → ⊥) → (sh .size ≡ 16 → ⊥) → (sh .size ≡ 32 → ⊥) → sh .size ≡ 64
+  pub near-rows : sh .size ≡ 511 → (x : Word) → ((i : ℕ) → information (code n) ≤ i → x i ≡ false) → (p : ℕ)
+      → p < bits (code n) - information (code n)
+      → endRows n (sh .size) x ((p / sh .size + 0) % sh .rows) (p % sh .size) ⊕ oddTogether x ((p / sh .size + 0) % sh .rows) ≡ parityBit
+      (code n) x p
+  pub other-rows : (sh .size ≡ 511 → ⊥) → (x : Word) → ((i : ℕ) → information (code n) ≤ i → x i ≡ false) → (p : ℕ)
+      → p < bits (code n) - information (code n)
       → endRows n (sh .size) x ((p / sh .size + 1) % sh .rows) (p % sh .size) ≡ parityBit (code n) x p
 
 within-by : (R : ℕ) (steps : List (List ℕ)) → T (below 15 (λ k. rowsIn R (getD steps k []))) → Within R steps
@@ -60,6 +73,8 @@ ready1 = record {
   informs = refl;
   bits-are = refl;
   near = λ e. absurd (omega arith);
+  other = λ d. refl;
+  last = λ d a b. absurd (a refl);
   near-rows = λ e. absurd (omega arith);
   other-rows = λ d. walk1;
 }
@@ -73,6 +88,8 @@ ready2 = record {
   informs = refl;
   bits-are = refl;
   near = λ e. absurd (omega arith);
+  other = λ d. refl;
+  last = λ d a b. absurd (b refl);
   near-rows = λ e. absurd (omega arith);
   other-rows = λ d. walk2;
 }
@@ -86,6 +103,8 @@ ready3 = record {
   informs = refl;
   bits-are = refl;
   near = λ e. absurd (omega arith);
+  other = λ d. refl;
+  last = λ d a b. refl;
   near-rows = λ e. absurd (omega arith);
   other-rows = λ d. walk3;
 }
@@ -99,6 +118,8 @@ ready4 = record {
   informs = refl;
   bits-are = refl;
   near = λ e. refl;
+  other = λ d. absurd (d refl);
+  last = λ d. absurd (d refl);
   near-rows = λ e. walk-near 1022 895 0;
   other-rows = λ d. absurd (d refl);
 }
@@ -112,6 +133,8 @@ ready5 = record {
   informs = refl;
   bits-are = refl;
   near = λ e. refl;
+  other = λ d. absurd (d refl);
+  last = λ d. absurd (d refl);
   near-rows = λ e. walk-near 1020 892 18;
   other-rows = λ d. absurd (d refl);
 }
@@ -122,12 +145,30 @@ offered-test n o = subst T (sym o) tt
 pub ready : (n : ℕ) → offered n ≡ true → (sh : Shape) → sh ≡ offerOf n .shape → Ready n sh
 ready n o sh e = subst (Ready n) (sym e) (five (λ n. Ready n (offerOf n .shape)) ready1 ready2 ready3 ready4 ready5 n (offered-test n o))
 
+-- a code's record has one of the shapes in numbers, and the code is ready under it
+module _ (n : ℕ) (off : offered n ≡ true) {o : Offer} (is : o ≡ offerOf n) where
+  own : Ready n (o .shape)
+  own = ready n off (o .shape) (ap (λ z. z .shape) is)
+
+  pub wide-is : o .shape .size ≡ 511 → o .shape ≡ wideShape
+  wide-is e = own .near e
+
+  pub narrow-is : (o .shape .size ≡ 511 → ⊥) → o .shape ≡ narrowShape (o .shape .size)
+  narrow-is d = own .other d
+
+  pub last-size : (o .shape .size ≡ 511 → ⊥) → (o .shape .size ≡ 16 → ⊥) → (o .shape .size ≡ 32 → ⊥) → o .shape .size ≡ 64
+  last-size d a b = own .last d a b
+
+  pub ready-as : {sh : Shape} → o .shape ≡ sh → Ready n sh
+  ready-as {sh} e = ready n off sh (sym e ∙ ap (λ z. z .shape) is)
+
 -- information, and rows that are the parity behind it: the encoded word
 pub all-encoded : (n : ℕ) (sh : Shape) → Ready n sh → (first : ℕ) (f : ℕ → Word) (x : Word)
     → ((p : ℕ) → p < bits (code n) - information (code n) → f ((p / sh .size + first) % sh .rows) (p % sh .size) ≡ parityBit (code n) x p)
     → upTo (sh .blocks * sh .size) (completed sh first f x) ≡ upTo (bits (code n)) (encoded (code n) x)
 unfolding behind
-all-encoded n sh r first f x parity = ap (λ z. upTo z (completed sh first f x)) (sym (r .bits-are)) ∙ fun-ext (λ i. ⊎-elim (past i) (inside i) (le-or-lt (bits c) i))
+all-encoded n sh r first f x parity = ap (λ z. upTo z (completed sh first f x)) (sym (r .bits-are))
+    ∙ fun-ext (λ i. ⊎-elim (past i) (inside i) (le-or-lt (bits c) i))
   where
     c : Code
     c = code n
@@ -151,7 +192,8 @@ all-encoded n sh r first f x parity = ap (λ z. upTo z (completed sh first f x))
         let place : i ≡ (J + p / M) * M + p % M = omega (arith, r .informs, add-mul J (p / M) M, div-add-mod' p M) in
         let same : J + p / M - J ≡ p / M = omega arith in
         joined-above (informed sh) i x (behind sh first f) (subst (λ z. z ≤ i) (r .informs) h)
-        ∙ ap₂ (λ q k. f ((q - J + first) % sh .rows) k) (ap (λ z. z / M) place ∙ digits-div (J + p / M) low) (ap (λ z. z % M) place ∙ digits-mod (J + p / M) low)
+        ∙ ap₂ (λ q k. f ((q - J + first) % sh .rows) k) (ap (λ z. z / M) place ∙ digits-div (J + p / M) low) (ap (λ z. z % M) place
+        ∙ digits-mod (J + p / M) low)
         ∙ ap (λ q. f ((q + first) % sh .rows) (p % M)) same
         ∙ parity p (omega arith)
         ∙ sym (encoded-parity c x i h)
@@ -163,9 +205,10 @@ all-encoded n sh r first f x parity = ap (λ z. upTo z (completed sh first f x))
         ∙ sym (upTo-below (bits c) i (encoded c x) l)
 
 -- the syndrome as it is held
-pub start-held : (n : ℕ) (sh : Shape) → Ready n sh → (x : Word) → laid (code n) sh x ≡ held sh (checkRows (code n) x)
-start-held n sh r x =
-    laid-rows (code n) sh x ∙ ap (λ M. rowed (wide sh) (sh .rows) (λ j. upTo (sh .size) (λ i. check (code n) x (j * M + i)))) (sym (r .size-is))
+pub start-held : (n : ℕ) {own sh : Shape} → own ≡ sh → Ready n sh → (x : Word) → laid (code n) own x ≡ held sh (checkRows (code n) x)
+start-held n {own} {sh} e r x =
+    ap (λ z. laid (code n) z x) e ∙ laid-rows (code n) sh x
+    ∙ ap (λ M. rowed (wide sh) (sh .rows) (λ j. upTo (sh .size) (λ i. check (code n) x (j * M + i)))) (sym (r .size-is))
 
 -- a word that has zeros behind its information
 pub short-of : (m : ℕ) (x : Word) → x ≡ upTo m x → (i : ℕ) → m ≤ i → x i ≡ false

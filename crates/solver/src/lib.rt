@@ -1,8 +1,12 @@
 // The parity of a word: the checks that its information breaks, solved by steps that add turned copies of one row to another.
+use layout::DOUBLED;
+use layout::SYNDROME;
 use layout::Shape;
+use layout::TABLE;
+use offer::Offer;
 use vectors::Pair;
 ghost use mathlib.Core.Path.{_≡_};
-ghost use mathlib.Core.Bool.{Bool, true};
+ghost use mathlib.Core.Bool.{Bool, true, false};
 ghost use Prim.Native.Nat.{ℕ, _+_, _-_, _*_, _/_, _%_, _<_, _≤_};
 ghost use lib.Dec.{T};
 ghost use lib.ListN.{length, getD};
@@ -11,10 +15,13 @@ ghost use Rattle.rules.specs.Codes.{bits, information, offered};
 ghost use Rattle.rules.specs.Codes.{code as codeOf};
 ghost use Rattle.rules.specs.Encoding.{encoded};
 ghost use Rattle.vectors.specs.Vectors.{wbit, both, Holds, upTo, from, added};
+ghost use Rattle.layout.specs.Lent.{laid};
 ghost use Rattle.syndromes.specs.Rows.{wide};
+ghost use Rattle.offer.specs.Offers.{offerOf, Known};
 ghost use Rattle.ownparity.specs.Odd.{oddTogether};
 ghost use Rattle.steps.specs.Steps.{target, source, rowsIn, stepped, walked};
 ghost use Rattle.solver.specs.Rows.{held, Kept, twoRows, Fits, copies, stepsOf, Within, informed, completed};
+ghost use Rattle.layout.specs.Rooms.{doubledRoom, syndromeRoom, wordRoom};
 
 // A number that is no shift of any table: it ends the shifts of a step.
 const END: u16 = 65535;
@@ -111,7 +118,7 @@ fn turns(d: Pair, step: &[u16], size: usize) -> u64
 
 // A step where one word holds a row.
 fn step_narrow(step: &[u16], sh: Shape, s: &mut [u64])
-    requires { ⌜ Fits sh × (sh .words ≡ 1) × (length (now step) ≡ 10) × T (rowsIn (sh .rows) (now step)) × (length (now s) ≡ 16) ⌝ }
+    requires { ⌜ Fits sh × (sh .words ≡ 1) × (length (now step) ≡ 10) × T (rowsIn (sh .rows) (now step)) × (length (now s) ≡ syndromeRoom) ⌝ }
     ensures { λ _. ⌜ ((f : ℕ → Word) → wbit (now (s .entry)) ≡ held sh f → wbit (now (s .exit)) ≡ held sh (stepped (sh .size) (now (step .entry)) f)) ⌝ }
 {
     let d = vectors::double_word(s[step[1] as usize], sh.size);
@@ -124,7 +131,7 @@ fn step_narrow(step: &[u16], sh: Shape, s: &mut [u64])
 
 // Adds a doubled row to the row of a step, turned by each of its shifts.
 fn add_turns(d: &[u64], step: &[u16], sh: Shape, s: &mut [u64])
-    requires { ⌜ Fits sh × (length (now d) ≡ 16) × (length (now step) ≡ 10) × T (rowsIn (sh .rows) (now step)) × (length (now s) ≡ 16) ⌝ }
+    requires { ⌜ Fits sh × (length (now d) ≡ doubledRoom) × (length (now step) ≡ 10) × T (rowsIn (sh .rows) (now step)) × (length (now s) ≡ syndromeRoom) ⌝ }
     ensures { λ _. ⌜ wbit (now (s .exit)) ≡ added (wbit (now (s .entry))) (wide sh * target (now (step .entry))) (wide sh * (target (now (step .entry)) + 1)) (copies (sh .size) (now (step .entry)) (wbit (now (d .entry)))) ⌝ }
 {
     let at = step[0] as usize * sh.words;
@@ -137,7 +144,7 @@ fn add_turns(d: &[u64], step: &[u16], sh: Shape, s: &mut [u64])
 
 // A step where more words hold a row; d has room for a doubled one.
 fn step_wide(step: &[u16], sh: Shape, d: &mut [u64], s: &mut [u64])
-    requires { ⌜ Fits sh × (length (now d) ≡ 16) × (length (now step) ≡ 10) × T (rowsIn (sh .rows) (now step)) × (length (now s) ≡ 16) × Kept sh (wbit (now s)) ⌝ }
+    requires { ⌜ Fits sh × (length (now d) ≡ doubledRoom) × (length (now step) ≡ 10) × T (rowsIn (sh .rows) (now step)) × (length (now s) ≡ syndromeRoom) × Kept sh (wbit (now s)) ⌝ }
     ensures { λ _. ⌜ ((f : ℕ → Word) → wbit (now (s .entry)) ≡ held sh f → wbit (now (s .exit)) ≡ held sh (stepped (sh .size) (now (step .entry)) f)) ⌝ }
 {
     let at = step[1] as usize * sh.words;
@@ -147,53 +154,45 @@ fn step_wide(step: &[u16], sh: Shape, d: &mut [u64], s: &mut [u64])
     syndromes::trim_rows(s, sh);
 }
 
-// A step, of whatever width.
-fn take_step(step: &[u16], sh: Shape, d: &mut [u64], s: &mut [u64])
-    requires { ⌜ Fits sh × (length (now d) ≡ 16) × (length (now step) ≡ 10) × T (rowsIn (sh .rows) (now step)) × (length (now s) ≡ 16) × Kept sh (wbit (now s)) ⌝ }
-    ensures { λ _. ⌜ ((f : ℕ → Word) → wbit (now (s .entry)) ≡ held sh f → wbit (now (s .exit)) ≡ held sh (stepped (sh .size) (now (step .entry)) f)) ⌝ }
+// The list of steps for M, where one word holds a row.
+fn narrow_steps(size: usize) -> [[u16; 10]; 15]
+    requires { ⌜ ((size ≡ 16 → ⊥) → (size ≡ 32 → ⊥) → size ≡ 64) ⌝ }
+    ensures { λ r. ⌜ r ≡ stepsOf size ⌝ }
 {
-    if sh.words == 1 {
-        step_narrow(step, sh, s);
-        return;
+    if size == 16 {
+        return STEPS16;
     }
-    step_wide(step, sh, d, s);
+    if size == 32 {
+        return STEPS32;
+    }
+    STEPS64
 }
 
-// A list of steps, one after the other.
-fn walk(steps: &[[u16; 10]; 15], sh: Shape, s: &mut [u64])
-    requires { ⌜ Fits sh × Within (sh .rows) (now steps) × (length (now s) ≡ 16) × Kept sh (wbit (now s)) ⌝ }
-    ensures { λ _. ⌜ ((f : ℕ → Word) → wbit (now (s .entry)) ≡ held sh f → wbit (now (s .exit)) ≡ held sh (walked (sh .size) (now (steps .entry)) 15 f)) ⌝ }
+// The steps, one after the other, where one word holds a row.
+fn walk_narrow(sh: Shape, s: &mut [u64])
+    requires { ⌜ Fits sh × (sh .words ≡ 1) × Within (sh .rows) (stepsOf (sh .size)) × (length (now s) ≡ syndromeRoom) × ((sh .size ≡ 16 → ⊥) → (sh .size ≡ 32 → ⊥) → sh .size ≡ 64) ⌝ }
+    ensures { λ _. ⌜ ((f : ℕ → Word) → wbit (now (s .entry)) ≡ held sh f → wbit (now (s .exit)) ≡ held sh (walked (sh .size) (stepsOf (sh .size)) 15 f)) ⌝ }
 {
-    let mut d = [0u64; 16];
+    let steps = narrow_steps(sh.size);
     let mut k: usize = 0;
     while k < 15 {
-        take_step(&steps[k], sh, &mut d, s);
+        step_narrow(&steps[k], sh, s);
         k += 1;
     }
 }
 
-// The steps for M.
-fn solve(sh: Shape, s: &mut [u64])
-    requires { ⌜ Fits sh × Within (sh .rows) (stepsOf (sh .size)) × (length (now s) ≡ 16) × Kept sh (wbit (now s)) ⌝ }
+// The same where more words hold it, for M = 511.
+fn walk_wide(sh: Shape, s: &mut [u64])
+    requires { ⌜ Fits sh × (sh .size ≡ 511) × Within (sh .rows) (stepsOf (sh .size)) × (length (now s) ≡ syndromeRoom) × Kept sh (wbit (now s)) ⌝ }
     ensures { λ _. ⌜ ((f : ℕ → Word) → wbit (now (s .entry)) ≡ held sh f → wbit (now (s .exit)) ≡ held sh (walked (sh .size) (stepsOf (sh .size)) 15 f)) ⌝ }
 {
-    if sh.size == 16 {
-        let steps = STEPS16;
-        walk(&steps, sh, s);
-        return;
-    }
-    if sh.size == 32 {
-        let steps = STEPS32;
-        walk(&steps, sh, s);
-        return;
-    }
-    if sh.size == 64 {
-        let steps = STEPS64;
-        walk(&steps, sh, s);
-        return;
-    }
     let steps = STEPS511;
-    walk(&steps, sh, s);
+    let mut d = [0u64; DOUBLED];
+    let mut k: usize = 0;
+    while k < 15 {
+        step_wide(&steps[k], sh, &mut d, s);
+        k += 1;
+    }
 }
 
 // A word of ones for 1, and of zeros for 0.
@@ -205,7 +204,7 @@ fn ones_if(odd: u64) -> u64
 
 // Adds a word of 64 equal bits to each word of row r, of 511 bits.
 fn invert_row(s: &mut [u64], r: usize, v: u64)
-    requires { ⌜ (length (now s) ≡ 16) × (r < 2) ⌝ }
+    requires { ⌜ (length (now s) ≡ syndromeRoom) × (r < 2) ⌝ }
     ensures { λ _. ⌜ ((b : Bool) → Holds v (λ i. b) → wbit (now (s .exit)) ≡ added (wbit (now (s .entry))) (512 * r) (512 * (r + 1)) (upTo 511 (λ i. b))) ⌝ }
 {
     let mut k: usize = 8 * r;
@@ -218,7 +217,7 @@ fn invert_row(s: &mut [u64], r: usize, v: u64)
 
 // Inverts the rows that end with every bit the other way.
 fn invert(y: &[u64], s: &mut [u64])
-    requires { ⌜ (length (now y) ≡ 130) × (length (now s) ≡ 16) ⌝ }
+    requires { ⌜ (length (now y) ≡ wordRoom) × (length (now s) ≡ syndromeRoom) ⌝ }
     ensures { λ _. ⌜ ((f : ℕ → Word) → wbit (now (s .entry)) ≡ twoRows f → wbit (now (s .exit)) ≡ twoRows (λ r i. f r i ⊕ oddTogether (wbit (now (y .entry))) r)) ⌝ }
 {
     let odd = ownparity::odd_together(y);
@@ -237,7 +236,7 @@ fn put_word(v: u64, y: &mut [u64], p: usize)
 
 // Adds row r of s to the bits of y from bit p on.
 fn put_row(s: &[u64], sh: Shape, r: usize, y: &mut [u64], p: usize)
-    requires { ⌜ Fits sh × (r < sh .rows) × (length (now s) ≡ 16) × (length (now y) ≡ 130) × (p + sh .size ≤ 8176) ⌝ }
+    requires { ⌜ Fits sh × (r < sh .rows) × (length (now s) ≡ syndromeRoom) × (length (now y) ≡ wordRoom) × (p + sh .size ≤ 8176) ⌝ }
     ensures { λ _. ⌜ ((f : ℕ → Word) → wbit (now (s .entry)) ≡ held sh f → wbit (now (y .exit)) ≡ added (wbit (now (y .entry))) p (p + sh .size) (f r)) ⌝ }
 {
     let mut j: usize = 0;
@@ -249,7 +248,7 @@ fn put_row(s: &[u64], sh: Shape, r: usize, y: &mut [u64], p: usize)
 
 // Puts the rows behind the information blocks, as parity block a the row (a + first) mod R.
 fn put_rows(s: &[u64], sh: Shape, first: usize, y: &mut [u64])
-    requires { ⌜ Fits sh × (first ≤ 1) × (length (now s) ≡ 16) × (length (now y) ≡ 130) ⌝ }
+    requires { ⌜ Fits sh × (first ≤ 1) × (length (now s) ≡ syndromeRoom) × (length (now y) ≡ wordRoom) ⌝ }
     ensures { λ _. ⌜ ((f : ℕ → Word) (x : Word) → wbit (now (s .entry)) ≡ held sh f → wbit (now (y .entry)) ≡ upTo (informed sh) x → wbit (now (y .exit)) ≡ upTo (sh .blocks * sh .size) (completed sh first f x)) ⌝ }
 {
     let inform = sh.blocks - sh.rows;
@@ -260,20 +259,42 @@ fn put_rows(s: &[u64], sh: Shape, first: usize, y: &mut [u64])
     }
 }
 
-// Puts the parity after the information bits that y holds.
-pub fn encode(code: u8, y: &mut [u64])
-    requires { ⌜ (offered code ≡ true) × (length (now y) ≡ 130) × (wbit (now y) ≡ upTo (information (codeOf code)) (wbit (now y))) ⌝ }
-    ensures { λ _. ⌜ wbit (now (y .exit)) ≡ upTo (bits (codeOf code)) (encoded (codeOf code) (wbit (now (y .entry)))) ⌝ }
+// The checks that the bits of y break, into s, which is handed over as zeros. The table has its room here alone.
+fn lay_checks(o: Offer, y: &[u64], s: &mut [u64])
+    requires { ⌜ Known o × (length (now y) ≡ wordRoom) × (length (now s) ≡ syndromeRoom) × (wbit (now s) ≡ (λ n. false)) ⌝ }
+    ensures { λ _. ⌜ ((n : ℕ) → offered n ≡ true → o ≡ offerOf n → wbit (now (s .exit)) ≡ laid (codeOf n) (o .shape) (wbit (now (y .entry)))) ⌝ }
 {
-    let o = offer::of(code);
-    let mut t = [0u16; 64];
-    let mut s = [0u64; 16];
-    let sh = measured::checks(o, y, &mut t, &mut s);
-    solve(sh, &mut s);
-    if sh.size == 511 {
+    let of = o.shape;
+    let mut t = [0u16; TABLE];
+    measured::checks(of.size, y, &mut t, s);
+}
+
+// Puts the parity after the information bits that y holds. Each shape stands in numbers, so that a compiler sees them in the walk.
+pub fn encode(o: Offer, y: &mut [u64])
+    requires { ⌜ Known o × (length (now y) ≡ wordRoom) ⌝ }
+    ensures { λ _. ⌜ ((n : ℕ) → offered n ≡ true → o ≡ offerOf n → wbit (now (y .entry)) ≡ upTo (information (codeOf n)) (wbit (now (y .entry))) → wbit (now (y .exit)) ≡ upTo (bits (codeOf n)) (encoded (codeOf n) (wbit (now (y .entry))))) ⌝ }
+{
+    let mut s = [0u64; SYNDROME];
+    lay_checks(o, y, &mut s);
+    let of = o.shape;
+    if of.size == 511 {
+        let sh = Shape {
+            size: 511,
+            words: 8,
+            blocks: 16,
+            rows: 2,
+        };
+        walk_wide(sh, &mut s);
         invert(y, &mut s);
         put_rows(&s, sh, 0, y);
     } else {
+        let sh = Shape {
+            size: of.size,
+            words: 1,
+            blocks: 8,
+            rows: 4,
+        };
+        walk_narrow(sh, &mut s);
         put_rows(&s, sh, 1, y);
     }
 }

@@ -29,7 +29,8 @@ alone r₀ e r k = eqb r r₀ && e k
 
 -- Read backwards from check row r, the steps leave the weights e in row r alone.
 abbrev pub Solves : ℕ → ℕ → ℕ → ℕ → Word → List (List (List ℕ)) → List (List ℕ) → ℕ → Type 0
-Solves m q first J e H steps r = backsNumbers m steps 15 (numbers (suc m) (suc q) (checked q first J (getD H r []))) ≡ numbers (suc m) (suc q) (alone r e)
+Solves m q first J e H steps r = backsNumbers m steps 15 (numbers (suc m) (suc q) (checked q first J (getD H r []))) ≡ numbers (suc m)
+    (suc q) (alone r e)
 
 -- The row itself; and the row with the sum of all its bits added to each of them.
 abbrev pub itself : Word

@@ -38,7 +38,8 @@ module _ (wordOctets informationOctets unsent : ℕ) (y : Word) (short : (n : �
   rows : (r : ℕ) → r < 2 → sum 511 (checkRows c y r) ≡ false
   unfolding parity511 generator511
   rows r h =
-      checks-even wordOctets informationOctets unsent 510 parity511 generator511 512 14 1 0 others steps511 (nearTests wordOctets informationOctets unsent .shape) refl refl tt facts511
+      checks-even wordOctets informationOctets unsent 510 parity511 generator511 512 14 1 0 others steps511
+      (nearTests wordOctets informationOctets unsent .shape) refl refl tt facts511
       y r h (rows-even r h)
 
   weighs : (r i : ℕ) → r < 2 → i < 511 → weighted 511 others (checkRows c y r) i ≡ checkRows c y r i
@@ -47,7 +48,8 @@ module _ (wordOctets informationOctets unsent : ℕ) (y : Word) (short : (n : �
   whole : Word
   unfolding parity511 generator511
   whole =
-      finished wordOctets informationOctets unsent 510 parity511 generator511 512 14 1 0 others steps511 (nearTests wordOctets informationOctets unsent .shape) refl refl tt facts511
+      finished wordOctets informationOctets unsent 510 parity511 generator511 512 14 1 0 others steps511
+      (nearTests wordOctets informationOctets unsent .shape) refl refl tt facts511
       y short weighs
 
   pub walk-near : (p : ℕ) → p < 1022
@@ -56,12 +58,15 @@ module _ (wordOctets informationOctets unsent : ℕ) (y : Word) (short : (n : �
   walk-near p l =
       let b = p / 511 in
       let hb : b < 2 = div-lt-iff-lt-mul (zero-lt-suc 510) .1 l in
-      let met = finished-met wordOctets informationOctets unsent 510 parity511 generator511 512 14 1 0 others steps511 (nearTests wordOctets informationOctets unsent .shape) refl refl tt facts511 y short weighs in
+      let met = finished-met wordOctets informationOctets unsent 510 parity511 generator511 512 14 1 0 others steps511
+      (nearTests wordOctets informationOctets unsent .shape) refl refl tt facts511 y short weighs in
       ap₂ (λ u v. u ⊕ v)
-      (ending-parity wordOctets informationOctets unsent 510 parity511 generator511 512 14 1 0 others steps511 (nearTests wordOctets informationOctets unsent .shape) refl refl tt facts511 y short weighs
+      (ending-parity wordOctets informationOctets unsent 510 parity511 generator511 512 14 1 0 others steps511
+      (nearTests wordOctets informationOctets unsent .shape) refl refl tt facts511 y short weighs
       (nearInverted wordOctets informationOctets unsent whole) p (near-inverted wordOctets informationOctets unsent whole met p l))
       (ap (oddTogether y) (ap (λ z. z % 2) (add-zero b) ∙ mod-eq-of-lt hb)
       ∙ sym (ap (sum 16) (fun-ext (λ j. ap (λ z. digit 16 (getD counted b 0) j && z)
-      (finished-odd wordOctets informationOctets unsent 510 parity511 generator511 512 14 1 0 others steps511 (nearTests wordOctets informationOctets unsent .shape) refl refl tt facts511 y short weighs rows j))))
+      (finished-odd wordOctets informationOctets unsent 510 parity511 generator511 512 14 1 0 others steps511
+      (nearTests wordOctets informationOctets unsent .shape) refl refl tt facts511 y short weighs rows j))))
       ∙ together-inverted wordOctets informationOctets unsent whole met b hb)
       ∙ twice-added (parityBit c y p) (nearInverted wordOctets informationOctets unsent whole b)

@@ -80,7 +80,8 @@ module _ (m : ℕ) where
       ap (sum (suc m)) (fun-ext (λ k. and-⊕ (w r k) (rows r ((i + k) % suc m)) (eqb r to && copies ((i + k) % suc m))
       ∙ ap (λ z. (w r k && rows r ((i + k) % suc m)) ⊕ z) (and-left (w r k) (eqb r to) (copies ((i + k) % suc m)))))
       ∙ sum-linear (suc m) .plus (λ k. w r k && rows r ((i + k) % suc m)) (λ k. eqb r to && (w r k && copies ((i + k) % suc m)))
-      ∙ ap (λ z. weighted (suc m) (w r) (rows r) i ⊕ z) (into (sum (suc m)) (sum-linear (suc m)) (eqb r to) (λ k. w r k && copies ((i + k) % suc m)))))
+      ∙ ap (λ z. weighted (suc m) (w r) (rows r) i ⊕ z)
+      (into (sum (suc m)) (sum-linear (suc m)) (eqb r to) (λ k. w r k && copies ((i + k) % suc m)))))
       ∙ sum-linear R .plus (λ r. weighted (suc m) (w r) (rows r) i) (λ r. eqb r to && weighted (suc m) (w r) copies i)
       ∙ ap (λ z. weightedRows (suc m) R w rows i ⊕ z)
       (chosen R to (λ r. weighted (suc m) (w r) copies i) to-row
@@ -91,7 +92,8 @@ module _ (m : ℕ) where
       ap (sum (suc m)) (fun-ext (λ k. ⊕-and (w r k) (eqb r from && added k) (rows r ((i + k) % suc m))
       ∙ ap (λ z. (w r k && rows r ((i + k) % suc m)) ⊕ z) (and-right (eqb r from) (added k) (rows r ((i + k) % suc m)))))
       ∙ sum-linear (suc m) .plus (λ k. w r k && rows r ((i + k) % suc m)) (λ k. eqb r from && (added k && rows r ((i + k) % suc m)))
-      ∙ ap (λ z. weighted (suc m) (w r) (rows r) i ⊕ z) (into (sum (suc m)) (sum-linear (suc m)) (eqb r from) (λ k. added k && rows r ((i + k) % suc m))))))
+      ∙ ap (λ z. weighted (suc m) (w r) (rows r) i ⊕ z)
+      (into (sum (suc m)) (sum-linear (suc m)) (eqb r from) (λ k. added k && rows r ((i + k) % suc m))))))
     where
       to : ℕ
       to = target step
@@ -134,7 +136,8 @@ numbers M (suc R) w = number M (w 0) ∷ numbers M R (λ r. w (suc r))
 abbrev pub backNumbers : ℕ → List ℕ → List ℕ → List ℕ
 backNumbers m step ps =
     set ps (source step)
-    (number (suc m) (λ k. digit (suc m) (getD ps (source step) 0) k ⊕ over (shifts (suc m) step) (λ s. digit (suc m) (getD ps (target step) 0) ((k + s * m) % suc m))))
+    (number (suc m) (λ k. digit (suc m) (getD ps (source step) 0) k ⊕ over (shifts (suc m) step)
+    (λ s. digit (suc m) (getD ps (target step) 0) ((k + s * m) % suc m))))
 
 unfoldable pub backsNumbers : ℕ → List (List ℕ) → ℕ → List ℕ → List ℕ
 backsNumbers m steps zero ps = ps
@@ -157,7 +160,8 @@ numbered M (suc R) w = go (numbered M R (λ r. w (suc r)))
         at (suc r) k hr hk = rest .digits r k (le-of-suc-le-suc hr) hk
 
 module _ (m R : ℕ) where
-  back-numbered : (step ps : List ℕ) (w : ℕ → Word) → T (rowsIn R step) → Numbered (suc m) R ps w → Numbered (suc m) R (backNumbers m step ps) (back m step w)
+  back-numbered : (step ps : List ℕ) (w : ℕ → Word) → T (rowsIn R step) → Numbered (suc m) R ps w
+      → Numbered (suc m) R (backNumbers m step ps) (back m step w)
   unfolding back
   back-numbered step ps w t n = record { long = length-set ps from v ∙ n .long; digits = λ r k hr hk. go r k hr hk (ℕ-discrete r from) }
     where
@@ -182,9 +186,11 @@ module _ (m R : ℕ) where
       from-row : from < R
       from-row = ltb→lt from R (and-r (ltb to R) (ltb from R) t)
 
-      go : (r k : ℕ) → r < R → k < suc m → Dec (r ≡ from) → digit (suc m) (getD (set ps from v) r 0) k ≡ w r k ⊕ (eqb r from && over S (λ s. w to ((k + s * m) % suc m)))
+      go : (r k : ℕ) → r < R → k < suc m → Dec (r ≡ from)
+          → digit (suc m) (getD (set ps from v) r 0) k ≡ w r k ⊕ (eqb r from && over S (λ s. w to ((k + s * m) % suc m)))
       go r k hr hk (yes e) =
-          ap (λ z. digit (suc m) z k) (ap (λ z. getD (set ps from v) z 0) e ∙ getD-set-same ps from v 0 (subst (λ z. from < z) (sym (n .long)) from-row))
+          ap (λ z. digit (suc m) z k) (ap (λ z. getD (set ps from v) z 0) e
+          ∙ getD-set-same ps from v 0 (subst (λ z. from < z) (sym (n .long)) from-row))
           ∙ digit-number (suc m) (λ k. digit (suc m) (getD ps from 0) k ⊕ added k) k hk
           ∙ ap₂ (λ a b. a ⊕ b) (n .digits from k from-row hk ∙ ap (λ z. w z k) (sym e))
           (ap (over S) (fun-ext (λ s. n .digits to ((k + s * m) % suc m) to-row (mod-lt (k + s * m) (zero-lt-suc m))))
@@ -194,7 +200,8 @@ module _ (m R : ℕ) where
           ∙ n .digits r k hr hk
           ∙ sym (ap (λ z. w r k ⊕ (z && over S (λ s. w to ((k + s * m) % suc m)))) (ne-eqb r from d) ∙ ⊕-false (w r k))
 
-  pub backs-numbered : (steps : List (List ℕ)) (n : ℕ) (ps : List ℕ) (w : ℕ → Word) → ((k : ℕ) → k < n → T (rowsIn R (getD steps k []))) → Numbered (suc m) R ps w
+  pub backs-numbered : (steps : List (List ℕ)) (n : ℕ) (ps : List ℕ) (w : ℕ → Word) → ((k : ℕ) → k < n → T (rowsIn R (getD steps k [])))
+      → Numbered (suc m) R ps w
       → Numbered (suc m) R (backsNumbers m steps n ps) (backs m steps n w)
   unfolding backs backsNumbers
   backs-numbered steps zero ps w t h = h
@@ -211,12 +218,14 @@ module _ (m R : ℕ) where
       ∙ sum-same R _ (λ r. weighted (suc m) (v r) (rows r) i) (λ r hr.
       sum-same (suc m) _ (λ k. v r k && rows r ((i + k) % suc m)) (λ k hk.
       ap (λ z. z && rows r ((i + k) % suc m))
-      (sym (backs-numbered steps n (numbers (suc m) R u) u (below-at n (λ k. rowsIn R (getD steps k [])) t) (numbered (suc m) R u) .digits r k hr hk)
+      (sym (backs-numbered steps n (numbers (suc m) R u) u (below-at n (λ k. rowsIn R (getD steps k [])) t)
+      (numbered (suc m) R u) .digits r k hr hk)
       ∙ ap (λ ps. digit (suc m) (getD ps r 0) k) e
       ∙ numbered (suc m) R v .digits r k hr hk)))
 
   -- rows with an even number of ones keep it
-  pub walk-even : (steps : List (List ℕ)) (n : ℕ) → ((k : ℕ) → k < n → T (rowsIn R (getD steps k []))) → (rows : ℕ → Word) → ((r : ℕ) → r < R → sum (suc m) (rows r) ≡ false)
+  pub walk-even : (steps : List (List ℕ)) (n : ℕ) → ((k : ℕ) → k < n → T (rowsIn R (getD steps k []))) → (rows : ℕ → Word)
+      → ((r : ℕ) → r < R → sum (suc m) (rows r) ≡ false)
       → (r : ℕ) → r < R → sum (suc m) (walked (suc m) steps n rows r) ≡ false
   unfolding walked stepped
   walk-even steps zero t rows even r h = even r h
@@ -234,7 +243,8 @@ module _ (m R : ℕ) where
       from-row : source step < R
       from-row = ltb→lt (source step) R (and-r (ltb (target step) R) (ltb (source step) R) (t n (lt-suc-self n)))
 
-      go : ((r : ℕ) → r < R → sum (suc m) (v r) ≡ false) → sum (suc m) (λ i. v r i ⊕ (eqb r (target step) && over S (λ s. v (source step) ((i + s) % suc m)))) ≡ false
+      go : ((r : ℕ) → r < R → sum (suc m) (v r) ≡ false)
+          → sum (suc m) (λ i. v r i ⊕ (eqb r (target step) && over S (λ s. v (source step) ((i + s) % suc m)))) ≡ false
       go ih =
           sum-linear (suc m) .plus (v r) (λ i. eqb r (target step) && over S (λ s. v (source step) ((i + s) % suc m)))
           ∙ ap₂ (λ a b. a ⊕ b) (ih r h)

@@ -9,7 +9,8 @@ use Rattle.bits.specs.Bits.{Word, _⊕_, over, if_then_else_}
 use Rattle.rules.specs.Codes.{Code}
 use Rattle.rules.specs.Checks.{check}
 
--- A step has ten places: the row that is added to, the row whose turned copies are added, and the shifts; a number that is M or more ends them.
+-- A step has ten places: the row that is added to, the row whose turned copies are added, and the shifts; a number that is M or more ends
+-- them.
 abbrev pub filled : ℕ → List ℕ → List ℕ
 filled zero shifts = []
 filled (suc n) [] = 65535 ∷ filled n []

@@ -56,19 +56,25 @@ module _ (h : List ℕ) (sh : Shape) (fit : Fit h sh) where
     -- all blocks, and only the first M bits of each row
     pub laid-summed : (x : Word) → rowed (wide sh) (sh .rows) (λ r. upTo (sh .size) (summed sh h x (sh .blocks) r)) ≡ laid c sh x
     laid-summed x =
-        rowed-same (wide sh) some (sh .rows) (λ r. upTo (sh .size) (summed sh h x (sh .blocks) r)) (λ r. upTo (sh .size) (checkOf c sh x r)) same
+        rowed-same (wide sh) some (sh .rows) (λ r. upTo (sh .size) (summed sh h x (sh .blocks) r))
+        (λ r. upTo (sh .size) (checkOf c sh x r)) same
         ∙ sym (laid-rows c sh x)
       where
-        block : (r i b : ℕ) → i < sh .size → spread sh h b (turned (doubled (sh .size) x b)) r i ≡ over (shiftsOf sh h r b) (λ s. x (b * sh .size + (i + s) % sh .size))
-        block r i b l = over-same (sh .size) h (placeOf sh r b) (λ s. turned (doubled (sh .size) x b) s i) (λ s. x (b * sh .size + (i + s) % sh .size)) (λ s hs. turned-is (sh .size) x b s i hs l)
+        block : (r i b : ℕ) → i < sh .size → spread sh h b (turned (doubled (sh .size) x b)) r i ≡ over (shiftsOf sh h r b)
+            (λ s. x (b * sh .size + (i + s) % sh .size))
+        block r i b l = over-same (sh .size) h (placeOf sh r b) (λ s. turned (doubled (sh .size) x b) s i)
+            (λ s. x (b * sh .size + (i + s) % sh .size)) (λ s hs. turned-is (sh .size) x b s i hs l)
 
-        same : (r i : ℕ) → r < sh .rows → i < wide sh → upTo (sh .size) (summed sh h x (sh .blocks) r) i ≡ upTo (sh .size) (checkOf c sh x r) i
+        same : (r i : ℕ) → r < sh .rows → i < wide sh → upTo (sh .size) (summed sh h x (sh .blocks) r) i ≡ upTo (sh .size)
+            (checkOf c sh x r) i
         same r i hr hi =
             ⊎-elim
-            (λ (l : sh .size ≤ i). upTo-above (sh .size) i (summed sh h x (sh .blocks) r) l ∙ sym (upTo-above (sh .size) i (checkOf c sh x r) l))
+            (λ (l : sh .size ≤ i). upTo-above (sh .size) i (summed sh h x (sh .blocks) r) l
+            ∙ sym (upTo-above (sh .size) i (checkOf c sh x r) l))
             (λ (l : i < sh .size).
             upTo-below (sh .size) i (summed sh h x (sh .blocks) r) l
-            ∙ sum-same (sh .blocks) (λ b. spread sh h b (turned (doubled (sh .size) x b)) r i) (λ b. over (shiftsOf sh h r b) (λ s. x (b * sh .size + (i + s) % sh .size))) (λ b hb. block r i b l)
+            ∙ sum-same (sh .blocks) (λ b. spread sh h b (turned (doubled (sh .size) x b)) r i)
+            (λ b. over (shiftsOf sh h r b) (λ s. x (b * sh .size + (i + s) % sh .size))) (λ b hb. block r i b l)
             ∙ sym (lent .check-by x r i hr l)
             ∙ sym (upTo-below (sh .size) i (checkOf c sh x r) l))
             (le-or-lt (sh .size) i)
@@ -79,7 +85,8 @@ module _ (h : List ℕ) (sh : Shape) (fit : Fit h sh) where
     laid-flipped x b k hb hk =
         ap (λ (z : Word). plus z (rowed (wide sh) (sh .rows) g)) (laid-rows c sh x)
         ∙ rowed-plus (wide sh) some (sh .rows) (λ r. upTo (sh .size) (checkOf c sh x r)) g
-        ∙ rowed-same (wide sh) some (sh .rows) (λ r. plus (upTo (sh .size) (checkOf c sh x r)) (g r)) (λ r. upTo (sh .size) (checkOf c sh y r)) same
+        ∙ rowed-same (wide sh) some (sh .rows) (λ r. plus (upTo (sh .size) (checkOf c sh x r)) (g r))
+        (λ r. upTo (sh .size) (checkOf c sh y r)) same
         ∙ sym (laid-rows c sh y)
       where
         y : Word
@@ -94,10 +101,12 @@ module _ (h : List ℕ) (sh : Shape) (fit : Fit h sh) where
             (λ s hs. ne-eqb i ((k + (sh .size - s)) % sh .size) (λ e. omega (arith, mod-lt (k + (sh .size - s)) (fit .some))))
             ∙ over-linear (shiftsOf sh h r b) .none
 
-        same : (r i : ℕ) → r < sh .rows → i < wide sh → plus (upTo (sh .size) (checkOf c sh x r)) (g r) i ≡ upTo (sh .size) (checkOf c sh y r) i
+        same : (r i : ℕ) → r < sh .rows → i < wide sh → plus (upTo (sh .size) (checkOf c sh x r)) (g r) i ≡ upTo (sh .size)
+            (checkOf c sh y r) i
         same r i hr hi =
             ⊎-elim
-            (λ (l : sh .size ≤ i). ap₂ _⊕_ (upTo-above (sh .size) i (checkOf c sh x r) l) (none r i l) ∙ sym (upTo-above (sh .size) i (checkOf c sh y r) l))
+            (λ (l : sh .size ≤ i). ap₂ _⊕_ (upTo-above (sh .size) i (checkOf c sh x r) l) (none r i l)
+            ∙ sym (upTo-above (sh .size) i (checkOf c sh y r) l))
             (λ (l : i < sh .size).
             ap (λ (p : Bool). p ⊕ g r i) (upTo-below (sh .size) i (checkOf c sh x r) l)
             ∙ sym (lent .flip-by x b k r i hb hk hr l)
@@ -116,7 +125,8 @@ module _ (w m K : ℕ) (some : 0 < w) (held : m ≤ w) (g : Word) where
   count-rows (suc k) h =
       ap (λ (n : ℕ). count n (rowed w K rows)) (suc-mul k w)
       ∙ count-add (k * w) w (rowed w K rows)
-      ∙ ap₂ _+_ (count-rows k (omega arith)) (count-same w (λ i. rowed w K rows (k * w + i)) (rows k) row ∙ count-upTo m w (λ i. g (k * m + i)) held)
+      ∙ ap₂ _+_ (count-rows k (omega arith)) (count-same w (λ i. rowed w K rows (k * w + i)) (rows k) row
+      ∙ count-upTo m w (λ i. g (k * m + i)) held)
       ∙ sym (count-add (k * m) m g)
       ∙ sym (ap (λ (n : ℕ). count n g) (suc-mul k m))
     where
@@ -138,7 +148,8 @@ module _ (w m K : ℕ) (some : 0 < w) (held : m ≤ w) (g : Word) where
           rowed-past w some K rows (K * w + i)
           (⊎-elim (λ k. k) (λ k. absurd (omega (arith, low w some (K * w + i) K k, mul-comm w K))) (le-or-lt K ((K * w + i) / w)))
 
-pub laid-count : (h : List ℕ) (sh : Shape) → Fit h sh → (c : Code) → Lent c h sh → (x : Word) (n : ℕ) → 1024 ≤ n → count n (laid c sh x) ≡ broken c x
+pub laid-count : (h : List ℕ) (sh : Shape) → Fit h sh → (c : Code) → Lent c h sh → (x : Word) (n : ℕ) → 1024 ≤ n
+    → count n (laid c sh x) ≡ broken c x
 unfolding broken
 laid-count h sh fit c lent x n long =
     ap (count n) (laid-rows c sh x)

@@ -40,12 +40,20 @@ module _ (h : List ℕ) (sh : Shape) (fit : Fit h sh) (c : Code) (lent : Lent c 
       sym (lent .checks-are)
       ∙ sym (least-none (checks c) (check c x) (λ k l.
       let r : k / sh .size < sh .rows = below-rows k (omega (arith, lent .checks-are)) in
-      not-before k r (omega (arith, fit .room, fit .held, mod-lt k (fit .some), mul-le-mul-right {m = k / sh .size + 1} {n = sh .rows} (sh .words) (omega arith)))))
+      not-before k r (omega (
+        arith,
+        fit .room,
+        fit .held,
+        mod-lt k (fit .some),
+        mul-le-mul-right {m = k / sh .size + 1} {n = sh .rows}
+            (sh .words) (omega arith),
+      ))))
     where
       below-rows : (k : ℕ) → k < sh .rows * sh .size → k / sh .size < sh .rows
       below-rows k l =
           ⊎-elim
-          (λ (g : sh .rows ≤ k / sh .size). absurd (omega (arith, div-add-mod' k (sh .size), mul-le-mul-right {m = sh .rows} {n = k / sh .size} (sh .size) g)))
+          (λ (g : sh .rows ≤ k / sh .size). absurd
+          (omega (arith, div-add-mod' k (sh .size), mul-le-mul-right {m = sh .rows} {n = k / sh .size} (sh .size) g)))
           (λ (g : k / sh .size < sh .rows). g)
           (le-or-lt (sh .rows) (k / sh .size))
 
@@ -83,7 +91,14 @@ module _ (h : List ℕ) (sh : Shape) (fit : Fit h sh) (c : Code) (lent : Lent c 
         let e : k / sh .size ≡ row = omega (arith, up) in
         omega (arith, ap (λ z. z * sh .size) e, ap (λ z. z * sh .words) e, div-add-mod' k (sh .size), div-add-mod' place (wide sh)))
         (λ (g : k / sh .size < row).
-        omega (arith, fit .held, mod-lt k (fit .some), div-add-mod' place (wide sh), mul-le-mul-right {m = k / sh .size + 1} {n = row} (sh .words) (omega (arith, g))))
+        omega (
+          arith,
+          fit .held,
+          mod-lt k (fit .some),
+          div-add-mod' place (wide sh),
+          mul-le-mul-right {m = k / sh .size + 1} {n = row}
+              (sh .words) (omega (arith, g)),
+        ))
         (le-or-lt row (k / sh .size)))
       where
         up : k / sh .size ≤ row
@@ -97,4 +112,5 @@ module _ (h : List ℕ) (sh : Shape) (fit : Fit h sh) (c : Code) (lent : Lent c 
     pub lowest-found : row * sh .size + column ≡ lowest c x
     unfolding lowest
     lowest-found =
-        sym (least-found (checks c) (check c x) (row * sh .size + column) (omega (arith, lent .checks-are, digits-lt in-row in-column)) is-broken before)
+        sym (least-found (checks c) (check c x) (row * sh .size + column) (omega (arith, lent .checks-are, digits-lt in-row in-column))
+        is-broken before)

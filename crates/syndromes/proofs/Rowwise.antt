@@ -81,7 +81,8 @@ module _ (w rows : ℕ) (some : 0 < w) (f : ℕ → Word) where
   reached-none ws long = record { far = omega arith; long = long; bits = rowed-none w some (wbit ws) f }
 
   module _ (x : Word) (ws : List ℕ) (r : ℕ) (so-far : Reached w rows f x ws r) where
-    pub reached-more : (next : List ℕ) → r < rows → length next ≡ 16 → wbit next ≡ added (wbit ws) (w * r) (w * (r + 1)) (f r) → Reached w rows f x next (r + 1)
+    pub reached-more : (next : List ℕ) → r < rows → length next ≡ 16 → wbit next ≡ added (wbit ws) (w * r) (w * (r + 1)) (f r)
+        → Reached w rows f x next (r + 1)
     reached-more next h long e = record {
       far = omega arith;
       long = long;

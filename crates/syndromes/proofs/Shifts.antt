@@ -49,7 +49,8 @@ over-entries M h at f =
     over-kept M s (kept M t []) f ∙ ap (λ (b : Bool). (ltb s M && f s) ⊕ b) (over-kept M t [] f ∙ ⊕-false (ltb t M && f t))
 
 -- only shifts below M count
-pub over-same : (M : ℕ) (h : List ℕ) (at : ℕ) (f g : ℕ → Bool) → ((s : ℕ) → s < M → f s ≡ g s) → over (entries M h at) f ≡ over (entries M h at) g
+pub over-same : (M : ℕ) (h : List ℕ) (at : ℕ) (f g : ℕ → Bool) → ((s : ℕ) → s < M → f s ≡ g s)
+    → over (entries M h at) f ≡ over (entries M h at) g
 over-same M h at f g e = over-entries M h at f ∙ ap₂ _⊕_ (one (getD h at M)) (one (getD h (at + 1) M)) ∙ sym (over-entries M h at g)
   where
     one : (s : ℕ) → (ltb s M && f s) ≡ (ltb s M && g s)
@@ -77,7 +78,8 @@ added-places sh h b r g a e s t x y z es et first second =
 -- ---- the doubled block turned by a shift
 
 pub turned-is : (M : ℕ) (x : Word) (b s i : ℕ) → s < M → i < M → turned (doubled M x b) s i ≡ x (b * M + (i + s) % M)
-turned-is M x b s i hs hi = twice-turned M s i (upTo M (from (b * M) x)) hs hi ∙ upTo-below M ((i + s) % M) (from (b * M) x) (mod-lt (i + s) (omega arith))
+turned-is M x b s i hs hi = twice-turned M s i (upTo M (from (b * M) x)) hs hi
+    ∙ upTo-below M ((i + s) % M) (from (b * M) x) (mod-lt (i + s) (omega arith))
 
 -- ---- a single check
 

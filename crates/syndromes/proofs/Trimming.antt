@@ -32,7 +32,8 @@ module _ (w m k : ℕ) (x : Word) (n : ℕ) where
 
   pub within-kept : n % w < m → within w m k x n ≡ x n
   unfolding within
-  within-kept h = ap (λ (b : Bool). (not (ltb (n / w) k) || b) && x n) (lt-ltb (n % w) m h) ∙ ap (λ (b : Bool). b && x n) (or-true (not (ltb (n / w) k)))
+  within-kept h = ap (λ (b : Bool). (not (ltb (n / w) k) || b) && x n) (lt-ltb (n % w) m h)
+      ∙ ap (λ (b : Bool). b && x n) (or-true (not (ltb (n / w) k)))
 
   pub within-cut : n / w < k → m ≤ n % w → within w m k x n ≡ false
   unfolding within
@@ -70,7 +71,8 @@ module _ (w m : ℕ) (some : 0 < w) (x : Word) where
       where
         here : n / w ≡ k → within w m k x n ≡ within w m (k + 1) x n
         here e =
-            let l : n % w < m = ⊎-elim (λ (a : n < 64 * q). omega (arith, split w some n k e)) (λ (a : 64 * (q + 1) ≤ n). absurd (omega (arith, low w some n (k + 1) (omega arith)))) out in
+            let l : n % w < m = ⊎-elim (λ (a : n < 64 * q). omega (arith, split w some n k e))
+            (λ (a : 64 * (q + 1) ≤ n). absurd (omega (arith, low w some n (k + 1) (omega arith)))) out in
             within-kept w m k x n l ∙ sym (within-kept w m (k + 1) x n l)
 
     at : (i : ℕ) → i < 64 → digit 64 v i ≡ within w m (k + 1) x (64 * q + i)

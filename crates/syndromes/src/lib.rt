@@ -1,4 +1,6 @@
 // The syndrome of a word, row after row, for whatever table is lent.
+use layout::BLOCK;
+use layout::DOUBLED;
 use layout::Shape;
 use vectors::Pair;
 ghost use mathlib.Core.Path.{_≡_};
@@ -13,6 +15,7 @@ ghost use Rattle.rules.specs.Checks.{broken, lowest};
 ghost use Rattle.vectors.specs.Vectors.{wbit, both, added};
 ghost use Rattle.layout.specs.Lent.{Fit, Lent, placeOf, laid};
 ghost use Rattle.syndromes.specs.Rows.{plus, rowed, within, wide, entry, spread, turned, summed, covering};
+ghost use Rattle.layout.specs.Rooms.{syndromeRoom, wordRoom};
 
 // What stands at the two places of a block.
 struct Places {
@@ -44,7 +47,7 @@ fn add_entry(d: &[u64], s: usize, sh: Shape, acc: &mut [u64], r: usize)
 
 // Adds a doubled block to row r, turned by each of its shifts there.
 fn add_row(d: &[u64], h: &[u16], sh: Shape, b: usize, acc: &mut [u64], r: usize)
-    requires { ⌜ Fit (now h) sh × (2 * sh .words ≤ length (now d)) × (b < sh .blocks) × (r < sh .rows) × (length (now acc) ≡ 16) ⌝ }
+    requires { ⌜ Fit (now h) sh × (2 * sh .words ≤ length (now d)) × (b < sh .blocks) × (r < sh .rows) × (length (now acc) ≡ syndromeRoom) ⌝ }
     ensures { λ q. ⌜ wbit (now (acc .exit)) ≡ added (wbit (now (acc .entry))) (wide sh * r) (wide sh * (r + 1)) (spread sh (now (h .entry)) b (turned (wbit (now (d .entry)))) r) ⌝ }
 {
     let p = read_places(h, sh, b, r);
@@ -54,7 +57,7 @@ fn add_row(d: &[u64], h: &[u16], sh: Shape, b: usize, acc: &mut [u64], r: usize)
 
 // Adds block b, doubled, to every row.
 fn add_block(d: &[u64], h: &[u16], sh: Shape, b: usize, acc: &mut [u64])
-    requires { ⌜ Fit (now h) sh × (2 * sh .words ≤ length (now d)) × (b < sh .blocks) × (length (now acc) ≡ 16) ⌝ }
+    requires { ⌜ Fit (now h) sh × (2 * sh .words ≤ length (now d)) × (b < sh .blocks) × (length (now acc) ≡ syndromeRoom) ⌝ }
     ensures { λ q. ⌜ wbit (now (acc .exit)) ≡ plus (wbit (now (acc .entry))) (rowed (wide sh) (sh .rows) (spread sh (now (h .entry)) b (turned (wbit (now (d .entry)))))) ⌝ }
 {
     let mut r = 0;
@@ -66,7 +69,7 @@ fn add_block(d: &[u64], h: &[u16], sh: Shape, b: usize, acc: &mut [u64])
 
 // Adds every block of y to the rows; part and d have room for a block, and for a doubled one.
 fn add_blocks(y: &[u64], h: &[u16], sh: Shape, part: &mut [u64], d: &mut [u64], acc: &mut [u64])
-    requires { ⌜ Fit (now h) sh × (length (now y) ≡ 130) × (length (now part) ≡ sh .words) × (length (now d) ≡ 2 * sh .words) × (length (now acc) ≡ 16) × (wbit (now acc) ≡ (λ n. false)) ⌝ }
+    requires { ⌜ Fit (now h) sh × (length (now y) ≡ wordRoom) × (length (now part) ≡ sh .words) × (length (now d) ≡ 2 * sh .words) × (length (now acc) ≡ syndromeRoom) × (wbit (now acc) ≡ (λ n. false)) ⌝ }
     ensures { λ q. ⌜ wbit (now (acc .exit)) ≡ rowed (wide sh) (sh .rows) (summed sh (now (h .entry)) (wbit (now (y .entry))) (sh .blocks)) ⌝ }
 {
     let mut b = 0;
@@ -90,7 +93,7 @@ fn add_narrow_entry(d: Pair, s: usize, sh: Shape, acc: &mut [u64], r: usize)
 
 // Adds it to row r, turned by each of its shifts there.
 fn add_narrow_row(d: Pair, h: &[u16], sh: Shape, b: usize, acc: &mut [u64], r: usize)
-    requires { ⌜ Fit (now h) sh × (sh .words ≡ 1) × (b < sh .blocks) × (r < sh .rows) × (length (now acc) ≡ 16) ⌝ }
+    requires { ⌜ Fit (now h) sh × (sh .words ≡ 1) × (b < sh .blocks) × (r < sh .rows) × (length (now acc) ≡ syndromeRoom) ⌝ }
     ensures { λ q. ⌜ wbit (now (acc .exit)) ≡ added (wbit (now (acc .entry))) (wide sh * r) (wide sh * (r + 1)) (spread sh (now (h .entry)) b (turned (both d)) r) ⌝ }
 {
     let p = read_places(h, sh, b, r);
@@ -100,7 +103,7 @@ fn add_narrow_row(d: Pair, h: &[u16], sh: Shape, b: usize, acc: &mut [u64], r: u
 
 // Adds it to every row.
 fn add_narrow_block(d: Pair, h: &[u16], sh: Shape, b: usize, acc: &mut [u64])
-    requires { ⌜ Fit (now h) sh × (sh .words ≡ 1) × (b < sh .blocks) × (length (now acc) ≡ 16) ⌝ }
+    requires { ⌜ Fit (now h) sh × (sh .words ≡ 1) × (b < sh .blocks) × (length (now acc) ≡ syndromeRoom) ⌝ }
     ensures { λ q. ⌜ wbit (now (acc .exit)) ≡ plus (wbit (now (acc .entry))) (rowed (wide sh) (sh .rows) (spread sh (now (h .entry)) b (turned (both d)))) ⌝ }
 {
     let mut r = 0;
@@ -112,7 +115,7 @@ fn add_narrow_block(d: Pair, h: &[u16], sh: Shape, b: usize, acc: &mut [u64])
 
 // Adds every block of y to the rows.
 fn add_narrow_blocks(y: &[u64], h: &[u16], sh: Shape, acc: &mut [u64])
-    requires { ⌜ Fit (now h) sh × (sh .words ≡ 1) × (length (now y) ≡ 130) × (length (now acc) ≡ 16) × (wbit (now acc) ≡ (λ n. false)) ⌝ }
+    requires { ⌜ Fit (now h) sh × (sh .words ≡ 1) × (length (now y) ≡ wordRoom) × (length (now acc) ≡ syndromeRoom) × (wbit (now acc) ≡ (λ n. false)) ⌝ }
     ensures { λ q. ⌜ wbit (now (acc .exit)) ≡ rowed (wide sh) (sh .rows) (summed sh (now (h .entry)) (wbit (now (y .entry))) (sh .blocks)) ⌝ }
 {
     let mut b = 0;
@@ -125,15 +128,15 @@ fn add_narrow_blocks(y: &[u64], h: &[u16], sh: Shape, acc: &mut [u64])
 
 // Adds every block of y to the rows, of whatever width.
 fn add_all(y: &[u64], h: &[u16], sh: Shape, acc: &mut [u64])
-    requires { ⌜ Fit (now h) sh × (length (now y) ≡ 130) × (length (now acc) ≡ 16) × (wbit (now acc) ≡ (λ n. false)) ⌝ }
+    requires { ⌜ Fit (now h) sh × (length (now y) ≡ wordRoom) × (length (now acc) ≡ syndromeRoom) × (wbit (now acc) ≡ (λ n. false)) ⌝ }
     ensures { λ q. ⌜ wbit (now (acc .exit)) ≡ rowed (wide sh) (sh .rows) (summed sh (now (h .entry)) (wbit (now (y .entry))) (sh .blocks)) ⌝ }
 {
     if sh.words == 1 {
         add_narrow_blocks(y, h, sh, acc);
         return;
     }
-    let mut part = [0u64; 8];
-    let mut d = [0u64; 16];
+    let mut part = [0u64; BLOCK];
+    let mut d = [0u64; DOUBLED];
     let words = sh.words;
     add_blocks(y, h, sh, &mut part[..words], &mut d[..2 * words], acc);
 }
@@ -164,7 +167,7 @@ pub fn trim_rows(s: &mut [u64], sh: Shape)
 
 // The syndrome of y, made from zeros.
 pub fn syndrome(y: &[u64], h: &[u16], sh: Shape, s: &mut [u64])
-    requires { ⌜ Fit (now h) sh × (length (now y) ≡ 130) × (length (now s) ≡ 16) × (wbit (now s) ≡ (λ n. false)) ⌝ }
+    requires { ⌜ Fit (now h) sh × (length (now y) ≡ wordRoom) × (length (now s) ≡ syndromeRoom) × (wbit (now s) ≡ (λ n. false)) ⌝ }
     ensures { λ q. ⌜ ((c : Code) → Lent c (now (h .entry)) sh → wbit (now (s .exit)) ≡ laid c sh (wbit (now (y .entry)))) ⌝ }
 {
     add_all(y, h, sh, s);
@@ -173,7 +176,7 @@ pub fn syndrome(y: &[u64], h: &[u16], sh: Shape, s: &mut [u64])
 
 // How many checks are broken.
 pub fn broken(s: &[u64]) -> u32
-    requires { ⌜ length (now s) ≡ 16 ⌝ }
+    requires { ⌜ length (now s) ≡ syndromeRoom ⌝ }
     ensures { λ n. ⌜ ((c : Code) (h : List ℕ) (sh : Shape) (x : Word) → Fit h sh → Lent c h sh → wbit (now (s .entry)) ≡ laid c sh x → n ≡ broken c x) ⌝ }
 {
     vectors::ones(s) as u32
@@ -181,7 +184,7 @@ pub fn broken(s: &[u64]) -> u32
 
 // Whether no check is broken.
 pub fn is_quiet(s: &[u64]) -> bool
-    requires { ⌜ length (now s) ≡ 16 ⌝ }
+    requires { ⌜ length (now s) ≡ syndromeRoom ⌝ }
     ensures { λ n. ⌜ ((c : Code) (h : List ℕ) (sh : Shape) (x : Word) → Fit h sh → Lent c h sh → wbit (now (s .entry)) ≡ laid c sh x → n ≡ eqb (broken c x) 0) ⌝ }
 {
     !vectors::any(s)
@@ -189,7 +192,7 @@ pub fn is_quiet(s: &[u64]) -> bool
 
 // The lowest broken check, or the number of checks if none is broken.
 pub fn lowest(s: &[u64], sh: Shape) -> u32
-    requires { ⌜ (length (now s) ≡ 16) × (1 ≤ sh .words) × (sh .words ≤ 8) × (sh .rows ≤ 4) × (sh .size ≤ 64 * sh .words) ⌝ }
+    requires { ⌜ (length (now s) ≡ syndromeRoom) × (1 ≤ sh .words) × (sh .words ≤ 8) × (sh .rows ≤ 4) × (sh .size ≤ 64 * sh .words) ⌝ }
     ensures { λ n. ⌜ ((c : Code) (h : List ℕ) (x : Word) → Fit h sh → Lent c h sh → wbit (now (s .entry)) ≡ laid c sh x → n ≡ lowest c x) ⌝ }
 {
     let place = vectors::first(s);
@@ -202,7 +205,7 @@ pub fn lowest(s: &[u64], sh: Shape) -> u32
 
 // Turns the check of row r over that covers bit k by the shift e; a number that is M or more is no shift.
 fn flip_entry(s: &mut [u64], e: usize, sh: Shape, k: usize, r: usize)
-    requires { ⌜ (sh .size ≤ wide sh) × (k < sh .size) × ((r + 1) * sh .words ≤ length (now s)) × (length (now s) ≡ 16) ⌝ }
+    requires { ⌜ (sh .size ≤ wide sh) × (k < sh .size) × ((r + 1) * sh .words ≤ length (now s)) × (length (now s) ≡ syndromeRoom) ⌝ }
     ensures { λ q. ⌜ wbit (now (s .exit)) ≡ added (wbit (now (s .entry))) (wide sh * r) (wide sh * (r + 1)) (entry (sh .size) (covering (sh .size) k) e) ⌝ }
 {
     if e < sh.size {
@@ -216,7 +219,7 @@ fn flip_entry(s: &mut [u64], e: usize, sh: Shape, k: usize, r: usize)
 
 // Turns the checks of row r over that cover bit k of block b.
 fn flip_row(s: &mut [u64], h: &[u16], sh: Shape, b: usize, k: usize, r: usize)
-    requires { ⌜ Fit (now h) sh × (b < sh .blocks) × (k < sh .size) × (r < sh .rows) × (length (now s) ≡ 16) ⌝ }
+    requires { ⌜ Fit (now h) sh × (b < sh .blocks) × (k < sh .size) × (r < sh .rows) × (length (now s) ≡ syndromeRoom) ⌝ }
     ensures { λ q. ⌜ wbit (now (s .exit)) ≡ added (wbit (now (s .entry))) (wide sh * r) (wide sh * (r + 1)) (spread sh (now (h .entry)) b (covering (sh .size) k) r) ⌝ }
 {
     let p = read_places(h, sh, b, r);
@@ -226,7 +229,7 @@ fn flip_row(s: &mut [u64], h: &[u16], sh: Shape, b: usize, k: usize, r: usize)
 
 // Turns the checks over that cover bit k of block b.
 fn flip_checks(s: &mut [u64], h: &[u16], sh: Shape, b: usize, k: usize)
-    requires { ⌜ Fit (now h) sh × (b < sh .blocks) × (k < sh .size) × (length (now s) ≡ 16) ⌝ }
+    requires { ⌜ Fit (now h) sh × (b < sh .blocks) × (k < sh .size) × (length (now s) ≡ syndromeRoom) ⌝ }
     ensures { λ q. ⌜ wbit (now (s .exit)) ≡ plus (wbit (now (s .entry))) (rowed (wide sh) (sh .rows) (spread sh (now (h .entry)) b (covering (sh .size) k))) ⌝ }
 {
     let mut r = 0;
@@ -238,7 +241,7 @@ fn flip_checks(s: &mut [u64], h: &[u16], sh: Shape, b: usize, k: usize)
 
 // Turns bit n of a word over, and its checks with it.
 pub fn flip(y: &mut [u64], s: &mut [u64], h: &[u16], sh: Shape, n: usize)
-    requires { ⌜ Fit (now h) sh × (length (now y) ≡ 130) × (length (now s) ≡ 16) × (n < sh .blocks * sh .size) ⌝ }
+    requires { ⌜ Fit (now h) sh × (length (now y) ≡ wordRoom) × (length (now s) ≡ syndromeRoom) × (n < sh .blocks * sh .size) ⌝ }
     ensures word { λ q. ⌜ wbit (now (y .exit)) ≡ flipped (wbit (now (y .entry))) n ⌝ }
     ensures checks { λ q. ⌜ ((c : Code) → Lent c (now (h .entry)) sh → (x : Word) → wbit (now (s .entry)) ≡ laid c sh x → wbit (now (s .exit)) ≡ laid c sh (flipped x n)) ⌝ }
 {

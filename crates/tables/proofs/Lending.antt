@@ -18,28 +18,72 @@ use Rattle.tables.specs.Flat.{pairs, flat8, flat16, Lends}
 lends1 : Lends 1 (flat8 (pairs parity16)) (offerOf 1 .shape)
 unfolding code code1 parity16 generator16 flat8
 lends1 = record {
-  fit = record { some = lit≤ tt; held = lit≤ tt; close = lit< tt; words = lit≤ tt; blocks = lit≤ tt; rows = lit≤ tt; room = lit≤ tt; bits = lit≤ tt; flat = refl };
+  fit = record {
+    some = lit≤ tt;
+    held = lit≤ tt;
+    close = lit< tt;
+    words = lit≤ tt;
+    blocks = lit≤ tt;
+    rows = lit≤ tt;
+    room = lit≤ tt;
+    bits =
+        lit≤ tt;
+    flat = refl;
+  };
   lent = lent 16 8 0 15 parity16 generator16 16 8 1 (flat8 (pairs parity16)) tt refl tt tt;
 }
 
 lends2 : Lends 2 (flat8 (pairs parity32)) (offerOf 2 .shape)
 unfolding code code2 parity32 generator32 flat8
 lends2 = record {
-  fit = record { some = lit≤ tt; held = lit≤ tt; close = lit< tt; words = lit≤ tt; blocks = lit≤ tt; rows = lit≤ tt; room = lit≤ tt; bits = lit≤ tt; flat = refl };
+  fit = record {
+    some = lit≤ tt;
+    held = lit≤ tt;
+    close = lit< tt;
+    words = lit≤ tt;
+    blocks = lit≤ tt;
+    rows = lit≤ tt;
+    room = lit≤ tt;
+    bits =
+        lit≤ tt;
+    flat = refl;
+  };
   lent = lent 32 16 0 31 parity32 generator32 32 8 1 (flat8 (pairs parity32)) tt refl tt tt;
 }
 
 lends3 : Lends 3 (flat8 (pairs parity64)) (offerOf 3 .shape)
 unfolding code code3 parity64 generator64 flat8
 lends3 = record {
-  fit = record { some = lit≤ tt; held = lit≤ tt; close = lit< tt; words = lit≤ tt; blocks = lit≤ tt; rows = lit≤ tt; room = lit≤ tt; bits = lit≤ tt; flat = refl };
+  fit = record {
+    some = lit≤ tt;
+    held = lit≤ tt;
+    close = lit< tt;
+    words = lit≤ tt;
+    blocks = lit≤ tt;
+    rows = lit≤ tt;
+    room = lit≤ tt;
+    bits =
+        lit≤ tt;
+    flat = refl;
+  };
   lent = lent 64 32 0 63 parity64 generator64 64 8 1 (flat8 (pairs parity64)) tt refl tt tt;
 }
 
 lends4 : Lends 4 (flat16 (pairs parity511)) (offerOf 4 .shape)
 unfolding code code4 parity511 generator511 flat16
 lends4 = record {
-  fit = record { some = lit≤ tt; held = lit≤ tt; close = lit< tt; words = lit≤ tt; blocks = lit≤ tt; rows = lit≤ tt; room = lit≤ tt; bits = lit≤ tt; flat = refl };
+  fit = record {
+    some = lit≤ tt;
+    held = lit≤ tt;
+    close = lit< tt;
+    words = lit≤ tt;
+    blocks = lit≤ tt;
+    rows = lit≤ tt;
+    room = lit≤ tt;
+    bits =
+        lit≤ tt;
+    flat = refl;
+  };
   lent = lent 1022 895 0 510 parity511 generator511 512 16 8 (flat16 (pairs parity511)) tt refl tt tt;
 }
 
@@ -63,7 +107,8 @@ Given n t sh = (sh ≡ offerOf n .shape) × Lends n t sh
 given : (n : ℕ) {t : List ℕ} {sh : Shape} (t′ : List ℕ) → (t ≡ t′) × (sh ≡ offerOf n .shape) → Lends n t′ (offerOf n .shape) → Given n t sh
 given n {t} {sh} t′ p l = (p .1, subst (λ z. Lends n t z) (sym (p .1)) (subst (λ z. Lends n z (offerOf n .shape)) (sym (p .0)) l))
 
-pub by-size : (size : ℕ) (t : List ℕ) (sh : Shape) → Chosen size t sh → (n : ℕ) → offered n ≡ true → size ≡ offerOf n .shape .size → (sh ≡ offerOf n .shape) × Lends n t sh
+pub by-size : (size : ℕ) (t : List ℕ) (sh : Shape) → Chosen size t sh → (n : ℕ) → offered n ≡ true → size ≡ offerOf n .shape .size
+    → (sh ≡ offerOf n .shape) × Lends n t sh
 by-size size t sh ch n o =
     five (λ n. size ≡ offerOf n .shape .size → Given n t sh)
     (λ e. given 1 (flat8 (pairs parity16)) (ch .small e) lends1)

@@ -23,7 +23,8 @@ pub laid-none : (h : List (List ℕ)) (at : ℕ) (t : List ℕ) → RowLaid h 0 
 laid-none h at t = record { before = λ j l. refl; row = λ j l. absurd (omega arith); after = λ j l. refl }
 
 -- place n of a row, at place p of the list
-laid-place : (h : List (List ℕ)) (n at : ℕ) (t₀ t : List ℕ) (p v : ℕ) → RowLaid h n at t₀ t → p ≡ at + n → p < length t → v ≡ rowPlace h n → RowLaid h (n + 1) at t₀ (set t p v)
+laid-place : (h : List (List ℕ)) (n at : ℕ) (t₀ t : List ℕ) (p v : ℕ) → RowLaid h n at t₀ t → p ≡ at + n → p < length t → v ≡ rowPlace h n
+    → RowLaid h (n + 1) at t₀ (set t p v)
 laid-place h n at t₀ t p v d here room e = record {
   before = λ j l. getD-set-other t p j v 0 (λ q. omega arith) ∙ d .before j l;
   row = λ j l. go j l (ℕ-discrete j n);
@@ -37,7 +38,8 @@ laid-place h n at t₀ t p v d here room e = record {
     go j l (no q) = getD-set-other t p (at + j) v 0 (λ z. q (omega arith)) ∙ d .row j (omega (arith, q))
 
 -- both places of the next block
-pub laid-block : (h : List (List ℕ)) (b at : ℕ) (t₀ t : List ℕ) (p q : ℕ) → RowLaid h (2 * b) at t₀ t → p ≡ at + 2 * b → q ≡ at + (2 * b + 1) → q < length t
+pub laid-block : (h : List (List ℕ)) (b at : ℕ) (t₀ t : List ℕ) (p q : ℕ) → RowLaid h (2 * b) at t₀ t → p ≡ at + 2 * b
+    → q ≡ at + (2 * b + 1) → q < length t
     → RowLaid h (2 * (b + 1)) at t₀ (set (set t p (getD (getD h b []) 0 0)) q (getD (getD h b []) 1 0))
 laid-block h b at t₀ t p q d ep eq room =
     let u = getD (getD h b []) 0 0 in
@@ -56,7 +58,8 @@ pub record Filled (n : ℕ) (f : ℕ → ℕ) (t : List ℕ) (i : ℕ) : Type 0 
   pub places : (j : ℕ) → j < i → getD t j 0 ≡ f j
 
 -- with row r of a table laid, whose rows have k places each
-pub filled-row : (n k r : ℕ) (f : ℕ → ℕ) (h : List (List (List ℕ))) (t t′ : List ℕ) {w at : ℕ} → Filled n f t (k * r) → RowLaid (getD h r []) w at t t′ → w ≡ k → at ≡ k * r → length t′ ≡ length t → k * r + k ≤ n
+pub filled-row : (n k r : ℕ) (f : ℕ → ℕ) (h : List (List (List ℕ))) (t t′ : List ℕ) {w at : ℕ} → Filled n f t (k * r)
+    → RowLaid (getD h r []) w at t t′ → w ≡ k → at ≡ k * r → length t′ ≡ length t → k * r + k ≤ n
     → ((j : ℕ) → j < k → rowPlace (getD h r []) j ≡ f (k * r + j)) → Filled n f t′ (k * (r + 1))
 filled-row n k r f h t t′ {w} {at} d l wide here long room same = record {
   below = omega (arith, more);
@@ -79,11 +82,13 @@ all-places : (n : ℕ) (f : ℕ → ℕ) (t : List ℕ) → length t ≡ n → (
 all-places zero f [] e h = refl
 all-places zero f (v ∷ t) e h = absurd (omega arith)
 all-places (suc n) f [] e h = absurd (omega arith)
-all-places (suc n) f (v ∷ t) e h = ap₂ (λ a b. a ∷ b) (h 0 (zero-lt-suc n)) (all-places n (λ i. f (suc i)) t (omega arith) (λ j l. h (suc j) (suc-le-suc l)))
+all-places (suc n) f (v ∷ t) e h = ap₂ (λ a b. a ∷ b) (h 0 (zero-lt-suc n))
+    (all-places n (λ i. f (suc i)) t (omega arith) (λ j l. h (suc j) (suc-le-suc l)))
 
 pub filled-all : (n : ℕ) (f : ℕ → ℕ) (t : List ℕ) (i : ℕ) → Filled n f t i → n ≤ i → t ≡ listed n f
 filled-all n f t i d h = all-places n f t (d .long) (λ j l. d .places j (omega arith))
 
 -- a constant whose entries are those of the print g is laid flat as g is
-pub flat-as : (flat : List (List (List ℕ)) → List ℕ) (g : List (List (List ℕ))) {t : List ℕ} {h : List (List (List ℕ))} → t ≡ flat h → h ≡ g → t ≡ flat g
+pub flat-as : (flat : List (List (List ℕ)) → List ℕ) (g : List (List (List ℕ))) {t : List ℕ} {h : List (List (List ℕ))} → t ≡ flat h
+    → h ≡ g → t ≡ flat g
 flat-as flat g e same = e ∙ ap flat same

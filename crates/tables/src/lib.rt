@@ -7,6 +7,7 @@ ghost use Rattle.rules.specs.Codes.{offered};
 ghost use Rattle.rules.specs.Tables.{parity16, parity32, parity64, parity511};
 ghost use Rattle.offer.specs.Offers.{offerOf};
 ghost use Rattle.tables.specs.Flat.{RowLaid, pairs, flat8, flat16, Lends};
+ghost use Rattle.layout.specs.Rooms.{tableRoom};
 use layout::Shape;
 
 // No entry: a number that is no shift of any table.
@@ -186,7 +187,7 @@ const PARITY511: [[[u16; 2]; 16]; 2] = [
 
 // The blocks of a row, one place after another from place at on.
 fn flatten_row(h: &[[u16; 2]], t: &mut [u16], at: usize)
-    requires { ⌜ (at + 2 * length (now h) ≤ length (now t)) × (length (now t) ≡ 64) ⌝ }
+    requires { ⌜ (at + 2 * length (now h) ≤ length (now t)) × (length (now t) ≡ tableRoom) ⌝ }
     ensures { λ _. ⌜ RowLaid (now (h .entry)) (2 * length (now (h .entry))) at (now (t .entry)) (now (t .exit)) ⌝ }
 {
     let mut b: usize = 0;
@@ -199,7 +200,7 @@ fn flatten_row(h: &[[u16; 2]], t: &mut [u16], at: usize)
 
 // Four rows of eight blocks, one place after another.
 fn flatten8(h: &[[[u16; 2]; 8]; 4], t: &mut [u16])
-    requires { ⌜ length (now t) ≡ 64 ⌝ }
+    requires { ⌜ length (now t) ≡ tableRoom ⌝ }
     ensures { λ _. ⌜ now (t .exit) ≡ flat8 (now (h .entry)) ⌝ }
 {
     let mut r: usize = 0;
@@ -211,7 +212,7 @@ fn flatten8(h: &[[[u16; 2]; 8]; 4], t: &mut [u16])
 
 // Two rows of 16 blocks, one place after another.
 fn flatten16(h: &[[[u16; 2]; 16]; 2], t: &mut [u16])
-    requires { ⌜ length (now t) ≡ 64 ⌝ }
+    requires { ⌜ length (now t) ≡ tableRoom ⌝ }
     ensures { λ _. ⌜ now (t .exit) ≡ flat16 (now (h .entry)) ⌝ }
 {
     let mut r: usize = 0;
@@ -223,7 +224,7 @@ fn flatten16(h: &[[[u16; 2]; 16]; 2], t: &mut [u16])
 
 // The places of each table, laid flat.
 pub fn lend16(t: &mut [u16])
-    requires { ⌜ length (now t) ≡ 64 ⌝ }
+    requires { ⌜ length (now t) ≡ tableRoom ⌝ }
     ensures { λ _. ⌜ now (t .exit) ≡ flat8 (pairs parity16) ⌝ }
 {
     let h = PARITY16;
@@ -231,7 +232,7 @@ pub fn lend16(t: &mut [u16])
 }
 
 pub fn lend32(t: &mut [u16])
-    requires { ⌜ length (now t) ≡ 64 ⌝ }
+    requires { ⌜ length (now t) ≡ tableRoom ⌝ }
     ensures { λ _. ⌜ now (t .exit) ≡ flat8 (pairs parity32) ⌝ }
 {
     let h = PARITY32;
@@ -239,7 +240,7 @@ pub fn lend32(t: &mut [u16])
 }
 
 pub fn lend64(t: &mut [u16])
-    requires { ⌜ length (now t) ≡ 64 ⌝ }
+    requires { ⌜ length (now t) ≡ tableRoom ⌝ }
     ensures { λ _. ⌜ now (t .exit) ≡ flat8 (pairs parity64) ⌝ }
 {
     let h = PARITY64;
@@ -247,7 +248,7 @@ pub fn lend64(t: &mut [u16])
 }
 
 pub fn lend511(t: &mut [u16])
-    requires { ⌜ length (now t) ≡ 64 ⌝ }
+    requires { ⌜ length (now t) ≡ tableRoom ⌝ }
     ensures { λ _. ⌜ now (t .exit) ≡ flat16 (pairs parity511) ⌝ }
 {
     let h = PARITY511;
@@ -256,7 +257,7 @@ pub fn lend511(t: &mut [u16])
 
 // The parity table whose blocks have this size, lent: its places into t, and its shape, in numbers that a compiler sees.
 pub fn lend(size: usize, t: &mut [u16]) -> Shape
-    requires { ⌜ length (now t) ≡ 64 ⌝ }
+    requires { ⌜ length (now t) ≡ tableRoom ⌝ }
     ensures { λ r. ⌜ ((n : ℕ) → offered n ≡ true → size ≡ offerOf n .shape .size → (r ≡ offerOf n .shape) × Lends n (now (t .exit)) r) ⌝ }
 {
     if size == 16 {

@@ -3,7 +3,8 @@ use mathlib.Core.Path.{_≡_, sym, ap, _∙_}
 use mathlib.Core.Logic.{⊎-elim}
 use mathlib.Core.List.{List}
 use Prim.Native.Nat.{ℕ, zero, suc, _+_, _-_, _*_, _/_, _%_, _^_, _≤_, _<_}
-use native.Mathlib.Nat.{mul-assoc, add-comm, add-mul-div-right, mul-add-mod-self-right, pow-suc, div-eq-of-lt, div-lt-iff-lt-mul, zero-mul, zero-add, add-zero}
+use native.Mathlib.Nat.{mul-assoc, add-comm, add-mul-div-right, mul-add-mod-self-right, pow-suc, div-eq-of-lt, div-lt-iff-lt-mul, zero-mul}
+use native.Mathlib.Nat.{zero-add, add-zero}
 use native.Mathlib.Omega.{arith}
 use lib.Pow.{pow-pos, pow-add, shr-shr, high}
 use lib.Dec.{eqb, ltb}
@@ -49,7 +50,8 @@ module _ (words : List ℕ) (at : ℕ) (small : (i : ℕ) → getD words i 0 < 2
           last-word (joined w words at) y k l ∙ ap (λ (n : ℕ). getD words n 0 / 2 ^ k % 2) e
           ∙ ap (λ (n : ℕ). getD words (at + (suc w - 1) - k / 64) 0 / 2 ^ n % 2) r
 
-      front : ((k - 64) / 64 < w → joined w words at / 2 ^ (k - 64) % 2 ≡ getD words (at + (w - 1) - (k - 64) / 64) 0 / 2 ^ ((k - 64) % 64) % 2)
+      front : ((k - 64) / 64 < w → joined w words at / 2 ^ (k - 64) % 2 ≡ getD words (at + (w - 1) - (k - 64) / 64) 0 / 2 ^ ((k - 64) % 64)
+          % 2)
           → 64 ≤ k → (joined w words at * 2 ^ 64 + y) / 2 ^ k % 2 ≡ getD words (at + (suc w - 1) - k / 64) 0 / 2 ^ (k % 64) % 2
       front before l =
           let e : at + (w - 1) - (k - 64) / 64 ≡ at + (suc w - 1) - k / 64 = omega arith in

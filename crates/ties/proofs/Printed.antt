@@ -32,7 +32,8 @@ module _ (M printed : ℕ) (pos : 0 < M) (fits : M ≤ printed) where
   same-row P (S ∷ row) (g ∷ generator) =
       ap₂ (λ (a b : Bool). a && b) (ap (below M) (fun-ext (λ d. same-cancels S P g d))) (same-row P row generator)
 
-  pub same-rows : (parity : List (List (List ℕ))) (generator : List (List ℕ)) → rowsTied M printed parity generator ≡ rowsTied M M parity generator
+  pub same-rows : (parity : List (List (List ℕ))) (generator : List (List ℕ))
+      → rowsTied M printed parity generator ≡ rowsTied M M parity generator
   same-rows [] generator = refl
   same-rows (row ∷ parity) generator =
       ap₂ (λ (a b : Bool). a && b) (same-row (drop (length generator) row) row generator) (same-rows parity generator)

@@ -42,7 +42,8 @@ module _ (M : ℕ) (f : ℕ → Bool) where
       go false = refl
 
   -- The sums of the three places, which the machine adds up.
-  pub over-block : (parity : List ℕ) (at : ℕ) {a b c : Bool} → a ≡ over (kept M (getD parity at 0) []) f → b ≡ over (kept M (getD parity (at + 1) 0) []) f
+  pub over-block : (parity : List ℕ) (at : ℕ) {a b c : Bool} → a ≡ over (kept M (getD parity at 0) []) f
+      → b ≡ over (kept M (getD parity (at + 1) 0) []) f
       → c ≡ over (kept M (getD parity (at + 2) 0) []) f → not (Bool·beq a (not (Bool·beq b c))) ≡ over (block M parity at) f
   over-block parity at {a} {b} {c} p q r =
       let third = kept M (getD parity (at + 2) 0) [] in

@@ -55,18 +55,23 @@ tail-demanded = refl
 
 pub short-start : (unit : List ℕ) → length unit < 8 → started unit ≡ false
 unfolding started
-short-start unit h = other-length (take 8 unit) start (λ e. let l : length (take 8 unit) ≡ length unit = ap length (take-all 8 unit (omega arith)) in omega (arith, l, e))
+short-start unit h = other-length (take 8 unit) start (λ e. let l : length (take 8 unit) ≡ length unit =
+    ap length (take-all 8 unit (omega arith)) in omega (arith, l, e))
 
 -- ---- a codeblock of a unit
 
-room-at : (k long n : ℕ) → unitCode n ≡ true → k < (long - 8 - length (tail n)) / code n .wordOctets → 8 + k * code n .wordOctets + code n .wordOctets ≤ long
+room-at : (k long n : ℕ) → unitCode n ≡ true → k < (long - 8 - length (tail n)) / code n .wordOctets
+    → 8 + k * code n .wordOctets + code n .wordOctets ≤ long
 unfolding code code1 code3 tail
-room-at k long = both (λ n. k < (long - 8 - length (tail n)) / code n .wordOctets → 8 + k * code n .wordOctets + code n .wordOctets ≤ long) (λ h. omega arith) (λ h. omega arith)
+room-at k long = both (λ n. k < (long - 8 - length (tail n)) / code n .wordOctets → 8 + k * code n .wordOctets + code n .wordOctets ≤ long)
+    (λ h. omega arith) (λ h. omega arith)
 
-pub block-room : (n : ℕ) (unit : List ℕ) (k size : ℕ) → unitCode n ≡ true → k < blocksIn n unit → size ≡ code n .wordOctets → 8 + k * size + size ≤ length unit
+pub block-room : (n : ℕ) (unit : List ℕ) (k size : ℕ) → unitCode n ≡ true → k < blocksIn n unit → size ≡ code n .wordOctets
+    → 8 + k * size + size ≤ length unit
 block-room n unit k size u h e = subst (λ z. 8 + k * z + z ≤ length unit) (sym e) (room-at k (length unit) n u h)
 
-pub received-is : (n : ℕ) (unit word : List ℕ) (k size : ℕ) → size ≡ code n .wordOctets → word ≡ take (8 + k * size + size - (8 + k * size)) (drop (8 + k * size) unit)
+pub received-is : (n : ℕ) (unit word : List ℕ) (k size : ℕ) → size ≡ code n .wordOctets
+    → word ≡ take (8 + k * size + size - (8 + k * size)) (drop (8 + k * size) unit)
     → randomised telecommand (k * size) word ≡ received n unit k
 received-is n unit word k size e ew =
     let m : 8 + k * size + size - (8 + k * size) ≡ size = omega arith in
@@ -113,4 +118,5 @@ module _ (n : ℕ) (unit : List ℕ) (u : unitCode n ≡ true) where
       (le-leb 1 (blocksIn n unit) (one-at (between n unit) n u (omega arith)))
       (eq-eqb (between n unit % code n .wordOctets) 0 (sym (ap₂ (λ x y. x % y) er ew) ∙ e))
       ∙ ap (λ z. same (drop (8 + z) unit) (tail n)) (sym er)
-      ∙ ap (λ z. same z (tail n)) (sym (take-all (length unit - (8 + rest)) (drop (8 + rest) unit) (omega (arith, length-drop (8 + rest) unit))))
+      ∙ ap (λ z. same z (tail n)) (sym
+      (take-all (length unit - (8 + rest)) (drop (8 + rest) unit) (omega (arith, length-drop (8 + rest) unit))))

@@ -70,19 +70,26 @@ module _ (n : ℕ) (information out : List ℕ) where
 
   pub write-two : unitCode n ≡ true → length information ≡ 0 → writeAnswer n information out ≡ record { number = 2; out = out }
   unfolding writeAnswer
-  write-two u e = not-is (unitCode n) (record { number = 1; out = out }) _ u ∙ if-is (eqb (length information) 0) (record { number = 2; out = out }) _ (eq-eqb (length information) 0 e)
+  write-two u e = not-is (unitCode n) (record { number = 1; out = out }) _ u
+      ∙ if-is (eqb (length information) 0) (record { number = 2; out = out }) _ (eq-eqb (length information) 0 e)
 
-  pub write-three : unitCode n ≡ true → (length information ≡ 0 → ⊥) → (length out ≡ unitLength n (length information) → ⊥) → writeAnswer n information out ≡ record { number = 3; out = out }
+  pub write-three : unitCode n ≡ true → (length information ≡ 0 → ⊥) → (length out ≡ unitLength n (length information) → ⊥)
+      → writeAnswer n information out ≡ record { number = 3; out = out }
   unfolding writeAnswer
   write-three u d x =
-      not-is (unitCode n) (record { number = 1; out = out }) _ u ∙ if-isnt (eqb (length information) 0) (record { number = 2; out = out }) _ (ne-eqb (length information) 0 d)
-      ∙ not-isnt (eqb (length out) (unitLength n (length information))) (record { number = 3; out = out }) (record { number = 0; out = unit n information }) (ne-eqb (length out) (unitLength n (length information)) x)
+      not-is (unitCode n) (record { number = 1; out = out }) _ u
+      ∙ if-isnt (eqb (length information) 0) (record { number = 2; out = out }) _ (ne-eqb (length information) 0 d)
+      ∙ not-isnt (eqb (length out) (unitLength n (length information))) (record { number = 3; out = out })
+      (record { number = 0; out = unit n information }) (ne-eqb (length out) (unitLength n (length information)) x)
 
-  pub write-done : unitCode n ≡ true → (length information ≡ 0 → ⊥) → length out ≡ unitLength n (length information) → writeAnswer n information out ≡ record { number = 0; out = unit n information }
+  pub write-done : unitCode n ≡ true → (length information ≡ 0 → ⊥) → length out ≡ unitLength n (length information)
+      → writeAnswer n information out ≡ record { number = 0; out = unit n information }
   unfolding writeAnswer
   write-done u d x =
-      not-is (unitCode n) (record { number = 1; out = out }) _ u ∙ if-isnt (eqb (length information) 0) (record { number = 2; out = out }) _ (ne-eqb (length information) 0 d)
-      ∙ not-is (eqb (length out) (unitLength n (length information))) (record { number = 3; out = out }) (record { number = 0; out = unit n information }) (eq-eqb (length out) (unitLength n (length information)) x)
+      not-is (unitCode n) (record { number = 1; out = out }) _ u
+      ∙ if-isnt (eqb (length information) 0) (record { number = 2; out = out }) _ (ne-eqb (length information) 0 d)
+      ∙ not-is (eqb (length out) (unitLength n (length information))) (record { number = 3; out = out })
+      (record { number = 0; out = unit n information }) (eq-eqb (length out) (unitLength n (length information)) x)
 
 -- a length that is given is the unit's
 pub octets-some : (n long r : ℕ) → unitCode n ≡ true → (long ≡ 0 → ⊥) → r ≡ unitOctets n long → (r ≡ 0 → ⊥) → r ≡ unitLength n long
@@ -93,5 +100,6 @@ octets-some n long r u d e some = go (decLt (unitLength n long) (2 ^ 64))
     go (no g) = absurd (some (e ∙ octets-great n long u d (omega (arith, lt-of-not-le g))))
 
 -- and an output as long as the unit has the length that is given
-pub octets-given : (n long r room : ℕ) → unitCode n ≡ true → (long ≡ 0 → ⊥) → r ≡ unitOctets n long → room < 2 ^ 64 → room ≡ unitLength n long → room ≡ r
+pub octets-given : (n long r room : ℕ) → unitCode n ≡ true → (long ≡ 0 → ⊥) → r ≡ unitOctets n long → room < 2 ^ 64
+    → room ≡ unitLength n long → room ≡ r
 octets-given n long r room u d e h q = q ∙ sym (e ∙ octets-fit n long u d (subst (λ z. z < 2 ^ 64) q h))

@@ -22,17 +22,26 @@ use Rattle.codes.specs.declared.Corrected.{Corrected as Numbers}
 abbrev numbers : Corrected → Numbers
 numbers r = record { number = r .number; flips = r .flips; first = r .first; last = r .last; unlike = r .unlike; lowest = r .lowest }
 
-pub write-unit-outcome : (κs : Lfts 2) (a : ArgsD write-unit.signature κs) (r₁ r₂ : ResD write-unit.signature κs) (s₁ s₂ : AtExit (endedOf 2 write-unit-kinds.ps write-unit-kinds.r) κs)
+pub write-unit-outcome : (κs : Lfts 2) (a : ArgsD write-unit.signature κs) (r₁ r₂ : ResD write-unit.signature κs)
+    (s₁ s₂ : AtExit (endedOf 2 write-unit-kinds.ps write-unit-kinds.r) κs)
     → write-unit-reads.Post κs a r₁ s₁ → write-unit-reads.Post κs a r₂ s₂ → (r₁ ≡ r₂) × (now (s₁ .1 .1 .0) ≡ now (s₂ .1 .1 .0))
 write-unit-outcome κs a r₁ r₂ s₁ s₂ p q = (ap (λ x. x .number) (p ∙ sym q), ap (λ x. x .out) (p ∙ sym q))
 
-pub reader-outcome : (κs : Lfts 1) (a : ArgsD reader.signature κs) (r₁ r₂ : ResD reader.signature κs) (s₁ s₂ : AtExit (endedOf 1 reader-kinds.ps reader-kinds.r) κs)
+pub reader-outcome : (κs : Lfts 1) (a : ArgsD reader.signature κs) (r₁ r₂ : ResD reader.signature κs)
+    (s₁ s₂ : AtExit (endedOf 1 reader-kinds.ps reader-kinds.r) κs)
     → reader-reads.Post κs a r₁ s₁ → reader-reads.Post κs a r₂ s₂ → r₁ ≡ r₂
-reader-outcome κs a r₁ r₂ s₁ s₂ p q = ap (λ x. record { kept = numbers (x .kept); code = x .code; limit = x .limit; place = x .place }) (p ∙ sym q)
+reader-outcome κs a r₁ r₂ s₁ s₂ p q = ap (λ x. record { kept = numbers (x .kept); code = x .code; limit = x .limit; place = x .place }) (p
+    ∙ sym q)
 
-pub read-outcome : (κs : Lfts 2) (a : ArgsD read.signature κs) (r₁ r₂ : ResD read.signature κs) (s₁ s₂ : AtExit (endedOf 2 read-kinds.ps read-kinds.r) κs)
+pub read-outcome : (κs : Lfts 2) (a : ArgsD read.signature κs) (r₁ r₂ : ResD read.signature κs)
+    (s₁ s₂ : AtExit (endedOf 2 read-kinds.ps read-kinds.r) κs)
     → read-reads.Post κs a r₁ s₁ → read-reads.Post κs a r₂ s₂ → (r₁ ≡ r₂) × (now (s₁ .1 .1 .0) ≡ now (s₂ .1 .1 .0))
 read-outcome κs a r₁ r₂ s₁ s₂ p q = (
-  ap (λ x. record { corrected = numbers (x .corrected); none = x .none; next = record { kept = numbers (x .next .kept); code = x .next .code; limit = x .next .limit; place = x .next .place } }) (p ∙ sym q),
+  ap (λ x. record {
+    corrected = numbers (x .corrected);
+    none = x .none;
+    next =
+        record { kept = numbers (x .next .kept); code = x .next .code; limit = x .next .limit; place = x .next .place };
+  }) (p ∙ sym q),
   ap (λ x. x .corrected .out) (p ∙ sym q),
 )

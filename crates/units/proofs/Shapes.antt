@@ -41,7 +41,8 @@ pub record Sizes (word information tail : ℕ) : Type 0 where
 pub sizes : (n : ℕ) → unitCode n ≡ true → Sizes (code n .wordOctets) (code n .informationOctets) (length (tail n))
 unfolding code code1 code3 tail
 sizes = both (λ n. Sizes (code n .wordOctets) (code n .informationOctets) (length (tail n)))
-    (record { whole = refl; some = omega arith; few = omega arith; short = omega arith }) (record { whole = refl; some = omega arith; few = omega arith; short = omega arith })
+    (record { whole = refl; some = omega arith; few = omega arith; short = omega arith })
+    (record { whole = refl; some = omega arith; few = omega arith; short = omega arith })
 
 pub none-long : (l : List ℕ) → length l ≡ 0 → l ≡ []
 none-long [] e = refl

@@ -100,7 +100,16 @@ pub record Reading : Type 0 where
 
 -- Correct's numbers, with another output.
 abbrev pub withOut : Corrected → List ℕ → Corrected
-withOut r out = record { number = r .number; flips = r .flips; first = r .first; last = r .last; unlike = r .unlike; lowest = r .lowest; out = out }
+withOut r out = record {
+  number = r .number;
+  flips = r .flips;
+  first = r .first;
+  last = r .last;
+  unlike = r .unlike;
+  lowest =
+      r .lowest;
+  out = out;
+}
 
 -- Made over (code, unit, limit): 1 for another code; then 11 if the whole start is not there; then 12 if what follows is not
 -- one or more whole codeblocks and the tail.

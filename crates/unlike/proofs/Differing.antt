@@ -13,21 +13,25 @@ use Rattle.vectors.proofs.Counts.{ones-count, count-upTo}
 use Rattle.vectors.proofs.Places.{digit-xor}
 
 pub apart-count : (v w : ℕ) → bitXor v w < 2 ^ 64 → ones (bitXor v w) ≡ count 64 (λ i. digit 64 v i ⊕ digit 64 w i)
-apart-count v w h = ones-count 64 (bitXor v w) h ∙ count-same 64 (digit 64 (bitXor v w)) (λ i. digit 64 v i ⊕ digit 64 w i) (λ i l. digit-xor 64 v w i)
+apart-count v w h = ones-count 64 (bitXor v w) h ∙ count-same 64 (digit 64 (bitXor v w)) (λ i. digit 64 v i ⊕ digit 64 w i)
+    (λ i l. digit-xor 64 v w i)
 
 -- equal words differ in no bit
 pub apart-none : (v w : ℕ) → v ≡ w → 0 ≡ count 64 (λ i. digit 64 v i ⊕ digit 64 w i)
-apart-none v w e = sym (count-none 64 (λ i. digit 64 v i ⊕ digit 64 w i) (λ i l. ap (λ z. digit 64 v i ⊕ digit 64 z i) (sym e) ∙ ⊕-self (digit 64 v i)))
+apart-none v w e = sym (count-none 64 (λ i. digit 64 v i ⊕ digit 64 w i) (λ i l. ap (λ z. digit 64 v i ⊕ digit 64 z i) (sym e)
+    ∙ ⊕-self (digit 64 v i)))
 
 -- 64 bits more
-pub apart-more : (x y : Word) (j v w r : ℕ) → Holds v (from (64 * j) x) → Holds w (from (64 * j) y) → r ≡ count 64 (λ i. digit 64 v i ⊕ digit 64 w i)
+pub apart-more : (x y : Word) (j v w r : ℕ) → Holds v (from (64 * j) x) → Holds w (from (64 * j) y)
+    → r ≡ count 64 (λ i. digit 64 v i ⊕ digit 64 w i)
     → count (64 * (j + 1)) (λ i. x i ⊕ y i) ≡ count (64 * j) (λ i. x i ⊕ y i) + r
 apart-more x y j v w r hv hw e =
     let s : 64 * (j + 1) ≡ 64 * j + 64 = omega arith in
     ap (λ (n : ℕ). count n (λ i. x i ⊕ y i)) s
     ∙ count-add (64 * j) 64 (λ i. x i ⊕ y i)
     ∙ ap (λ (n : ℕ). count (64 * j) (λ i. x i ⊕ y i) + n)
-    (sym (e ∙ count-same 64 (λ i. digit 64 v i ⊕ digit 64 w i) (λ i. x (64 * j + i) ⊕ y (64 * j + i)) (λ i l. ap₂ (λ a b. a ⊕ b) (hv i l) (hw i l))))
+    (sym (e ∙ count-same 64 (λ i. digit 64 v i ⊕ digit 64 w i) (λ i. x (64 * j + i) ⊕ y (64 * j + i))
+    (λ i l. ap₂ (λ a b. a ⊕ b) (hv i l) (hw i l))))
 
 -- t bits more
 pub apart-rest : (x y : Word) (k t : ℕ) → t ≤ 64 → (v w r : ℕ) → Holds v (upTo t (from (64 * k) x)) → Holds w (upTo t (from (64 * k) y))

@@ -97,7 +97,8 @@ module _ (w : ℕ) (some : 0 < w) where
             (le-or-lt (n / w) k)
 
 -- Lists of numbers of a width are known by their length and their bits.
-pub same-cells : (w : ℕ) → 0 < w → (xs ys : List ℕ) → length xs ≡ length ys → ((k : ℕ) → getD xs k 0 < 2 ^ w) → ((k : ℕ) → getD ys k 0 < 2 ^ w)
+pub same-cells : (w : ℕ) → 0 < w → (xs ys : List ℕ) → length xs ≡ length ys → ((k : ℕ) → getD xs k 0 < 2 ^ w)
+    → ((k : ℕ) → getD ys k 0 < 2 ^ w)
     → cell w xs ≡ cell w ys → xs ≡ ys
 same-cells w some xs ys el hx hy e =
     ext-getD 0 xs ys el

@@ -37,11 +37,13 @@ unfolding ones count
 ones-count zero v h = ap ones (lt-one h)
 ones-count (suc w) v h =
     let halves =
-    ones-count w (v / 2) (omega (arith, pow-suc 2 w)) ∙ count-same w (digit w (v / 2)) (digit (suc w) v) (λ i l. sym (digit-half w v i l)) in
+    ones-count w (v / 2) (omega (arith, pow-suc 2 w))
+    ∙ count-same w (digit w (v / 2)) (digit (suc w) v) (λ i l. sym (digit-half w v i l)) in
     omega (arith, ones-step v, digit-odd w v)
 
 -- one word more
-pub count-word : (ws : List ℕ) (k : ℕ) → getD ws k 0 < 2 ^ 64 → count (64 * (k + 1)) (wbit ws) ≡ count (64 * k) (wbit ws) + ones (getD ws k 0)
+pub count-word : (ws : List ℕ) (k : ℕ) → getD ws k 0 < 2 ^ 64
+    → count (64 * (k + 1)) (wbit ws) ≡ count (64 * k) (wbit ws) + ones (getD ws k 0)
 count-word ws k h =
     let e : 64 * (k + 1) ≡ 64 * k + 64 = omega arith in
     let v = getD ws k 0 in

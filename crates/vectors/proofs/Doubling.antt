@@ -25,7 +25,8 @@ module _ (v d : List ℕ) (n t k a u : ℕ) (was : Doubled v n t k d) (inside : 
       front : (j : ℕ) → j < n → getD (set (set d k a) (n + k) u) j 0 ≡ getD (set d k a) j 0
       front j l = getD-set-other (set d k a) (n + k) j u 0 (λ q. omega arith)
 
-      go : Dec (j ≡ k) → (getD (set (set d k a) (n + k) u) j 0 ≡ getD v j 0) × Holds (getD (set (set d k a) (n + k) u) (n + j) 0) (from (64 * j + t) (wbit v))
+      go : Dec (j ≡ k) → (getD (set (set d k a) (n + k) u) j 0 ≡ getD v j 0)
+          × Holds (getD (set (set d k a) (n + k) u) (n + j) 0) (from (64 * j + t) (wbit v))
       go (yes e) = (
         front j (omega arith) ∙ ap (λ q. getD (set d k a) q 0) e ∙ getD-set-same d k a 0 (omega arith) ∙ ea ∙ ap (λ q. getD v q 0) (sym e),
         λ i hi.
@@ -38,12 +39,14 @@ module _ (v d : List ℕ) (n t k a u : ℕ) (was : Doubled v n t k d) (inside : 
           let w = was j (omega (arith, o)) in (
             front j (omega arith) ∙ getD-set-other d k j a 0 o ∙ w .0,
             λ i hi.
-                ap (λ w. digit 64 w i) (getD-set-other (set d k a) (n + k) (n + j) u 0 (λ q. o (omega arith)) ∙ getD-set-other d k (n + j) a 0 (λ q. omega arith))
+                ap (λ w. digit 64 w i) (getD-set-other (set d k a) (n + k) (n + j) u 0 (λ q. o (omega arith))
+                ∙ getD-set-other d k (n + j) a 0 (λ q. omega arith))
                 ∙ w .1 i hi,
           )
 
 -- Two neighbours of v hold the bits from bit t of the first on.
-pub across : (v : List ℕ) (k t a b u : ℕ) → t < 64 → a ≡ getD v k 0 → b ≡ getD v (k + 1) 0 → Holds u (from t (wbit (a ∷ b ∷ []))) → Holds u (from (64 * k + t) (wbit v))
+pub across : (v : List ℕ) (k t a b u : ℕ) → t < 64 → a ≡ getD v k 0 → b ≡ getD v (k + 1) 0 → Holds u (from t (wbit (a ∷ b ∷ [])))
+    → Holds u (from (64 * k + t) (wbit v))
 across v k t a b u ht ea eb hu i hi =
     hu i hi ∙ ap (λ y. wbit (y ∷ b ∷ []) (t + i)) ea ∙ ap (λ z. wbit (getD v k 0 ∷ z ∷ []) (t + i)) eb ∙ neighbours v k t i ht hi
 
@@ -58,7 +61,8 @@ right-bits ws x k right n h =
     word-at ws n (n / 64) i (omega arith) e ∙ right (n / 64) (omega arith) i (omega arith) ∙ ap x (sym e)
 
 -- The words of d, of which the last in front and the last of all are stored after the loop.
-module _ (v d : List ℕ) (m n t : ℕ) (short : wbit v ≡ upTo m (wbit v)) (some : 1 ≤ n) (ht : t < 64) (e : m + t ≡ 64 * n) (all : Doubled v n t (n - 1) d) where
+module _ (v d : List ℕ) (m n t : ℕ) (short : wbit v ≡ upTo m (wbit v)) (some : 1 ≤ n) (ht : t < 64) (e : m + t ≡ 64 * n)
+    (all : Doubled v n t (n - 1) d) where
   abbrev x : Word
   x = twice m (wbit v)
 
@@ -105,7 +109,8 @@ module _ (v d : List ℕ) (m n t : ℕ) (short : wbit v ≡ upTo m (wbit v)) (so
           (le-or-lt n k)
 
   -- the last word
-  right-end : (u : ℕ) → getD v 0 0 < 2 ^ 64 → 2 * n - 1 < length at → Holds u (from t (wbit (getD v (n - 1) 0 ∷ 0 ∷ []))) → Right (set at (2 * n - 1) u) x (2 * n)
+  right-end : (u : ℕ) → getD v 0 0 < 2 ^ 64 → 2 * n - 1 < length at → Holds u (from t (wbit (getD v (n - 1) 0 ∷ 0 ∷ [])))
+      → Right (set at (2 * n - 1) u) x (2 * n)
   right-end u hb room hu k h = go (ℕ-discrete k (2 * n - 1))
     where
       last : List ℕ
@@ -128,7 +133,8 @@ module _ (v d : List ℕ) (m n t : ℕ) (short : wbit v ≡ upTo m (wbit v)) (so
           ∙ ap (λ w. digit 64 w i) (getD-set-same at (2 * n - 1) u 0 (omega arith))
           ∙ hu i hi ∙ end i hi
           ∙ ap (λ j. x (64 * j + i)) (sym q)
-      go (no o) i hi = ap (λ w. digit 64 w i) (getD-set-other at (2 * n - 1) k u 0 o) ∙ right-at hb (omega (arith, long)) k (omega (arith, o)) i hi
+      go (no o) i hi = ap (λ w. digit 64 w i) (getD-set-other at (2 * n - 1) k u 0 o)
+          ∙ right-at hb (omega (arith, long)) k (omega (arith, o)) i hi
 
   -- all bits, where d has no word for the last ones
   pub at-stored : getD v 0 0 < 2 ^ 64 → n ≤ length d → length at ≤ 2 * n - 1 → 2 * m ≤ 64 * length d → wbit at ≡ x
@@ -141,7 +147,8 @@ module _ (v d : List ℕ) (m n t : ℕ) (short : wbit v ≡ upTo m (wbit v)) (so
       (le-or-lt (64 * length d) i))
 
   -- and where it has one, and what is behind it is cleared
-  pub end-stored : (u : ℕ) → getD v 0 0 < 2 ^ 64 → 2 * n - 1 < length at → Holds u (from t (wbit (getD v (n - 1) 0 ∷ 0 ∷ []))) → upTo (128 * n) (wbit (set at (2 * n - 1) u)) ≡ x
+  pub end-stored : (u : ℕ) → getD v 0 0 < 2 ^ 64 → 2 * n - 1 < length at → Holds u (from t (wbit (getD v (n - 1) 0 ∷ 0 ∷ [])))
+      → upTo (128 * n) (wbit (set at (2 * n - 1) u)) ≡ x
   end-stored u hb room hu =
       let ws = set at (2 * n - 1) u in
       fun-ext

@@ -15,7 +15,8 @@ use Rattle.bits.specs.Bits.{Word, digit, bit, octets}
 use Rattle.bits.proofs.Octets.{length-octets, bit-octets, octets-lt, bit-past}
 use Rattle.vectors.specs.Vectors.{wbit, Holds, upTo, from, joined}
 use Rattle.bits.proofs.Orders.{le-or-lt}
-use Rattle.vectors.proofs.Places.{or-none, place, place-or, place-above, place-front, place-behind, place-zero, place-cut, place-up, place-down, place-below}
+use Rattle.vectors.proofs.Places.{or-none, place, place-or, place-above, place-front, place-behind, place-zero, place-cut, place-up}
+use Rattle.vectors.proofs.Places.{place-down, place-below}
 use Rattle.vectors.proofs.Cells.{cell-at, same-cells, joined-below, joined-above, joined-end}
 use Rattle.vectors.proofs.Spans.{upTo-below, upTo-above}
 
@@ -33,7 +34,8 @@ fits m k v h l = lt-of-lt-of-le h (pow-mono l)
 abbrev pub Gathered : List ℕ → ℕ → ℕ → ℕ → Type 0
 Gathered o at n v = (v < 2 ^ (8 * n)) × ((i : ℕ) → i < 8 * n → digit (8 * n) v i ≡ bit o (8 * at + i))
 
-pub octet-more : (o : List ℕ) (at n v : ℕ) → getD o (at + n) 0 < 2 ^ 8 → Gathered o at n v → Gathered o at (n + 1) (v * 256 + getD o (at + n) 0)
+pub octet-more : (o : List ℕ) (at n v : ℕ) → getD o (at + n) 0 < 2 ^ 8 → Gathered o at n v
+    → Gathered o at (n + 1) (v * 256 + getD o (at + n) 0)
 octet-more o at n v hb g = (
   subst (λ (k : ℕ). v * 256 + b < k) (sym (pow-add 2 (8 * n) 8) ∙ ap (λ (k : ℕ). 2 ^ k) wide) (digits-lt (g .0) hb),
   λ i hi. ⊎-elim (behind i hi) (front i) (le-or-lt (8 * n) i),
@@ -61,7 +63,8 @@ octet-more o at n v hb g = (
         ∙ sym (ap (bit o) k ∙ cell-at 8 (lit< tt) o (at + n) j hj)
 
 -- Two halves of four octets make a word.
-pub two-halves : (o : List ℕ) (at u v : ℕ) → Gathered o at 4 u → Gathered o (at + 4) 4 v → Holds (bitOr ((u * 2 ^ 32) % 2 ^ 64) v) (from (8 * at) (bit o))
+pub two-halves : (o : List ℕ) (at u v : ℕ) → Gathered o at 4 u → Gathered o (at + 4) 4 v
+    → Holds (bitOr ((u * 2 ^ 32) % 2 ^ 64) v) (from (8 * at) (bit o))
 two-halves o at u v g k i hi = place-or ((u * 2 ^ 32) % 2 ^ 64) v j ∙ ⊎-elim second first (le-or-lt 32 i)
   where
     j : ℕ
@@ -114,7 +117,8 @@ put-octet v j i hj hi =
 abbrev pub after : ℕ → Word → ℕ → Word
 after a z v = joined a z (λ k. digit 64 v (k - a))
 
-rest-more : (z x y : Word) (a e v : ℕ) → z ≡ joined a x y → a ≤ e → e ≤ a + 64 → Holds v (from a x) → joined e (after a z v) z ≡ joined e x y
+rest-more : (z x y : Word) (a e v : ℕ) → z ≡ joined a x y → a ≤ e → e ≤ a + 64 → Holds v (from a x)
+    → joined e (after a z v) z ≡ joined e x y
 rest-more z x y a e v was ha he hv = fun-ext (λ k. ⊎-elim (behind k) (before k) (le-or-lt e k))
   where
     now : (k : ℕ) → z k ≡ joined a x y k
@@ -141,7 +145,8 @@ pub put-more : (o p : List ℕ) (x y : Word) (at n v : ℕ) → n ≤ 8 → bit 
 put-more o p x y at n v hn was hv e = e ∙ rest-more (bit o) x y (8 * at) (8 * (at + n)) v was (omega arith) (omega arith) hv
 
 -- A list of octets that is written to its end.
-pub written : (o₀ o : List ℕ) (x : Word) (e : ℕ) → length o ≡ length o₀ → ((i : ℕ) → getD o i 0 < 2 ^ 8) → e ≡ 8 * length o₀ → bit o ≡ joined e x (bit o₀)
+pub written : (o₀ o : List ℕ) (x : Word) (e : ℕ) → length o ≡ length o₀ → ((i : ℕ) → getD o i 0 < 2 ^ 8) → e ≡ 8 * length o₀
+    → bit o ≡ joined e x (bit o₀)
     → o ≡ octets (length o₀) x
 written o₀ o x e long small all b = octets-of o (length o₀) x long small (b ∙ ap (λ (n : ℕ). joined n x (bit o₀)) all ∙ fun-ext cut)
   where

@@ -83,13 +83,16 @@ module _ (a b j : ℕ) where
   y = b / 2 ^ j
 
   pub place-xor : place (bitXor a b) j ≡ place a j ⊕ place b j
-  place-xor = ap (λ (n : ℕ). eqb (n % 2) 1) (xor-shr a b j) ∙ last-digit differ _⊕_ four-xor x y (bitXor x y) (bitXor (x / 2) (y / 2)) (xor-step x y)
+  place-xor = ap (λ (n : ℕ). eqb (n % 2) 1) (xor-shr a b j) ∙ last-digit differ _⊕_ four-xor x y (bitXor x y) (bitXor (x / 2) (y / 2))
+      (xor-step x y)
 
   pub place-or : place (bitOr a b) j ≡ (place a j || place b j)
-  place-or = ap (λ (n : ℕ). eqb (n % 2) 1) (or-shr a b j) ∙ last-digit max _||_ four-or x y (bitOr x y) (bitOr (x / 2) (y / 2)) (or-step x y)
+  place-or = ap (λ (n : ℕ). eqb (n % 2) 1) (or-shr a b j) ∙ last-digit max _||_ four-or x y (bitOr x y) (bitOr (x / 2) (y / 2))
+      (or-step x y)
 
   pub place-and : place (bitAnd a b) j ≡ (place a j && place b j)
-  place-and = ap (λ (n : ℕ). eqb (n % 2) 1) (and-shr a b j) ∙ last-digit min _&&_ four-and x y (bitAnd x y) (bitAnd (x / 2) (y / 2)) (and-step x y)
+  place-and = ap (λ (n : ℕ). eqb (n % 2) 1) (and-shr a b j) ∙ last-digit min _&&_ four-and x y (bitAnd x y) (bitAnd (x / 2) (y / 2))
+      (and-step x y)
 
 -- ---- numbers moved by places
 

@@ -15,7 +15,8 @@ use Rattle.bits.specs.Bits.{Word, digit, flipped, _⊕_}
 use Rattle.bits.proofs.Sums.{⊕-assoc, and-⊕, eqb-iff}
 use Rattle.vectors.specs.Vectors.{wbit, Holds, upTo, from, later, joined, twice, added}
 use Rattle.bits.proofs.Orders.{le-or-lt}
-use Rattle.vectors.proofs.Places.{or-none, and-none, xor-none, xor-same, digit-xor, digit-power, place, place-or, place-xor, place-up, place-down, place-below, place-above, place-cut, place-zero}
+use Rattle.vectors.proofs.Places.{or-none, and-none, xor-none, xor-same, digit-xor, digit-power, place, place-or, place-xor}
+use Rattle.vectors.proofs.Places.{place-up, place-down, place-below, place-above, place-cut, place-zero}
 use Rattle.vectors.proofs.Cells.{joined-below, joined-above, joined-start, joined-end}
 use Rattle.vectors.proofs.Filling.{word-at, word-holds, word-past, word-stored}
 
@@ -84,7 +85,8 @@ module _ (a b t : ℕ) (ht : t < 64) (hb : b < 2 ^ 64) where
           ∙ sym (word-at (a ∷ b ∷ []) (t + i) 1 l (omega arith) (omega arith))
 
 -- two neighbours in a list are read as the list is
-pub neighbours : (ys : List ℕ) (q t i : ℕ) → t < 64 → i < 64 → wbit (getD ys q 0 ∷ getD ys (q + 1) 0 ∷ []) (t + i) ≡ wbit ys (64 * q + t + i)
+pub neighbours : (ys : List ℕ) (q t i : ℕ) → t < 64 → i < 64
+    → wbit (getD ys q 0 ∷ getD ys (q + 1) 0 ∷ []) (t + i) ≡ wbit ys (64 * q + t + i)
 neighbours ys q t i ht hi = ⊎-elim second first (le-or-lt 64 (t + i))
   where
     two : List ℕ
@@ -123,7 +125,8 @@ first-holds v t ht i hi =
         ∙ sym (upTo-below t i (digit 64 v) h)
 
 -- cut off at bit n of the whole
-pub front-upTo : (u v k n t : ℕ) (x : Word) → Holds u (upTo t (digit 64 v)) → Holds v (from (64 * k) x) → t ≡ n - 64 * k → Holds u (from (64 * k) (upTo n x))
+pub front-upTo : (u v k n t : ℕ) (x : Word) → Holds u (upTo t (digit 64 v)) → Holds v (from (64 * k) x) → t ≡ n - 64 * k
+    → Holds u (from (64 * k) (upTo n x))
 front-upTo u v k n t x hu hv e i hi =
     hu i hi
     ∙ ⊎-elim
@@ -166,7 +169,8 @@ module _ (v : List ℕ) (m k : ℕ) (short : wbit v ≡ upTo m (wbit v)) where
       ∙ sym (joined-above m (64 * k + i) x (λ n. x (n - m)) (omega arith))
 
   -- at it: s bits in front, and the first ones after them
-  pub twice-at : (a b s : ℕ) → a ≡ getD v k 0 → b ≡ getD v 0 0 → b < 2 ^ 64 → s ≤ 64 → m ≡ 64 * k + s → Holds (bitOr a (b / 2 ^ s)) (from (64 * k) (twice m x))
+  pub twice-at : (a b s : ℕ) → a ≡ getD v k 0 → b ≡ getD v 0 0 → b < 2 ^ 64 → s ≤ 64 → m ≡ 64 * k + s
+      → Holds (bitOr a (b / 2 ^ s)) (from (64 * k) (twice m x))
   twice-at a b s ea eb hb hs e i hi =
       place-or a (b / 2 ^ s) (64 - suc i)
       ∙ ap₂ _||_ (ap (λ (z : ℕ). digit 64 z i) ea ∙ word-holds v k i hi) (place-down b s (64 - suc i))
@@ -201,8 +205,10 @@ one-word v x hv none =
     (λ (h : n < 64). word-at (v ∷ []) n 0 n h (omega arith) ∙ hv n h)
     (le-or-lt 64 n))
 
-two-words : (u v : ℕ) (x : Word) → Holds u (from (64 * 0) x) → Holds v (from (64 * 1) x) → ((n : ℕ) → 128 ≤ n → x n ≡ false) → wbit (u ∷ v ∷ []) ≡ x
-two-words u v x hu hv none = fun-ext (λ n. ⊎-elim (λ (h : 128 ≤ n). word-past (u ∷ v ∷ []) n h ∙ sym (none n h)) (inside n) (le-or-lt 128 n))
+two-words : (u v : ℕ) (x : Word) → Holds u (from (64 * 0) x) → Holds v (from (64 * 1) x) → ((n : ℕ) → 128 ≤ n → x n ≡ false)
+    → wbit (u ∷ v ∷ []) ≡ x
+two-words u v x hu hv none = fun-ext (λ n. ⊎-elim (λ (h : 128 ≤ n). word-past (u ∷ v ∷ []) n h ∙ sym (none n h)) (inside n)
+    (le-or-lt 128 n))
   where
     inside : (n : ℕ) → n < 128 → wbit (u ∷ v ∷ []) n ≡ x n
     inside n l =
@@ -281,9 +287,11 @@ added-word u v x y at w j hj hu hv i hi =
     ∙ sym (added-inside x y (64 * at) (64 * (at + w)) (64 * (at + j) + i) (omega arith) (omega arith))
 
 -- one word, to which 64 bits are added
-pub added-one : (ws : List ℕ) (v at : ℕ) (x : Word) → at < length ws → Holds v x → wbit (set ws at (bitXor (getD ws at 0) v)) ≡ added (wbit ws) (64 * at) (64 * (at + 1)) x
+pub added-one : (ws : List ℕ) (v at : ℕ) (x : Word) → at < length ws → Holds v x
+    → wbit (set ws at (bitXor (getD ws at 0) v)) ≡ added (wbit ws) (64 * at) (64 * (at + 1)) x
 added-one ws v at x h hv =
-    word-stored ws at y z (joined-start (64 * at) y z (λ n l. sym (added-before z x (64 * at) (64 * (at + 1)) n l))) (bitXor (getD ws at 0) v) h sum
+    word-stored ws at y z (joined-start (64 * at) y z (λ n l. sym (added-before z x (64 * at) (64 * (at + 1)) n l)))
+    (bitXor (getD ws at 0) v) h sum
     ∙ joined-end (64 * (at + 1)) y z (λ n l. sym (added-after z x (64 * at) (64 * (at + 1)) n (omega arith) l))
   where
     z : Word
@@ -320,7 +328,8 @@ module _ (ws : List ℕ) (n : ℕ) (inside : n < 64 * length ws) where
   turned-over =
       let q = n / 64 in
       let one = (1 * 2 ^ (63 - n % 64)) % 2 ^ 64 in
-      word-stored ws q (flipped y n) y (joined-start (64 * q) (flipped y n) y (λ k h. other k (λ e. omega arith))) (bitXor (getD ws q 0) one)
+      word-stored ws q (flipped y n) y (joined-start (64 * q) (flipped y n) y (λ k h. other k (λ e. omega arith)))
+      (bitXor (getD ws q 0) one)
       (omega arith)
       (xor-holds (getD ws q 0) one (from (64 * q) y) (λ i. eqb (64 * q + i) n) (word-holds ws q) power)
       ∙ joined-end (64 * (q + 1)) (flipped y n) y (λ k h. other k (λ e. omega arith))
@@ -363,9 +372,11 @@ later-next v k x h i hi =
 pub later-first : (x : Word) → Holds 0 (from (64 * 0) (later 64 x))
 later-first x i hi = place-zero (64 - suc i) ∙ sym (later-front 64 (64 * 0 + i) x (omega arith))
 
-pub later-past : (ws : List ℕ) (u : ℕ) → ((n : ℕ) → 64 * length ws ≤ n + u → wbit ws n ≡ false) → (n : ℕ) → 64 * length ws ≤ n → later u (wbit ws) n ≡ false
+pub later-past : (ws : List ℕ) (u : ℕ) → ((n : ℕ) → 64 * length ws ≤ n + u → wbit ws n ≡ false) → (n : ℕ) → 64 * length ws ≤ n
+    → later u (wbit ws) n ≡ false
 later-past ws u none n h =
-    ⊎-elim (λ (l : u ≤ n). later-back u n (wbit ws) l ∙ none (n - u) (omega arith)) (λ (l : n < u). later-front u n (wbit ws) l) (le-or-lt u n)
+    ⊎-elim (λ (l : u ≤ n). later-back u n (wbit ws) l ∙ none (n - u) (omega arith)) (λ (l : n < u). later-front u n (wbit ws) l)
+    (le-or-lt u n)
 
 pub later-none : (u : ℕ) (x : Word) → u ≡ 0 → x ≡ later u x
 later-none u x e =

@@ -26,7 +26,8 @@ returns-3 c =
     let j = c .before .before in
     let e = j .before .before in
     let a = e .before .before .before .before in
-    j .judge .ensures ∙ sym (check-taken (a .args .detect-only) (a .args .word .now) (a .args .out .now) (e .before .if1 .left) (e .if2 .left))
+    j .judge .ensures ∙ sym (check-taken (a .args .detect-only) (a .args .word .now) (a .args .out .now) (e .before .if1 .left)
+    (e .if2 .left))
 
 pub bch-check-spec : {M : Type 1} → statement M
 bch-check-spec = tie.close (tie.spec returns returns-2 judge-requires same-length returns-3)

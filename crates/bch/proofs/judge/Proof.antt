@@ -44,7 +44,8 @@ returns-2 c =
     let a = t .before .before .before in
     let x = bit (a .args .word .now) in
     let e = d .divide .ensures .1 (upright x) (upright-word (t .taken .result) x (t .taken .ensures)) in
-    sym (judged-detected x (a .args .out .now) (a .args .detect-only) (c .if2 .taken) (codeword-left x ∙ ne-eqb (left x) 0 (λ q. i .if1 .left (e ∙ q))))
+    sym (judged-detected x (a .args .out .now) (a .args .detect-only) (c .if2 .taken) (codeword-left x
+    ∙ ne-eqb (left x) 0 (λ q. i .if1 .left (e ∙ q))))
 
 places-requires : tie.Need-places-requires
 places-requires c κs = search needs
@@ -59,7 +60,8 @@ returns-3 c =
     let x = bit (a .args .word .now) in
     let e = d .divide .ensures .1 (upright x) (upright-word (t .taken .result) x (t .taken .ensures)) in
     sym (judged-far x (a .args .out .now) (a .args .detect-only) (codeword-left x ∙ ne-eqb (left x) 0 (λ q. i .if1 .left (e ∙ q)))
-    (none-near x (t .taken .result) (d .divide .result) (p .places .result) (omega arith) (t .taken .ensures) e (p .places .ensures) (c .if3 .taken)))
+    (none-near x (t .taken .result) (d .divide .result) (p .places .result) (omega arith) (t .taken .ensures) e (p .places .ensures)
+    (c .if3 .taken)))
 
 write-requires-2 : tie.Need-write-requires-2
 write-requires-2 c κs = search needs
@@ -82,8 +84,10 @@ returns-4 c =
     let e = d .divide .ensures .1 (upright x) (upright-word v x (t .taken .ensures)) in
     let near = one-near x v (d .divide .result) m (omega arith) (t .taken .ensures) e (p .places .ensures) (λ q. n .if3 .left q) in
     ap (λ z. record { number = 0; mended = 1; out = z })
-    (w .write2 .ensures (flipped x (wrongBit x)) (mended-word x v (d .divide .result) m (omega arith) (t .taken .ensures) e (p .places .ensures) near))
-    ∙ sym (judged-mended x (a .args .out .now) (a .args .detect-only) (p .before .if2 .left) (codeword-left x ∙ ne-eqb (left x) 0 (λ q. i .if1 .left (e ∙ q))) near)
+    (w .write2 .ensures (flipped x (wrongBit x)) (mended-word x v (d .divide .result) m (omega arith) (t .taken .ensures) e
+    (p .places .ensures) near))
+    ∙ sym (judged-mended x (a .args .out .now) (a .args .detect-only) (p .before .if2 .left) (codeword-left x
+    ∙ ne-eqb (left x) 0 (λ q. i .if1 .left (e ∙ q))) near)
 
 pub judge-spec : {M : Type 1} → statement M
 judge-spec =

@@ -51,7 +51,8 @@ loop-again c =
       omega arith,
       ⊎-elim
           (λ w. like-set r (l .j) (l .m) (c .if1 .m) (w .1) h (eq-eqb (r / 2 ^ (7 - suc (l .j)) % 2) 1 (at ∙ w .0 .taken)) (l .inv .1))
-          (λ w. like-clear r (l .j) (l .m) (c .if1 .m) (w .1) h (ne-eqb (r / 2 ^ (7 - suc (l .j)) % 2) 1 (λ q. w .0 .left (sym at ∙ q))) (l .inv .1))
+          (λ w. like-clear r (l .j) (l .m) (c .if1 .m) (w .1) h (ne-eqb (r / 2 ^ (7 - suc (l .j)) % 2) 1 (λ q. w .0 .left (sym at ∙ q)))
+          (l .inv .1))
           (c .if1 .came),
     )
 

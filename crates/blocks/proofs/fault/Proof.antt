@@ -4,7 +4,8 @@ use native.Mathlib.Omega.{arith}
 use lib.ListN.{length-take}
 use borrow.Author.Tests.{not-true, not-false}
 use Rattle.blocks.specs.Blocks.{countRight}
-use Rattle.blocks.proofs.Reading.{sound-yes, sound-no, number-yes, number-no, fault-check, fault-number, fault-count, fault-filling, fault-none, count-le, filling-range}
+use Rattle.blocks.proofs.Reading.{sound-yes, sound-no, number-yes, number-no, fault-check, fault-number, fault-count, fault-filling}
+use Rattle.blocks.proofs.Reading.{fault-none, count-le, filling-range}
 use borrow.Author.Needs.{needs}
 use Rattle.blocks.proofs.fault.Statement.{statement}
 use Rattle.blocks.proofs.fault.Tie as tie
@@ -96,7 +97,8 @@ add-from c = search needs
 
 sub-clear : tie.Need-sub-clear
 sub-clear c =
-    let a = c .before .before .before .before .before .before .before .before .before .before .before .before .before .before .before .before .before in
+    let a = c .before .before .before .before .before .before .before .before .before .before .before .before .before .before .before
+    .before .before in
     omega (
       arith,
       count-le (a .args .last) (c .before .before .used .result)
@@ -105,7 +107,8 @@ sub-clear c =
 
 part-clear-start : tie.Need-part-clear-start
 part-clear-start c =
-    let a = c .before .before .before .before .before .before .before .before .before .before .before .before .before .before .before .before .before in
+    let a = c .before .before .before .before .before .before .before .before .before .before .before .before .before .before .before
+    .before .before in
     omega (
       arith,
       count-le (a .args .last) (c .before .before .used .result)

@@ -62,7 +62,8 @@ returns c =
     let f = c .before .before .before .before .over in
     let d = c .before .before .before .before .before .before .before .before .put-data in
     let h = c .before .before .before .before .before .before .before .before .before .before .before .before .put-head in
-    let a = c .before .before .before .before .before .before .before .before .before .before .before .before .before .before .before .before in
+    let a = c .before .before .before .before .before .before .before .before .before .before .before .before .before .before .before
+    .before in
     block-put (a .args .out .now) (a .args .used .now) (h .last .1 .1 .0) (d .last .1 .0) (a .args .place) (a .pre .1) (a .pre .0)
     (h .ensures) (d .ensures)
     (f .result) (k .last .1 .0) (f .ensures) (k .ensures)

@@ -17,7 +17,8 @@ information-octets-requires c κs = sym (c .before .is-offered .ensures) ∙ not
 
 returns-2 : tie.Need-returns-2
 returns-2 c =
-    c .information-octets .ensures .0 ∙ information-some _ (sym (c .before .before .is-offered .ensures) ∙ not-false _ (c .before .if1 .left))
+    c .information-octets .ensures .0 ∙ information-some _ (sym (c .before .before .is-offered .ensures)
+    ∙ not-false _ (c .before .if1 .left))
 
 pub pandoricchia-information-octets-spec : {M : Type 1} → statement M
 pandoricchia-information-octets-spec =

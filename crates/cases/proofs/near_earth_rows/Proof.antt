@@ -7,7 +7,8 @@ use Rattle.cases.proofs.near_earth_rows.Statement.{statement}
 use Rattle.cases.proofs.near_earth_rows.Tie as tie
 
 abbrev Inv-loop : tie.InvT-loop
-Inv-loop information₀ word₀ out₀ n₀ information word out n = (length information ≡ length information₀) × (length word ≡ length word₀) × (length out ≡ length out₀)
+Inv-loop information₀ word₀ out₀ n₀ information word out n = (length information ≡ length information₀) × (length word ≡ length word₀)
+    × (length out ≡ length out₀)
 
 abbrev μ-loop : tie.MeasureT-loop
 μ-loop information₀ word₀ out₀ n₀ information word out n = 7154 - n

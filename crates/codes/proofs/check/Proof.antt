@@ -25,7 +25,8 @@ returns c =
     let f = c .before .before in
     let a = f .before .before .before in
     c .refused-check .ensures
-    ∙ sym (check-refused (a .args .code) (a .args .word .now) _ (check-refusal (a .args .code) (f .before .of .ensures) _ (f .refusal .ensures)) (c .before .if1 .taken))
+    ∙ sym (check-refused (a .args .code) (a .args .word .now) _
+    (check-refusal (a .args .code) (f .before .of .ensures) _ (f .refusal .ensures)) (c .before .if1 .taken))
 
 slice-aggregate-measure : tie.Need-slice-aggregate-measure
 slice-aggregate-measure c = search needs
@@ -42,7 +43,8 @@ measure-requires c κs =
     let f = i .before in
     let a = f .before .before .before in
     let o = f .before .of .result in
-    let t = taken (a .args .code) (f .before .of .ensures) (o .offered) (offered-by (a .args .code) (f .before .of .ensures)) (length (a .args .word .now)) _ 0 0 (f .refusal .ensures) (i .if1 .left) in
+    let t = taken (a .args .code) (f .before .of .ensures) (o .offered) (offered-by (a .args .code) (f .before .of .ensures))
+    (length (a .args .word .now)) _ 0 0 (f .refusal .ensures) (i .if1 .left) in
     (t .known, t .input-is, refl, refl, refl, zero-words 130, zero-words 16)
 
 slice-aggregate-broken : tie.Need-slice-aggregate-broken
@@ -62,7 +64,8 @@ lowest-requires c κs =
     let a = f .before .before .before in
     let n = a .args .code in
     let is = f .before .of .ensures in
-    let t = taken n is (f .before .of .result .offered) (offered-by n is) (length (a .args .word .now)) _ 0 0 (f .refusal .ensures) (i .if1 .left) in
+    let t = taken n is (f .before .of .result .offered) (offered-by n is) (length (a .args .word .now)) _ 0 0 (f .refusal .ensures)
+    (i .if1 .left) in
     let w = fitting (m .measure .ensures .1 n (t .offers) is .lends .fit) in
     (search needs, w .0, w .1, w .2, w .3)
 
@@ -75,9 +78,11 @@ returns-2 c =
     let a = f .before .before .before in
     let n = a .args .code in
     let is = f .before .of .ensures in
-    let t = taken n is (f .before .of .result .offered) (offered-by n is) (length (a .args .word .now)) _ 0 0 (f .refusal .ensures) (i .if1 .left) in
+    let t = taken n is (f .before .of .result .offered) (offered-by n is) (length (a .args .word .now)) _ 0 0 (f .refusal .ensures)
+    (i .if1 .left) in
     let e = m .measure .ensures .1 n (t .offers) is in
-    ap₂ (λ z l. record { number = 0; broken = z; lowest = l }) (b .broken .ensures _ _ _ _ (e .lends .fit) (e .lends .lent) (e .held) ∙ ap (broken (code n)) (e .bits))
+    ap₂ (λ z l. record { number = 0; broken = z; lowest = l }) (b .broken .ensures _ _ _ _ (e .lends .fit) (e .lends .lent) (e .held)
+    ∙ ap (broken (code n)) (e .bits))
     (c .lowest .ensures _ _ _ (e .lends .fit) (e .lends .lent) (e .held) ∙ ap (lowest (code n)) (e .bits))
     ∙ sym (check-taken n (a .args .word .now) (is-offered n (t .offers)) (word-long n is (t .offers) (t .input-is)))
 

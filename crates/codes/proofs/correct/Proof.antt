@@ -21,7 +21,8 @@ returns c =
     let f = c .before .before in
     let a = f .before .before .before .before in
     c .refused-correct .ensures (a .args .out .now)
-    ∙ sym (correct-refused (a .args .code) (a .args .word .now) (a .args .limit) (a .args .out .now) _ (correct-refusal (a .args .code) (f .before .of .ensures) _ _ (f .refusal .ensures)) (c .before .if1 .taken))
+    ∙ sym (correct-refused (a .args .code) (a .args .word .now) (a .args .limit) (a .args .out .now) _
+    (correct-refusal (a .args .code) (f .before .of .ensures) _ _ (f .refusal .ensures)) (c .before .if1 .taken))
 
 correct-taken-requires : tie.Need-correct-taken-requires
 correct-taken-requires c κs =
@@ -29,7 +30,8 @@ correct-taken-requires c κs =
     let f = i .before in
     let a = f .before .before .before .before in
     let is = f .before .of .ensures in
-    let t = taken (a .args .code) is (f .before .of .result .offered) (offered-by (a .args .code) is) _ _ _ _ (f .refusal .ensures) (i .if1 .left) in
+    let t = taken (a .args .code) is (f .before .of .result .offered) (offered-by (a .args .code) is) _ _ _ _ (f .refusal .ensures)
+    (i .if1 .left) in
     (t .known, t .input-is, t .output-is)
 
 same-length : tie.Need-same-length
@@ -45,7 +47,8 @@ returns-2 c =
     let is = f .before .of .ensures in
     let t = taken n is (f .before .of .result .offered) (offered-by n is) _ _ _ _ (f .refusal .ensures) (i .if1 .left) in
     k .correct-taken .ensures n (t .offers) is
-    ∙ sym (correct-taken n (a .args .word .now) (a .args .limit) (a .args .out .now) (is-offered n (t .offers)) (word-long n is (t .offers) (t .input-is)) (word-long n is (t .offers) (t .output-is)))
+    ∙ sym (correct-taken n (a .args .word .now) (a .args .limit) (a .args .out .now) (is-offered n (t .offers))
+    (word-long n is (t .offers) (t .input-is)) (word-long n is (t .offers) (t .output-is)))
 
 pub correct-spec : {M : Type 1} → statement M
 correct-spec =

@@ -9,7 +9,8 @@ use Rattle.vectors.proofs.Filling.{zero-words}
 use Rattle.rules.proofs.Numbers.{published}
 use Rattle.offer.proofs.Offers.{small, is-offered}
 use Rattle.codes.proofs.Admitted.{shaped, word-long, unsent-is, bits-are, fitting}
-use Rattle.codes.proofs.Correcting.{holding, ran-number, ran-word, ran-met, ran-unsent, ran-ends, corrected-is, wrote-word, wrote-none}
+use Rattle.codes.proofs.Correcting.{holding, ran-number, ran-word, ran-met, ran-unsent, ran-ends, corrected-is, wrote-word}
+use Rattle.codes.proofs.Correcting.{wrote-none}
 use borrow.Author.Needs.{needs}
 use Rattle.codes.proofs.correct_taken.Statement.{statement}
 use Rattle.codes.proofs.correct_taken.Tie as tie
@@ -59,8 +60,15 @@ run-requires c κs =
     let m = c .before .before .before .before .before .before .before .before .before .before in
     let a = m .before .before .before .before .before .before in
     let k = a .pre .0 in
-    let e = m .measure .ensures .1 (k .number) (k .offers) (k .is) in
-    (e .lends .fit, search needs, search needs, shaped k (m .measure .ensures .0) .0, shaped k (m .measure .ensures .0) .1, holding (k .number) (a .args .word .now) _ _ _ _ e)
+    let e = m .measure .ensures .1 (k .number) (k .offers) (k .is) in (
+      e .lends .fit,
+      search needs,
+      search needs,
+      shaped k (m .measure .ensures .0) .0,
+      shaped k (m .measure .ensures .0) .1,
+      holding
+          (k .number) (a .args .word .now) _ _ _ _ e,
+    )
 
 slice-aggregate-broken-2 : tie.Need-slice-aggregate-broken-2
 slice-aggregate-broken-2 c = search needs
@@ -78,15 +86,25 @@ slice-aggregate-judge : tie.Need-slice-aggregate-judge
 slice-aggregate-judge c = search needs
 
 judge-requires : tie.Need-judge-requires
-judge-requires c κs = (c .before .before .before .before .before .before .before .before .before .before .before .before .before .before .before .before .before .before .before .before .before .before .before .before .pre .0, search needs)
+judge-requires c κs = (
+  c .before .before .before .before .before .before .before .before .before .before .before .before .before .before
+      .before .before .before .before .before .before .before .before .before .before .pre .0,
+  search needs,
+)
 
 slice-aggregate-write : tie.Need-slice-aggregate-write
 slice-aggregate-write c = search needs
 
 write-requires : tie.Need-write-requires
 write-requires c κs =
-    let a = c .before .before .before .before .before .before .before .before .before .before .before .before .before .before .before .before .before .before .before .before .before .before .before .before .before .before .before .before in
-    (search needs, small (a .pre .0) .unsent, omega (arith, a .pre .2, small (a .pre .0) .word), λ h. small (a .pre .0) .plain (omega (arith, h, a .pre .2)))
+    let a = c .before .before .before .before .before .before .before .before .before .before .before .before .before .before .before
+    .before .before .before .before .before .before .before .before .before .before .before .before .before in (
+      search needs,
+      small (a .pre .0) .unsent,
+      omega (arith, a .pre .2, small (a .pre .0) .word),
+      λ h. small (a .pre .0) .plain
+          (omega (arith, h, a .pre .2)),
+    )
 
 same-length : tie.Need-same-length
 same-length c = search needs
@@ -105,12 +123,16 @@ returns c =
     let word = a .args .word .now in
     let e = m .measure .ensures .1 n off is in
     let to = g .run .ensures (code n) (e .lends .lent) (sym (unsent-is n is off)) (e .held) in
-    corrected-is n word _ _ _ _ e (a .args .limit) (g .run .result) _ _ to (b1 .broken .result) (b2 .broken2 .result) (j .judge .result) (u .unlike-after .result) (w .lowest .result)
+    corrected-is n word _ _ _ _ e (a .args .limit) (g .run .result) _ _ to (b1 .broken .result) (b2 .broken2 .result) (j .judge .result)
+    (u .unlike-after .result) (w .lowest .result)
     (b1 .broken .ensures) (b2 .broken2 .ensures) (w .lowest .ensures)
     (j .judge .ensures n off is (run (byExcess (code n)) (a .args .limit) (lifted (code n) (bit word)))
-    (ran-number n word _ _ _ _ e (a .args .limit) (g .run .result) _ _ to) (ran-word n word _ _ _ _ e (a .args .limit) (g .run .result) _ _ to) (ran-met n word _ _ _ _ e (a .args .limit) (g .run .result) _ _ to (published n (is-offered n off) .some))
+    (ran-number n word _ _ _ _ e (a .args .limit) (g .run .result) _ _ to)
+    (ran-word n word _ _ _ _ e (a .args .limit) (g .run .result) _ _ to) (ran-met n word _ _ _ _ e (a .args .limit) (g .run .result) _ _ to
+    (published n (is-offered n off) .some))
     (ran-unsent n word _ _ _ _ e (a .args .limit) (g .run .result) _ _ to (published n (is-offered n off) .some)))
-    (u .unlike-after .ensures n off is (ran-ends n word _ _ _ _ e (a .args .limit) (g .run .result) _ _ to (published n (is-offered n off) .some)))
+    (u .unlike-after .ensures n off is (ran-ends n word _ _ _ _ e (a .args .limit) (g .run .result) _ _ to
+    (published n (is-offered n off) .some)))
     (a .args .out .now) _ (wrote-word _ _ _ _ (c .before .before .before .before .before .before .if1 .taken)
     (c .before .before .before .write .ensures (code n) (unsent-is n is off) (bits-are n is off) (word-long n is off (a .pre .2))))
 
@@ -128,12 +150,16 @@ returns-2 c =
     let word = a .args .word .now in
     let e = m .measure .ensures .1 n off is in
     let to = g .run .ensures (code n) (e .lends .lent) (sym (unsent-is n is off)) (e .held) in
-    corrected-is n word _ _ _ _ e (a .args .limit) (g .run .result) _ _ to (b1 .broken .result) (b2 .broken2 .result) (j .judge .result) (u .unlike-after .result) (w .lowest .result)
+    corrected-is n word _ _ _ _ e (a .args .limit) (g .run .result) _ _ to (b1 .broken .result) (b2 .broken2 .result) (j .judge .result)
+    (u .unlike-after .result) (w .lowest .result)
     (b1 .broken .ensures) (b2 .broken2 .ensures) (w .lowest .ensures)
     (j .judge .ensures n off is (run (byExcess (code n)) (a .args .limit) (lifted (code n) (bit word)))
-    (ran-number n word _ _ _ _ e (a .args .limit) (g .run .result) _ _ to) (ran-word n word _ _ _ _ e (a .args .limit) (g .run .result) _ _ to) (ran-met n word _ _ _ _ e (a .args .limit) (g .run .result) _ _ to (published n (is-offered n off) .some))
+    (ran-number n word _ _ _ _ e (a .args .limit) (g .run .result) _ _ to)
+    (ran-word n word _ _ _ _ e (a .args .limit) (g .run .result) _ _ to) (ran-met n word _ _ _ _ e (a .args .limit) (g .run .result) _ _ to
+    (published n (is-offered n off) .some))
     (ran-unsent n word _ _ _ _ e (a .args .limit) (g .run .result) _ _ to (published n (is-offered n off) .some)))
-    (u .unlike-after .ensures n off is (ran-ends n word _ _ _ _ e (a .args .limit) (g .run .result) _ _ to (published n (is-offered n off) .some)))
+    (u .unlike-after .ensures n off is (ran-ends n word _ _ _ _ e (a .args .limit) (g .run .result) _ _ to
+    (published n (is-offered n off) .some)))
     (a .args .out .now) _ (wrote-none _ _ _ (c .if1 .left))
 
 pub correct-taken-spec : {M : Type 1} → statement M

@@ -18,7 +18,8 @@ returns : tie.Need-returns
 returns c =
     let f = c .before in
     let a = f .before .before .before .before in
-    sym (encode-refused (a .args .code) (a .args .information .now) (a .args .word .now) _ (encode-refusal (a .args .code) (f .before .of .ensures) _ _ (f .refusal .ensures)) (c .if1 .taken))
+    sym (encode-refused (a .args .code) (a .args .information .now) (a .args .word .now) _
+    (encode-refusal (a .args .code) (f .before .of .ensures) _ _ (f .refusal .ensures)) (c .if1 .taken))
 
 six-set-requires : tie.Need-six-set-requires
 six-set-requires c κs =
@@ -27,7 +28,8 @@ six-set-requires c κs =
     let a = f .before .before .before .before in
     let n = a .args .code in
     let is = f .before .of .ensures in
-    let t = taken n is (f .before .of .result .offered) (offered-by n is) (length (a .args .information .now)) _ (length (a .args .word .now)) (f .before .of .result .word) (f .refusal .ensures) (i .if1 .left) in
+    let t = taken n is (f .before .of .result .offered) (offered-by n is) (length (a .args .information .now)) _
+    (length (a .args .word .now)) (f .before .of .result .word) (f .refusal .ensures) (i .if1 .left) in
     (t .known, t .input-is)
 
 returns-2 : tie.Need-returns-2
@@ -38,8 +40,10 @@ returns-2 c =
     let a = f .before .before .before .before in
     let n = a .args .code in
     let is = f .before .of .ensures in
-    let t = taken n is (f .before .of .result .offered) (offered-by n is) (length (a .args .information .now)) _ (length (a .args .word .now)) (f .before .of .result .word) (f .refusal .ensures) (i .if1 .left) in
-    sym (encode-four n (a .args .information .now) (a .args .word .now) (is-offered n (t .offers)) (information-long n is (t .offers) (t .input-is)) (word-long n is (t .offers) (t .output-is))
+    let t = taken n is (f .before .of .result .offered) (offered-by n is) (length (a .args .information .now)) _
+    (length (a .args .word .now)) (f .before .of .result .word) (f .refusal .ensures) (i .if1 .left) in
+    sym (encode-four n (a .args .information .now) (a .args .word .now) (is-offered n (t .offers))
+    (information-long n is (t .offers) (t .input-is)) (word-long n is (t .offers) (t .output-is))
     (sym (s .six-set .ensures n (t .offers) is) ∙ c .if2 .taken))
 
 encode-taken-requires : tie.Need-encode-taken-requires
@@ -50,8 +54,9 @@ encode-taken-requires c κs =
     let a = f .before .before .before .before in
     let n = a .args .code in
     let is = f .before .of .ensures in
-    let t = taken n is (f .before .of .result .offered) (offered-by n is) (length (a .args .information .now)) _ (length (a .args .word .now)) (f .before .of .result .word) (f .refusal .ensures) (i .if1 .left) in
-    (t .offers, is, information-long n is (t .offers) (t .input-is), word-long n is (t .offers) (t .output-is), sym (s .six-set .ensures n (t .offers) is) ∙ c .before .if2 .left)
+    let t = taken n is (f .before .of .result .offered) (offered-by n is) (length (a .args .information .now)) _
+    (length (a .args .word .now)) (f .before .of .result .word) (f .refusal .ensures) (i .if1 .left) in
+    (t .known, t .input-is, t .output-is)
 
 same-length : tie.Need-same-length
 same-length c = search needs
@@ -65,9 +70,12 @@ returns-3 c =
     let a = f .before .before .before .before in
     let n = a .args .code in
     let is = f .before .of .ensures in
-    let t = taken n is (f .before .of .result .offered) (offered-by n is) (length (a .args .information .now)) _ (length (a .args .word .now)) (f .before .of .result .word) (f .refusal .ensures) (i .if1 .left) in
-    ap (λ z. record { number = 0; out = z }) (k .encode-taken .ensures)
-    ∙ sym (encode-taken n (a .args .information .now) (a .args .word .now) (is-offered n (t .offers)) (information-long n is (t .offers) (t .input-is)) (word-long n is (t .offers) (t .output-is))
+    let t = taken n is (f .before .of .result .offered) (offered-by n is) (length (a .args .information .now)) _
+    (length (a .args .word .now)) (f .before .of .result .word) (f .refusal .ensures) (i .if1 .left) in
+    ap (λ z. record { number = 0; out = z }) (k .encode-taken .ensures n (t .offers) is (sym (s .six-set .ensures n (t .offers) is)
+    ∙ k .before .before .if2 .left))
+    ∙ sym (encode-taken n (a .args .information .now) (a .args .word .now) (is-offered n (t .offers))
+    (information-long n is (t .offers) (t .input-is)) (word-long n is (t .offers) (t .output-is))
     (sym (s .six-set .ensures n (t .offers) is) ∙ k .before .before .if2 .left))
 
 pub encode-spec : {M : Type 1} → statement M

@@ -23,7 +23,8 @@ returns : tie.Need-returns
 returns c =
     let f = c .before .before in
     let a = f .before .before .before in
-    sym (open-refused (a .args .code) (a .args .word .now) _ (open-refusal (a .args .code) (f .before .of .ensures) _ (f .refusal .ensures)) (c .before .if1 .taken))
+    sym (open-refused (a .args .code) (a .args .word .now) _
+    (open-refusal (a .args .code) (f .before .of .ensures) _ (f .refusal .ensures)) (c .before .if1 .taken))
 
 fault-of-requires : tie.Need-fault-of-requires
 fault-of-requires c κs =
@@ -32,7 +33,8 @@ fault-of-requires c κs =
     let a = f .before .before .before in
     let n = a .args .code in
     let is = f .before .of .ensures in
-    let t = taken n is (f .before .of .result .opens) (opens-offered n is) (length (a .args .word .now)) (f .before .of .result .word) 0 0 (f .refusal .ensures) (i .if1 .left) in
+    let t = taken n is (f .before .of .result .opens) (opens-offered n is) (length (a .args .word .now)) (f .before .of .result .word) 0 0
+    (f .refusal .ensures) (i .if1 .left) in
     (t .known, t .input-is)
 
 slice-aggregate-result-2 : tie.Need-slice-aggregate-result-2
@@ -46,7 +48,8 @@ returns-2 c =
     let a = f .before .before .before in
     let n = a .args .code in
     let is = f .before .of .ensures in
-    let t = taken n is (f .before .of .result .opens) (opens-offered n is) (length (a .args .word .now)) (f .before .of .result .word) 0 0 (f .refusal .ensures) (i .if1 .left) in
+    let t = taken n is (f .before .of .result .opens) (opens-offered n is) (length (a .args .word .now)) (f .before .of .result .word) 0 0
+    (f .refusal .ensures) (i .if1 .left) in
     opened-other n (a .args .word .now) (s .fault-of .ensures n (t .offers) is) (c .before .if2 .taken)
     ∙ sym (open-from n (a .args .word .now) (as-truth (opens-by n is (t .chosen))) (word-long n is (t .offers) (t .input-is)))
 
@@ -58,7 +61,8 @@ slice-aggregate-result-3 c =
     let a = f .before .before .before in
     let n = a .args .code in
     let is = f .before .of .ensures in
-    let t = taken n is (f .before .of .result .opens) (opens-offered n is) (length (a .args .word .now)) (f .before .of .result .word) 0 0 (f .refusal .ensures) (i .if1 .left) in
+    let t = taken n is (f .before .of .result .opens) (opens-offered n is) (length (a .args .word .now)) (f .before .of .result .word) 0 0
+    (f .refusal .ensures) (i .if1 .left) in
     omega (arith, length-take (f .before .of .result .information) (a .args .word .now), small (t .known) .information, t .input-is)
 
 returns-3 : tie.Need-returns-3
@@ -69,8 +73,10 @@ returns-3 c =
     let a = f .before .before .before in
     let n = a .args .code in
     let is = f .before .of .ensures in
-    let t = taken n is (f .before .of .result .opens) (opens-offered n is) (length (a .args .word .now)) (f .before .of .result .word) 0 0 (f .refusal .ensures) (i .if1 .left) in
-    ap (λ z. record { number = s .fault-of .result .number; lowest = s .fault-of .result .lowest; part = take z (a .args .word .now) }) (information-long n is (t .offers) refl)
+    let t = taken n is (f .before .of .result .opens) (opens-offered n is) (length (a .args .word .now)) (f .before .of .result .word) 0 0
+    (f .refusal .ensures) (i .if1 .left) in
+    ap (λ z. record { number = s .fault-of .result .number; lowest = s .fault-of .result .lowest; part = take z (a .args .word .now) })
+    (information-long n is (t .offers) refl)
     ∙ opened-codeword n (a .args .word .now) (s .fault-of .ensures n (t .offers) is) (c .before .if2 .left)
     ∙ sym (open-from n (a .args .word .now) (as-truth (opens-by n is (t .chosen))) (word-long n is (t .offers) (t .input-is)))
 

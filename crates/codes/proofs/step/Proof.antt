@@ -20,7 +20,8 @@ returns c =
     let f = c .before .before in
     let a = f .before .before .before .before in
     c .refused-step .ensures (a .args .out .now)
-    ∙ sym (step-refused (a .args .code) (a .args .word .now) (a .args .out .now) _ (step-refusal (a .args .code) (f .before .of .ensures) _ _ (f .refusal .ensures)) (c .before .if1 .taken))
+    ∙ sym (step-refused (a .args .code) (a .args .word .now) (a .args .out .now) _
+    (step-refusal (a .args .code) (f .before .of .ensures) _ _ (f .refusal .ensures)) (c .before .if1 .taken))
 
 step-taken-requires : tie.Need-step-taken-requires
 step-taken-requires c κs =
@@ -28,7 +29,8 @@ step-taken-requires c κs =
     let f = i .before in
     let a = f .before .before .before .before in
     let is = f .before .of .ensures in
-    let t = taken (a .args .code) is (f .before .of .result .steps) (steps-offered (a .args .code) is) _ _ _ _ (f .refusal .ensures) (i .if1 .left) in
+    let t = taken (a .args .code) is (f .before .of .result .steps) (steps-offered (a .args .code) is) _ _ _ _ (f .refusal .ensures)
+    (i .if1 .left) in
     (t .known, t .input-is, t .output-is)
 
 same-length : tie.Need-same-length
@@ -44,7 +46,8 @@ returns-2 c =
     let is = f .before .of .ensures in
     let t = taken n is (f .before .of .result .steps) (steps-offered n is) _ _ _ _ (f .refusal .ensures) (i .if1 .left) in
     k .step-taken .ensures n (t .offers) is
-    ∙ sym (step-taken n (a .args .word .now) (a .args .out .now) (as-truth (steps-by n is (t .chosen))) (word-long n is (t .offers) (t .input-is)) (word-long n is (t .offers) (t .output-is)))
+    ∙ sym (step-taken n (a .args .word .now) (a .args .out .now) (as-truth (steps-by n is (t .chosen)))
+    (word-long n is (t .offers) (t .input-is)) (word-long n is (t .offers) (t .output-is)))
 
 pub step-spec : {M : Type 1} → statement M
 step-spec =

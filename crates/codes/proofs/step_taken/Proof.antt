@@ -46,8 +46,14 @@ comes-next-requires c κs =
     let m = c .before .before .before .before .before in
     let a = m .before .before .before .before .before .before in
     let k = a .pre .0 in
-    let e = m .measure .ensures .1 (k .number) (k .offers) (k .is) in
-    (e .lends .fit, search needs, shaped k (m .measure .ensures .0) .0, shaped k (m .measure .ensures .0) .1, holding (k .number) (a .args .word .now) _ _ _ _ e)
+    let e = m .measure .ensures .1 (k .number) (k .offers) (k .is) in (
+      e .lends .fit,
+      search needs,
+      shaped k (m .measure .ensures .0) .0,
+      shaped k (m .measure .ensures .0) .1,
+      holding (k .number)
+          (a .args .word .now) _ _ _ _ e,
+    )
 
 enum-told : tie.Need-enum-told
 enum-told c = search needs
@@ -81,8 +87,14 @@ slice-aggregate-write c = search needs
 
 write-requires : tie.Need-write-requires
 write-requires c κs =
-    let a = c .before .before .before .before .before .before .before .before .before .before .before .before .before .before .before .before .before .before .before .before in
-    (search needs, small (a .pre .0) .unsent, omega (arith, a .pre .2, small (a .pre .0) .word), λ h. small (a .pre .0) .plain (omega (arith, h, a .pre .2)))
+    let a = c .before .before .before .before .before .before .before .before .before .before .before .before .before .before .before
+    .before .before .before .before .before in (
+      search needs,
+      small (a .pre .0) .unsent,
+      omega (arith, a .pre .2, small (a .pre .0) .word),
+      λ h. small (a .pre .0) .plain
+          (omega (arith, h, a .pre .2)),
+    )
 
 cast-t32 : tie.Need-cast-t32
 cast-t32 c =
@@ -108,7 +120,8 @@ returns c =
     let a = m .before .before .before .before .before .before in
     λ n off is.
     ap (λ z. record { number = 0; quiet = true; bit = 0; excess = pos 0; out = z }) (c .before .before .copy .ensures)
-    ∙ stepped-is n (a .args .word .now) _ _ _ _ (m .measure .ensures .1 n off is) (a .args .out .now) (x .comes-next .result) _ _ (sym (unsent-is n is off)) (x .comes-next .ensures .1) (ap comesNext (told .enum-told .given .1))
+    ∙ stepped-is n (a .args .word .now) _ _ _ _ (m .measure .ensures .1 n off is) (a .args .out .now) (x .comes-next .result) _ _
+    (sym (unsent-is n is off)) (x .comes-next .ensures .1) (ap comesNext (told .enum-told .given .1))
 
 returns-2 : tie.Need-returns-2
 unfolding nextStep
@@ -118,7 +131,8 @@ returns-2 c =
     let a = m .before .before .before .before .before .before in
     λ n off is.
     c .refused-step .ensures (a .args .out .now)
-    ∙ stepped-is n (a .args .word .now) _ _ _ _ (m .measure .ensures .1 n off is) (a .args .out .now) (x .comes-next .result) _ _ (sym (unsent-is n is off)) (x .comes-next .ensures .1) (ap comesNext (c .before .enum-told2 .given .1))
+    ∙ stepped-is n (a .args .word .now) _ _ _ _ (m .measure .ensures .1 n off is) (a .args .out .now) (x .comes-next .result) _ _
+    (sym (unsent-is n is off)) (x .comes-next .ensures .1) (ap comesNext (c .before .enum-told2 .given .1))
 
 same-length-2 : tie.Need-same-length-2
 same-length-2 c = search needs
@@ -138,8 +152,10 @@ returns-3 c =
     let fits : SFits w8 ex = search (needs, known) in
     ap₂ (λ z o. record { number = 0; quiet = false; bit = b; excess = z; out = o }) (toZ-ofZ w8 ex fits)
     (c .before .before .before .write .ensures (code n) (unsent-is n is off) (bits-are n is off) (word-long n is off (a .pre .2))
-    ∙ ap (written (code n)) (c .before .before .before .before .before .before .before .turn-over .ensures ∙ ap (λ z. flipped z b) (e .bits)))
-    ∙ stepped-is n (a .args .word .now) _ _ _ _ e (a .args .out .now) (x .comes-next .result) _ _ (sym (unsent-is n is off)) (x .comes-next .ensures .1) (ap comesNext (f .next .given .1))
+    ∙ ap (written (code n)) (c .before .before .before .before .before .before .before .turn-over .ensures
+    ∙ ap (λ z. flipped z b) (e .bits)))
+    ∙ stepped-is n (a .args .word .now) _ _ _ _ e (a .args .out .now) (x .comes-next .result) _ _ (sym (unsent-is n is off))
+    (x .comes-next .ensures .1) (ap comesNext (f .next .given .1))
 
 refused-step-requires : tie.Need-refused-step-requires
 refused-step-requires c κs = search needs

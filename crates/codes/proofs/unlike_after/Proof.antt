@@ -28,8 +28,14 @@ sub-unlike c = omega (arith, small (c .before .before .before .before .pre .0) .
 unlike-requires : tie.Need-unlike-requires
 unlike-requires c κs =
     let a = c .before .before .before .before in
-    let f = small (a .pre .0) in
-    (omega (arith, f .fits, a .pre .1), omega (arith, f .full, a .pre .1), omega (arith, f .word, a .pre .1), omega (arith, f .bits, a .pre .2), omega (arith, f .unsent))
+    let f = small (a .pre .0) in (
+      omega (arith, f .fits, a .pre .1),
+      omega (arith, f .full, a .pre .1),
+      omega (arith, f .word, a .pre .1),
+      omega
+          (arith, f .bits, a .pre .2),
+      omega (arith, f .unsent),
+    )
 
 cast-result : tie.Need-cast-result
 cast-result c = search needs
@@ -39,7 +45,8 @@ returns-2 c =
     let a = c .before .before .before .before .before in
     λ n off is ends.
     c .unlike .ensures .0
-    ∙ sent-differ (code n) (a .args .o .unsent) (a .args .o .bits) (unsent-is n is off) (bits-are n is off) (published n (is-offered n off) .some)
+    ∙ sent-differ (code n) (a .args .o .unsent) (a .args .o .bits) (unsent-is n is off) (bits-are n is off)
+    (published n (is-offered n off) .some)
     (bit (a .args .word .now)) (wbit (a .args .y .now)) (ends .unsent)
 
 pub unlike-after-spec : {M : Type 1} → statement M

@@ -17,7 +17,8 @@ returns c =
     let q = c .before in
     let a = q .before .before .before in
     λ n off is word t sh long m.
-    finds-broken n off (a .args .o) is (wbit (a .args .y .now)) (wbit (a .args .s .now)) word t sh long m _ (q .is-quiet .ensures) (not-true _ (c .if1 .taken))
+    finds-broken n off (a .args .o) is (wbit (a .args .y .now)) (wbit (a .args .s .now)) word t sh long m _ (q .is-quiet .ensures)
+    (not-true _ (c .if1 .taken))
 
 returns-2 : tie.Need-returns-2
 returns-2 c =
@@ -57,7 +58,8 @@ returns-4 c =
     let a = q .before .before .before in
     λ n off is word t sh long m.
     finds-own n off (a .args .o) is (wbit (a .args .y .now)) (wbit (a .args .s .now)) word t sh long m _ (q .is-quiet .ensures)
-    (not-false _ (i .if1 .left)) (not-false _ (u .before .if2 .left)) (sym (j .if3 .left) ∙ u .some-set .ensures) _ (w .own-parity .ensures) (c .if4 .taken)
+    (not-false _ (i .if1 .left)) (not-false _ (u .before .if2 .left)) (sym (j .if3 .left) ∙ u .some-set .ensures) _
+    (w .own-parity .ensures) (c .if4 .taken)
 
 returns-5 : tie.Need-returns-5
 returns-5 c =
@@ -69,7 +71,8 @@ returns-5 c =
     let a = q .before .before .before in
     λ n off is word t sh long m.
     finds-other n off (a .args .o) is (wbit (a .args .y .now)) (wbit (a .args .s .now)) word t sh long m _ (q .is-quiet .ensures)
-    (not-false _ (i .if1 .left)) (not-false _ (u .before .if2 .left)) (sym (j .if3 .left) ∙ u .some-set .ensures) _ (w .own-parity .ensures) (c .if4 .left)
+    (not-false _ (i .if1 .left)) (not-false _ (u .before .if2 .left)) (sym (j .if3 .left) ∙ u .some-set .ensures) _
+    (w .own-parity .ensures) (c .if4 .left)
 
 pub fault-spec : {M : Type 1} → statement M
 fault-spec =

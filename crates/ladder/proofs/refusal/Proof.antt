@@ -16,12 +16,14 @@ returns-2 c =
 returns-3 : tie.Need-returns-3
 returns-3 c =
     let a = c .before .before .before .args in
-    refused-room (a .offered) (a .input) (a .long) (a .output) (a .room) (not-false (a .offered) (c .before .before .if1 .left)) (c .before .if2 .left) (c .if3 .taken)
+    refused-room (a .offered) (a .input) (a .long) (a .output) (a .room) (not-false (a .offered) (c .before .before .if1 .left))
+    (c .before .if2 .left) (c .if3 .taken)
 
 returns-4 : tie.Need-returns-4
 returns-4 c =
     let a = c .before .before .before .args in
-    refused-not (a .offered) (a .input) (a .long) (a .output) (a .room) (not-false (a .offered) (c .before .before .if1 .left)) (c .before .if2 .left) (c .if3 .left)
+    refused-not (a .offered) (a .input) (a .long) (a .output) (a .room) (not-false (a .offered) (c .before .before .if1 .left))
+    (c .before .if2 .left) (c .if3 .left)
 
 pub refusal-spec : {M : Type 1} → statement M
 refusal-spec = tie.close (tie.spec returns returns-2 returns-3 returns-4)

@@ -133,7 +133,8 @@ put-returns-2 t c =
     let k : w .result < length (w .last .1 .0) = omega (arith, more-long (a .n) h) in (
       omega (arith, more-long (a .n) h),
       one-more (w .last .1 .0) (take (a .at) (a .text .now)) (decimal (a .n / 10)) (w .result) (c .glyph2 .result) k (w .ensures .1)
-          ∙ ap (λ (l : List ℕ). take (a .at) (a .text .now) ++ l) (ap (λ v. decimal (a .n / 10) ++ (v ∷ [])) (c .glyph2 .ensures) ∙ sym (decimal-more (a .n) h)),
+          ∙ ap (λ (l : List ℕ). take (a .at) (a .text .now) ++ l) (ap (λ v. decimal (a .n / 10) ++ (v ∷ [])) (c .glyph2 .ensures)
+          ∙ sym (decimal-more (a .n) h)),
     )
 
 pub +put-spec : {M : Type 1} → statement M

@@ -27,10 +27,12 @@ returns : tie.Need-returns
 returns c =
     let s = c .before .before .before .before .before .before .before .before .before .before .before .before .before in
     let h = c .before .before .before .before .before .before .before .before .before .put-header in
-    let b = sym (c .before .before .before .before .before .before .is-bad .ensures) ∙ c .before .before .before .before .before .if1 .taken in
+    let b = sym (c .before .before .before .before .before .before .is-bad .ensures)
+    ∙ c .before .before .before .before .before .if1 .taken in
     let p = c .before .before .put-line in (
       omega (arith, h .ensures .0, p .ensures .0),
-      p .ensures .1 ∙ ap₂ (λ (x y : List ℕ). x ++ y) (h .ensures .1) (c .before .before .before .before .refusal .ensures) ∙ sym (bad-head (s .args .head .now) b),
+      p .ensures .1 ∙ ap₂ (λ (x y : List ℕ). x ++ y) (h .ensures .1) (c .before .before .before .before .refusal .ensures)
+          ∙ sym (bad-head (s .args .head .now) b),
     )
 
 same-length-2 : tie.Need-same-length-2

@@ -22,8 +22,12 @@ returns c =
     let h : 0 < z .result = omega arith in
     let held = 65536 / z .result * z .result in
     let whole = div-add-mod' 65536 (z .result) in
-    let left = mod-lt 65536 h in
-    (ap (λ m. held % m) (sym (z .ensures .0)) ∙ mul-mod-left (65536 / z .result) (z .result), omega (arith, whole, left), omega (arith, whole))
+    let left = mod-lt 65536 h in (
+      ap (λ m. held % m) (sym (z .ensures .0)) ∙ mul-mod-left (65536 / z .result) (z .result),
+      omega (arith, whole, left),
+      omega
+          (arith, whole),
+    )
 
 pub block-octets-spec : {M : Type 1} → statement M
 block-octets-spec = tie.close (tie.spec word-octets-requires div-result mul-result returns)

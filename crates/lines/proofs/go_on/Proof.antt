@@ -11,7 +11,8 @@ shared-slice-read-code : tie.Need-shared-slice-read-code
 shared-slice-read-code c = search needs
 
 word-octets-requires : tie.Need-word-octets-requires
-word-octets-requires c κs = good (c .before .before .before .before .before .args .head .now) (c .before .before .before .before .before .pre .0 .1) .1
+word-octets-requires c κs = good (c .before .before .before .before .before .args .head .now)
+    (c .before .before .before .before .before .pre .0 .1) .1
 
 div-index : tie.Need-div-index
 div-index c = search needs
@@ -39,13 +40,15 @@ same-length-2 c = search needs
 
 returns : tie.Need-returns
 returns c =
-    let s = c .before .before .before .before .before .before .before .before .before .before .before .before .before .before .before .before in
+    let s = c .before .before .before .before .before .before .before .before .before .before .before .before .before .before .before
+    .before in
     let a = s .args in
     let z = c .before .before .before .before .before .before .before .before .before .before .word-octets in
     let l = c .before .before .before .before .before .before .before .limit in
     let w = c .before .before .before .before .write-words in (
       w .ensures .0,
-      adds (a .head .now) (a .words .now) (take (w .result) (w .last .1 .1 .1 .1 .1 .0)) (a .read) (z .result) (l .result) (s .pre .0 .0) (s .pre .0 .1) (s .pre .2 .0) (z .ensures .0) (l .ensures) (w .ensures .1),
+      adds (a .head .now) (a .words .now) (take (w .result) (w .last .1 .1 .1 .1 .1 .0)) (a .read) (z .result) (l .result) (s .pre .0 .0)
+          (s .pre .0 .1) (s .pre .2 .0) (z .ensures .0) (l .ensures) (w .ensures .1),
     )
 
 pub go-on-spec : {M : Type 1} → statement M

@@ -46,7 +46,8 @@ loop-again c =
       omega arith,
       omega (arith, w .ensures .0),
       omega arith,
-      fields-next (a .numbers .now) (take (a .at) (a .text .now)) (take (w .result) (w .last .1 .0)) (take (h .end) (h .text)) (h .k) l (w .ensures .1) (h .inv .3),
+      fields-next (a .numbers .now) (take (a .at) (a .text .now)) (take (w .result) (w .last .1 .0)) (take (h .end) (h .text)) (h .k) l
+          (w .ensures .1) (h .inv .3),
     )
 
 same-length : tie.Need-same-length Inv-loop μ-loop
@@ -56,8 +57,11 @@ returns : tie.Need-returns Inv-loop μ-loop
 returns c =
     let a = c .before .before .before .before .args in
     let h = c .before .loop in
-    let e : h .k ≡ length (a .numbers .now) = omega arith in
-    (omega arith, h .inv .3 ∙ ap (λ (l : List ℕ). take (a .at) (a .text .now) ++ fields l) (take-all (h .k) (a .numbers .now) (omega arith)))
+    let e : h .k ≡ length (a .numbers .now) = omega arith in (
+      omega arith,
+      h .inv .3 ∙ ap (λ (l : List ℕ). take (a .at) (a .text .now) ++ fields l)
+          (take-all (h .k) (a .numbers .now) (omega arith)),
+    )
 
 pub put-fields-spec : {M : Type 1} → statement M
 put-fields-spec =

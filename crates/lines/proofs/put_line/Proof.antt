@@ -38,12 +38,20 @@ ends : (c : lts.After-slice-known3 (
   put-reads.Learnt,
   put-fields-reads.Asked,
   put-fields-reads.Learnt,
-) reads.Pre reads.Post) → c .before .before .put-fields .result < c .before .before .before .before .before .before .before .before .before .before .before .args .at + 128
+) reads.Pre reads.Post) → c .before .before .put-fields .result
+    < c .before .before .before .before .before .before .before .before .before .before .before .args .at + 128
 ends c =
     let n = ap length (c .before .before .before .before .before .before .before .before .before .numbers .ensures) in
     let f = c .before .before .put-fields in
     let p = c .before .before .before .before .before .before .before .put in
-    omega (arith, n, f .ensures .0, p .ensures .0, long64 (c .before .before .before .before .before .before .before .before .before .before .before .args .index) (omega arith))
+    omega (
+      arith,
+      n,
+      f .ensures .0,
+      p .ensures .0,
+      long64
+          (c .before .before .before .before .before .before .before .before .before .before .before .args .index) (omega arith),
+    )
 
 slice-write-text : tie.Need-slice-write-text
 slice-write-text c = omega (arith, ends c)
@@ -62,8 +70,11 @@ returns c =
     let a = c .before .before .before .before .before .before .before .before .before .before .before .args in
     let before = take (a .at) (a .text .now) in
     let first = take (p .result) (p .last .1 .0) in
-    let e : f .result < length (f .last .1 .0) = omega (arith, ends c) in
-    (omega (arith, ends c), line-whole before (f .last .1 .0) first (a .index) (f .result) (asCorrected (a .a) []) e (f .ensures .1) (p .ensures .1) (ns .ensures))
+    let e : f .result < length (f .last .1 .0) = omega (arith, ends c) in (
+      omega (arith, ends c),
+      line-whole before (f .last .1 .0) first (a .index) (f .result) (asCorrected (a .a) []) e (f .ensures .1)
+          (p .ensures .1) (ns .ensures),
+    )
 
 pub put-line-spec : {M : Type 1} → statement M
 put-line-spec =

@@ -9,7 +9,11 @@ word-octets-requires : tie.Need-word-octets-requires
 word-octets-requires c κs = search needs
 
 returns : tie.Need-returns
-returns c = (c .word-octets .ensures .0, omega (arith, c .word-octets .ensures .0, at-least (c .before .args .code) (c .before .pre)), c .word-octets .ensures .1)
+returns c = (
+  c .word-octets .ensures .0,
+  omega (arith, c .word-octets .ensures .0, at-least (c .before .args .code) (c .before .pre)),
+  c .word-octets .ensures .1,
+)
 
 pub word-octets-spec : {M : Type 1} → statement M
 word-octets-spec = tie.close (tie.spec word-octets-requires returns)

@@ -33,7 +33,8 @@ returns c =
       p .ensures .0,
       p .ensures .1
           ∙ ap (λ (l : List ℕ). take (a .at) (a .text .now) ++ l) (
-          ap (λ r. line (a .index) r) (g .ensures) ∙ same-line (a .index) (a .code) (a .word .now) (a .limit) (a .out .now) z (s .pre .0 ∙ sym (length-replicate (code (a .code) .wordOctets) 0))
+          ap (λ r. line (a .index) r) (g .ensures) ∙ same-line (a .index) (a .code) (a .word .now) (a .limit) (a .out .now) z (s .pre .0
+          ∙ sym (length-replicate (code (a .code) .wordOctets) 0))
           ),
     )
 

@@ -18,17 +18,28 @@ use Rattle.lines.proofs.word_octets.Reads as word-octets-reads
 
 abbrev Inv-loop : tie.InvT-loop
 Inv-loop code limit index words out₀ text₀ size count end₀ k₀ out text end k =
-    (k ≤ count) × (end ≤ 128 * k) × (end ≤ length text₀) × (length out ≡ length out₀) × (length text ≡ length text₀) × (take end text ≡ lines code limit index words k)
+    (k ≤ count) × (end ≤ 128 * k) × (end ≤ length text₀) × (length out ≡ length out₀) × (length text ≡ length text₀)
+    × (take end text ≡ lines code limit index words k)
 
 abbrev μ-loop : tie.MeasureT-loop
 μ-loop code limit index words out₀ text₀ size count end₀ k₀ out text end k = count - k
 
 -- in the loop a word starts before the end
-starts : (c : lts.In-loop (word-octets-reads.Asked, word-octets-reads.Learnt, least-reads.Asked, least-reads.Learnt, write-word-reads.Asked, write-word-reads.Learnt) reads.Pre reads.Post Inv-loop μ-loop)
-    → (c .before .loop .k * c .before .before .word-octets .result < length (c .before .before .before .before .before .before .args .words .now)) × (16 * c .before .loop .k ≤ c .before .loop .k * c .before .before .word-octets .result)
+starts : (c : lts.In-loop (
+  word-octets-reads.Asked,
+  word-octets-reads.Learnt,
+  least-reads.Asked,
+  least-reads.Learnt,
+  write-word-reads.Asked,
+  write-word-reads.Learnt,
+) reads.Pre reads.Post Inv-loop μ-loop)
+    → (c .before .loop .k * c .before .before .word-octets .result < length
+    (c .before .before .before .before .before .before .args .words .now))
+    × (16 * c .before .loop .k ≤ c .before .loop .k * c .before .before .word-octets .result)
 starts c =
     let s = c .before .before .before .before .before .before in
-    starts-before (length (s .args .words .now)) (c .before .before .word-octets .result) (c .before .loop .k) (c .before .before .word-octets .ensures .1) (omega arith)
+    starts-before (length (s .args .words .now)) (c .before .before .word-octets .result) (c .before .loop .k)
+    (c .before .before .word-octets .ensures .1) (omega arith)
 
 word-octets-requires : tie.Need-word-octets-requires Inv-loop μ-loop
 word-octets-requires c κs = c .before .before .before .pre .0 .0
@@ -68,10 +79,19 @@ part-write-word-end : tie.Need-part-write-word-end Inv-loop μ-loop
 part-write-word-end c = search needs
 
 write-word-requires : tie.Need-write-word-requires Inv-loop μ-loop
-write-word-requires c κs = (c .before .before .before .before .before .loop .inv .3 ∙ c .before .before .before .before .before .before .before .before .before .before .pre .0 .1, omega (arith, starts (c .before .before .before .before) .0, starts (c .before .before .before .before) .1))
+write-word-requires c κs = (
+  c .before .before .before .before .before .loop .inv .3
+      ∙ c .before .before .before .before .before .before .before .before .before .before .pre .0 .1,
+  omega (arith, starts (c .before .before .before .before) .0, starts (c .before .before .before .before) .1),
+)
 
 add-k : tie.Need-add-k Inv-loop μ-loop
-add-k c = omega (arith, starts (c .before .before .before .before .before .before .before .before .before) .0, starts (c .before .before .before .before .before .before .before .before .before) .1)
+add-k c = omega (
+  arith,
+  starts (c .before .before .before .before .before .before .before .before .before) .0,
+  starts
+      (c .before .before .before .before .before .before .before .before .before) .1,
+)
 
 loop-less : tie.Need-loop-less Inv-loop μ-loop
 loop-less c = omega arith
@@ -94,7 +114,8 @@ loop-again c =
       omega (arith, b .0, b .1),
       omega arith,
       omega arith,
-      rw add-one (w .ensures .1 ∙ ap₂ (λ (p q : List ℕ). p ++ q) (h .inv .5) (ap (λ o. wordLine (s .args .code) (s .args .limit) (s .args .index + h .k) o) e)),
+      rw add-one (w .ensures .1 ∙ ap₂ (λ (p q : List ℕ). p ++ q) (h .inv .5)
+          (ap (λ o. wordLine (s .args .code) (s .args .limit) (s .args .index + h .k) o) e)),
     )
 
 same-length : tie.Need-same-length Inv-loop μ-loop
@@ -109,8 +130,11 @@ returns c =
     let z = c .before .before .word-octets in
     let h = c .before .loop in
     let long = length (s .words .now) in
-    let e : h .k ≡ (long + (z .result - 1)) / z .result = omega arith in
-    (omega arith, h .inv .5 ∙ ap (λ m. lines (s .code) (s .limit) (s .index) (s .words .now) m) (e ∙ ap (λ m. (long + (m - 1)) / m) (z .ensures .0)))
+    let e : h .k ≡ (long + (z .result - 1)) / z .result = omega arith in (
+      omega arith,
+      h .inv .5 ∙ ap (λ m. lines (s .code) (s .limit) (s .index) (s .words .now) m) (e
+          ∙ ap (λ m. (long + (m - 1)) / m) (z .ensures .0)),
+    )
 
 pub write-words-spec : {M : Type 1} → statement M
 write-words-spec =

@@ -1,20 +1,25 @@
--- `measured::measure`: the word taken, its table and its syndrome. Assumes nothing.
-use mathlib.Core.Path.{ap, _∙_}
+-- `measured::measure`: by the numbers of the record. Assumes nothing.
+use mathlib.Core.Path.{sym, ap, _∙_}
 use native.Mathlib.Omega.{arith}
-use Rattle.rules.specs.Codes.{code}
-use Rattle.offer.proofs.Offers.{small, fixed}
+use Rattle.offer.proofs.Offers.{small}
 use borrow.Author.Needs.{needs}
 use Rattle.measured.proofs.measure.Statement.{statement}
 use Rattle.measured.proofs.measure.Tie as tie
 
-take-requires : tie.Need-take-requires
-take-requires c κs =
-    let a = c .before .before .before .before .before in
-    let f = small (a .pre .0) in
-    (omega (arith, f .word, a .pre .1), f .unsent, search needs, a .pre .5)
-
-checks-requires : tie.Need-checks-requires
-checks-requires c κs = search needs
+measure-by-requires : tie.Need-measure-by-requires
+measure-by-requires c κs =
+    let a = c .before .before .before .before .before .before .before .before in
+    let k = a .pre .0 in
+    let f = small k in (
+      record { number = k .number; offers = k .offers; is = ap (λ z. z .shape .size) (k .is) },
+      f .unsent,
+      omega (arith, f .word, a .pre .1),
+      search needs,
+      search needs,
+      search needs,
+      a .pre .5,
+      a .pre .6,
+    )
 
 same-length : tie.Need-same-length
 same-length c = search needs
@@ -27,26 +32,13 @@ same-length-3 c = search needs
 
 returns : tie.Need-returns
 returns c =
-    let s = c .before .before .before .before in
-    let k = s .before .before .before .before .before .before in (
-      s .checks .ensures .0,
-      λ n off e.
-          let f = fixed n off in
-          let made = s .checks .ensures .1 n off e in
-          record {
-            lends = made .0;
-            bits = k .take .ensures (code n) (ap (λ z. z .unsent) e ∙ f .unsent);
-            held = made .1;
-          },
+    let made = c .before .before .before .before .before .before .measure-by in
+    let k = c .before .before .before .before .before .before .before .before .before .before .before .before .before .before .before .pre
+    .0 in (
+      made .ensures (k .number) (k .offers) (ap (λ z. z .unsent) (k .is)) (ap (λ z. z .shape .size) (k .is)) .0
+          ∙ sym (ap (λ z. z .shape) (k .is)),
+      λ n off e. made .ensures n off (ap (λ z. z .unsent) e) (ap (λ z. z .shape .size) e) .1,
     )
 
 pub measure-spec : {M : Type 1} → statement M
-measure-spec =
-    tie.close
-    (tie.spec
-    take-requires
-    checks-requires
-    same-length
-    same-length-2
-    same-length-3
-    returns)
+measure-spec = tie.close (tie.spec measure-by-requires same-length same-length-2 same-length-3 returns)

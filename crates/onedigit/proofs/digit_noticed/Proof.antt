@@ -43,7 +43,8 @@ returns c =
     let a = c .before .before .before .before .before .before .before .before .args in (
       λ printed fits.
           c .before .before .word-noticed .ensures .0 printed fits
-          ∙ ap (λ (w : ℕ). not (flatTied (a .m) printed (a .rows) (a .count) (a .parts) (a .parity .now) (set (a .generator .now) (a .t / 15 / a .digits) w)))
+          ∙ ap (λ (w : ℕ). not (flatTied (a .m) printed (a .rows) (a .count) (a .parts) (a .parity .now)
+          (set (a .generator .now) (a .t / 15 / a .digits) w)))
           (c .before .before .before .before .other-word .ensures),
       c .before .before .word-noticed .ensures .1,
     )

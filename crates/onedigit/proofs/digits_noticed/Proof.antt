@@ -46,7 +46,8 @@ loop-holds c =
       omega (arith, product-fits h l),
       omega arith,
       refl,
-      λ printed fits. count-start (digitNoticed (a .m) printed (a .rows) (a .count) (a .parts) (a .digits) (a .parity .now) (a .generator .now)),
+      λ printed fits. count-start (digitNoticed (a .m) printed (a .rows) (a .count) (a .parts) (a .digits) (a .parity .now)
+          (a .generator .now)),
     )
 
 digit-noticed-requires : tie.Need-digit-noticed-requires Inv-loop μ-loop
@@ -61,7 +62,8 @@ digit-noticed-requires c κs =
       s .pre .1,
       s .pre .2,
       subst (λ (g : List ℕ). l .t / 15 / a .digits < length g) same
-          (within (l .t / 15) (length (a .generator .now)) (a .digits) (s .pre .1) (within (l .t) (length (a .generator .now) * a .digits) 15 some h)),
+          (within (l .t / 15) (length (a .generator .now)) (a .digits) (s .pre .1)
+          (within (l .t) (length (a .generator .now) * a .digits) 15 some h)),
     )
 
 one-if-requires : tie.Need-one-if-requires Inv-loop μ-loop
@@ -86,9 +88,11 @@ loop-again c =
       omega (arith, tally-le (e .result)),
       e .ensures .1 ∙ l .inv .3,
       λ printed fits.
-          count-more (l .t) (digitNoticed (a .m) printed (a .rows) (a .count) (a .parts) (a .digits) (a .parity .now) (a .generator .now)) (l .inv .4 printed fits)
+          count-more (l .t) (digitNoticed (a .m) printed (a .rows) (a .count) (a .parts) (a .digits) (a .parity .now) (a .generator .now))
+          (l .inv .4 printed fits)
           (e .ensures .0 printed fits
-          ∙ ap (λ (g : List ℕ). digitNoticed (a .m) printed (a .rows) (a .count) (a .parts) (a .digits) (a .parity .now) g (l .t)) (l .inv .3))
+          ∙ ap (λ (g : List ℕ). digitNoticed (a .m) printed (a .rows) (a .count) (a .parts) (a .digits) (a .parity .now) g (l .t))
+          (l .inv .3))
           (c .one-if .ensures),
     )
 
@@ -101,7 +105,8 @@ returns c =
     let l = c .before .loop in
     let e : l .t ≡ length (a .generator .now) * a .digits * 15 = omega arith in (
       λ printed fits.
-          l .inv .4 printed fits ∙ ap (λ (x : ℕ). bits.count x (digitNoticed (a .m) printed (a .rows) (a .count) (a .parts) (a .digits) (a .parity .now) (a .generator .now))) e,
+          l .inv .4 printed fits ∙ ap (λ (x : ℕ). bits.count x (digitNoticed (a .m) printed (a .rows) (a .count) (a .parts) (a .digits)
+          (a .parity .now) (a .generator .now))) e,
       l .inv .3,
     )
 

@@ -93,9 +93,11 @@ loop-again c =
       omega (arith, tally-le (e .result)),
       e .ensures .1 ∙ l .inv .3,
       λ printed fits.
-          count-more (l .t) (entryNoticed (a .m) printed (a .rows) (a .count) (a .parts) (a .parity .now) (a .generator .now)) (l .inv .4 printed fits)
+          count-more (l .t) (entryNoticed (a .m) printed (a .rows) (a .count) (a .parts) (a .parity .now) (a .generator .now))
+          (l .inv .4 printed fits)
           (e .ensures .0 printed fits
-          ∙ ap (λ (p : List ℕ). placeNoticed (a .m) printed (a .rows) (a .count) (a .parts) p (a .generator .now) (l .t / (a .m + 1)) (l .t % (a .m + 1))) (l .inv .3))
+          ∙ ap (λ (p : List ℕ). placeNoticed (a .m) printed (a .rows) (a .count) (a .parts) p (a .generator .now) (l .t / (a .m + 1))
+          (l .t % (a .m + 1))) (l .inv .3))
           (c .one-if .ensures),
     )
 
@@ -108,7 +110,8 @@ returns c =
     let l = c .before .loop in
     let e : l .t ≡ length (a .parity .now) * (a .m + 1) = omega arith in (
       λ printed fits.
-          l .inv .4 printed fits ∙ ap (λ (x : ℕ). bits.count x (entryNoticed (a .m) printed (a .rows) (a .count) (a .parts) (a .parity .now) (a .generator .now))) e,
+          l .inv .4 printed fits ∙ ap (λ (x : ℕ). bits.count x
+          (entryNoticed (a .m) printed (a .rows) (a .count) (a .parts) (a .parity .now) (a .generator .now))) e,
       l .inv .3,
     )
 

@@ -70,8 +70,13 @@ loop-again : tie.Need-loop-again Inv-loop μ-loop
 loop-again c =
     let a = c .before .before .before .before .before .args in
     let l = c .before .before .before .loop in
-    let e = c .before .wrong-entry in
-    (omega arith, l .inv .1, omega (arith, tally-le (e .result)), count-more (l .t) (entryWrong (a .m) (a .parity .now)) (l .inv .3) (e .ensures) (c .one-if .ensures))
+    let e = c .before .wrong-entry in (
+      omega arith,
+      l .inv .1,
+      omega (arith, tally-le (e .result)),
+      count-more (l .t) (entryWrong (a .m) (a .parity .now)) (l .inv .3)
+          (e .ensures) (c .one-if .ensures),
+    )
 
 returns : tie.Need-returns Inv-loop μ-loop
 returns c =

@@ -18,7 +18,8 @@ returns : tie.Need-returns
 returns c =
     let a = c .before .before .before .before .before .args in (
       λ printed fits.
-          ap (λ (x : Bool). x && not (flatTied (a .m) printed (a .rows) (a .count) (a .parts) (set (a .parity .now) (a .place) (a .s)) (a .generator .now)))
+          ap (λ (x : Bool). x && not (flatTied (a .m) printed (a .rows) (a .count) (a .parts) (set (a .parity .now) (a .place) (a .s))
+          (a .generator .now)))
           (sym (not-true (c .before .wrong-entry .result) (c .if1 .taken)) ∙ c .before .wrong-entry .ensures),
       refl,
     )
@@ -37,7 +38,8 @@ returns-2 c =
     let a = c .before .before .before .before .before .before .before .before .before .args in (
       λ printed fits.
           c .before .before .place-noticed .ensures .0 printed fits
-          ∙ ap (λ (x : Bool). x && not (flatTied (a .m) printed (a .rows) (a .count) (a .parts) (set (a .parity .now) (a .place) (a .s)) (a .generator .now)))
+          ∙ ap (λ (x : Bool). x && not (flatTied (a .m) printed (a .rows) (a .count) (a .parts) (set (a .parity .now) (a .place) (a .s))
+          (a .generator .now)))
           (sym (not-false (c .before .before .before .before .before .wrong-entry .result) (c .before .before .before .before .if1 .left))
           ∙ c .before .before .before .before .before .wrong-entry .ensures),
       c .before .before .place-noticed .ensures .1,

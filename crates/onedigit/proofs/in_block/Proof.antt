@@ -44,7 +44,8 @@ returns : tie.Need-returns
 returns c =
     let s = c .before .before .before .before .before .before .before .args .s in
     ap₂ (λ (x y : Bool). x || y) (ap (λ (x : ℕ). eqb x s) (c .before .before .before .before .wide .ensures))
-    (ap₂ (λ (x y : Bool). x || y) (ap (λ (x : ℕ). eqb x s) (c .before .before .wide2 .ensures)) (ap (λ (x : ℕ). eqb x s) (c .wide3 .ensures)))
+    (ap₂ (λ (x y : Bool). x || y) (ap (λ (x : ℕ). eqb x s) (c .before .before .wide2 .ensures))
+    (ap (λ (x : ℕ). eqb x s) (c .wide3 .ensures)))
 
 pub in-block-spec : {M : Type 1} → statement M
 in-block-spec =

@@ -48,7 +48,12 @@ line-requires c κs =
         c .before .before .before .before .before .before .before .before .before .digits-noticed .ensures .0 (a .m) (le-refl (a .m)),
         count-le (length g * a .digits * 15) (digitNoticed (a .m) (a .m) (a .rows) (a .count) (a .parts) (a .digits) p g),
       ),
-      omega (arith, c .before .before .before .before .before .entries-tried .ensures, count-le (length p * (a .m + 1)) (entryWrong (a .m) p)),
+      omega (
+        arith,
+        c .before .before .before .before .before .entries-tried .ensures,
+        count-le (length p * (a .m + 1))
+            (entryWrong (a .m) p),
+      ),
       omega (
         arith,
         c .before .before .entries-noticed .ensures .0 (a .m) (le-refl (a .m)),

@@ -21,8 +21,10 @@ returns : tie.Need-returns
 returns c =
     let x = wbit (c .before .before .before .before .args .y .now) in
     let blocks = c .before .before .odd-blocks in (
-      shared-odd 16 (getD counted 0 0) (blocks .result) (c .before .odd-word .result) (oddBlock x) (blocks .ensures) (lit< tt) (c .before .odd-word .ensures .1),
-      shared-odd 16 (getD counted 1 0) (blocks .result) (c .odd-word2 .result) (oddBlock x) (blocks .ensures) (lit< tt) (c .odd-word2 .ensures .1),
+      shared-odd 16 (getD counted 0 0) (blocks .result) (c .before .odd-word .result) (oddBlock x) (blocks .ensures) (lit< tt)
+          (c .before .odd-word .ensures .1),
+      shared-odd 16 (getD counted 1 0) (blocks .result) (c .odd-word2 .result) (oddBlock x) (blocks .ensures) (lit< tt)
+          (c .odd-word2 .ensures .1),
     )
 
 pub odd-together-spec : {M : Type 1} → statement M

@@ -18,7 +18,14 @@ odd-together-requires c κs = search needs
 add-result : tie.Need-add-result
 add-result c =
     let x = wbit (c .before .before .before .args .y .now) in
-    omega (arith, c .before .odd-together .ensures .0, c .before .odd-together .ensures .1, tally-le (oddTogether x 0), tally-le (oddTogether x 1))
+    omega (
+      arith,
+      c .before .odd-together .ensures .0,
+      c .before .odd-together .ensures .1,
+      tally-le (oddTogether x 0),
+      tally-le
+          (oddTogether x 1),
+    )
 
 returns : tie.Need-returns
 returns c =

@@ -7,7 +7,8 @@ use Rattle.pairs.proofs.with_later.Statement.{statement}
 use Rattle.pairs.proofs.with_later.Tie as tie
 
 abbrev Inv-loop : tie.InvT-loop
-Inv-loop code a word₀ out₀ end mended₀ b₀ word out mended b = (length word ≡ length word₀) × (length out ≡ length out₀) × (mended ≤ b) × (b ≤ end)
+Inv-loop code a word₀ out₀ end mended₀ b₀ word out mended b = (length word ≡ length word₀) × (length out ≡ length out₀) × (mended ≤ b)
+    × (b ≤ end)
 
 abbrev μ-loop : tie.MeasureT-loop
 μ-loop code a word₀ out₀ end mended₀ b₀ word out mended b = end - b

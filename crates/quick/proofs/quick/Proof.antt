@@ -30,7 +30,8 @@ returns c =
     let a = f .before .before .before in
     let n = a .args .code in
     c .refused .ensures
-    ∙ sym (quick-refused n (a .args .word .now) _ (check-refusal n (f .before .of .ensures) _ (f .refusal .ensures)) (c .before .if1 .taken))
+    ∙ sym (quick-refused n (a .args .word .now) _ (check-refusal n (f .before .of .ensures) _ (f .refusal .ensures))
+    (c .before .if1 .taken))
 
 lowest-broken-requires : tie.Need-lowest-broken-requires
 lowest-broken-requires c κs =

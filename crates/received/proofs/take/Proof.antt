@@ -26,7 +26,8 @@ returns c =
     let d = c .before .before in
     let b = d .before .before .before .before .before in
     let a = b .before .before .before .before in
-    λ k e. d .lift .ensures ∙ ap (later (a .args .unsent)) (b .load .ensures) ∙ taken-later k (a .args .unsent) e (bit (a .args .octets .now))
+    λ k e. d .lift .ensures ∙ ap (later (a .args .unsent)) (b .load .ensures)
+    ∙ taken-later k (a .args .unsent) e (bit (a .args .octets .now))
 
 same-length-2 : tie.Need-same-length-2
 same-length-2 c = search needs

@@ -13,7 +13,8 @@ use Rattle.solver.proofs.add_turns.Statement.{statement}
 use Rattle.solver.proofs.add_turns.Tie as tie
 
 abbrev Inv-loop : tie.InvT-loop
-Inv-loop d step sh s₀ at k₀ s k = (2 ≤ k) × (k ≤ 10) × (length s ≡ length s₀) × Added (sh .size) step (wbit d) (wbit s₀) (wide sh * target step) (wide sh * (target step + 1)) (wbit s) k
+Inv-loop d step sh s₀ at k₀ s k = (2 ≤ k) × (k ≤ 10) × (length s ≡ length s₀)
+    × Added (sh .size) step (wbit d) (wbit s₀) (wide sh * target step) (wide sh * (target step + 1)) (wbit s) k
 
 abbrev μ-loop : tie.MeasureT-loop
 μ-loop d step sh s₀ at k₀ s k = 10 - k
@@ -26,7 +27,11 @@ cast-at c = omega (arith, c .shared-slice-known3 .given 0)
 
 mul-at : tie.Need-mul-at Inv-loop μ-loop
 mul-at c = let s = c .before .before .before .before .before in
-    omega (arith, row-room (s .args .sh) (s .pre .0) (target (s .args .step .now)) (to-row (s .args .sh .rows) (s .args .step .now) (s .pre .3)))
+    omega (
+      arith,
+      row-room (s .args .sh) (s .pre .0) (target (s .args .step .now))
+          (to-row (s .args .sh .rows) (s .args .step .now) (s .pre .3)),
+    )
 
 loop-holds : tie.Need-loop-holds Inv-loop μ-loop
 loop-holds c = (omega arith, omega arith, refl, refl)
@@ -52,8 +57,12 @@ cast-add-turned c = omega (arith, c .shared-slice-known5 .given (c .before .befo
 add-turned-requires : tie.Need-add-turned-requires Inv-loop μ-loop
 add-turned-requires c κs = let s = c .before .before .before .before .before .before .before .before .before .before .before .before in
     let fit = s .pre .0 in
-    let low : getD (s .args .step .now) (c .before .before .before .before .before .before .loop .k) 0 < s .args .sh .size = ltb-true (getD (s .args .step .now) (c .before .before .before .before .before .before .loop .k) 0) (s .args .sh .size) (c .before .before .if1 .taken) in
-    (omega (arith, row-room (s .args .sh) fit (target (s .args .step .now)) (to-row (s .args .sh .rows) (s .args .step .now) (s .pre .3))), omega (arith, low, fit .held-in, fit .words))
+    let low : getD (s .args .step .now) (c .before .before .before .before .before .before .loop .k) 0 < s .args .sh .size =
+    ltb-true (getD (s .args .step .now) (c .before .before .before .before .before .before .loop .k) 0) (s .args .sh .size)
+    (c .before .before .if1 .taken) in (
+      omega (arith, row-room (s .args .sh) fit (target (s .args .step .now)) (to-row (s .args .sh .rows) (s .args .step .now) (s .pre .3))),
+      omega (arith, low, fit .held-in, fit .words),
+    )
 
 add-k : tie.Need-add-k Inv-loop μ-loop
 add-k c = search needs
@@ -62,7 +71,8 @@ loop-less : tie.Need-loop-less Inv-loop μ-loop
 loop-less c = search needs
 
 loop-again : tie.Need-loop-again Inv-loop μ-loop
-loop-again c = let s = c .before .before .before .before .before .before .before .before .before .before .before .before .before .before .before in
+loop-again c = let s = c .before .before .before .before .before .before .before .before .before .before .before .before .before .before
+    .before in
     let a = s .args in
     let l = c .before .before .before .before .before .before .before .before .before .loop in
     let t = target (a .step .now) in
@@ -75,7 +85,8 @@ loop-again c = let s = c .before .before .before .before .before .before .before
       omega arith,
       omega arith,
       c .before .before .add-turned .kept .1 .1 .0 ∙ l .inv .2,
-      added-more (a .sh .size) (a .step .now) d (wbit (a .s .now)) (w * t) (w * (t + 1)) (wbit (l .s)) (l .k) (l .inv .3) (wbit (c .before .before .add-turned .last .1 .1 .0)) (omega arith) low
+      added-more (a .sh .size) (a .step .now) d (wbit (a .s .now)) (w * t) (w * (t + 1)) (wbit (l .s)) (l .k) (l .inv .3)
+          (wbit (c .before .before .add-turned .last .1 .1 .0)) (omega arith) low
           (c .before .before .add-turned .ensures ∙ ap₂ (λ (p e : ℕ). added (wbit (l .s)) p e (from q d)) start end),
     )
 
@@ -89,7 +100,8 @@ returns c = let s = c .before .before .before .before .before .before .before .b
     let t = target (a .step .now) in
     let w = wide (a .sh) in
     added-all (a .sh .size) (a .step .now) (wbit (a .d .now)) (wbit (a .s .now)) (w * t) (w * (t + 1)) (wbit (l .s)) (l .k) (l .inv .3)
-    (rest-none (a .sh .size) (a .step .now) (wbit (a .d .now)) (l .k) (omega arith) (ltb-false (getD (a .step .now) (l .k) 0) (a .sh .size) (c .if1 .left)))
+    (rest-none (a .sh .size) (a .step .now) (wbit (a .d .now)) (l .k) (omega arith)
+    (ltb-false (getD (a .step .now) (l .k) 0) (a .sh .size) (c .if1 .left)))
 
 same-length-2 : tie.Need-same-length-2 Inv-loop μ-loop
 same-length-2 c = c .before .loop .inv .2

@@ -34,7 +34,9 @@ returns c = λ f e.
     let odd = c .before .before .before .before .before .before .before .before .before .before .odd-together .ensures in
     c .before .before .invert-row2 .ensures (q 1) (c .before .before .before .ones-if2 .ensures (q 1) (odd .1))
     ∙ ap (λ (z : Word). added z (512 * 1) (512 * (1 + 1)) (upTo 511 (λ i. q 1)))
-    (c .before .before .before .before .before .before .before .invert-row .ensures (q 0) (c .before .before .before .before .before .before .before .before .ones-if .ensures (q 0) (odd .0)) ∙ ap (λ (z : Word). added z (512 * 0) (512 * (0 + 1)) (upTo 511 (λ i. q 0))) e)
+    (c .before .before .before .before .before .before .before .invert-row .ensures (q 0)
+    (c .before .before .before .before .before .before .before .before .ones-if .ensures (q 0) (odd .0))
+    ∙ ap (λ (z : Word). added z (512 * 0) (512 * (0 + 1)) (upTo 511 (λ i. q 0))) e)
     ∙ two-inverted f q
 
 pub invert-spec : {M : Type 1} → statement M

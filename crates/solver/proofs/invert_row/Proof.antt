@@ -15,7 +15,8 @@ use Rattle.solver.proofs.invert_row.Statement.{statement}
 use Rattle.solver.proofs.invert_row.Tie as tie
 
 abbrev Inv-loop : tie.InvT-loop
-Inv-loop s₀ r v k₀ s k = (8 * r ≤ k) × (k ≤ 8 * r + 7) × (length s ≡ 16) × ((b : Bool) → Holds v (λ i. b) → wbit s ≡ added (wbit s₀) (512 * r) (64 * k) (upTo 511 (λ i. b)))
+Inv-loop s₀ r v k₀ s k = (8 * r ≤ k) × (k ≤ 8 * r + 7) × (length s ≡ 16)
+    × ((b : Bool) → Holds v (λ i. b) → wbit s ≡ added (wbit s₀) (512 * r) (64 * k) (upTo 511 (λ i. b)))
 
 abbrev μ-loop : tie.MeasureT-loop
 μ-loop s₀ r v k₀ s k = 8 * r + 7 - k
@@ -25,8 +26,13 @@ mul-k c = search needs
 
 loop-holds : tie.Need-loop-holds Inv-loop μ-loop
 loop-holds c = let s = c .before in
-    let a = s .args in
-    (omega arith, omega arith, s .pre .0, λ b h. added-start (wbit (a .s .now)) (512 * a .r) (64 * (8 * a .r)) (upTo 511 (λ i. b)) (omega arith))
+    let a = s .args in (
+      omega arith,
+      omega arith,
+      s .pre .0,
+      λ b h. added-start (wbit (a .s .now)) (512 * a .r) (64 * (8 * a .r)) (upTo 511 (λ i. b))
+          (omega arith),
+    )
 
 mul-loop : tie.Need-mul-loop Inv-loop μ-loop
 mul-loop c = search needs
@@ -53,7 +59,8 @@ loop-again c = let s = c .before .before .before .before .before .before .before
       λ b h.
           c .before .before .add-word .ensures (λ i. b) h
           ∙ ap (λ (z : Word). added z (64 * l .k) (64 * (l .k + 1)) (λ i. b)) (l .inv .3 b h)
-          ∙ added-append (wbit (a .s .now)) (512 * a .r) (64 * l .k) (64 * (l .k + 1)) (upTo 511 (λ i. b)) (λ i. b) (omega arith) (omega arith)
+          ∙ added-append (wbit (a .s .now)) (512 * a .r) (64 * l .k) (64 * (l .k + 1)) (upTo 511 (λ i. b)) (λ i. b) (omega arith)
+          (omega arith)
           (λ n h1 h2. sym (upTo-below 511 (n - 512 * a .r) (λ i. b) (omega arith))),
     )
 
@@ -64,7 +71,8 @@ add-word-requires-2 : tie.Need-add-word-requires-2 Inv-loop μ-loop
 add-word-requires-2 c κs = search needs
 
 same-length : tie.Need-same-length Inv-loop μ-loop
-same-length c = c .before .before .add-word2 .kept .1 .0 ∙ c .before .before .before .before .before .before .loop .inv .2 ∙ sym (c .before .before .before .before .before .before .before .before .pre .0)
+same-length c = c .before .before .add-word2 .kept .1 .0 ∙ c .before .before .before .before .before .before .loop .inv .2
+    ∙ sym (c .before .before .before .before .before .before .before .before .pre .0)
 
 returns : tie.Need-returns Inv-loop μ-loop
 returns c = λ b h.
@@ -73,9 +81,11 @@ returns c = λ b h.
     let l = c .before .before .before .before .before .before .loop in
     let all : l .k ≡ 8 * a .r + 7 = omega arith in
     let end : 64 * (l .k + 1) ≡ 512 * (a .r + 1) = omega arith in
-    c .before .before .add-word2 .ensures (upTo 63 (λ i. b)) (λ i hi. c .before .before .before .before .front .ensures i hi ∙ ap (λ (z : Bool). ltb i 63 && z) (h i hi))
+    c .before .before .add-word2 .ensures (upTo 63 (λ i. b)) (λ i hi. c .before .before .before .before .front .ensures i hi
+    ∙ ap (λ (z : Bool). ltb i 63 && z) (h i hi))
     ∙ ap₂ (λ (z : Word) (e : ℕ). added z (64 * l .k) e (upTo 63 (λ i. b))) (l .inv .3 b h) end
-    ∙ added-append (wbit (a .s .now)) (512 * a .r) (64 * l .k) (512 * (a .r + 1)) (upTo 511 (λ i. b)) (upTo 63 (λ i. b)) (omega arith) (omega arith)
+    ∙ added-append (wbit (a .s .now)) (512 * a .r) (64 * l .k) (512 * (a .r + 1)) (upTo 511 (λ i. b)) (upTo 63 (λ i. b)) (omega arith)
+    (omega arith)
     (λ n h1 h2. ap (λ (z : Bool). z && b) (ltb-iff (n - 64 * l .k) 63 (n - 512 * a .r) 511 (λ g. omega arith) (λ g. omega arith)))
 
 pub invert-row-spec : {M : Type 1} → statement M

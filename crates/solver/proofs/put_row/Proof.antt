@@ -20,8 +20,12 @@ abbrev μ-loop : tie.MeasureT-loop
 
 loop-holds : tie.Need-loop-holds Inv-loop μ-loop
 loop-holds c = let s = c .before .before in
-    let a = s .args in
-    (omega arith, s .pre .3, added-start (wbit (a .y .now)) (a .p) (a .p + 64 * 0) (from (wide (a .sh) * a .r) (wbit (a .s .now))) (omega arith))
+    let a = s .args in (
+      omega arith,
+      s .pre .3,
+      added-start (wbit (a .y .now)) (a .p) (a .p + 64 * 0) (from (wide (a .sh) * a .r) (wbit (a .s .now)))
+          (omega arith),
+    )
 
 mul-put-word : tie.Need-mul-put-word Inv-loop μ-loop
 mul-put-word c = let s = c .before .before .before .before .before .before in
@@ -69,7 +73,8 @@ loop-again c = let s = c .before .before .before .before .before .before .before
       c .before .before .put-word .kept .1 .0 ∙ l .inv .1,
       c .before .before .put-word .ensures (from (64 * k) x) (word-holds (a .s .now) k)
           ∙ ap₂ (λ (y : Word) (e : ℕ). added y b e (from (64 * k) x)) (l .inv .2) (omega arith)
-          ∙ added-append (wbit (a .y .now)) (a .p) b (a .p + 64 * (l .j + 1)) g (from (64 * k) x) (omega arith) (omega arith) (λ n h1 h2. ap x (omega arith)),
+          ∙ added-append (wbit (a .y .now)) (a .p) b (a .p + 64 * (l .j + 1)) g (from (64 * k) x) (omega arith) (omega arith)
+          (λ n h1 h2. ap x (omega arith)),
     )
 
 same-length : tie.Need-same-length Inv-loop μ-loop
@@ -84,7 +89,8 @@ returns c = λ f e.
     let all : a .p + 64 * l .j ≡ a .p + wide (a .sh) = omega arith in
     l .inv .2
     ∙ ap (λ (e : ℕ). added (wbit (a .y .now)) (a .p) e (from (wide (a .sh) * a .r) (wbit (a .s .now)))) all
-    ∙ added-same (wbit (a .y .now)) (a .p) (a .p + wide (a .sh)) (from (wide (a .sh) * a .r) (wbit (a .s .now))) (upTo (a .sh .size) (f (a .r)))
+    ∙ added-same (wbit (a .y .now)) (a .p) (a .p + wide (a .sh)) (from (wide (a .sh) * a .r) (wbit (a .s .now)))
+    (upTo (a .sh .size) (f (a .r)))
     (λ i h. held-at (a .sh) (wide-some (a .sh) fit) f (wbit (a .s .now)) e (a .r) i (s .pre .1) (omega arith))
     ∙ added-size (wbit (a .y .now)) (a .p) (a .sh .size) (wide (a .sh)) (f (a .r)) (fit .held-in)
 

@@ -12,7 +12,9 @@ use Rattle.solver.proofs.put_rows.Statement.{statement}
 use Rattle.solver.proofs.put_rows.Tie as tie
 
 abbrev Inv-loop : tie.InvT-loop
-Inv-loop s sh first y₀ inform a₀ y a = (a ≤ sh .rows) × (length y ≡ 130) × ((f : ℕ → Word) (x : Word) → wbit s ≡ held sh f → wbit y₀ ≡ upTo (informed sh) x → wbit y ≡ upTo ((sh .blocks - sh .rows + a) * sh .size) (completed sh first f x))
+Inv-loop s sh first y₀ inform a₀ y a = (a ≤ sh .rows) × (length y ≡ 130)
+    × ((f : ℕ → Word) (x : Word) → wbit s ≡ held sh f → wbit y₀ ≡ upTo (informed sh) x
+    → wbit y ≡ upTo ((sh .blocks - sh .rows + a) * sh .size) (completed sh first f x))
 
 abbrev μ-loop : tie.MeasureT-loop
 μ-loop s sh first y₀ inform a₀ y a = sh .rows - a
@@ -39,14 +41,24 @@ add-put-row-2 c = let s = c .before .before .before .before .before .before .bef
 
 mul-put-row : tie.Need-mul-put-row Inv-loop μ-loop
 mul-put-row c = let s = c .before .before .before .before .before .before .before .before .before in
-    omega (arith, block-room (s .args .sh) (s .pre .0) (s .args .sh .blocks - s .args .sh .rows + c .before .before .before .before .before .loop .a) (omega (arith, s .pre .0 .parity)))
+    omega (
+      arith,
+      block-room (s .args .sh) (s .pre .0)
+          (s .args .sh .blocks - s .args .sh .rows + c .before .before .before .before .before .loop .a) (omega (arith, s .pre .0 .parity)),
+    )
 
 put-row-requires : tie.Need-put-row-requires Inv-loop μ-loop
 put-row-requires c κs = let s = c .before .before .before .before .before .before .before .before .before in
     let a = s .args in
     let l = c .before .before .before .before .before .loop in
-    let fit = s .pre .0 in
-    (fit, mod-lt (l .a + a .first) (omega arith), s .pre .2, l .inv .1, block-room (a .sh) fit (a .sh .blocks - a .sh .rows + l .a) (omega (arith, fit .parity)))
+    let fit = s .pre .0 in (
+      fit,
+      mod-lt (l .a + a .first) (omega arith),
+      s .pre .2,
+      l .inv .1,
+      block-room (a .sh) fit (a .sh .blocks - a .sh .rows + l .a)
+          (omega (arith, fit .parity)),
+    )
 
 add-a : tie.Need-add-a Inv-loop μ-loop
 add-a c = omega arith

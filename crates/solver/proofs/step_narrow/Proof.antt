@@ -68,8 +68,11 @@ returns c = λ f e.
     λ i hi.
     word-holds (a .s .now) q i hi ∙ ap (λ (w : ℕ). x (w * q + i)) one
     ∙ held-at sh some f x e q i (from-row (sh .rows) step (s .pre .3)) (subst (λ (w : ℕ). i < w) one hi) in
-    let doubled : both d ≡ twice M (upTo M (f q)) = c .before .before .before .before .before .before .before .double-word .ensures (f q) hold in
-    c .before .before .add-word .ensures (upTo M (copies M step (both d))) (λ i hi. c .before .before .before .before .before .front .ensures i hi ∙ ap (λ (z : Bool). ltb i M && z) (c .before .before .before .before .before .before .turns .ensures i hi))
+    let doubled : both d ≡ twice M (upTo M (f q)) = c .before .before .before .before .before .before .before .double-word .ensures
+    (f q) hold in
+    c .before .before .add-word .ensures (upTo M (copies M step (both d)))
+    (λ i hi. c .before .before .before .before .before .front .ensures i hi
+    ∙ ap (λ (z : Bool). ltb i M && z) (c .before .before .before .before .before .before .turns .ensures i hi))
     ∙ ap₂ (λ (z : Word) (w : ℕ). added z (w * t) (w * (t + 1)) (upTo M (copies M step (both d)))) e one
     ∙ step-held sh some step f (copies M step (both d)) (to-row (sh .rows) step (s .pre .3))
     (λ i hi. ap (λ (z : Word). copies M step z i) doubled ∙ copies-are M step (f q) i hi)

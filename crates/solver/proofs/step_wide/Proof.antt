@@ -1,4 +1,5 @@
--- `solver::step_wide` meets its contract: the source row is doubled, its turned copies are added, and the rows are cut at bit M. Assumes nothing.
+-- `solver::step_wide` meets its contract: the source row is doubled, its turned copies are added, and the rows are cut at bit M. Assumes
+-- nothing.
 use mathlib.Core.Path.{_≡_, ap, _∙_}
 use Prim.Native.Nat.{_+_, _-_, _*_, _<_}
 use native.Mathlib.Omega.{arith}
@@ -22,17 +23,20 @@ cast-at c = omega (arith, c .shared-slice-known2 .given 1)
 
 mul-at : tie.Need-mul-at
 mul-at c = let s = c .before .before .before .before .before in
-    let h = row-room (s .args .sh) (s .pre .0) (source (s .args .step .now)) (from-row (s .args .sh .rows) (s .args .step .now) (s .pre .3)) in
+    let h = row-room (s .args .sh) (s .pre .0) (source (s .args .step .now))
+    (from-row (s .args .sh .rows) (s .args .step .now) (s .pre .3)) in
     omega (arith, h)
 
 add-end : tie.Need-add-end
 add-end c = let s = c .before .before .before .before .before .before in
-    let h = row-room (s .args .sh) (s .pre .0) (source (s .args .step .now)) (from-row (s .args .sh .rows) (s .args .step .now) (s .pre .3)) in
+    let h = row-room (s .args .sh) (s .pre .0) (source (s .args .step .now))
+    (from-row (s .args .sh .rows) (s .args .step .now) (s .pre .3)) in
     omega (arith, h)
 
 mul-double : tie.Need-mul-double
 mul-double c = let s = c .before .before .before .before .before .before in
-    let h = row-room (s .args .sh) (s .pre .0) (source (s .args .step .now)) (from-row (s .args .sh .rows) (s .args .step .now) (s .pre .3)) in
+    let h = row-room (s .args .sh) (s .pre .0) (source (s .args .step .now))
+    (from-row (s .args .sh .rows) (s .args .step .now) (s .pre .3)) in
     omega (arith, h)
 
 sub-double : tie.Need-sub-double
@@ -43,7 +47,8 @@ part-double-start c = search needs
 
 part-double-end : tie.Need-part-double-end
 part-double-end c = let s = c .before .before .before .before .before .before .before in
-    let h = row-room (s .args .sh) (s .pre .0) (source (s .args .step .now)) (from-row (s .args .sh .rows) (s .args .step .now) (s .pre .3)) in
+    let h = row-room (s .args .sh) (s .pre .0) (source (s .args .step .now))
+    (from-row (s .args .sh .rows) (s .args .step .now) (s .pre .3)) in
     search needs
 
 double-requires : tie.Need-double-requires
@@ -56,7 +61,8 @@ double-requires c κs = let s = c .before .before .before .before .before .befor
     let n = q * sh .words + sh .words - q * sh .words in
     let en : n ≡ sh .words = omega arith in
     let x = wbit (a .s .now) in
-    let long : length (take n (drop (q * sh .words) (a .s .now))) ≡ n = slice-long (a .s .now) (q * sh .words) n (omega (arith, row-room sh fit q hq)) in (
+    let long : length (take n (drop (q * sh .words) (a .s .now))) ≡ n = slice-long (a .s .now) (q * sh .words) n
+    (omega (arith, row-room sh fit q hq)) in (
       upTo-again (sh .size) (λ i. x (wide sh * q + i)) (wbit (take n (drop (q * sh .words) (a .s .now))))
           (row-slice sh (wide-some sh fit) (fit .held-in) (λ r i. x (wide sh * r + i)) (a .s .now) (s .pre .5) q n hq en),
       fit .some,
@@ -81,7 +87,8 @@ same-length-2 c = search needs
 
 returns : tie.Need-returns
 returns c = λ f e.
-    let s = c .before .before .before .before .before .before .before .before .before .before .before .before .before .before .before .before .before .before .before .before .before in
+    let s = c .before .before .before .before .before .before .before .before .before .before .before .before .before .before .before
+    .before .before .before .before .before .before in
     let a = s .args in
     let sh = a .sh in
     let fit = s .pre .0 in
@@ -95,9 +102,11 @@ returns c = λ f e.
     let en : n ≡ sh .words = omega arith in
     let d = wbit (c .before .before .before .before .before .before .before .before .before .before .before .double .last .1 .1 .0) in
     let doubled : d ≡ twice M (upTo M (f q)) =
-    c .before .before .before .before .before .before .before .before .before .before .before .double .ensures ∙ ap (twice M) (row-slice sh some (fit .held-in) f (a .s .now) e q n (from-row (sh .rows) step (s .pre .3)) en) in
+    c .before .before .before .before .before .before .before .before .before .before .before .double .ensures
+    ∙ ap (twice M) (row-slice sh some (fit .held-in) f (a .s .now) e q n (from-row (sh .rows) step (s .pre .3)) en) in
     c .before .before .trim-rows .ensures
-    ∙ ap (within (wide sh) M (sh .rows)) (c .before .before .before .before .before .before .add-turns .ensures ∙ ap (λ (z : Word). added z (wide sh * t) (wide sh * (t + 1)) (copies M step d)) e)
+    ∙ ap (within (wide sh) M (sh .rows)) (c .before .before .before .before .before .before .add-turns .ensures
+    ∙ ap (λ (z : Word). added z (wide sh * t) (wide sh * (t + 1)) (copies M step d)) e)
     ∙ step-cut sh some step f (copies M step d) (to-row (sh .rows) step (s .pre .3))
     (λ i hi. ap (λ (z : Word). copies M step z i) doubled ∙ copies-are M step (f q) i hi)
 

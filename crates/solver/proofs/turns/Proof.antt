@@ -20,7 +20,12 @@ abbrev μ-loop : tie.MeasureT-loop
 μ-loop d step size sum₀ k₀ sum k = 10 - k
 
 loop-holds : tie.Need-loop-holds Inv-loop μ-loop
-loop-holds c = (omega arith, omega arith, λ i hi. ap (λ z. z ⊕ copies (c .before .args .size) (c .before .args .step .now) (both (c .before .args .d)) i) (digit-zero 64 i))
+loop-holds c = (
+  omega arith,
+  omega arith,
+  λ i hi. ap (λ z. z ⊕ copies (c .before .args .size) (c .before .args .step .now)
+      (both (c .before .args .d)) i) (digit-zero 64 i),
+)
 
 mul-if1 : tie.Need-mul-if1 Inv-loop μ-loop
 mul-if1 c = search needs
@@ -41,7 +46,12 @@ cast-funnel : tie.Need-cast-funnel Inv-loop μ-loop
 cast-funnel c = omega (arith, c .shared-slice-known3 .given (c .before .before .before .before .loop .k))
 
 funnel-requires : tie.Need-funnel-requires Inv-loop μ-loop
-funnel-requires c κs = omega (arith, ltb-true (getD (c .before .before .before .before .before .before .args .step .now) (c .before .before .before .before .loop .k) 0) (c .before .before .before .before .before .before .args .size) (c .before .if1 .taken))
+funnel-requires c κs = omega (
+  arith,
+  ltb-true (getD (c .before .before .before .before .before .before .args .step .now)
+      (c .before .before .before .before .loop .k) 0) (c .before .before .before .before .before .before .args .size)
+      (c .before .if1 .taken),
+)
 
 add-k : tie.Need-add-k Inv-loop μ-loop
 add-k c = search needs
@@ -52,19 +62,26 @@ loop-less c = search needs
 loop-again : tie.Need-loop-again Inv-loop μ-loop
 loop-again c = let a = c .before .before .before .before .before .before .before .args in
     let l = c .before .before .before .before .before .loop in
-    let low : getD (a .step .now) (l .k) 0 < a .size = ltb-true (getD (a .step .now) (l .k) 0) (a .size) (c .before .before .if1 .taken) in
-    (omega arith, omega arith, summed-more (a .size) (a .step .now) (both (a .d)) (l .sum) (l .k) (l .inv .2) (c .funnel .result) (omega arith) low (c .funnel .ensures))
+    let shift = getD (a .step .now) (l .k) 0 in
+    let low : shift < a .size = ltb-true shift (a .size) (c .before .before .if1 .taken) in (
+      omega arith,
+      omega arith,
+      summed-more (a .size) (a .step .now) (both (a .d)) (l .sum) (l .k) (l .inv .2) (c .funnel .result)
+          (omega arith) low (c .funnel .ensures),
+    )
 
 returns : tie.Need-returns Inv-loop μ-loop
 returns c = let a = c .before .before .before .before .before .args in
     let l = c .before .before .before .loop in
     summed-all (a .size) (a .step .now) (both (a .d)) (l .sum) (l .k) (l .inv .2)
-    (rest-none (a .size) (a .step .now) (both (a .d)) (l .k) (omega arith) (ltb-false (getD (a .step .now) (l .k) 0) (a .size) (c .if1 .left)))
+    (rest-none (a .size) (a .step .now) (both (a .d)) (l .k) (omega arith)
+    (ltb-false (getD (a .step .now) (l .k) 0) (a .size) (c .if1 .left)))
 
 returns-2 : tie.Need-returns-2 Inv-loop μ-loop
 returns-2 c = let a = c .before .before .before .args in
     let l = c .before .loop in
-    summed-all (a .size) (a .step .now) (both (a .d)) (l .sum) (l .k) (l .inv .2) (rest-past (a .size) (a .step .now) (both (a .d)) (l .k) (omega arith))
+    summed-all (a .size) (a .step .now) (both (a .d)) (l .sum) (l .k) (l .inv .2)
+    (rest-past (a .size) (a .step .now) (both (a .d)) (l .k) (omega arith))
 
 pub turns-spec : {M : Type 1} → statement M
 turns-spec =

@@ -21,7 +21,8 @@ array-borrow-prefix-part : tie.Need-array-borrow-prefix-part
 array-borrow-prefix-part c = search needs
 
 slice-aggregate-add-blocks : tie.Need-slice-aggregate-add-blocks
-slice-aggregate-add-blocks c = sym (length-take-le (c .before .before .before .before .before .before .args .sh .words) (replicate 8 0) (omega arith))
+slice-aggregate-add-blocks c = sym (length-take-le (c .before .before .before .before .before .before .args .sh .words) (replicate 8 0)
+    (omega arith))
 
 mul-d : tie.Need-mul-d
 mul-d c = search needs
@@ -30,13 +31,20 @@ array-borrow-prefix-d : tie.Need-array-borrow-prefix-d
 array-borrow-prefix-d c = search needs
 
 slice-aggregate-add-blocks-2 : tie.Need-slice-aggregate-add-blocks-2
-slice-aggregate-add-blocks-2 c = sym (length-take-le (2 * c .before .before .before .before .before .before .before .args .sh .words) (replicate 16 0) (omega arith))
+slice-aggregate-add-blocks-2 c = sym (length-take-le (2 * c .before .before .before .before .before .before .before .args .sh .words)
+    (replicate 16 0) (omega arith))
 
 add-blocks-requires : tie.Need-add-blocks-requires
 add-blocks-requires c κs =
     let s = c .before .before .before .before .before .before .before .before in
-    let w = s .args .sh .words in
-    (s .pre .0, s .pre .1, length-take-le w (replicate 8 0) (omega arith), length-take-le (2 * w) (replicate 16 0) (omega arith), s .pre .2, s .pre .3)
+    let w = s .args .sh .words in (
+      s .pre .0,
+      s .pre .1,
+      length-take-le w (replicate 8 0) (omega arith),
+      length-take-le (2 * w) (replicate 16 0) (omega arith),
+      s .pre .2,
+      s .pre .3,
+    )
 
 same-length-2 : tie.Need-same-length-2
 same-length-2 c = search needs

@@ -15,7 +15,8 @@ use Rattle.syndromes.proofs.add_blocks.Tie as tie
 
 abbrev Inv-loop : tie.InvT-loop
 Inv-loop y h sh part₀ d₀ acc₀ b₀ part d acc b =
-    (b ≤ sh .blocks) × (length part ≡ sh .words) × (length d ≡ 2 * sh .words) × (length acc ≡ 16) × (wbit acc ≡ rowed (wide sh) (sh .rows) (summed sh h (wbit y) b))
+    (b ≤ sh .blocks) × (length part ≡ sh .words) × (length d ≡ 2 * sh .words) × (length acc ≡ 16)
+    × (wbit acc ≡ rowed (wide sh) (sh .rows) (summed sh h (wbit y) b))
 
 abbrev μ-loop : tie.MeasureT-loop
 μ-loop y h sh part₀ d₀ acc₀ b₀ part d acc b = sh .blocks - b
@@ -43,9 +44,16 @@ cut-requires c κs =
 
 double-requires : tie.Need-double-requires Inv-loop μ-loop
 double-requires c κs =
-    let a = c .before .before .before .before .before .before .before .before .before .before .before .before .before .before .before .args in
-    let l = c .before .before .before .before .before .before .before .before .before .loop in
-    (upTo-again (a .sh .size) (from (l .b * a .sh .size) (wbit (a .y .now))) (wbit (c .before .before .before .before .cut .last .1 .1 .1 .0)) (c .before .before .before .before .cut .ensures), search needs, search needs, search needs, search needs)
+    let a = c .before .before .before .before .before .before .before .before .before .before .before .before .before .before .before
+    .args in
+    let l = c .before .before .before .before .before .before .before .before .before .loop in (
+      upTo-again (a .sh .size) (from (l .b * a .sh .size) (wbit (a .y .now)))
+          (wbit (c .before .before .before .before .cut .last .1 .1 .1 .0)) (c .before .before .before .before .cut .ensures),
+      search needs,
+      search needs,
+      search needs,
+      search needs,
+    )
 
 add-block-requires : tie.Need-add-block-requires Inv-loop μ-loop
 add-block-requires c κs = search needs
@@ -58,8 +66,10 @@ loop-less c = omega arith
 
 loop-again : tie.Need-loop-again Inv-loop μ-loop
 loop-again c =
-    let a = c .before .before .before .before .before .before .before .before .before .before .before .before .before .before .before .before .before .before .before .before .before .before .before .args in
-    let l = c .before .before .before .before .before .before .before .before .before .before .before .before .before .before .before .before .before .loop in
+    let a = c .before .before .before .before .before .before .before .before .before .before .before .before .before .before .before
+    .before .before .before .before .before .before .before .before .args in
+    let l = c .before .before .before .before .before .before .before .before .before .before .before .before .before .before .before
+    .before .before .loop in
     let sh = a .sh in
     let h = a .h .now in (
       omega arith,
@@ -67,8 +77,12 @@ loop-again c =
       search needs,
       search needs,
       c .before .before .add-block .ensures
-          ∙ ap₂ (λ (x d : Word). plus x (rowed (wide sh) (sh .rows) (spread sh h (l .b) (turned d)))) (l .inv .4) (c .before .before .before .before .before .before .before .double .ensures ∙ ap (twice (sh .size)) (c .before .before .before .before .before .before .before .before .before .before .before .before .cut .ensures))
-          ∙ summed-more h sh (c .before .before .before .before .before .before .before .before .before .before .before .before .before .before .before .before .before .before .before .before .before .before .before .pre .0) (wbit (a .y .now)) (l .b),
+          ∙ ap₂ (λ (x d : Word). plus x (rowed (wide sh) (sh .rows) (spread sh h (l .b) (turned d)))) (l .inv .4)
+          (c .before .before .before .before .before .before .before .double .ensures
+          ∙ ap (twice (sh .size)) (c .before .before .before .before .before .before .before .before .before .before .before .before .cut
+          .ensures))
+          ∙ summed-more h sh (c .before .before .before .before .before .before .before .before .before .before .before .before .before
+          .before .before .before .before .before .before .before .before .before .before .pre .0) (wbit (a .y .now)) (l .b),
     )
 
 same-length : tie.Need-same-length Inv-loop μ-loop

@@ -59,11 +59,13 @@ loop-again c =
     let l = c .before .before .before .before .before .before .before .before .before .before .loop in
     let M = sh .size in
     let block : Holds (c .before .before .before .before .before .front .result) (upTo M (from (l .b * M) y)) =
-    λ i hi. c .before .before .before .before .before .front .ensures i hi ∙ ap (λ (p : Bool). ltb i M && p) (c .before .before .before .before .before .before .window .ensures i hi) in (
+    λ i hi. c .before .before .before .before .before .front .ensures i hi
+    ∙ ap (λ (p : Bool). ltb i M && p) (c .before .before .before .before .before .before .window .ensures i hi) in (
       omega arith,
       search needs,
       c .before .before .add-narrow-block .ensures
-          ∙ ap₂ (λ (x d : Word). plus x (rowed (wide sh) (sh .rows) (spread sh h (l .b) (turned d)))) (l .inv .2) (c .before .before .before .before .double-word .ensures (from (l .b * M) y) block)
+          ∙ ap₂ (λ (x d : Word). plus x (rowed (wide sh) (sh .rows) (spread sh h (l .b) (turned d)))) (l .inv .2)
+          (c .before .before .before .before .double-word .ensures (from (l .b * M) y) block)
           ∙ summed-more h sh (s .pre .0) y (l .b),
     )
 

@@ -42,7 +42,8 @@ returns c =
       λ code lent x e.
           c .before .before .flip-checks .ensures
           ∙ ap (λ (z : Word). plus z g) e
-          ∙ laid-flipped h (a .sh) (pre .0) code lent x (a .n / M) (a .n % M) (div-lt-iff-lt-mul (pre .0 .some) .1 (pre .3)) (mod-lt (a .n) (pre .0 .some))
+          ∙ laid-flipped h (a .sh) (pre .0) code lent x (a .n / M) (a .n % M) (div-lt-iff-lt-mul (pre .0 .some) .1 (pre .3))
+          (mod-lt (a .n) (pre .0 .some))
           ∙ ap (λ (n : ℕ). laid code (a .sh) (flipped x n)) (div-add-mod' (a .n) M),
     )
 

@@ -10,7 +10,8 @@ use Rattle.syndromes.proofs.read_places.Tie as tie
 use Rattle.syndromes.proofs.read_places.Reads as reads
 use Rattle.syndromes.proofs.read_places.Lts as lts
 
-room : (c : lts.Start reads.Pre reads.Post) → (placeOf (c .args .sh) (c .args .r) (c .args .b) + 1 < length (c .args .h .now)) × (length (c .args .h .now) ≤ 128)
+room : (c : lts.Start reads.Pre reads.Post) → (placeOf (c .args .sh) (c .args .r) (c .args .b) + 1 < length (c .args .h .now))
+    × (length (c .args .h .now) ≤ 128)
 room c = place-room (c .args .h .now) (c .args .sh) (c .pre .0) (c .args .r) (c .args .b) (c .pre .2) (c .pre .1)
 
 mul-at : tie.Need-mul-at

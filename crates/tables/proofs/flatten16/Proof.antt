@@ -39,15 +39,18 @@ loop-again c =
     let h = c .before .before .before .before .before .before .before .before .before .args .h .now in
     let l = c .before .before .before .before .before .before .before .loop in
     let laid = c .before .before .flatten-row in
-    filled-row 64 32 (l .r) (λ j. placeAt h (j / 32) (j / 2 % 16) (j % 2)) h (l .t) (laid .last .1 .0) (l .inv) (laid .ensures) (omega arith) (omega arith) (laid .kept .1 .0) (omega arith)
-    (λ j hj. row-place h (l .r) ((32 * l .r + j) / 32) ((32 * l .r + j) / 2 % 16) ((32 * l .r + j) % 2) j (omega arith) (omega arith) (omega arith))
+    filled-row 64 32 (l .r) (λ j. placeAt h (j / 32) (j / 2 % 16) (j % 2)) h (l .t) (laid .last .1 .0) (l .inv) (laid .ensures)
+    (omega arith) (omega arith) (laid .kept .1 .0) (omega arith)
+    (λ j hj. row-place h (l .r) ((32 * l .r + j) / 32) ((32 * l .r + j) / 2 % 16) ((32 * l .r + j) % 2) j (omega arith) (omega arith)
+    (omega arith))
 
 same-length : tie.Need-same-length Inv-loop μ-loop
 same-length c = search needs
 
 returns : tie.Need-returns Inv-loop μ-loop
 unfolding flat16
-returns c = filled-all 64 (λ j. placeAt (c .before .before .before .args .h .now) (j / 32) (j / 2 % 16) (j % 2)) (c .before .loop .t) (32 * c .before .loop .r) (c .before .loop .inv) (omega arith)
+returns c = filled-all 64 (λ j. placeAt (c .before .before .before .args .h .now) (j / 32) (j / 2 % 16) (j % 2)) (c .before .loop .t)
+    (32 * c .before .loop .r) (c .before .loop .inv) (omega arith)
 
 pub flatten16-spec : {M : Type 1} → statement M
 flatten16-spec =

@@ -72,8 +72,12 @@ loop-less c = search needs
 loop-again : tie.Need-loop-again Inv-loop μ-loop
 loop-again c =
     let a = c .before .before .before .before .args in
-    let l = c .before .before .before .loop in
-    (omega arith, simp length-set (l .inv .1), laid-block (a .h .now) (l .b) (a .at) (a .t .now) (l .t) _ _ (l .inv .2) (omega arith) (omega arith) (omega arith))
+    let l = c .before .before .before .loop in (
+      omega arith,
+      simp length-set (l .inv .1),
+      laid-block (a .h .now) (l .b) (a .at) (a .t .now) (l .t) _ _ (l .inv .2) (omega arith)
+          (omega arith) (omega arith),
+    )
 
 same-length : tie.Need-same-length Inv-loop μ-loop
 same-length c = search needs

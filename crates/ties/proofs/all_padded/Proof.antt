@@ -63,14 +63,16 @@ loop-again c =
       omega (arith, one-less w h),
       goes-on (allPadded (a .m) (pieces G w (l .at + w) (l .left - 1))) (l .inv .1)
           (ap (allPadded (a .m)) (pieces-more G w (l .at) (l .left) h)) (c .before .numbers-padded .ensures) (c .if1 .left)
-          ∙ ap (λ (x : ℕ). allPadded (a .m) (pieces G w (l .at + x) (l .left - 1))) (sym (c .before .before .before .before .row-words .ensures)),
+          ∙ ap (λ (x : ℕ). allPadded (a .m) (pieces G w (l .at + x) (l .left - 1)))
+          (sym (c .before .before .before .before .row-words .ensures)),
     )
 
 returns-2 : tie.Need-returns-2 Inv-loop μ-loop
 returns-2 c =
     let a = c .before .before .before .before .args in
     let l = c .before .loop in
-    sym (l .inv .1 ∙ ap (allPadded (a .m)) (pieces-none (numbers (a .m) (a .parts) (a .generator .now)) (a .parts * words (a .m)) (l .at) (l .left) (omega arith)))
+    sym (l .inv .1 ∙ ap (allPadded (a .m)) (pieces-none (numbers (a .m) (a .parts) (a .generator .now)) (a .parts * words (a .m)) (l .at)
+    (l .left) (omega arith)))
 
 pub all-padded-spec : {M : Type 1} → statement M
 all-padded-spec =

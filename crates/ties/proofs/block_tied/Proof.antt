@@ -18,7 +18,8 @@ at-difference m parts parity information first generator at =
 
 abbrev Inv-loop : tie.InvT-loop
 Inv-loop m parts parity information first generator at above₀ above =
-    (above ≤ m) × (below m (at-difference m parts parity information first generator at) ≡ below above (at-difference m parts parity information first generator at))
+    (above ≤ m) × (below m (at-difference m parts parity information first generator at) ≡ below above
+    (at-difference m parts parity information first generator at))
 
 abbrev μ-loop : tie.MeasureT-loop
 μ-loop m parts parity information first generator at above₀ above = above
@@ -49,8 +50,11 @@ loop-again : tie.Need-loop-again Inv-loop μ-loop
 loop-again c =
     let a = c .before .before .before .before .before .before .args in
     let l = c .before .before .before .loop in
-    let f = at-difference (a .m) (a .parts) (a .parity .now) (a .information) (a .first) (a .generator .now) (a .at) in
-    (omega arith, goes-on (below (l .above - 1) f) (l .inv .1) (below-step (l .above) f (omega arith)) (c .before .cancels-at .ensures) (c .if1 .left))
+    let f = at-difference (a .m) (a .parts) (a .parity .now) (a .information) (a .first) (a .generator .now) (a .at) in (
+      omega arith,
+      goes-on (below (l .above - 1) f) (l .inv .1) (below-step (l .above) f (omega arith)) (c .before .cancels-at .ensures)
+          (c .if1 .left),
+    )
 
 returns-2 : tie.Need-returns-2 Inv-loop μ-loop
 returns-2 c =

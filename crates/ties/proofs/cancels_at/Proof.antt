@@ -22,7 +22,8 @@ returns : tie.Need-returns
 returns c =
     let a = c .before .before .before .before .args in
     let pos : 0 < a .m = omega arith in
-    ap not (xor-is (c .before .block-own .result) (c .parity-meets .result) ∙ ap₂ (λ (x y : Bool). x ⊕ y) (c .before .block-own .ensures) (c .parity-meets .ensures))
+    ap not (xor-is (c .before .block-own .result) (c .parity-meets .result)
+    ∙ ap₂ (λ (x y : Bool). x ⊕ y) (c .before .block-own .ensures) (c .parity-meets .ensures))
     ∙ sym
     (printed-cancels (a .m) (a .m) pos (le-refl (a .m)) (block (a .m) (a .parity .now) (a .information))
     (row (a .m) (a .parts) (a .parity .now) (a .first)) (numbers (a .m) (a .parts) (a .generator .now) (a .at)) (a .d))

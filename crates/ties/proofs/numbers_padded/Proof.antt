@@ -57,15 +57,18 @@ loop-again c =
     let h : 0 < l .left = omega arith in (
       omega (arith, one-less w h),
       goes-on (padded (a .m) (numbers (a .m) (l .left - 1) (a .generator .now) (l .number + w))) (l .inv .1)
-          (ap (padded (a .m)) (pieces-more (joined w (a .generator .now)) w (l .number) (l .left) h)) (c .before .number-padded .ensures) (c .if1 .left)
-          ∙ ap (λ (x : ℕ). padded (a .m) (numbers (a .m) (l .left - 1) (a .generator .now) (l .number + x))) (sym (c .before .before .before .before .words-of .ensures)),
+          (ap (padded (a .m)) (pieces-more (joined w (a .generator .now)) w (l .number) (l .left) h)) (c .before .number-padded .ensures)
+          (c .if1 .left)
+          ∙ ap (λ (x : ℕ). padded (a .m) (numbers (a .m) (l .left - 1) (a .generator .now) (l .number + x)))
+          (sym (c .before .before .before .before .words-of .ensures)),
     )
 
 returns-2 : tie.Need-returns-2 Inv-loop μ-loop
 returns-2 c =
     let a = c .before .before .before .before .args in
     let l = c .before .loop in
-    sym (l .inv .1 ∙ ap (padded (a .m)) (pieces-none (joined (words (a .m)) (a .generator .now)) (words (a .m)) (l .number) (l .left) (omega arith)))
+    sym (l .inv .1 ∙ ap (padded (a .m)) (pieces-none (joined (words (a .m)) (a .generator .now)) (words (a .m)) (l .number) (l .left)
+    (omega arith)))
 
 pub numbers-padded-spec : {M : Type 1} → statement M
 numbers-padded-spec =

@@ -21,7 +21,8 @@ abbrev Inv-loop : tie.InvT-loop
 Inv-loop m parts parity place d generator at n sum₀ p₀ number₀ sum p number =
     (p ≤ parts)
     × (number ≡ at + p * words m)
-    × (sum ⊕ blocks (row m (parts - p) parity (place + 3 * p)) p (meets m parts d generator at) ≡ blocks (row m parts parity place) 0 (meets m parts d generator at))
+    × (sum ⊕ blocks (row m (parts - p) parity (place + 3 * p)) p (meets m parts d generator at) ≡ blocks (row m parts parity place) 0
+    (meets m parts d generator at))
 
 abbrev μ-loop : tie.MeasureT-loop
 μ-loop m parts parity place d generator at n sum₀ p₀ number₀ sum p number = parts - p
@@ -94,7 +95,8 @@ returns c =
     let l = c .before .loop in
     let f = meets (a .m) (a .parts) (a .d) (a .generator .now) (a .at) in
     sym (⊕-false (l .sum))
-    ∙ ap (λ (x : List (List ℕ)). l .sum ⊕ blocks x (l .p) f) (sym (pieces-none (block (a .m) (a .parity .now)) 3 (a .place + 3 * l .p) (a .parts - l .p) (omega arith)))
+    ∙ ap (λ (x : List (List ℕ)). l .sum ⊕ blocks x (l .p) f)
+    (sym (pieces-none (block (a .m) (a .parity .now)) 3 (a .place + 3 * l .p) (a .parts - l .p) (omega arith)))
     ∙ l .inv .2
 
 pub parity-meets-spec : {M : Type 1} → statement M

@@ -32,7 +32,8 @@ returns c =
     let f = met (a .m) (a .generator .now) (a .at) (a .d) in
     let w : c .before .before .before .wide .result ≡ s = c .before .before .before .wide .ensures in
     c .bit-of .ensures
-    ∙ ap (λ (t : ℕ). digit (a .m) (joined (words (a .m)) (a .generator .now) (a .at)) t) (c .before .turned .ensures .0 ∙ ap (λ (x : ℕ). (a .d + x) % a .m) w)
+    ∙ ap (λ (t : ℕ). digit (a .m) (joined (words (a .m)) (a .generator .now) (a .at)) t) (c .before .turned .ensures .0
+    ∙ ap (λ (x : ℕ). (a .d + x) % a .m) w)
     ∙ sym (over-one (a .m) f s (omega arith))
 
 returns-2 : tie.Need-returns-2

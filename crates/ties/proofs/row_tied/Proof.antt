@@ -14,7 +14,8 @@ Inv-loop m count parts parity place generator first step left₀ information₀ 
     (information + 3 * left ≡ first)
     × (at + left * (parts * words m) ≡ length generator)
     × (rowTied m m (row m parts parity first) (row m (count + parts) parity place) (generatorOf m count parts generator)
-    ≡ rowTied m m (row m parts parity first) (row m (left + parts) parity information) (pieces (numbers m parts generator) (parts * words m) at left))
+    ≡ rowTied m m (row m parts parity first) (row m (left + parts) parity information)
+    (pieces (numbers m parts generator) (parts * words m) at left))
 
 abbrev μ-loop : tie.MeasureT-loop
 μ-loop m count parts parity place generator first step left₀ information₀ at₀ left information at =
@@ -47,8 +48,10 @@ returns c =
     let B = block (a .m) (a .parity .now) in
     let G = numbers (a .m) (a .parts) (a .generator .now) in
     let P = row (a .m) (a .parts) (a .parity .now) (a .place + 3 * a .count) in
-    stops (rowTied (a .m) (a .m) P (pieces B 3 (l .information + 3) (l .left + a .parts - 1)) (pieces G w (l .at + w) (l .left - 1))) (l .inv .2)
-    (ap₂ (rowTied (a .m) (a .m) P) (pieces-more B 3 (l .information) (l .left + a .parts) (omega arith)) (pieces-more G w (l .at) (l .left) (omega arith)))
+    stops (rowTied (a .m) (a .m) P (pieces B 3 (l .information + 3) (l .left + a .parts - 1)) (pieces G w (l .at + w) (l .left - 1)))
+    (l .inv .2)
+    (ap₂ (rowTied (a .m) (a .m) P) (pieces-more B 3 (l .information) (l .left + a .parts) (omega arith))
+    (pieces-more G w (l .at) (l .left) (omega arith)))
     (c .before .block-tied .ensures) (c .if1 .taken)
 
 add-information : tie.Need-add-information Inv-loop μ-loop
@@ -79,10 +82,13 @@ loop-again c =
     let e : l .left + a .parts - 1 ≡ l .left - 1 + a .parts = omega arith in (
       omega arith,
       omega (arith, one-less w h),
-      goes-on (rowTied (a .m) (a .m) P (pieces B 3 (l .information + 3) (l .left + a .parts - 1)) (pieces G w (l .at + w) (l .left - 1))) (l .inv .2)
-          (ap₂ (rowTied (a .m) (a .m) P) (pieces-more B 3 (l .information) (l .left + a .parts) (omega arith)) (pieces-more G w (l .at) (l .left) h))
+      goes-on (rowTied (a .m) (a .m) P (pieces B 3 (l .information + 3) (l .left + a .parts - 1)) (pieces G w (l .at + w) (l .left - 1)))
+          (l .inv .2)
+          (ap₂ (rowTied (a .m) (a .m) P) (pieces-more B 3 (l .information) (l .left + a .parts) (omega arith))
+          (pieces-more G w (l .at) (l .left) h))
           (c .before .block-tied .ensures) (c .if1 .left)
-          ∙ ap₂ (λ (x y : ℕ). rowTied (a .m) (a .m) P (pieces B 3 (l .information + 3) x) (pieces G w (l .at + y) (l .left - 1))) e (sym (c .before .before .before .before .row-words .ensures)),
+          ∙ ap₂ (λ (x y : ℕ). rowTied (a .m) (a .m) P (pieces B 3 (l .information + 3) x) (pieces G w (l .at + y) (l .left - 1))) e
+          (sym (c .before .before .before .before .row-words .ensures)),
     )
 
 returns-2 : tie.Need-returns-2 Inv-loop μ-loop

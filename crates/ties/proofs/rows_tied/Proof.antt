@@ -25,7 +25,8 @@ parity-blocks m count parts at parity generator =
 rows-step : (m count parts place left : ℕ) (parity generator : List ℕ) → 0 < left
     → rowsTied m m (pieces (row m (count + parts) parity) (3 * (count + parts)) place left) (generatorOf m count parts generator)
     ≡ (rowTied m m (row m parts parity (place + 3 * count)) (row m (count + parts) parity place) (generatorOf m count parts generator)
-    && rowsTied m m (pieces (row m (count + parts) parity) (3 * (count + parts)) (place + 3 * (count + parts)) (left - 1)) (generatorOf m count parts generator))
+    && rowsTied m m (pieces (row m (count + parts) parity) (3 * (count + parts)) (place + 3 * (count + parts)) (left - 1))
+    (generatorOf m count parts generator))
 rows-step m count parts place left parity generator h =
     let w = 3 * (count + parts) in
     let R = row m (count + parts) parity in
@@ -64,7 +65,8 @@ returns c =
     let a = c .before .before .before .before .before .before .args in
     let l = c .before .before .before .loop in
     let w = 3 * (a .count + a .parts) in
-    stops (rowsTied (a .m) (a .m) (pieces (row (a .m) (a .count + a .parts) (a .parity .now)) w (l .place + w) (l .left - 1)) (generatorOf (a .m) (a .count) (a .parts) (a .generator .now)))
+    stops (rowsTied (a .m) (a .m) (pieces (row (a .m) (a .count + a .parts) (a .parity .now)) w (l .place + w) (l .left - 1))
+    (generatorOf (a .m) (a .count) (a .parts) (a .generator .now)))
     (l .inv .1) (rows-step (a .m) (a .count) (a .parts) (l .place) (l .left) (a .parity .now) (a .generator .now) (omega arith))
     (c .before .row-tied .ensures) (c .if1 .taken)
 
@@ -88,7 +90,8 @@ loop-again c =
     let w = 3 * (a .count + a .parts) in
     let h : 0 < l .left = omega arith in (
       omega (arith, one-less w h),
-      goes-on (rowsTied (a .m) (a .m) (pieces (row (a .m) (a .count + a .parts) (a .parity .now)) w (l .place + w) (l .left - 1)) (generatorOf (a .m) (a .count) (a .parts) (a .generator .now)))
+      goes-on (rowsTied (a .m) (a .m) (pieces (row (a .m) (a .count + a .parts) (a .parity .now)) w (l .place + w) (l .left - 1))
+          (generatorOf (a .m) (a .count) (a .parts) (a .generator .now)))
           (l .inv .1) (rows-step (a .m) (a .count) (a .parts) (l .place) (l .left) (a .parity .now) (a .generator .now) h)
           (c .before .row-tied .ensures) (c .if1 .left),
     )

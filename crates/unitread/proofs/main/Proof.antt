@@ -79,7 +79,8 @@ array-borrow-prefix-out : tie.Need-array-borrow-prefix-out
 array-borrow-prefix-out c = search needs
 
 slice-aggregate-lines-2 : tie.Need-slice-aggregate-lines-2
-slice-aggregate-lines-2 c = let b = c .before .before .before in sym (length-take-le 8 (b .out-buffer .result) (omega (arith, b .out-buffer .ensures)))
+slice-aggregate-lines-2 c = let b =
+    c .before .before .before in sym (length-take-le 8 (b .out-buffer .result) (omega (arith, b .out-buffer .ensures)))
 
 lines-requires : tie.Need-lines-requires
 lines-requires c κs = search needs

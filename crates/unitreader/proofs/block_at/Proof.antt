@@ -45,10 +45,13 @@ returns c =
     let room : size ≤ length (b .buffer .result) = omega (arith, ap length (b .buffer .ensures)) in
     let s = readingFrom 0 (a .code) (a .limit) (a .place) in
     let long : length (c .before .read .last .1 .1 .0) ≡ size =
-    ap (λ h. length (h .corrected .out)) (c .before .read .ensures) ∙ read-length s (a .unit .now) (take size (b .buffer .result)) ∙ length-take-le size (b .buffer .result) room in
-    ap (λ z. asHanded (c .before .read .result) z) (take-at (c .before .read .last .1 .1 .0) (drop size (b .buffer .result)) (roomFor (a .code)) (long ∙ r .room .ensures))
+    ap (λ h. length (h .corrected .out)) (c .before .read .ensures) ∙ read-length s (a .unit .now) (take size (b .buffer .result))
+    ∙ length-take-le size (b .buffer .result) room in
+    ap (λ z. asHanded (c .before .read .result) z) (take-at (c .before .read .last .1 .1 .0) (drop size (b .buffer .result))
+    (roomFor (a .code)) (long ∙ r .room .ensures))
     ∙ c .before .read .ensures
-    ∙ ap (readAnswer s (a .unit .now)) (ap (take size) (sym (b .buffer .ensures)) ∙ take-replicate size 32 0 few ∙ ap (λ z. replicate z 0) (r .room .ensures))
+    ∙ ap (readAnswer s (a .unit .now)) (ap (take size) (sym (b .buffer .ensures)) ∙ take-replicate size 32 0 few
+    ∙ ap (λ z. replicate z 0) (r .room .ensures))
 
 pub block-at-spec : {M : Type 1} → statement M
 block-at-spec =

@@ -14,7 +14,11 @@ returns c = (sym (ap (λ n. code n .informationOctets) (c .if1 .taken)), omega a
 
 returns-2 : tie.Need-returns-2
 unfolding code code1 code3 tail
-returns-2 c = (sym (ap (λ n. code n .informationOctets) (three (c .before .args .code) (c .before .pre) (c .if1 .left))), omega arith, omega arith)
+returns-2 c = (
+  sym (ap (λ n. code n .informationOctets) (three (c .before .args .code) (c .before .pre) (c .if1 .left))),
+  omega arith,
+  omega arith,
+)
 
 pub information-octets-spec : {M : Type 1} → statement M
 information-octets-spec = tie.close (tie.spec returns returns-2)

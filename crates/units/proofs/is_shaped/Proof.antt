@@ -13,13 +13,18 @@ between-requires : tie.Need-between-requires
 between-requires c κs = search needs
 
 returns : tie.Need-returns
-returns c = let a = c .before .before .before .before in sym (shaped-few (a .args .code) (a .args .unit .now) (a .pre) (c .before .between .result) (c .before .before .word-octets .result) (c .before .between .ensures) (c .before .before .word-octets .ensures .0) (c .if1 .taken))
+returns c = let a = c .before .before .before .before in sym
+    (shaped-few (a .args .code) (a .args .unit .now) (a .pre) (c .before .between .result) (c .before .before .word-octets .result)
+    (c .before .between .ensures) (c .before .before .word-octets .ensures .0) (c .if1 .taken))
 
 rem-if2 : tie.Need-rem-if2
 rem-if2 c = search needs
 
 returns-2 : tie.Need-returns-2
-returns-2 c = let a = c .before .before .before .before .before in sym (shaped-rest (a .args .code) (a .args .unit .now) (a .pre) (c .before .before .between .result) (c .before .before .before .word-octets .result) (c .before .before .between .ensures) (c .before .before .before .word-octets .ensures .0) (c .if2 .taken))
+returns-2 c = let a = c .before .before .before .before .before in sym
+    (shaped-rest (a .args .code) (a .args .unit .now) (a .pre) (c .before .before .between .result)
+    (c .before .before .before .word-octets .result) (c .before .before .between .ensures)
+    (c .before .before .before .word-octets .ensures .0) (c .if2 .taken))
 
 add-end : tie.Need-add-end
 add-end c = search needs
@@ -37,7 +42,11 @@ is-tail-requires : tie.Need-is-tail-requires
 is-tail-requires c κs = search needs
 
 returns-3 : tie.Need-returns-3
-returns-3 c = let a = c .before .before .before .before .before .before .before in c .is-tail .ensures ∙ sym (shaped-tail (a .args .code) (a .args .unit .now) (a .pre) (c .before .before .before .before .between .result) (c .before .before .before .before .before .word-octets .result) (c .before .before .before .before .between .ensures) (c .before .before .before .before .before .word-octets .ensures .0) (c .before .before .before .if1 .left) (c .before .before .if2 .left))
+returns-3 c = let a = c .before .before .before .before .before .before .before in c .is-tail .ensures
+    ∙ sym (shaped-tail (a .args .code) (a .args .unit .now) (a .pre) (c .before .before .before .before .between .result)
+    (c .before .before .before .before .before .word-octets .result) (c .before .before .before .before .between .ensures)
+    (c .before .before .before .before .before .word-octets .ensures .0) (c .before .before .before .if1 .left)
+    (c .before .before .if2 .left))
 
 pub is-shaped-spec : {M : Type 1} → statement M
 is-shaped-spec =

@@ -24,11 +24,13 @@ same-requires-2 c κs = search needs
 
 returns : tie.Need-returns
 unfolding tail
-returns c = let a = c .before .before .before .before in c .same .ensures ∙ ap (λ n. sameOf (a .args .end .now) (tail n)) (sym (c .before .before .if1 .taken))
+returns c = let a = c .before .before .before .before in c .same .ensures
+    ∙ ap (λ n. sameOf (a .args .end .now) (tail n)) (sym (c .before .before .if1 .taken))
 
 returns-2 : tie.Need-returns-2
 unfolding tail
-returns-2 c = let a = c .before .before .before .before in c .same2 .ensures ∙ ap (λ n. sameOf (a .args .end .now) (tail n)) (sym (three (a .args .code) (a .pre) (c .before .before .if1 .left)))
+returns-2 c = let a = c .before .before .before .before in c .same2 .ensures
+    ∙ ap (λ n. sameOf (a .args .end .now) (tail n)) (sym (three (a .args .code) (a .pre) (c .before .before .if1 .left)))
 
 pub is-tail-spec : {M : Type 1} → statement M
 is-tail-spec =

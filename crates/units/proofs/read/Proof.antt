@@ -21,7 +21,9 @@ returns : tie.Need-returns
 returns c =
     let a = c .before .before .before .before .before in
     let s = asReading (a .args .state) in
-    ap (λ x. handedAgain s (withOut x (a .args .out .now)) false) (c .numbered .ensures) ∙ sym (read-one s (a .args .unit .now) (a .args .out .now) (sym (c .before .before .is-unit-code .ensures) ∙ not-true _ (c .before .if1 .taken)))
+    ap (λ x. handedAgain s (withOut x (a .args .out .now)) false) (c .numbered .ensures)
+    ∙ sym (read-one s (a .args .unit .now) (a .args .out .now) (sym (c .before .before .is-unit-code .ensures)
+    ∙ not-true _ (c .before .if1 .taken)))
 
 information-octets-requires : tie.Need-information-octets-requires
 information-octets-requires c κs = sym (c .before .is-unit-code .ensures) ∙ not-false _ (c .if1 .left)
@@ -33,19 +35,27 @@ returns-2 : tie.Need-returns-2
 returns-2 c =
     let a = c .before .before .before .before .before .before .before in
     let s = asReading (a .args .state) in
-    ap (λ x. handedAgain s (withOut x (a .args .out .now)) false) (c .numbered2 .ensures) ∙ sym (read-three s (a .args .unit .now) (a .args .out .now) (sym (c .before .before .before .before .is-unit-code .ensures) ∙ not-false _ (c .before .before .before .if1 .left)) (λ q. c .before .if2 .taken (q ∙ sym (c .before .before .information-octets .ensures .0))))
+    ap (λ x. handedAgain s (withOut x (a .args .out .now)) false) (c .numbered2 .ensures)
+    ∙ sym (read-three s (a .args .unit .now) (a .args .out .now) (sym (c .before .before .before .before .is-unit-code .ensures)
+    ∙ not-false _ (c .before .before .before .if1 .left))
+    (λ q. c .before .if2 .taken (q ∙ sym (c .before .before .information-octets .ensures .0))))
 
 returns-3 : tie.Need-returns-3
 returns-3 c =
     let a = c .before .before .before .before .before .before .before .before .before in
     let s = asReading (a .args .state) in
-    sym (read-kept s (a .args .unit .now) (a .args .out .now) (sym (c .before .before .before .before .before .before .is-unit-code .ensures) ∙ not-false _ (c .before .before .before .before .before .if1 .left)) (c .before .before .before .if2 .left ∙ c .before .before .before .before .information-octets .ensures .0) (c .if3 .taken))
+    sym (read-kept s (a .args .unit .now) (a .args .out .now)
+    (sym (c .before .before .before .before .before .before .is-unit-code .ensures)
+    ∙ not-false _ (c .before .before .before .before .before .if1 .left)) (c .before .before .before .if2 .left
+    ∙ c .before .before .before .before .information-octets .ensures .0) (c .if3 .taken))
 
 between-requires : tie.Need-between-requires
-between-requires c κs = sym (c .before .before .before .before .before .before .is-unit-code .ensures) ∙ not-false _ (c .before .before .before .before .before .if1 .left)
+between-requires c κs = sym (c .before .before .before .before .before .before .is-unit-code .ensures)
+    ∙ not-false _ (c .before .before .before .before .before .if1 .left)
 
 word-octets-requires : tie.Need-word-octets-requires
-word-octets-requires c κs = sym (c .before .before .before .before .before .before .before .is-unit-code .ensures) ∙ not-false _ (c .before .before .before .before .before .before .if1 .left)
+word-octets-requires c κs = sym (c .before .before .before .before .before .before .before .is-unit-code .ensures)
+    ∙ not-false _ (c .before .before .before .before .before .before .if1 .left)
 
 div-blocks : tie.Need-div-blocks
 div-blocks c = search needs
@@ -57,22 +67,45 @@ returns-4 : tie.Need-returns-4
 returns-4 c =
     let a = c .before .before .before .before .before .before .before .before .before .before .before .before .before .before in
     let s = asReading (a .args .state) in
-    ap (λ x. handedAgain s (withOut x (a .args .out .now)) true) (c .numbered3 .ensures) ∙ sym (read-none s (a .args .unit .now) (a .args .out .now) (sym (c .before .before .before .before .before .before .before .before .before .before .before .is-unit-code .ensures) ∙ not-false _ (c .before .before .before .before .before .before .before .before .before .before .if1 .left)) (c .before .before .before .before .before .before .before .before .if2 .left ∙ c .before .before .before .before .before .before .before .before .before .information-octets .ensures .0) (c .before .before .before .before .before .if3 .left) (subst (λ z. z ≤ a .args .state .place) (ap₂ (λ x y. x / y) (c .before .before .before .before .between .ensures) (c .before .before .before .word-octets .ensures .0)) (c .before .if4 .taken)))
+    ap (λ x. handedAgain s (withOut x (a .args .out .now)) true) (c .numbered3 .ensures)
+    ∙ sym (read-none s (a .args .unit .now) (a .args .out .now)
+    (sym (c .before .before .before .before .before .before .before .before .before .before .before .is-unit-code .ensures)
+    ∙ not-false _ (c .before .before .before .before .before .before .before .before .before .before .if1 .left))
+    (c .before .before .before .before .before .before .before .before .if2 .left
+    ∙ c .before .before .before .before .before .before .before .before .before .information-octets .ensures .0)
+    (c .before .before .before .before .before .if3 .left)
+    (subst (λ z. z ≤ a .args .state .place) (ap₂ (λ x y. x / y) (c .before .before .before .before .between .ensures)
+    (c .before .before .before .word-octets .ensures .0)) (c .before .if4 .taken)))
 
 read-next-requires : tie.Need-read-next-requires
 read-next-requires c κs =
-    let a = c .before .before .before .before .before .before .before .before .before .before .before .before .before .before in
-    (sym (c .before .before .before .before .before .before .before .before .before .before .before .is-unit-code .ensures) ∙ not-false _ (c .before .before .before .before .before .before .before .before .before .before .if1 .left), subst (λ z. a .args .state .place < z) (ap₂ (λ x y. x / y) (c .before .before .before .before .between .ensures) (c .before .before .before .word-octets .ensures .0)) (c .before .if4 .left), c .before .before .before .before .before .before .before .before .if2 .left ∙ c .before .before .before .before .before .before .before .before .before .information-octets .ensures .0)
+    let a = c .before .before .before .before .before .before .before .before .before .before .before .before .before .before in (
+      sym (c .before .before .before .before .before .before .before .before .before .before .before .is-unit-code .ensures)
+          ∙ not-false _ (c .before .before .before .before .before .before .before .before .before .before .if1 .left),
+      subst (λ z. a .args .state .place < z) (ap₂ (λ x y. x / y) (c .before .before .before .before .between .ensures)
+          (c .before .before .before .word-octets .ensures .0)) (c .before .if4 .left),
+      c .before .before .before .before .before .before .before .before .if2 .left
+          ∙ c .before .before .before .before .before .before .before .before .before .information-octets .ensures .0,
+    )
 
 same-length : tie.Need-same-length
 same-length c = search needs
 
 returns-5 : tie.Need-returns-5
 returns-5 c =
-    let a = c .before .before .before .before .before .before .before .before .before .before .before .before .before .before .before .before .before in
+    let a = c .before .before .before .before .before .before .before .before .before .before .before .before .before .before .before
+    .before .before in
     let s = asReading (a .args .state) in
     c .before .before .read-next .ensures
-    ∙ sym (read-more s (a .args .unit .now) (a .args .out .now) (sym (c .before .before .before .before .before .before .before .before .before .before .before .before .before .before .is-unit-code .ensures) ∙ not-false _ (c .before .before .before .before .before .before .before .before .before .before .before .before .before .if1 .left)) (c .before .before .before .before .before .before .before .before .before .before .before .if2 .left ∙ c .before .before .before .before .before .before .before .before .before .before .before .before .information-octets .ensures .0) (c .before .before .before .before .before .before .before .before .if3 .left) (subst (λ z. a .args .state .place < z) (ap₂ (λ x y. x / y) (c .before .before .before .before .before .before .before .between .ensures) (c .before .before .before .before .before .before .word-octets .ensures .0)) (c .before .before .before .before .if4 .left)))
+    ∙ sym (read-more s (a .args .unit .now) (a .args .out .now)
+    (sym (c .before .before .before .before .before .before .before .before .before .before .before .before .before .before .is-unit-code
+    .ensures) ∙ not-false _ (c .before .before .before .before .before .before .before .before .before .before .before .before .before .if1
+    .left)) (c .before .before .before .before .before .before .before .before .before .before .before .if2 .left
+    ∙ c .before .before .before .before .before .before .before .before .before .before .before .before .information-octets .ensures .0)
+    (c .before .before .before .before .before .before .before .before .if3 .left)
+    (subst (λ z. a .args .state .place < z)
+    (ap₂ (λ x y. x / y) (c .before .before .before .before .before .before .before .between .ensures)
+    (c .before .before .before .before .before .before .word-octets .ensures .0)) (c .before .before .before .before .if4 .left)))
 
 pub read-spec : {M : Type 1} → statement M
 read-spec =

@@ -8,7 +8,8 @@ use lib.Seq.{length-take-le}
 use Rattle.codes.specs.Answers.{asCorrected}
 use Rattle.units.specs.Answers.{asReading}
 use Rattle.units.proofs.Shapes.{sizes}
-use Rattle.units.proofs.Answering.{next-last, next-out, got-room, taken-length, corrected-is, mended-room, mended-part, mended-part-length, place-fits}
+use Rattle.units.proofs.Answering.{next-last, next-out, got-room, taken-length, corrected-is, mended-room, mended-part}
+use Rattle.units.proofs.Answering.{mended-part-length, place-fits}
 use borrow.Author.Needs.{needs}
 use Rattle.units.proofs.read_next.Statement.{statement}
 use Rattle.units.proofs.read_next.Tie as tie
@@ -26,12 +27,18 @@ slice-aggregate-receive : tie.Need-slice-aggregate-receive
 slice-aggregate-receive c =
     let a = c .before .before .before .before .before in
     let z = sizes (a .args .state .code) (a .pre .0) in
-    sym (length-take-le (c .before .before .word-octets .result) (c .before .word-buffer .result) (omega (arith, ap length (c .before .word-buffer .ensures), c .before .before .word-octets .ensures .2)))
+    sym (length-take-le (c .before .before .word-octets .result) (c .before .word-buffer .result)
+    (omega (arith, ap length (c .before .word-buffer .ensures), c .before .before .word-octets .ensures .2)))
 
 receive-requires : tie.Need-receive-requires
 receive-requires c κs =
-    let a = c .before .before .before .before .before in
-    (a .pre .0, a .pre .1, length-take-le (c .before .before .word-octets .result) (c .before .word-buffer .result) (omega (arith, ap length (c .before .word-buffer .ensures), c .before .before .word-octets .ensures .2)) ∙ c .before .before .word-octets .ensures .0)
+    let a = c .before .before .before .before .before in (
+      a .pre .0,
+      a .pre .1,
+      length-take-le (c .before .before .word-octets .result) (c .before .word-buffer .result)
+          (omega (arith, ap length (c .before .word-buffer .ensures), c .before .before .word-octets .ensures .2))
+          ∙ c .before .before .word-octets .ensures .0,
+    )
 
 word-buffer-requires-2 : tie.Need-word-buffer-requires-2
 word-buffer-requires-2 c κs = search needs
@@ -43,7 +50,9 @@ array-share-prefix-word c =
     let p = c .before .before .before .before in
     let g = c .before .before in
     let q = c in
-    got-room (a .args .state .code) (a .args .unit .now) (g .receive .last .1 .1 .1 .0) (p .word-buffer .result) (q .word-buffer2 .result) (a .args .state .place) (o .word-octets .result) (a .args .state .limit) (a .pre .0) (a .pre .1) (o .word-octets .ensures .0) (g .receive .ensures) (q .word-buffer2 .ensures)
+    got-room (a .args .state .code) (a .args .unit .now) (g .receive .last .1 .1 .1 .0) (p .word-buffer .result) (q .word-buffer2 .result)
+    (a .args .state .place) (o .word-octets .result) (a .args .state .limit) (a .pre .0) (a .pre .1) (o .word-octets .ensures .0)
+    (g .receive .ensures) (q .word-buffer2 .ensures)
 
 slice-aggregate-correct : tie.Need-slice-aggregate-correct
 slice-aggregate-correct c =
@@ -52,7 +61,9 @@ slice-aggregate-correct c =
     let p = c .before .before .before .before .before in
     let g = c .before .before .before in
     let q = c .before in
-    taken-length (a .args .state .code) (a .args .unit .now) (g .receive .last .1 .1 .1 .0) (p .word-buffer .result) (q .word-buffer2 .result) (a .args .state .place) (o .word-octets .result) (a .args .state .limit) (a .pre .0) (a .pre .1) (o .word-octets .ensures .0) (g .receive .ensures) (q .word-buffer2 .ensures)
+    taken-length (a .args .state .code) (a .args .unit .now) (g .receive .last .1 .1 .1 .0) (p .word-buffer .result)
+    (q .word-buffer2 .result) (a .args .state .place) (o .word-octets .result) (a .args .state .limit) (a .pre .0) (a .pre .1)
+    (o .word-octets .ensures .0) (g .receive .ensures) (q .word-buffer2 .ensures)
 
 array-borrow-prefix-mended : tie.Need-array-borrow-prefix-mended
 array-borrow-prefix-mended c = search needs
@@ -60,7 +71,8 @@ array-borrow-prefix-mended c = search needs
 slice-aggregate-correct-2 : tie.Need-slice-aggregate-correct-2
 slice-aggregate-correct-2 c =
     let o = c .before .before .before .before .before .before .before in
-    sym (length-take-le (o .word-octets .result) (c .before .before .word-buffer2 .result) (omega (arith, ap length (c .before .before .word-buffer2 .ensures), o .word-octets .ensures .2)))
+    sym (length-take-le (o .word-octets .result) (c .before .before .word-buffer2 .result)
+    (omega (arith, ap length (c .before .before .word-buffer2 .ensures), o .word-octets .ensures .2)))
 
 correct-requires : tie.Need-correct-requires
 correct-requires c κs = search needs
@@ -73,7 +85,12 @@ returns c =
     let g = c .before .before .before .before .before .before .before .before in
     let q = c .before .before .before .before .before .before in
     let x = c .before .before .before in
-    sym (next-last (asReading (a .args .state)) (a .args .unit .now) (a .args .out .now) (asCorrected (x .correct .result) (x .correct .last .1 .1 .1 .0)) (corrected-is (a .args .state .code) (a .args .unit .now) (g .receive .last .1 .1 .1 .0) (p .word-buffer .result) (q .word-buffer2 .result) (a .args .state .place) (o .word-octets .result) (a .args .state .limit) (a .pre .0) (a .pre .1) (o .word-octets .ensures .0) (g .receive .ensures) (q .word-buffer2 .ensures) (asCorrected (x .correct .result) (x .correct .last .1 .1 .1 .0)) (x .correct .ensures)) (c .if1 .taken))
+    sym (next-last (asReading (a .args .state)) (a .args .unit .now) (a .args .out .now)
+    (asCorrected (x .correct .result) (x .correct .last .1 .1 .1 .0))
+    (corrected-is (a .args .state .code) (a .args .unit .now) (g .receive .last .1 .1 .1 .0) (p .word-buffer .result)
+    (q .word-buffer2 .result) (a .args .state .place) (o .word-octets .result) (a .args .state .limit) (a .pre .0) (a .pre .1)
+    (o .word-octets .ensures .0) (g .receive .ensures) (q .word-buffer2 .ensures)
+    (asCorrected (x .correct .result) (x .correct .last .1 .1 .1 .0)) (x .correct .ensures)) (c .if1 .taken))
 
 array-share-prefix-mended : tie.Need-array-share-prefix-mended
 array-share-prefix-mended c =
@@ -83,7 +100,10 @@ array-share-prefix-mended c =
     let g = c .before .before .before .before .before .before .before .before in
     let q = c .before .before .before .before .before .before in
     let x = c .before .before .before in
-    mended-room (a .args .state .code) (a .args .unit .now) (g .receive .last .1 .1 .1 .0) (p .word-buffer .result) (q .word-buffer2 .result) (a .args .state .place) (o .word-octets .result) (a .args .state .limit) (a .pre .0) (a .pre .1) (o .word-octets .ensures .0) (g .receive .ensures) (q .word-buffer2 .ensures) (asCorrected (x .correct .result) (x .correct .last .1 .1 .1 .0)) (x .correct .ensures) (length (a .args .out .now)) (a .pre .2)
+    mended-room (a .args .state .code) (a .args .unit .now) (g .receive .last .1 .1 .1 .0) (p .word-buffer .result)
+    (q .word-buffer2 .result) (a .args .state .place) (o .word-octets .result) (a .args .state .limit) (a .pre .0) (a .pre .1)
+    (o .word-octets .ensures .0) (g .receive .ensures) (q .word-buffer2 .ensures)
+    (asCorrected (x .correct .result) (x .correct .last .1 .1 .1 .0)) (x .correct .ensures) (length (a .args .out .now)) (a .pre .2)
 
 slice-aggregate-copy : tie.Need-slice-aggregate-copy
 slice-aggregate-copy c =
@@ -93,36 +113,66 @@ slice-aggregate-copy c =
     let g = c .before .before .before .before .before .before .before .before .before in
     let q = c .before .before .before .before .before .before .before in
     let x = c .before .before .before .before in
-    sym (mended-part-length (a .args .state .code) (a .args .unit .now) (g .receive .last .1 .1 .1 .0) (p .word-buffer .result) (q .word-buffer2 .result) (a .args .state .place) (o .word-octets .result) (a .args .state .limit) (a .pre .0) (a .pre .1) (o .word-octets .ensures .0) (g .receive .ensures) (q .word-buffer2 .ensures) (asCorrected (x .correct .result) (x .correct .last .1 .1 .1 .0)) (x .correct .ensures) (length (a .args .out .now)) (a .pre .2))
+    sym (mended-part-length (a .args .state .code) (a .args .unit .now) (g .receive .last .1 .1 .1 .0) (p .word-buffer .result)
+    (q .word-buffer2 .result) (a .args .state .place) (o .word-octets .result) (a .args .state .limit) (a .pre .0) (a .pre .1)
+    (o .word-octets .ensures .0) (g .receive .ensures) (q .word-buffer2 .ensures)
+    (asCorrected (x .correct .result) (x .correct .last .1 .1 .1 .0)) (x .correct .ensures) (length (a .args .out .now)) (a .pre .2))
 
 copy-requires : tie.Need-copy-requires
 copy-requires c κs =
-    let a = c .before .before .before .before .before .before .before .before .before .before .before .before .before .before .before .before in
+    let a = c .before .before .before .before .before .before .before .before .before .before .before .before .before .before .before
+    .before in
     let o = c .before .before .before .before .before .before .before .before .before .before .before .before .before in
     let p = c .before .before .before .before .before .before .before .before .before .before .before .before in
     let g = c .before .before .before .before .before .before .before .before .before .before in
     let q = c .before .before .before .before .before .before .before .before in
     let x = c .before .before .before .before .before in
-    mended-part-length (a .args .state .code) (a .args .unit .now) (g .receive .last .1 .1 .1 .0) (p .word-buffer .result) (q .word-buffer2 .result) (a .args .state .place) (o .word-octets .result) (a .args .state .limit) (a .pre .0) (a .pre .1) (o .word-octets .ensures .0) (g .receive .ensures) (q .word-buffer2 .ensures) (asCorrected (x .correct .result) (x .correct .last .1 .1 .1 .0)) (x .correct .ensures) (length (a .args .out .now)) (a .pre .2)
+    mended-part-length (a .args .state .code) (a .args .unit .now) (g .receive .last .1 .1 .1 .0) (p .word-buffer .result)
+    (q .word-buffer2 .result) (a .args .state .place) (o .word-octets .result) (a .args .state .limit) (a .pre .0) (a .pre .1)
+    (o .word-octets .ensures .0) (g .receive .ensures) (q .word-buffer2 .ensures)
+    (asCorrected (x .correct .result) (x .correct .last .1 .1 .1 .0)) (x .correct .ensures) (length (a .args .out .now)) (a .pre .2)
 
 add-t26 : tie.Need-add-t26
-add-t26 c = let a = c .before .before .before .before .before .before .before .before .before .before .before .before .before .before .before .before .before .before .before .before .before in omega (arith, place-fits (a .args .state .code) (a .args .unit .now) (a .args .state .place) (a .pre .0) (a .pre .1))
+add-t26 c = let a = c .before .before .before .before .before .before .before .before .before .before .before .before .before .before
+    .before .before .before .before .before .before .before in omega (
+      arith,
+      place-fits (a .args .state .code) (a .args .unit .now)
+          (a .args .state .place) (a .pre .0) (a .pre .1),
+    )
 
 same-length : tie.Need-same-length
 same-length c = search needs
 
 returns-2 : tie.Need-returns-2
 returns-2 c =
-    let a = c .before .before .before .before .before .before .before .before .before .before .before .before .before .before .before .before .before .before .before .before .before in
-    let o = c .before .before .before .before .before .before .before .before .before .before .before .before .before .before .before .before .before .before in
-    let p = c .before .before .before .before .before .before .before .before .before .before .before .before .before .before .before .before .before in
+    let a = c .before .before .before .before .before .before .before .before .before .before .before .before .before .before .before
+    .before .before .before .before .before .before in
+    let o = c .before .before .before .before .before .before .before .before .before .before .before .before .before .before .before
+    .before .before .before in
+    let p = c .before .before .before .before .before .before .before .before .before .before .before .before .before .before .before
+    .before .before in
     let g = c .before .before .before .before .before .before .before .before .before .before .before .before .before .before .before in
     let q = c .before .before .before .before .before .before .before .before .before .before .before .before .before in
     let x = c .before .before .before .before .before .before .before .before .before .before in
     let s = asReading (a .args .state) in
-    ap₂ (λ y p. record { corrected = asCorrected (x .correct .result) y; none = false; next = record { kept = s .kept; code = s .code; limit = s .limit; place = p } })
-    (c .before .before .before .before .copy .ensures ∙ mended-part (a .args .state .code) (a .args .unit .now) (g .receive .last .1 .1 .1 .0) (p .word-buffer .result) (q .word-buffer2 .result) (a .args .state .place) (o .word-octets .result) (a .args .state .limit) (a .pre .0) (a .pre .1) (o .word-octets .ensures .0) (g .receive .ensures) (q .word-buffer2 .ensures) (asCorrected (x .correct .result) (x .correct .last .1 .1 .1 .0)) (x .correct .ensures) (length (a .args .out .now)) (a .pre .2)) (add-one (a .args .state .place))
-    ∙ sym (next-out s (a .args .unit .now) (a .args .out .now) (asCorrected (x .correct .result) (x .correct .last .1 .1 .1 .0)) (corrected-is (a .args .state .code) (a .args .unit .now) (g .receive .last .1 .1 .1 .0) (p .word-buffer .result) (q .word-buffer2 .result) (a .args .state .place) (o .word-octets .result) (a .args .state .limit) (a .pre .0) (a .pre .1) (o .word-octets .ensures .0) (g .receive .ensures) (q .word-buffer2 .ensures) (asCorrected (x .correct .result) (x .correct .last .1 .1 .1 .0)) (x .correct .ensures)) (c .before .before .before .before .before .before .before .if1 .left))
+    ap₂ (λ y p. record {
+      corrected = asCorrected (x .correct .result) y;
+      none = false;
+      next =
+          record { kept = s .kept; code = s .code; limit = s .limit; place = p };
+    })
+    (c .before .before .before .before .copy .ensures
+    ∙ mended-part (a .args .state .code) (a .args .unit .now) (g .receive .last .1 .1 .1 .0) (p .word-buffer .result)
+    (q .word-buffer2 .result) (a .args .state .place) (o .word-octets .result) (a .args .state .limit) (a .pre .0) (a .pre .1)
+    (o .word-octets .ensures .0) (g .receive .ensures) (q .word-buffer2 .ensures)
+    (asCorrected (x .correct .result) (x .correct .last .1 .1 .1 .0)) (x .correct .ensures) (length (a .args .out .now)) (a .pre .2))
+    (add-one (a .args .state .place))
+    ∙ sym (next-out s (a .args .unit .now) (a .args .out .now) (asCorrected (x .correct .result) (x .correct .last .1 .1 .1 .0))
+    (corrected-is (a .args .state .code) (a .args .unit .now) (g .receive .last .1 .1 .1 .0) (p .word-buffer .result)
+    (q .word-buffer2 .result) (a .args .state .place) (o .word-octets .result) (a .args .state .limit) (a .pre .0) (a .pre .1)
+    (o .word-octets .ensures .0) (g .receive .ensures) (q .word-buffer2 .ensures)
+    (asCorrected (x .correct .result) (x .correct .last .1 .1 .1 .0)) (x .correct .ensures))
+    (c .before .before .before .before .before .before .before .if1 .left))
 
 pub read-next-spec : {M : Type 1} → statement M
 read-next-spec =

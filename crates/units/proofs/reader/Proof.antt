@@ -16,7 +16,8 @@ numbered-requires c κs = search needs
 returns : tie.Need-returns
 returns c =
     let a = c .before .before .before in
-    ap (λ x. record { kept = x; code = a .args .code; limit = a .args .limit; place = 0 }) (c .numbered .ensures ∙ ap (refusedCorrect []) (c .before .reader-number .ensures))
+    ap (λ x. record { kept = x; code = a .args .code; limit = a .args .limit; place = 0 }) (c .numbered .ensures
+    ∙ ap (refusedCorrect []) (c .before .reader-number .ensures))
 
 pub reader-spec : {M : Type 1} → statement M
 reader-spec = tie.close (tie.spec reader-number-requires numbered-requires returns)

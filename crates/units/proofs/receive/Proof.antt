@@ -10,13 +10,25 @@ use Rattle.units.proofs.receive.Statement.{statement}
 use Rattle.units.proofs.receive.Tie as tie
 
 mul-used : tie.Need-mul-used
-mul-used c = let a = c .before .before in omega (arith, block-room (a .args .code) (a .args .unit .now) (a .args .k) (length (a .args .word .now)) (a .pre .0) (a .pre .1) (a .pre .2))
+mul-used c = let a = c .before .before in omega (
+  arith,
+  block-room (a .args .code) (a .args .unit .now) (a .args .k)
+      (length (a .args .word .now)) (a .pre .0) (a .pre .1) (a .pre .2),
+)
 
 add-at : tie.Need-add-at
-add-at c = let a = c .before .before in omega (arith, block-room (a .args .code) (a .args .unit .now) (a .args .k) (length (a .args .word .now)) (a .pre .0) (a .pre .1) (a .pre .2))
+add-at c = let a = c .before .before in omega (
+  arith,
+  block-room (a .args .code) (a .args .unit .now) (a .args .k)
+      (length (a .args .word .now)) (a .pre .0) (a .pre .1) (a .pre .2),
+)
 
 add-end : tie.Need-add-end
-add-end c = let a = c .before .before in omega (arith, block-room (a .args .code) (a .args .unit .now) (a .args .k) (length (a .args .word .now)) (a .pre .0) (a .pre .1) (a .pre .2))
+add-end c = let a = c .before .before in omega (
+  arith,
+  block-room (a .args .code) (a .args .unit .now) (a .args .k)
+      (length (a .args .word .now)) (a .pre .0) (a .pre .1) (a .pre .2),
+)
 
 sub-copy : tie.Need-sub-copy
 sub-copy c = search needs
@@ -25,7 +37,8 @@ part-copy-start : tie.Need-part-copy-start
 part-copy-start c = search needs
 
 part-copy-end : tie.Need-part-copy-end
-part-copy-end c = let a = c .before .before in block-room (a .args .code) (a .args .unit .now) (a .args .k) (length (a .args .word .now)) (a .pre .0) (a .pre .1) (a .pre .2)
+part-copy-end c = let a = c .before .before in block-room (a .args .code) (a .args .unit .now) (a .args .k) (length (a .args .word .now))
+    (a .pre .0) (a .pre .1) (a .pre .2)
 
 copy-requires : tie.Need-copy-requires
 copy-requires c κs = search needs
@@ -35,7 +48,15 @@ randomise-requires c κs =
     let a = c .before .before .before .before .before .before .before .before in
     let z = sizes (a .args .code) (a .pre .0) in
     let size = length (a .args .word .now) in
-    omega (arith, ap length (c .before .before .before .copy .ensures), length-take (8 + a .args .k * size + size - (8 + a .args .k * size)) (drop (8 + a .args .k * size) (a .args .unit .now)), z .whole, z .few, a .pre .2)
+    omega (
+      arith,
+      ap length (c .before .before .before .copy .ensures),
+      length-take
+          (8 + a .args .k * size + size - (8 + a .args .k * size)) (drop (8 + a .args .k * size) (a .args .unit .now)),
+      z .whole,
+      z .few,
+      a .pre .2,
+    )
 
 same-length : tie.Need-same-length
 same-length c = search needs
@@ -43,7 +64,9 @@ same-length c = search needs
 returns : tie.Need-returns
 returns c =
     let a = c .before .before .before .before .before .before .before .before .before .before .before in
-    c .before .before .randomise .ensures ∙ received-is (a .args .code) (a .args .unit .now) (c .before .before .before .before .before .before .copy .last .1 .0) (a .args .k) (length (a .args .word .now)) (a .pre .2) (c .before .before .before .before .before .before .copy .ensures)
+    c .before .before .randomise .ensures
+    ∙ received-is (a .args .code) (a .args .unit .now) (c .before .before .before .before .before .before .copy .last .1 .0) (a .args .k)
+    (length (a .args .word .now)) (a .pre .2) (c .before .before .before .before .before .before .copy .ensures)
 
 pub receive-spec : {M : Type 1} → statement M
 receive-spec =

@@ -42,8 +42,11 @@ loop-less c = omega arith
 loop-again : tie.Need-loop-again Inv-loop μ-loop
 loop-again c =
     let h = c .before .before .before .before .loop in
-    let a = c .before .before .before .before .before .before in
-    (omega arith, rw add-one (sym (same-here (a .args .a .now) (a .args .b .now) (h .i) (omega arith) (omega arith) (c .if2 .left)) ∙ h .inv .1))
+    let a = c .before .before .before .before .before .before in (
+      omega arith,
+      rw add-one (sym (same-here (a .args .a .now) (a .args .b .now) (h .i) (omega arith) (omega arith) (c .if2 .left))
+          ∙ h .inv .1),
+    )
 
 returns-3 : tie.Need-returns-3 Inv-loop μ-loop
 returns-3 c =

@@ -12,7 +12,8 @@ is-unit-code-requires : tie.Need-is-unit-code-requires
 is-unit-code-requires c κs = search needs
 
 returns : tie.Need-returns
-returns c = let a = c .before .before .args in sym (octets-other (a .code) (a .long) (sym (c .before .is-unit-code .ensures) ∙ not-true _ (c .if1 .taken)))
+returns c = let a = c .before .before .args in sym (octets-other (a .code) (a .long) (sym (c .before .is-unit-code .ensures)
+    ∙ not-true _ (c .if1 .taken)))
 
 returns-2 : tie.Need-returns-2
 returns-2 c =
@@ -38,7 +39,8 @@ returns-3 c =
     let i = x .before .before in
     let a = i .before .args in
     let l = length-one (a .code) (a .long) (c .before .if3 .taken) (x .if2 .left) in
-    l ∙ sym (octets-fit (a .code) (a .long) (sym (i .is-unit-code .ensures) ∙ not-false _ (x .before .if1 .left)) (x .if2 .left) (omega arith))
+    l ∙ sym (octets-fit (a .code) (a .long) (sym (i .is-unit-code .ensures) ∙ not-false _ (x .before .if1 .left)) (x .if2 .left)
+    (omega arith))
 
 returns-4 : tie.Need-returns-4
 returns-4 c =
@@ -46,7 +48,8 @@ returns-4 c =
     let i = x .before .before in
     let a = i .before .args in
     let l = length-one (a .code) (a .long) (c .before .if3 .taken) (x .if2 .left) in
-    sym (octets-great (a .code) (a .long) (sym (i .is-unit-code .ensures) ∙ not-false _ (x .before .if1 .left)) (x .if2 .left) (omega arith))
+    sym (octets-great (a .code) (a .long) (sym (i .is-unit-code .ensures) ∙ not-false _ (x .before .if1 .left)) (x .if2 .left)
+    (omega arith))
 
 sub-blocks-2 : tie.Need-sub-blocks-2
 sub-blocks-2 c = search needs

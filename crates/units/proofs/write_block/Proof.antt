@@ -17,16 +17,32 @@ information-octets-requires : tie.Need-information-octets-requires
 information-octets-requires c κs = search needs
 
 mul-from : tie.Need-mul-from
-mul-from c = let a = c .before .before .before in omega (arith, from-fits (a .args .code) (a .args .information .now) (a .args .k) (c .information-octets .result) (c .information-octets .ensures .0) (a .pre .1))
+mul-from c = let a = c .before .before .before in omega (
+  arith,
+  from-fits (a .args .code) (a .args .information .now) (a .args .k)
+      (c .information-octets .result) (c .information-octets .ensures .0) (a .pre .1),
+)
 
 sub-left : tie.Need-sub-left
-sub-left c = let a = c .before .before .before in omega (arith, from-fits (a .args .code) (a .args .information .now) (a .args .k) (c .information-octets .result) (c .information-octets .ensures .0) (a .pre .1))
+sub-left c = let a = c .before .before .before in omega (
+  arith,
+  from-fits (a .args .code) (a .args .information .now) (a .args .k)
+      (c .information-octets .result) (c .information-octets .ensures .0) (a .pre .1),
+)
 
 sub-write-last : tie.Need-sub-write-last
-sub-write-last c = let i = c .before in let a = i .before .before .before in omega (arith, from-fits (a .args .code) (a .args .information .now) (a .args .k) (i .information-octets .result) (i .information-octets .ensures .0) (a .pre .1))
+sub-write-last c = let i = c .before in let a = i .before .before .before in omega (
+  arith,
+  from-fits (a .args .code) (a .args .information .now) (a .args .k) (i .information-octets .result)
+      (i .information-octets .ensures .0) (a .pre .1),
+)
 
 part-write-last-start : tie.Need-part-write-last-start
-part-write-last-start c = let i = c .before in let a = i .before .before .before in omega (arith, from-fits (a .args .code) (a .args .information .now) (a .args .k) (i .information-octets .result) (i .information-octets .ensures .0) (a .pre .1))
+part-write-last-start c = let i = c .before in let a = i .before .before .before in omega (
+  arith,
+  from-fits (a .args .code) (a .args .information .now) (a .args .k) (i .information-octets .result)
+      (i .information-octets .ensures .0) (a .pre .1),
+)
 
 part-write-last-end : tie.Need-part-write-last-end
 part-write-last-end c = search needs
@@ -60,8 +76,10 @@ returns c =
     let a = c .before .before .before .before .before .before .before .before .before in
     c .before .before .write-last .ensures
     ∙ ap (λ z. randomised telecommand (a .args .used) (encodedOf (a .args .code) z)) (
-    ap (λ z. z ++ replicate (code (a .args .code) .informationOctets - length z) 0x55) (lent-rest (a .args .information .now) (a .args .k * i .information-octets .result))
-    ∙ sym (part-last (a .args .code) (a .pre .0) (a .args .information .now) (a .args .k) (i .information-octets .result) (i .information-octets .ensures .0) (a .pre .1) (t .if1 .taken)))
+    ap (λ z. z ++ replicate (code (a .args .code) .informationOctets - length z) 0x55)
+    (lent-rest (a .args .information .now) (a .args .k * i .information-octets .result))
+    ∙ sym (part-last (a .args .code) (a .pre .0) (a .args .information .now) (a .args .k) (i .information-octets .result)
+    (i .information-octets .ensures .0) (a .pre .1) (t .if1 .taken)))
 
 same-length-2 : tie.Need-same-length-2
 same-length-2 c = search needs
@@ -73,7 +91,9 @@ returns-2 c =
     let i = t .before in
     let a = c .before .before .before .before .before .before .before .before .before in
     c .before .before .write-part .ensures
-    ∙ ap (λ z. randomised telecommand (a .args .used) (encodedOf (a .args .code) z)) (sym (part-whole (a .args .code) (a .pre .0) (a .args .information .now) (a .args .k) (i .information-octets .result) (i .information-octets .ensures .0) (a .pre .1) (t .if1 .left)))
+    ∙ ap (λ z. randomised telecommand (a .args .used) (encodedOf (a .args .code) z))
+    (sym (part-whole (a .args .code) (a .pre .0) (a .args .information .now) (a .args .k) (i .information-octets .result)
+    (i .information-octets .ensures .0) (a .pre .1) (t .if1 .left)))
 
 pub write-block-spec : {M : Type 1} → statement M
 write-block-spec =

@@ -16,7 +16,8 @@ use Rattle.units.proofs.write_blocks.Statement.{statement}
 use Rattle.units.proofs.write_blocks.Tie as tie
 
 abbrev Inv-loop : tie.InvT-loop
-Inv-loop code information out₀ word k₀ at₀ out k at = (at ≡ k * codeOf code .wordOctets) × (k ≤ blocksFor code (length information)) × (length out ≡ length out₀) × (out ≡ randomised telecommand 0 (codeblocks code information k) ++ drop at out₀)
+Inv-loop code information out₀ word k₀ at₀ out k at = (at ≡ k * codeOf code .wordOctets) × (k ≤ blocksFor code (length information))
+    × (length out ≡ length out₀) × (out ≡ randomised telecommand 0 (codeblocks code information k) ++ drop at out₀)
 
 abbrev μ-loop : tie.MeasureT-loop
 μ-loop code information out₀ word k₀ at₀ out k at = length out₀ - at
@@ -33,7 +34,8 @@ add-end c =
     let h = c .before .loop in
     let w = c .before .before in
     let a = c .before .before .before .before .before in
-    let g = goes (length (a .args .information .now)) (h .k) (a .args .code) (h .at) (w .word-octets .result) (length (h .out)) (a .pre .0) (w .word-octets .ensures .0) (h .inv .0) (h .inv .2 ∙ a .pre .1) (c .loop-test .taken) in omega (arith, g .next)
+    let g = goes (length (a .args .information .now)) (h .k) (a .args .code) (h .at) (w .word-octets .result) (length (h .out)) (a .pre .0)
+    (w .word-octets .ensures .0) (h .inv .0) (h .inv .2 ∙ a .pre .1) (c .loop-test .taken) in omega (arith, g .next)
 
 sub-write-block : tie.Need-sub-write-block Inv-loop μ-loop
 sub-write-block c = omega arith
@@ -46,41 +48,58 @@ part-write-block-end c =
     let h = c .before .loop in
     let w = c .before .before in
     let a = c .before .before .before .before .before in
-    let g = goes (length (a .args .information .now)) (h .k) (a .args .code) (h .at) (w .word-octets .result) (length (h .out)) (a .pre .0) (w .word-octets .ensures .0) (h .inv .0) (h .inv .2 ∙ a .pre .1) (c .loop-test .taken) in g .next
+    let g = goes (length (a .args .information .now)) (h .k) (a .args .code) (h .at) (w .word-octets .result) (length (h .out)) (a .pre .0)
+    (w .word-octets .ensures .0) (h .inv .0) (h .inv .2 ∙ a .pre .1) (c .loop-test .taken) in g .next
 
 write-block-requires : tie.Need-write-block-requires Inv-loop μ-loop
 write-block-requires c κs =
     let h = c .before .before .loop in
     let w = c .before .before .before in
     let a = c .before .before .before .before .before .before in
-    let g = goes (length (a .args .information .now)) (h .k) (a .args .code) (h .at) (w .word-octets .result) (length (h .out)) (a .pre .0) (w .word-octets .ensures .0) (h .inv .0) (h .inv .2 ∙ a .pre .1) (c .before .loop-test .taken) in
-    let e : h .at + w .word-octets .result - h .at ≡ w .word-octets .result = omega arith in
-    (a .pre .0, g .some, ap (λ z. length (take z (drop (h .at) (h .out)))) e ∙ length-take-le (w .word-octets .result) (drop (h .at) (h .out)) (omega (arith, g .next, length-drop (h .at) (h .out))) ∙ w .word-octets .ensures .0)
+    let g = goes (length (a .args .information .now)) (h .k) (a .args .code) (h .at) (w .word-octets .result) (length (h .out)) (a .pre .0)
+    (w .word-octets .ensures .0) (h .inv .0) (h .inv .2 ∙ a .pre .1) (c .before .loop-test .taken) in
+    let e : h .at + w .word-octets .result - h .at ≡ w .word-octets .result = omega arith in (
+      a .pre .0,
+      g .some,
+      ap (λ z. length (take z (drop (h .at) (h .out)))) e
+          ∙ length-take-le (w .word-octets .result) (drop (h .at) (h .out)) (omega (arith, g .next, length-drop (h .at) (h .out)))
+          ∙ w .word-octets .ensures .0,
+    )
 
 add-k : tie.Need-add-k Inv-loop μ-loop
 add-k c =
     let h = c .before .before .before .before .before .loop in
     let w = c .before .before .before .before .before .before in
     let a = c .before .before .before .before .before .before .before .before .before in
-    let g = goes (length (a .args .information .now)) (h .k) (a .args .code) (h .at) (w .word-octets .result) (length (h .out)) (a .pre .0) (w .word-octets .ensures .0) (h .inv .0) (h .inv .2 ∙ a .pre .1) (c .before .before .before .before .loop-test .taken) in omega (arith, g .next, g .some, k-small (a .args .code) (h .k) (h .at) (a .pre .0) (h .inv .0))
+    let g = goes (length (a .args .information .now)) (h .k) (a .args .code) (h .at) (w .word-octets .result) (length (h .out)) (a .pre .0)
+    (w .word-octets .ensures .0) (h .inv .0) (h .inv .2 ∙ a .pre .1) (c .before .before .before .before .loop-test .taken) in omega
+    (arith, g .next, g .some, k-small (a .args .code) (h .k) (h .at) (a .pre .0) (h .inv .0))
 
 loop-less : tie.Need-loop-less Inv-loop μ-loop
 loop-less c =
     let h = c .before .before .before .before .before .loop in
     let w = c .before .before .before .before .before .before in
     let a = c .before .before .before .before .before .before .before .before .before in
-    let g = goes (length (a .args .information .now)) (h .k) (a .args .code) (h .at) (w .word-octets .result) (length (h .out)) (a .pre .0) (w .word-octets .ensures .0) (h .inv .0) (h .inv .2 ∙ a .pre .1) (c .before .before .before .before .loop-test .taken) in omega (arith, g .next, h .inv .2, w .word-octets .ensures .1)
+    let g = goes (length (a .args .information .now)) (h .k) (a .args .code) (h .at) (w .word-octets .result) (length (h .out)) (a .pre .0)
+    (w .word-octets .ensures .0) (h .inv .0) (h .inv .2 ∙ a .pre .1) (c .before .before .before .before .loop-test .taken) in omega
+    (arith, g .next, h .inv .2, w .word-octets .ensures .1)
 
 loop-again : tie.Need-loop-again Inv-loop μ-loop
 loop-again c =
     let h = c .before .before .before .before .before .loop in
     let w = c .before .before .before .before .before .before in
     let a = c .before .before .before .before .before .before .before .before .before in
-    let g = goes (length (a .args .information .now)) (h .k) (a .args .code) (h .at) (w .word-octets .result) (length (h .out)) (a .pre .0) (w .word-octets .ensures .0) (h .inv .0) (h .inv .2 ∙ a .pre .1) (c .before .before .before .before .loop-test .taken) in (
-      ap₂ (λ x y. x + y) (h .inv .0) (w .word-octets .ensures .0) ∙ sym (ap (λ z. z * codeOf (a .args .code) .wordOctets) (add-one (h .k)) ∙ suc-mul (h .k) (codeOf (a .args .code) .wordOctets)),
+    let g = goes (length (a .args .information .now)) (h .k) (a .args .code) (h .at) (w .word-octets .result) (length (h .out)) (a .pre .0)
+    (w .word-octets .ensures .0) (h .inv .0) (h .inv .2 ∙ a .pre .1) (c .before .before .before .before .loop-test .taken) in (
+      ap₂ (λ x y. x + y) (h .inv .0) (w .word-octets .ensures .0) ∙ sym (ap (λ z. z * codeOf (a .args .code) .wordOctets) (add-one (h .k))
+          ∙ suc-mul (h .k) (codeOf (a .args .code) .wordOctets)),
       omega (arith, g .fewer),
-      more-length (a .args .code) (a .args .information .now) (h .out) (a .args .out .now) (c .before .before .write-block .last .1 .1 .1 .1 .0) (h .k) (h .at) (w .word-octets .result) (w .word-octets .ensures .0) (h .inv .0) (omega (arith, g .next, h .inv .2)) (h .inv .3) (c .before .before .write-block .ensures),
-      more-blocks (a .args .code) (a .args .information .now) (h .out) (a .args .out .now) (c .before .before .write-block .last .1 .1 .1 .1 .0) (h .k) (h .at) (w .word-octets .result) (w .word-octets .ensures .0) (h .inv .0) (h .inv .3) (c .before .before .write-block .ensures),
+      more-length (a .args .code) (a .args .information .now) (h .out) (a .args .out .now)
+          (c .before .before .write-block .last .1 .1 .1 .1 .0) (h .k) (h .at) (w .word-octets .result) (w .word-octets .ensures .0)
+          (h .inv .0) (omega (arith, g .next, h .inv .2)) (h .inv .3) (c .before .before .write-block .ensures),
+      more-blocks (a .args .code) (a .args .information .now) (h .out) (a .args .out .now)
+          (c .before .before .write-block .last .1 .1 .1 .1 .0) (h .k) (h .at) (w .word-octets .result) (w .word-octets .ensures .0)
+          (h .inv .0) (h .inv .3) (c .before .before .write-block .ensures),
     )
 
 same-length : tie.Need-same-length Inv-loop μ-loop
@@ -91,9 +110,13 @@ returns c =
     let h = c .before .loop in
     let w = c .before .before in
     let a = c .before .before .before .before .before in
-    let e : h .k ≡ blocksFor (a .args .code) (length (a .args .information .now)) = all-there (a .args .code) (length (a .args .information .now)) (h .k) (h .at) (length (h .out)) (a .pre .0) (h .inv .0) (h .inv .2 ∙ a .pre .1) (h .inv .1) (c .loop-test .left) in
-    h .inv .3 ∙ ap₂ (λ x y. randomised telecommand 0 (codeblocks (a .args .code) (a .args .information .now) x) ++ y) e (drop-of-length-le (a .args .out .now) {i = h .at} (omega (arith, c .loop-test .left, h .inv .2)))
-    ∙ append-nil (randomised telecommand 0 (codeblocks (a .args .code) (a .args .information .now) (blocksFor (a .args .code) (length (a .args .information .now)))))
+    let e : h .k ≡ blocksFor (a .args .code) (length (a .args .information .now)) =
+    all-there (a .args .code) (length (a .args .information .now)) (h .k) (h .at) (length (h .out)) (a .pre .0) (h .inv .0) (h .inv .2
+    ∙ a .pre .1) (h .inv .1) (c .loop-test .left) in
+    h .inv .3 ∙ ap₂ (λ x y. randomised telecommand 0 (codeblocks (a .args .code) (a .args .information .now) x) ++ y) e
+    (drop-of-length-le (a .args .out .now) {i = h .at} (omega (arith, c .loop-test .left, h .inv .2)))
+    ∙ append-nil (randomised telecommand 0
+    (codeblocks (a .args .code) (a .args .information .now) (blocksFor (a .args .code) (length (a .args .information .now)))))
 
 pub write-blocks-spec : {M : Type 1} → statement M
 write-blocks-spec =

@@ -27,13 +27,15 @@ slice-aggregate-copy : tie.Need-slice-aggregate-copy
 slice-aggregate-copy c =
     let a = c .before .before .before .before in
     let z = sizes (a .args .code) (a .pre .0) in
-    sym (length-take-le (length (a .args .rest .now)) (c .before .fill .result) (omega (arith, ap length (c .before .fill .ensures), a .pre .1, z .few)))
+    sym (length-take-le (length (a .args .rest .now)) (c .before .fill .result)
+    (omega (arith, ap length (c .before .fill .ensures), a .pre .1, z .few)))
 
 copy-requires : tie.Need-copy-requires
 copy-requires c κs =
     let a = c .before .before .before .before in
     let z = sizes (a .args .code) (a .pre .0) in
-    sym (length-take-le (length (a .args .rest .now)) (c .before .fill .result) (omega (arith, ap length (c .before .fill .ensures), a .pre .1, z .few)))
+    sym (length-take-le (length (a .args .rest .now)) (c .before .fill .result)
+    (omega (arith, ap length (c .before .fill .ensures), a .pre .1, z .few)))
 
 information-octets-requires : tie.Need-information-octets-requires
 information-octets-requires c κs = search needs
@@ -44,7 +46,14 @@ array-share-prefix-part c =
     let a = k .before .before .before .before .before in
     let z = sizes (a .args .code) (a .pre .0) in
     let e = ap₂ (λ x y. length (x ++ drop (length (a .args .rest .now)) y)) (k .copy .ensures) (sym (k .before .before .fill .ensures)) in
-    omega (arith, e, length-append (a .args .rest .now) (drop (length (a .args .rest .now)) (replicate 32 0x55)), length-drop (length (a .args .rest .now)) (replicate {A = ℕ} 32 0x55), c .information-octets .ensures .2)
+    omega (
+      arith,
+      e,
+      length-append (a .args .rest .now) (drop (length (a .args .rest .now)) (replicate 32 0x55)),
+      length-drop
+          (length (a .args .rest .now)) (replicate {A = ℕ} 32 0x55),
+      c .information-octets .ensures .2,
+    )
 
 slice-aggregate-write-part : tie.Need-slice-aggregate-write-part
 slice-aggregate-write-part c =
@@ -52,15 +61,23 @@ slice-aggregate-write-part c =
     let k = c .before .before .before in
     let f = c .before .before .before .before .before in
     let a = c .before .before .before .before .before .before .before .before in
-    i .information-octets .ensures .0 ∙ sym (filled-part-length (a .args .rest .now) (k .copy .last .1 .0) (f .fill .result) (i .information-octets .result) (code (a .args .code) .informationOctets) (k .copy .ensures) (f .fill .ensures) (a .pre .1) (i .information-octets .ensures .0) (i .information-octets .ensures .2))
+    i .information-octets .ensures .0
+    ∙ sym (filled-part-length (a .args .rest .now) (k .copy .last .1 .0) (f .fill .result) (i .information-octets .result)
+    (code (a .args .code) .informationOctets) (k .copy .ensures) (f .fill .ensures) (a .pre .1) (i .information-octets .ensures .0)
+    (i .information-octets .ensures .2))
 
 write-part-requires : tie.Need-write-part-requires
 write-part-requires c κs =
     let i = c .before .before in
     let k = c .before .before .before .before in
     let f = c .before .before .before .before .before .before in
-    let a = c .before .before .before .before .before .before .before .before .before in
-    (a .pre .0, filled-part-length (a .args .rest .now) (k .copy .last .1 .0) (f .fill .result) (i .information-octets .result) (code (a .args .code) .informationOctets) (k .copy .ensures) (f .fill .ensures) (a .pre .1) (i .information-octets .ensures .0) (i .information-octets .ensures .2), a .pre .2)
+    let a = c .before .before .before .before .before .before .before .before .before in (
+      a .pre .0,
+      filled-part-length (a .args .rest .now) (k .copy .last .1 .0) (f .fill .result) (i .information-octets .result)
+          (code (a .args .code) .informationOctets) (k .copy .ensures) (f .fill .ensures) (a .pre .1) (i .information-octets .ensures .0)
+          (i .information-octets .ensures .2),
+      a .pre .2,
+    )
 
 same-length : tie.Need-same-length
 same-length c = search needs
@@ -71,7 +88,10 @@ returns c =
     let k = c .before .before .before .before .before .before .before in
     let f = c .before .before .before .before .before .before .before .before .before in
     let a = c .before .before .before .before .before .before .before .before .before .before .before .before in
-    c .before .before .write-part .ensures ∙ ap (λ z. randomised telecommand (a .args .used) (encodedOf (a .args .code) z)) (filled-part (a .args .rest .now) (k .copy .last .1 .0) (f .fill .result) (i .information-octets .result) (code (a .args .code) .informationOctets) (k .copy .ensures) (f .fill .ensures) (a .pre .1) (i .information-octets .ensures .0) (i .information-octets .ensures .2))
+    c .before .before .write-part .ensures ∙ ap (λ z. randomised telecommand (a .args .used) (encodedOf (a .args .code) z))
+    (filled-part (a .args .rest .now) (k .copy .last .1 .0) (f .fill .result) (i .information-octets .result)
+    (code (a .args .code) .informationOctets) (k .copy .ensures) (f .fill .ensures) (a .pre .1) (i .information-octets .ensures .0)
+    (i .information-octets .ensures .2))
 
 pub write-last-spec : {M : Type 1} → statement M
 write-last-spec =

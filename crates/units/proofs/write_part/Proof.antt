@@ -17,7 +17,14 @@ randomise-requires c κs =
     let k = c .before .before .before in
     let a = k .before .before .before .before in
     let z = sizes (a .args .code) (a .pre .0) in
-    omega (arith, ap (λ x. length (x .out)) (k .encode .ensures ∙ encode-part (a .args .code) (a .args .part .now) (a .args .out .now) (a .pre .0) (a .pre .1) (a .pre .2)), length-encoded (a .args .code) (a .args .part .now), z .whole, z .few)
+    omega (
+      arith,
+      ap (λ x. length (x .out)) (k .encode .ensures ∙ encode-part (a .args .code) (a .args .part .now) (a .args .out .now)
+          (a .pre .0) (a .pre .1) (a .pre .2)),
+      length-encoded (a .args .code) (a .args .part .now),
+      z .whole,
+      z .few,
+    )
 
 same-length : tie.Need-same-length
 same-length c = search needs
@@ -27,7 +34,9 @@ returns c =
     let k = c .before .before .before .before .before .before in
     let a = k .before .before .before .before in
     c .before .before .randomise .ensures
-    ∙ ap (randomised telecommand (a .args .used)) (ap (λ x. x .out) (k .encode .ensures ∙ encode-part (a .args .code) (a .args .part .now) (a .args .out .now) (a .pre .0) (a .pre .1) (a .pre .2)))
+    ∙ ap (randomised telecommand (a .args .used))
+    (ap (λ x. x .out) (k .encode .ensures ∙ encode-part (a .args .code) (a .args .part .now) (a .args .out .now) (a .pre .0) (a .pre .1)
+    (a .pre .2)))
 
 pub write-part-spec : {M : Type 1} → statement M
 write-part-spec = tie.close (tie.spec encode-requires randomise-requires same-length returns)

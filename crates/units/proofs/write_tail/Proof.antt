@@ -13,7 +13,8 @@ slice-aggregate-copy c = search needs
 
 copy-requires : tie.Need-copy-requires
 unfolding tail
-copy-requires c κs = let a = c .before .before .before .before in ap (λ n. length (tail n)) (sym (c .before .before .if1 .taken)) ∙ sym (a .pre .1)
+copy-requires c κs = let a = c .before .before .before .before in ap (λ n. length (tail n)) (sym (c .before .before .if1 .taken))
+    ∙ sym (a .pre .1)
 
 same-length : tie.Need-same-length
 same-length c = search needs

@@ -29,10 +29,12 @@ slice-relend-prefix-copy : tie.Need-slice-relend-prefix-copy
 slice-relend-prefix-copy c = search needs
 
 slice-aggregate-copy-2 : tie.Need-slice-aggregate-copy-2
-slice-aggregate-copy-2 c = let a = c .before .before .before .before .before in sym (length-take-le 8 (a .args .out .now) (omega (arith, a .pre .1)))
+slice-aggregate-copy-2 c = let a = c .before .before .before .before .before in sym
+    (length-take-le 8 (a .args .out .now) (omega (arith, a .pre .1)))
 
 copy-requires : tie.Need-copy-requires
-copy-requires c κs = let a = c .before .before .before .before .before in sym (length-take-le 8 (a .args .out .now) (omega (arith, a .pre .1)))
+copy-requires c κs = let a = c .before .before .before .before .before in sym
+    (length-take-le 8 (a .args .out .now) (omega (arith, a .pre .1)))
 
 sub-write-blocks : tie.Need-sub-write-blocks
 sub-write-blocks c = search needs
@@ -64,7 +66,8 @@ same-length c = search needs
 returns : tie.Need-returns
 unfolding unit
 returns c =
-    let a = c .before .before .before .before .before .before .before .before .before .before .before .before .before .before .before .before in
+    let a = c .before .before .before .before .before .before .before .before .before .before .before .before .before .before .before
+    .before in
     let t = c .before .before .before .before .before .before .before .before .before .before .before .before .before in
     let k = c .before .before .before .before .before .before .before .before .before .before in
     let w = c .before .before .before .before .before .before in
@@ -73,10 +76,16 @@ returns c =
     let room = length (a .args .out .now) - t .tail-octets .result in
     let blocks : List ℕ = randomised telecommand 0 (codeblocks n info (blocksFor n (length info))) in
     let z = t .tail-octets .ensures .0 in
-    let long : length blocks ≡ blocksFor n (length info) * codeOf n .wordOctets = length-randomised telecommand 0 (codeblocks n info (blocksFor n (length info))) ∙ length-codeblocks n info (blocksFor n (length info)) in
-    ap₂ (λ x y. putMid room (length (putMid 8 (room - 8) (x ++ drop 8 (a .args .out .now)) y) - room) (putMid 8 (room - 8) (x ++ drop 8 (a .args .out .now)) y) (c .before .before .write-tail .last .1 .0)) (k .copy .ensures) (w .write-blocks .ensures)
-    ∙ ap (λ x. putMid room (length (putMid 8 (room - 8) (start ++ drop 8 (a .args .out .now)) blocks) - room) (putMid 8 (room - 8) (start ++ drop 8 (a .args .out .now)) blocks) x) (c .before .before .write-tail .ensures)
-    ∙ assembled (a .args .out .now) start blocks (tail n) room refl (omega (arith, a .pre .1, z)) (omega (arith, a .pre .1, z, long)) (omega (arith, a .pre .1, z)) (omega (arith, a .pre .1, z))
+    let long : length blocks ≡ blocksFor n (length info) * codeOf n .wordOctets =
+    length-randomised telecommand 0 (codeblocks n info (blocksFor n (length info)))
+    ∙ length-codeblocks n info (blocksFor n (length info)) in
+    ap₂ (λ x y. putMid room (length (putMid 8 (room - 8) (x ++ drop 8 (a .args .out .now)) y) - room)
+    (putMid 8 (room - 8) (x ++ drop 8 (a .args .out .now)) y) (c .before .before .write-tail .last .1 .0)) (k .copy .ensures)
+    (w .write-blocks .ensures)
+    ∙ ap (λ x. putMid room (length (putMid 8 (room - 8) (start ++ drop 8 (a .args .out .now)) blocks) - room)
+    (putMid 8 (room - 8) (start ++ drop 8 (a .args .out .now)) blocks) x) (c .before .before .write-tail .ensures)
+    ∙ assembled (a .args .out .now) start blocks (tail n) room refl (omega (arith, a .pre .1, z)) (omega (arith, a .pre .1, z, long))
+    (omega (arith, a .pre .1, z)) (omega (arith, a .pre .1, z))
 
 pub write-taken-spec : {M : Type 1} → statement M
 write-taken-spec =

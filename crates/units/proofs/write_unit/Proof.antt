@@ -15,7 +15,8 @@ is-unit-code-requires c κs = search needs
 returns : tie.Need-returns
 returns c =
     let a = c .before .before .before .before in
-    sym (write-one (a .args .code) (a .args .information .now) (a .args .out .now) (sym (c .before .is-unit-code .ensures) ∙ not-true _ (c .if1 .taken)))
+    sym (write-one (a .args .code) (a .args .information .now) (a .args .out .now) (sym (c .before .is-unit-code .ensures)
+    ∙ not-true _ (c .if1 .taken)))
 
 returns-2 : tie.Need-returns-2
 returns-2 c =
@@ -32,21 +33,31 @@ returns-3 c =
     let u = sym (c .before .before .before .before .is-unit-code .ensures) ∙ not-false _ (c .before .before .before .if1 .left) in
     let h : length (a .args .out .now) < 2 ^ 64 = omega arith in
     let d = c .before .before .if2 .left in
-    sym (write-three (a .args .code) (a .args .information .now) (a .args .out .now) u d (λ q. let z = octets-given (a .args .code) (length (a .args .information .now)) (c .before .unit-octets .result) (length (a .args .out .now)) u d (c .before .unit-octets .ensures) h q in omega (arith, c .if3 .taken, z, q)))
+    sym (write-three (a .args .code) (a .args .information .now) (a .args .out .now) u d
+    (λ q. let z = octets-given (a .args .code) (length (a .args .information .now)) (c .before .unit-octets .result)
+    (length (a .args .out .now)) u d (c .before .unit-octets .ensures) h q in omega (arith, c .if3 .taken, z, q)))
 
 returns-4 : tie.Need-returns-4
 returns-4 c =
     let a = c .before .before .before .before .before .before .before .before in
-    let u = sym (c .before .before .before .before .before .is-unit-code .ensures) ∙ not-false _ (c .before .before .before .before .if1 .left) in
+    let u = sym (c .before .before .before .before .before .is-unit-code .ensures)
+    ∙ not-false _ (c .before .before .before .before .if1 .left) in
     let h : length (a .args .out .now) < 2 ^ 64 = omega arith in
     let d = c .before .before .before .if2 .left in
-    sym (write-three (a .args .code) (a .args .information .now) (a .args .out .now) u d (λ q. c .if4 .taken (octets-given (a .args .code) (length (a .args .information .now)) (c .before .before .unit-octets .result) (length (a .args .out .now)) u d (c .before .before .unit-octets .ensures) h q)))
+    sym (write-three (a .args .code) (a .args .information .now) (a .args .out .now) u d
+    (λ q. c .if4 .taken (octets-given (a .args .code) (length (a .args .information .now)) (c .before .before .unit-octets .result)
+    (length (a .args .out .now)) u d (c .before .before .unit-octets .ensures) h q)))
 
 write-taken-requires : tie.Need-write-taken-requires
 write-taken-requires c κs =
     let a = c .before .before .before .before .before .before .before .before .before in
-    let u = sym (c .before .before .before .before .before .before .is-unit-code .ensures) ∙ not-false _ (c .before .before .before .before .before .if1 .left) in
-    (u, c .before .if4 .left ∙ octets-some (a .args .code) (length (a .args .information .now)) (c .before .before .before .unit-octets .result) u (c .before .before .before .before .if2 .left) (c .before .before .before .unit-octets .ensures) (c .before .before .if3 .left))
+    let u = sym (c .before .before .before .before .before .before .is-unit-code .ensures)
+    ∙ not-false _ (c .before .before .before .before .before .if1 .left) in (
+      u,
+      c .before .if4 .left ∙ octets-some (a .args .code) (length (a .args .information .now))
+          (c .before .before .before .unit-octets .result) u (c .before .before .before .before .if2 .left)
+          (c .before .before .before .unit-octets .ensures) (c .before .before .if3 .left),
+    )
 
 same-length : tie.Need-same-length
 same-length c = search needs
@@ -54,10 +65,14 @@ same-length c = search needs
 returns-5 : tie.Need-returns-5
 returns-5 c =
     let a = c .before .before .before .before .before .before .before .before .before .before .before .before in
-    let u = sym (c .before .before .before .before .before .before .before .before .before .is-unit-code .ensures) ∙ not-false _ (c .before .before .before .before .before .before .before .before .if1 .left) in
+    let u = sym (c .before .before .before .before .before .before .before .before .before .is-unit-code .ensures)
+    ∙ not-false _ (c .before .before .before .before .before .before .before .before .if1 .left) in
     let d = c .before .before .before .before .before .before .before .if2 .left in
     ap (λ z. record { number = 0; out = z }) (c .before .before .write-taken .ensures)
-    ∙ sym (write-done (a .args .code) (a .args .information .now) (a .args .out .now) u d (c .before .before .before .before .if4 .left ∙ octets-some (a .args .code) (length (a .args .information .now)) (c .before .before .before .before .before .before .unit-octets .result) u d (c .before .before .before .before .before .before .unit-octets .ensures) (c .before .before .before .before .before .if3 .left)))
+    ∙ sym (write-done (a .args .code) (a .args .information .now) (a .args .out .now) u d (c .before .before .before .before .if4 .left
+    ∙ octets-some (a .args .code) (length (a .args .information .now))
+    (c .before .before .before .before .before .before .unit-octets .result) u d
+    (c .before .before .before .before .before .before .unit-octets .ensures) (c .before .before .before .before .before .if3 .left)))
 
 pub write-unit-spec : {M : Type 1} → statement M
 write-unit-spec =

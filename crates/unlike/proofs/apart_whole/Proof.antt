@@ -54,7 +54,8 @@ loop-again c =
     let l = c .before .before .before .before .loop in
     let x : Word = bit (a .octets .now) in
     let y : Word = λ i. wbit (a .y .now) (a .u + i) in
-    let m = apart-more x y (l .j) _ _ _ (from-more x (l .j) _ (c .before .before .eight .ensures)) (λ i h. c .before .window .ensures i h ∙ ap (wbit (a .y .now)) (place (a .u) (l .j) i)) (c .apart .ensures .0) in
+    let m = apart-more x y (l .j) _ _ _ (from-more x (l .j) _ (c .before .before .eight .ensures)) (λ i h. c .before .window .ensures i h
+    ∙ ap (wbit (a .y .now)) (place (a .u) (l .j) i)) (c .apart .ensures .0) in
     (omega arith, ap (λ (s : ℕ). s + c .apart .result) (l .inv .1) ∙ sym m, omega (arith, c .apart .ensures .1))
 
 returns : tie.Need-returns Inv-loop μ-loop

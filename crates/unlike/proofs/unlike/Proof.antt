@@ -59,9 +59,14 @@ returns-2 c =
     let y : Word = λ i. wbit (a .y .now) (a .u + i) in
     let e : 64 * k + t ≡ a .n = omega arith in
     let m = apart-rest x y k t (omega arith) _ _ _
-    (λ i l. c .before .before .before .front .ensures i l ∙ ap (λ b. ltb i t && b) (from-more x k _ (c .before .before .before .before .last .ensures) i l))
-    (λ i l. c .before .front2 .ensures i l ∙ ap (λ b. ltb i t && b) (c .before .before .window .ensures i l ∙ ap (wbit (a .y .now)) (place (a .u) k i))) (c .apart .ensures .0) in
-    (ap (λ (s : ℕ). s + c .apart .result) (w .0) ∙ sym m ∙ ap (λ (n : ℕ). count n (λ i. x i ⊕ y i)) e, omega (arith, w .1, c .apart .ensures .1))
+    (λ i l. c .before .before .before .front .ensures i l
+    ∙ ap (λ b. ltb i t && b) (from-more x k _ (c .before .before .before .before .last .ensures) i l))
+    (λ i l. c .before .front2 .ensures i l ∙ ap (λ b. ltb i t && b) (c .before .before .window .ensures i l
+    ∙ ap (wbit (a .y .now)) (place (a .u) k i))) (c .apart .ensures .0) in (
+      ap (λ (s : ℕ). s + c .apart .result) (w .0) ∙ sym m
+          ∙ ap (λ (n : ℕ). count n (λ i. x i ⊕ y i)) e,
+      omega (arith, w .1, c .apart .ensures .1),
+    )
 
 pub unlike-spec : {M : Type 1} → statement M
 unlike-spec =

@@ -63,7 +63,8 @@ loop-again c =
       omega arith,
       subst (λ (n : ℕ). Filled (a .acc .now) x (set (l .acc) k v) n) (omega arith)
           (filled-more (a .acc .now) x (l .acc) k f v (omega (arith, f .long))
-          (added-word (getD (l .acc) k 0) (c .before .span .result) y z (a .at) (a .w) (l .j) (omega arith) (filled-next (a .acc .now) x (l .acc) k f)
+          (added-word (getD (l .acc) k 0) (c .before .span .result) y z (a .at) (a .w) (l .j) (omega arith)
+          (filled-next (a .acc .now) x (l .acc) k f)
           (λ i hi. c .before .span .ensures i hi ∙ ap (wbit (a .d .now)) (omega arith)))),
     )
 

@@ -1,4 +1,5 @@
--- `vectors::cut` meets its contract: after k turns the first k words have the bits, and what is past bit m is cleared at the end. Assumes nothing.
+-- `vectors::cut` meets its contract: after k turns the first k words have the bits, and what is past bit m is cleared at the end. Assumes
+-- nothing.
 use mathlib.Core.Path.{ap, _∙_}
 use Prim.Native.Nat.{_-_, _*_}
 use native.Mathlib.Omega.{arith}
@@ -44,7 +45,8 @@ loop-again c =
     let a = c .before .before .before .before .before .args in
     let l = c .before .before .loop in
     let y = wbit (a .y .now) in
-    filled-more (a .v .now) (from (a .p) y) (l .v) (l .k) (l .inv) (c .span .result) (omega arith) (λ i hi. c .span .ensures i hi ∙ ap y (omega arith))
+    filled-more (a .v .now) (from (a .p) y) (l .v) (l .k) (l .inv) (c .span .result) (omega arith) (λ i hi. c .span .ensures i hi
+    ∙ ap y (omega arith))
 
 trim-requires : tie.Need-trim-requires Inv-loop μ-loop
 trim-requires c κs = tt

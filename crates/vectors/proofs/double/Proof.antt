@@ -85,7 +85,14 @@ same-length c =
     let n = (a .m + 63) / 64 in
     let t = 64 * n - a .m in
     let p = bitOr (getD v (n - 1) 0) (getD v 0 0 / 2 / 2 ^ (63 - t)) in
-    omega (arith, c .before .d2 .given, c .before .before .before .before .before .before .before .before .before .d .given, length-set (set d (n - 1) p) (2 * n - 1) (c .before .before .before .before .funnel .result), length-set d (n - 1) p)
+    omega (
+      arith,
+      c .before .d2 .given,
+      c .before .before .before .before .before .before .before .before .before .d .given,
+      length-set
+          (set d (n - 1) p) (2 * n - 1) (c .before .before .before .before .funnel .result),
+      length-set d (n - 1) p,
+    )
 
 returns : tie.Need-returns
 returns c =
@@ -95,7 +102,8 @@ returns c =
     let n = (a .m + 63) / 64 in
     let u = c .before .before .before .before .funnel in
     c .before .before .trim .ensures
-    ∙ end-stored (a .v .now) (w .last .1 .1 .1 .0) (a .m) n (64 * n - a .m) (s .pre .0) (omega arith) (omega arith) (omega arith) (w .ensures)
+    ∙ end-stored (a .v .now) (w .last .1 .1 .1 .0) (a .m) n (64 * n - a .m) (s .pre .0) (omega arith) (omega arith) (omega arith)
+    (w .ensures)
     (u .result) (c .before .before .before .before .before .before .shared-slice-known3 .given 0 .fits) (omega arith) (u .ensures)
 
 same-length-2 : tie.Need-same-length-2

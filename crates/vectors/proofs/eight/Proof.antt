@@ -16,7 +16,8 @@ gathered-requires-2 c κs = search needs
 returns : tie.Need-returns
 returns c =
     let a = c .before .before .before .args in
-    two-halves (a .octets .now) (a .at) (c .before .gathered .result) (c .gathered2 .result) (c .before .gathered .ensures) (c .gathered2 .ensures)
+    two-halves (a .octets .now) (a .at) (c .before .gathered .result) (c .gathered2 .result) (c .before .gathered .ensures)
+    (c .gathered2 .ensures)
 
 pub eight-spec : {M : Type 1} → statement M
 eight-spec = tie.close (tie.spec gathered-requires add-gathered gathered-requires-2 returns)

@@ -28,7 +28,8 @@ shl-result c = search needs
 returns-2 : tie.Need-returns-2
 returns-2 c =
     let a = c .before .before .before .args in
-    short-group (a .octets .now) (a .at) (length (a .octets .now) - a .at) (c .gathered .result) (omega arith) (omega arith) (c .gathered .ensures)
+    short-group (a .octets .now) (a .at) (length (a .octets .now) - a .at) (c .gathered .result) (omega arith) (omega arith)
+    (c .gathered .ensures)
 
 pub last-spec : {M : Type 1} → statement M
 last-spec =

@@ -66,7 +66,8 @@ returns c =
     let s = c .before .before .before .before in
     let a = s .args in
     let l = c .before .loop in
-    filled-all (a .ws .now) (later (a .u) (wbit (a .ws .now))) (l .ws) (l .k) (l .inv .1) (omega arith) (later-past (a .ws .now) (a .u) (s .pre .1))
+    filled-all (a .ws .now) (later (a .u) (wbit (a .ws .now))) (l .ws) (l .k) (l .inv .1) (omega arith)
+    (later-past (a .ws .now) (a .u) (s .pre .1))
 
 returns-2 : tie.Need-returns-2 Inv-loop μ-loop
 returns-2 c = later-none (c .before .before .args .u) (wbit (c .before .before .args .ws .now)) (omega arith)

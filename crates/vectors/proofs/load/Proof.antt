@@ -36,7 +36,8 @@ returns c =
     let x = bit (a .octets .now) in
     let k = length (a .octets .now) / 8 in
     let w = c .before .before .before .before .load-whole in
-    word-stored (w .last .1 .0) k x (wbit (a .ws .now)) (w .ensures) (c .last .result) (omega arith) (λ i hi. c .last .ensures i hi ∙ ap x (omega arith))
+    word-stored (w .last .1 .0) k x (wbit (a .ws .now)) (w .ensures) (c .last .result) (omega arith) (λ i hi. c .last .ensures i hi
+    ∙ ap x (omega arith))
     ∙ zeros-behind (a .octets .now) (a .ws .now) (k + 1) (s .pre .1) (omega arith)
 
 same-length-2 : tie.Need-same-length-2
@@ -45,7 +46,8 @@ same-length-2 c = search needs
 returns-2 : tie.Need-returns-2
 returns-2 c =
     let s = c .before .before .before .before .before .before .before in
-    c .before .before .before .load-whole .ensures ∙ zeros-behind (s .args .octets .now) (s .args .ws .now) (length (s .args .octets .now) / 8) (s .pre .1) (omega arith)
+    c .before .before .before .load-whole .ensures
+    ∙ zeros-behind (s .args .octets .now) (s .args .ws .now) (length (s .args .octets .now) / 8) (s .pre .1) (omega arith)
 
 pub load-spec : {M : Type 1} → statement M
 load-spec =

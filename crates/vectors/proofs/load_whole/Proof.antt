@@ -42,8 +42,11 @@ loop-again : tie.Need-loop-again Inv-loop μ-loop
 loop-again c =
     let a = c .before .before .before .before .before .args in
     let l = c .before .before .loop in
-    let x = bit (a .octets .now) in
-    (omega arith, filled-more (a .ws .now) x (l .ws) (l .k) (l .inv .1) (c .eight .result) (omega arith) (λ i hi. c .eight .ensures i hi ∙ ap x (omega arith)))
+    let x = bit (a .octets .now) in (
+      omega arith,
+      filled-more (a .ws .now) x (l .ws) (l .k) (l .inv .1) (c .eight .result) (omega arith) (λ i hi. c .eight .ensures i hi
+          ∙ ap x (omega arith)),
+    )
 
 same-length : tie.Need-same-length Inv-loop μ-loop
 same-length c = c .before .loop .inv .1 .long

@@ -12,7 +12,8 @@ use Rattle.vectors.proofs.put.Statement.{statement}
 use Rattle.vectors.proofs.put.Tie as tie
 
 abbrev Inv-loop : tie.InvT-loop
-Inv-loop v n out₀ at j₀ out j = (j ≤ n) × (length out ≡ length out₀) × (bit out ≡ joined (8 * (at + j)) (after (8 * at) (bit out₀) v) (bit out₀))
+Inv-loop v n out₀ at j₀ out j = (j ≤ n) × (length out ≡ length out₀)
+    × (bit out ≡ joined (8 * (at + j)) (after (8 * at) (bit out₀) v) (bit out₀))
 
 abbrev μ-loop : tie.MeasureT-loop
 μ-loop v n out₀ at j₀ out j = n - j
@@ -20,8 +21,12 @@ abbrev μ-loop : tie.MeasureT-loop
 loop-holds : tie.Need-loop-holds Inv-loop μ-loop
 loop-holds c =
     let a = c .args in
-    let z = bit (a .out .now) in
-    (omega arith, refl, joined-start (8 * (a .at + 0)) (after (8 * a .at) z (a .v)) z (λ n h. sym (joined-below (8 * a .at) n z (λ k. digit 64 (a .v) (k - 8 * a .at)) (omega arith))))
+    let z = bit (a .out .now) in (
+      omega arith,
+      refl,
+      joined-start (8 * (a .at + 0)) (after (8 * a .at) z (a .v)) z
+          (λ n h. sym (joined-below (8 * a .at) n z (λ k. digit 64 (a .v) (k - 8 * a .at)) (omega arith))),
+    )
 
 mul-out : tie.Need-mul-out Inv-loop μ-loop
 mul-out c = omega arith

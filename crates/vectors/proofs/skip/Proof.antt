@@ -65,8 +65,11 @@ loop-less c = omega arith
 loop-again : tie.Need-loop-again Inv-loop μ-loop
 loop-again c =
     let r = c .before .before .before .before in
-    let l = r .before .before in
-    (search needs, clear-four (l .before .args .ws .now) (l .loop .k) (l .loop .inv .1) (λ i. r .shared-slice-known .given i .fits) (c .if1 .left))
+    let l = r .before .before in (
+      search needs,
+      clear-four (l .before .args .ws .now) (l .loop .k) (l .loop .inv .1) (λ i. r .shared-slice-known .given i .fits)
+          (c .if1 .left),
+    )
 
 returns-2 : tie.Need-returns-2 Inv-loop μ-loop
 returns-2 c = c .before .loop .inv

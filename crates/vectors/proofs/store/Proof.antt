@@ -23,8 +23,13 @@ abbrev μ-loop : tie.MeasureT-loop
 
 loop-holds : tie.Need-loop-holds Inv-loop μ-loop
 loop-holds c =
-    let a = c .before .before .args in
-    (omega arith, refl, joined-start 0 (from (a .u) (wbit (a .ws .now))) (bit (a .out .now)) (λ n h. absurd (omega arith)), λ i. c .slice-known .given i .fits)
+    let a = c .before .before .args in (
+      omega arith,
+      refl,
+      joined-start 0 (from (a .u) (wbit (a .ws .now))) (bit (a .out .now)) (λ n h. absurd (omega arith)),
+      λ i.
+          c .slice-known .given i .fits,
+    )
 
 add-span : tie.Need-add-span Inv-loop μ-loop
 add-span c = omega arith

@@ -52,7 +52,8 @@ loop-again c =
       omega arith,
       omega arith,
       filled-more (a .ws .now) x (l .ws) (l .k) (l .inv .2) v (omega arith)
-          (front-upTo v (getD (l .ws) (l .k) 0) (l .k) (a .n) (l .t) y (c .front .ensures) (filled-next (a .ws .now) x (l .ws) (l .k) (l .inv .2)) (l .inv .1)),
+          (front-upTo v (getD (l .ws) (l .k) 0) (l .k) (a .n) (l .t) y (c .front .ensures)
+          (filled-next (a .ws .now) x (l .ws) (l .k) (l .inv .2)) (l .inv .1)),
     )
 
 same-length : tie.Need-same-length Inv-loop μ-loop
@@ -62,7 +63,8 @@ returns : tie.Need-returns Inv-loop μ-loop
 returns c =
     let a = c .before .before .before .args in
     let l = c .before .loop in
-    filled-all (a .ws .now) (upTo (a .n) (wbit (a .ws .now))) (l .ws) (l .k) (l .inv .2) (omega arith) (λ i h. upTo-past (a .ws .now) (a .n) i h)
+    filled-all (a .ws .now) (upTo (a .n) (wbit (a .ws .now))) (l .ws) (l .k) (l .inv .2) (omega arith)
+    (λ i h. upTo-past (a .ws .now) (a .n) i h)
 
 pub trim-spec : {M : Type 1} → statement M
 trim-spec =

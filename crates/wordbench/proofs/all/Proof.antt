@@ -23,13 +23,15 @@ shared-slice-read-word-octets : tie.Need-shared-slice-read-word-octets
 shared-slice-read-word-octets c = search needs
 
 word-octets-requires : tie.Need-word-octets-requires
-word-octets-requires c κs = good (c .before .before .before .before .before .args .head .now) (c .before .before .before .before .before .pre .1) .1
+word-octets-requires c κs = good (c .before .before .before .before .before .args .head .now)
+    (c .before .before .before .before .before .pre .1) .1
 
 shared-slice-read-block-octets : tie.Need-shared-slice-read-block-octets
 shared-slice-read-block-octets c = search needs
 
 block-octets-requires : tie.Need-block-octets-requires
-block-octets-requires c κs = good (c .before .before .before .before .before .before .before .args .head .now) (c .before .before .before .before .before .before .before .pre .1) .1
+block-octets-requires c κs = good (c .before .before .before .before .before .before .before .args .head .now)
+    (c .before .before .before .before .before .before .before .pre .1) .1
 
 array-borrow-prefix-words : tie.Need-array-borrow-prefix-words
 array-borrow-prefix-words c = search needs
@@ -51,8 +53,10 @@ blocks-requires c κs =
     let s = c .before .before .before .before .before .before .before .before .before .before .before in
     let d = c .before .before .before .block-octets in
     let z = c .before .before .before .before .before .word-octets in
-    let words = length-take-le (d .result) (c .before .before .before .before .before .before .before .before .before .large-buffer .result) (omega arith) in
-    let out = length-take-le (z .result) (c .before .before .before .before .before .before .before .before .out-buffer .result) (omega arith) in
+    let words = length-take-le (d .result)
+    (c .before .before .before .before .before .before .before .before .before .large-buffer .result) (omega arith) in
+    let out = length-take-le (z .result) (c .before .before .before .before .before .before .before .before .out-buffer .result)
+    (omega arith) in
     let w = sizeIn (s .args .head .now) in
     let whole = ap (λ n. n % w) words ∙ d .ensures .0 in
     ((s .pre, (out ∙ z .ensures .0, omega (arith, words))), (whole, omega (arith, words), omega (arith, words)))

@@ -34,7 +34,8 @@ loop-less c = search needs
 
 loop-again : tie.Need-loop-again Inv-loop μ-loop
 loop-again c =
-    let s = c .before .before .before .before .before .before .before .before .before .before .before .before .before .before .before .before .before in
+    let s = c .before .before .before .before .before .before .before .before .before .before .before .before .before .before .before
+    .before .before in
     let h = c .before .before .before .before .before .before .before .before .before .before .before .before .loop in
     let words = c .before .before .before .before .before .before .before .block .last .1 .1 .0 in
     let w = sizeIn (s .args .head .now) in

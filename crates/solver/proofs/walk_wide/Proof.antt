@@ -1,0 +1,110 @@
+-- `solver::walk_wide` meets its contract: after k turns the first k steps are taken. Assumes nothing.
+use mathlib.Core.Path.{_≡_, refl, sym, ap, _∙_, subst}
+use mathlib.Core.List.{List, []}
+use Prim.Native.Nat.{ℕ, _+_, _-_, _*_, _≤_, _<_}
+use native.Mathlib.Omega.{arith}
+use lib.Dec.{T}
+use lib.ListN.{length, getD}
+use borrow.Author.Needs.{needs}
+use Rattle.bits.specs.Bits.{Word}
+use Rattle.vectors.specs.Vectors.{wbit}
+use Rattle.syndromes.specs.Rows.{wide}
+use Rattle.steps.specs.Steps.{rowsIn, stepped, walked, steps511}
+use Rattle.solver.specs.Rows.{held, Kept, stepsOf}
+use Rattle.solver.proofs.Laws.{wide-some, held-kept, walked-none, walked-more}
+use Rattle.solver.proofs.walk_wide.Statement.{statement}
+use Rattle.solver.proofs.walk_wide.Tie as tie
+
+abbrev Inv-loop : tie.InvT-loop
+Inv-loop sh s₀ steps d₀ k₀ s d k =
+    (k ≤ 15) × (length s ≡ 16) × (length d ≡ 16) × Kept sh (wbit s) × (stepsOf (sh .size) ≡ steps)
+    × ((f : ℕ → Word) → wbit s₀ ≡ held sh f → wbit s ≡ held sh (walked (sh .size) (stepsOf (sh .size)) k f))
+
+abbrev μ-loop : tie.MeasureT-loop
+μ-loop sh s₀ steps d₀ k₀ s d k = 15 - k
+
+loop-holds : tie.Need-loop-holds Inv-loop μ-loop
+unfolding stepsOf
+loop-holds c = let s = c .before in (
+  omega arith,
+  s .pre .3,
+  refl,
+  s .pre .4,
+  ap stepsOf (s .pre .1),
+  λ f e. e
+      ∙ ap (held (s .args .sh)) (walked-none (s .args .sh .size) (stepsOf (s .args .sh .size)) f),
+)
+
+mul-step-wide : tie.Need-mul-step-wide Inv-loop μ-loop
+mul-step-wide c = omega arith
+
+index-1-step-wide : tie.Need-index-1-step-wide Inv-loop μ-loop
+index-1-step-wide c = omega arith
+
+slice-aggregate-step-wide : tie.Need-slice-aggregate-step-wide Inv-loop μ-loop
+slice-aggregate-step-wide c = sym (c .before .before .before .before .loop .inv .2)
+
+step-wide-requires : tie.Need-step-wide-requires Inv-loop μ-loop
+step-wide-requires c κs = let s = c .before .before .before .before .before .before .before in
+    let l = c .before .before .before .before .before .loop in
+    let h : l .k < 15 = omega arith in (
+      s .pre .0,
+      l .inv .2,
+      search needs,
+      subst (λ (z : List (List ℕ)). T (rowsIn (s .args .sh .rows) (getD z (l .k) []))) (l .inv .4)
+          (s .pre .2 (l .k) h),
+      l .inv .1,
+      l .inv .3,
+    )
+
+add-k : tie.Need-add-k Inv-loop μ-loop
+add-k c = omega arith
+
+loop-less : tie.Need-loop-less Inv-loop μ-loop
+loop-less c = omega arith
+
+loop-again : tie.Need-loop-again Inv-loop μ-loop
+loop-again c = let s = c .before .before .before .before .before .before .before .before .before .before .before in
+    let sh = s .args .sh in
+    let l = c .before .before .before .before .before .before .before .before .before .loop in
+    let step = c .before .before .before .step-wide in
+    let own : ℕ → Word = λ r i. wbit (l .s) (wide sh * r + i) in (
+      omega arith,
+      step .kept .1 .1 .1 .0 ∙ l .inv .1,
+      step .kept .1 .1 .0 ∙ l .inv .2,
+      held-kept sh (wide-some sh (s .pre .0)) (stepped (sh .size) (getD steps511 (l .k) []) own) (wbit (step .last .1 .1 .1 .0))
+          (step .ensures own (l .inv .3)),
+      l .inv .4,
+      λ f e.
+          let before = walked (sh .size) (stepsOf (sh .size)) (l .k) f in
+          step .ensures before (l .inv .5 f e) ∙ ap (λ (z : List (List ℕ)). held sh (stepped (sh .size) (getD z (l .k) []) before))
+          (sym (l .inv .4))
+          ∙ ap (held sh) (walked-more (sh .size) (stepsOf (sh .size)) (l .k) f),
+    )
+
+same-length : tie.Need-same-length Inv-loop μ-loop
+same-length c = c .before .loop .inv .1 ∙ sym (c .before .before .before .pre .3)
+
+returns : tie.Need-returns Inv-loop μ-loop
+returns c = λ f e.
+    let sh = c .before .before .before .args .sh in
+    let l = c .before .loop in
+    let all : l .k ≡ 15 = omega arith in
+    l .inv .5 f e ∙ ap (λ (n : ℕ). held sh (walked (sh .size) (stepsOf (sh .size)) n f)) all
+
+pub walk-wide-spec : {M : Type 1} → statement M
+walk-wide-spec =
+    tie.close
+    (tie.spec
+    Inv-loop
+    μ-loop
+    loop-holds
+    mul-step-wide
+    index-1-step-wide
+    slice-aggregate-step-wide
+    step-wide-requires
+    add-k
+    loop-less
+    loop-again
+    same-length
+    returns)
