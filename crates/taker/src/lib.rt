@@ -106,18 +106,23 @@ fn search(place: usize, part: &[u8]) -> Searched
     ensures { λ r. ⌜ (r .place < 1024) × (r .at ≤ length (now (part .entry))) × (r .place < 4 → r .at ≡ length (now (part .entry))) ⌝ }
     ensures { λ r. ⌜ GoesOn (now (part .entry)) 0 place (r .at) (r .place) ⌝ }
 {
+    if place > 3 {
+        return Searched {
+            place: place,
+            at: 0,
+        };
+    }
     let mut m = place;
-    let mut i: usize = 0;
+    let mut i = jump(m, part, 0);
     while i < part.len() {
+        m = matched(m, part[i]);
         if m > 3 {
-            return Searched { place: m, at: i };
+            return Searched {
+                place: m,
+                at: i + 1,
+            };
         }
-        let at = jump(m, part, i);
-        if at >= part.len() {
-            return Searched { place: m, at: at };
-        }
-        m = matched(m, part[at]);
-        i = at + 1;
+        i = jump(m, part, i + 1);
     }
     Searched { place: m, at: i }
 }
