@@ -90,8 +90,10 @@ def _kinds() -> List[str]:
 def printed(code: int, rows: Rows) -> str:
     """A code's table as text."""
     kinds = _kinds()
-    lines = [f"code {code}, {NAMES[code]}", "wrong bits  " + "  ".join(f"{kind:>16}" for kind in kinds)]
-    lines += [f"{wrong:>10}  " + "  ".join(f"{counts[kind]:>16,}" for kind in kinds) for wrong, counts in rows]
+    wide = [max(8, len(kind)) for kind in kinds]
+    lines = [f"code {code}, {NAMES[code]}", "wrong bits  " + "  ".join(kind.rjust(room) for kind, room in zip(kinds, wide))]
+    for wrong, counts in rows:
+        lines.append(f"{wrong:>10}  " + "  ".join(f"{counts[kind]:>{room},}" for kind, room in zip(kinds, wide)))
     return "\n".join(lines) + "\n"
 
 

@@ -4,9 +4,12 @@ from __future__ import annotations
 from collections import Counter
 from html import escape
 from typing import Counter as Counts
-from typing import Dict, List, Mapping, NamedTuple, Optional, Sequence, Tuple
+from typing import Dict, List, Mapping, NamedTuple, Sequence, Tuple
 
 INK, LIGHT, PALE, RED, AMBER, GREY = "#16365c", "#8fb0d3", "#d5dbe1", "#c0392b", "#e0a030", "#555"
+
+#: Inside and edge of a dot, for words that were refused and taken.
+TAKEN = {False: ("#f3c6c0", RED), True: (LIGHT, INK)}
 
 WIDE = 900
 
@@ -139,7 +142,7 @@ def columns(series: Sequence[Tuple[str, str, Mapping[int, int]]], title: str, ac
     picture = Picture(400, title)
     picture.text(0, 18, title, 16, "start")
     most = max((value for _, _, counts in series for value in counts), default=0)
-    bin_width = -(-(most + 1) // 32)
+    bin_width = -(-(most + 1) // 48)
     bins = most // bin_width + 1
     binned: List[Counts[int]] = []
     for _, _, counts in series:
@@ -159,9 +162,9 @@ def columns(series: Sequence[Tuple[str, str, Mapping[int, int]]], title: str, ac
             picture.bar(x, field.y(0) - high, max(1.0, wide - 1), high, colour, f"{name} {numbers}: {count:,} words")
             if not small:
                 picture.text(x + wide / 2, field.y(0) - high - 5, f"{count:,}", 11, fill=GREY)
-    every = 1 if bins <= 16 else 2
+    every = 1 if bin_width == 1 and bins <= 24 else 2 if bin_width == 1 else 6
     for value in range(0, bins, every):
-        picture.text(field.x(value + 0.5), field.y(0) + 18, _binned(value, bin_width), 11 if bin_width == 1 else 9)
+        picture.text(field.x(value + 0.5), field.y(0) + 18, _binned(value, bin_width), 11)
     field.foot(across)
     picture.key(375, [(colour, name) for name, colour, _ in series], field.left)
     return picture.drawn()
@@ -171,7 +174,7 @@ def _binned(value: int, width: int) -> str:
     return str(value) if width == 1 else f"{value * width} to {value * width + width - 1}"
 
 
-def starts(counts: Mapping[Tuple[int, int, bool], int], halved: Optional[bool], title: str) -> str:
+def starts(counts: Mapping[Tuple[int, int, bool], int], halved: bool, title: str) -> str:
     """Broken checks at the start against flips, an area for the number of words; and the bound that is proved.
 
     The bound is the checks broken at the start, or half of them for codes 4 and 5; where the code is not known, the first.
@@ -187,43 +190,40 @@ def starts(counts: Mapping[Tuple[int, int, bool], int], halved: Optional[bool], 
     field.across = marks[-1]
     for mark in marks:
         picture.line(f"M{field.x(mark):.1f} {field.top}V{field.y(0)}", PALE if mark else "#444")
-        picture.text(field.x(mark), field.y(0) + 18, f"{mark:,}", 12)
+        picture.text(field.x(mark), field.y(0) + 22, f"{mark:,}", 12)
     end = min(field.across, field.most / bound)
     picture.line(f"M{field.x(0):.1f} {field.y(0):.1f}L{field.x(end):.1f} {field.y(end * bound):.1f}", GREY, 1.5, "6 4")
-    cells = _cells(counts, field.across / 90, field.most / 45)
+    cells = counts if len(counts) <= 2000 else _together(counts, field.across / 90, field.most / 45)
     most = max(cells.values(), default=1)
     for (x, y, taken), count in sorted(cells.items(), key=lambda cell: -cell[1]):
-        radius = 3 + 11 * (count / most) ** 0.5
-        said = f"{count:,} words {'taken' if taken else 'refused'}, about {x:g} broken checks, {y:g} flips"
-        if taken:
-            picture.dot(field.x(x), field.y(y), radius, LIGHT, INK, said, 0.75)
-        else:
-            picture.dot(field.x(x), field.y(y), radius, "#f3c6c0", RED, said, 0.75)
+        radius = 3.5 + 10.5 * (count / max(most, 25)) ** 0.5
+        said = f"{count:,} {'taken' if taken else 'refused'}: {x:,} broken checks, {y:,} flips"
+        picture.dot(field.x(x), field.y(y), radius, *TAKEN[taken], said, 0.75)
     field.foot("broken checks at the start")
-    words = "no run can lie above this line: flips are at most " + ("half of the" if halved else "the") + " broken checks (proved)"
-    picture.dot(field.left + 6, 440, 6, LIGHT, INK)
-    picture.text(field.left + 18, 444, "taken", 12, "start")
-    picture.dot(field.left + 76, 440, 6, "#f3c6c0", RED)
-    picture.text(field.left + 88, 444, "refused", 12, "start")
-    picture.text(field.left + 150, 444, f"area: number of words, {most:,} at most", 12, "start")
-    picture.line(f"M{field.left + 410} 440h26", GREY, 1.5, "6 4")
-    picture.text(field.left + 442, 444, words, 12, "start")
+    for x, taken, words in ((6, True, "taken"), (76, False, "refused")):
+        picture.dot(field.left + x, 424, 6, *TAKEN[taken])
+        picture.text(field.left + x + 12, 428, words, 12, "start")
+    picture.text(field.left + 160, 428, f"area: number of words, {most:,} at most", 12, "start")
+    picture.line(f"M{field.left} 446h26", GREY, 1.5, "6 4")
+    words = "half of the broken checks" if halved else "the broken checks"
+    picture.text(field.left + 34, 450, f"no run lies above this line: its flips are at most {words} (proved)", 12, "start")
     return picture.drawn()
 
 
-def _cells(counts: Mapping[Tuple[int, int, bool], int], wide: float, high: float) -> Dict[Tuple[float, float, bool], int]:
-    """The same counts, with points together that a chart can't tell apart."""
-    cells: Dict[Tuple[float, float, bool], int] = {}
+def _together(counts: Mapping[Tuple[int, int, bool], int], wide: float, high: float) -> Counts[Tuple[int, int, bool]]:
+    """The same counts, with points drawn as one that a chart can't tell apart: at their cell's lower right corner, so that none
+    comes to lie above the bound."""
+    wide, high = max(1, wide), max(1, high)
+    cells: Counts[Tuple[int, int, bool]] = Counter()
     for (first, flips, taken), count in counts.items():
-        x = first if wide <= 1 else (int(first / wide) + 0.5) * wide
-        y = flips if high <= 1 else (int(flips / high) + 0.5) * high
-        cells[x, y, taken] = cells.get((x, y, taken), 0) + count
+        cells[int(-int(-first // wide) * wide), int(int(flips // high) * high), taken] += count
     return cells
 
 
 def run(first: int, flips: Sequence[Flip], title: str) -> str:
     """A run: the broken checks left after each flip."""
-    picture = Picture(330, title)
+    again = len({flip.bit for flip in flips}) < len(flips)
+    picture = Picture(325 if again else 300, title)
     picture.text(0, 18, title, 15, "start")
     field = Field(picture, 60, 190)
     field.side(max(first, 1), "checks still broken")
@@ -234,11 +234,9 @@ def run(first: int, flips: Sequence[Flip], title: str) -> str:
     picture.dot(field.x(0), field.y(first), 3, INK)
     seen: Dict[int, int] = {}
     few, labels = len(flips) <= 14, len(flips) <= 45
-    again = False
     for k, flip in enumerate(flips, 1):
         back = seen.get(flip.bit, 0) % 2 == 1
         seen[flip.bit] = seen.get(flip.bit, 0) + 1
-        again = again or back
         said = f"flip {k}: bit {flip.bit}, excess {flip.excess}, {flip.left} checks left"
         radius = 5 if labels else 2.5
         picture.dot(field.x(k), field.y(flip.left), radius, "#fff" if back else INK, RED if back else INK, said)
@@ -251,8 +249,8 @@ def run(first: int, flips: Sequence[Flip], title: str) -> str:
     picture.text(field.x(0), field.y(0) + 17, 0, 11)
     field.foot("flips made")
     if again:
-        picture.dot(field.left + 6, 314, 5, "#fff", RED)
-        picture.text(field.left + 18, 318, "a bit turned back", 12, "start")
+        picture.dot(field.left + 6, 308, 5, "#fff", RED)
+        picture.text(field.left + 18, 312, "a bit turned back", 12, "start")
     return picture.drawn()
 
 

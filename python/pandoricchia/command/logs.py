@@ -15,6 +15,9 @@ RUN_REFUSED = (5, 6, 7, 8)
 #: More than so many unlike bits, and no code promises that the word is the one that was sent.
 PROMISED = 2
 
+#: Why somebody should look at most of the words that need a look.
+REFUSED = "refused"
+
 _FIRST = ("word", "codeblock")
 _COLUMNS = ("answer", "flips", "first", "last", "unlike")
 
@@ -41,9 +44,9 @@ class Entry(NamedTuple):
         """Why somebody should look at it; nothing for most words."""
         found = []
         if not self.taken:
-            found.append("refused")
+            found.append(REFUSED)
         if self.flips > self.unlike:
-            found.append("a bit turned and turned back")
+            found.append("a bit turned back")
         if self.taken and self.unlike > PROMISED:
             found.append(f"more than {PROMISED} bits changed")
         return found
@@ -142,6 +145,10 @@ class Tally:
         self.looks += other.looks
         for _, entry in other._worst:
             self._keep(entry)
+
+    def looked(self) -> str:
+        """How many words need a look for each reason, in a sentence's part."""
+        return "; ".join(f"{count:,} {look if look == REFUSED else 'with ' + look}" for look, count in sorted(self.looks.items(), reverse=True))
 
     @property
     def worst(self) -> List[Entry]:

@@ -65,7 +65,7 @@ class Verbs:
 
     def add(self, name: str, run: Callable[[argparse.Namespace], int], gives: str, more: str, *examples: str) -> Parser:
         """A verb: what it does in a few words, what there is more to say, and examples."""
-        parser: Parser = self._made.add_parser(name, help=gives, description=_filled(f"{gives[0].upper()}{gives[1:]}. {more}"))
+        parser: Parser = self._made.add_parser(name, help=gives, description=filled(f"{gives[0].upper()}{gives[1:]}. {more}"))
         parser.epilog = "example:\n" + "\n".join(f"  {example}" for example in examples)
         parser.set_defaults(run=run, label=parser.prog, code=None, limit=None, output=None, jobs=1)
         return parser
@@ -76,11 +76,11 @@ class Verbs:
         return Verbs(parser, name + "_verb")
 
 
-def _filled(text: str) -> str:
-    """Text in lines of at most 79 characters."""
+def filled(text: str) -> str:
+    """Text in lines of at most 78 characters."""
     lines: List[str] = [""]
     for word in text.split():
-        if len(lines[-1]) + len(word) >= 79:
+        if len(lines[-1]) + len(word) > 77:
             lines.append("")
         lines[-1] += (" " if lines[-1] else "") + word
     return "\n".join(lines)
@@ -90,7 +90,7 @@ def _filled(text: str) -> str:
 
 
 def _input(parser: argparse.ArgumentParser, what: str) -> None:
-    parser.add_argument("input", nargs="?", metavar="FILE", help=f"{what}; standard input if none is named, or for -")
+    parser.add_argument("input", nargs="?", metavar="FILE", help=f"{what}; standard input where it is - or not named")
 
 
 def _output(parser: argparse.ArgumentParser, what: str) -> None:
@@ -330,18 +330,20 @@ def _pictures(verbs: Verbs) -> None:
     _jobs(tried)
 
 
-DESCRIPTION = """Encode, spoil, check, open and correct words of five CCSDS LDPC codes, and what lies
-around them: units, streams, blocks, BCH words; and make summaries, reports and
-campaigns. It is thin and stands outside the proofs: what it computes it asks
-of the proved library."""
-
-STATUS = """exit status: 0 if all is taken, 1 if something is refused, 2 for bad usage or a
-read or write that failed, which is said in one line on standard error."""
+DESCRIPTION = (
+    "Encode, spoil, check, open and correct words of five CCSDS LDPC codes, and what lies around them: units, streams, blocks, BCH"
+    " words; and make summaries, reports and campaigns. It is thin and stands outside the proofs: what it computes it asks of the"
+    " proved library."
+)
+STATUS = (
+    "exit status: 0 if all is taken, 1 if something is refused, 2 for bad usage or a read or write that failed, which is said in one"
+    " line on standard error."
+)
 
 
 def parser() -> Parser:
     """The command's parser."""
-    made = Parser(prog="pandoricchia", description=DESCRIPTION, epilog=STATUS)
+    made = Parser(prog="pandoricchia", description=filled(DESCRIPTION), epilog=filled(STATUS))
     made.add_argument("--version", action="version", version=f"pandoricchia {VERSION}")
     verbs = Verbs(made, "verb")
     _words(verbs)

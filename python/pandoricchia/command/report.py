@@ -143,14 +143,18 @@ def _proved(code: Optional[int]) -> List[str]:
     half = "half of the checks broken at the start" if code in (4, 5) else "the checks broken at the start"
     if code is None:
         half += " (codes 4 and 5: half of them)"
+    covered = {None: "any bit but code 5's last two, which are filling", 5: "any bit but the last two, which are filling"}
     said = [
         "For every input the library's number, flips, broken checks at the start and at the end, unlike bits and output octets"
-        " are those of one short definition, the flipping run. What <code>wordbench</code> writes for a word is that"
-        " definition's line.",
+        " are those of one short definition, the flipping run.",
+        "A log that <code>wordbench</code> wrote is that definition's log, line by line, up to the system's reading and writing."
+        if code is None
+        else "The numbers on this page were asked of the library, word by word.",
         "Answer 0 means: the run ended with no check broken, at a word that the encoder can give.",
-        f"Flips are never more than the limit, and never more than {half}; unlike is never more than flips.",
+        f"Flips are never more than the limit, and never more than {half}. Unlike is never more than flips, and both are even or"
+        " both odd.",
         "A codeword comes back as it is, with no flips.",
-        "One wrong bit, under a limit of at least 1, is mended by exactly one flip.",
+        f"One wrong bit alone is mended by exactly one flip, under a limit of at least 1: {covered.get(code, 'any bit')}.",
     ]
     if code in (None, 4, 5):
         where = "Under codes 4 and 5 two" if code is None else "Two"
@@ -225,8 +229,7 @@ def _looks(tally: Tally, head: Optional[Head], worst: int) -> str:
         return section("Words that need a look", "<p>None: every word was taken, with at most two bits changed and none turned back.</p>")
     rows = [(entry.index, entry.answer, entry.flips, entry.first, entry.last, entry.unlike, "; ".join(entry.looks)) for entry in tally.worst]
     columns = ("word", "answer", "flips", "first", "last", "unlike", "why")
-    counts = "; ".join(f"{tally.looks[look]:,} {look}" for look in sorted(tally.looks))
-    shown_parts = [f"<p>{escape(counts)}. The worst, at most {worst}, first:</p>", table(columns, rows, (6,))]
+    shown_parts = [f"<p>{escape(tally.looked())}. The worst, at most {worst}, first:</p>", table(columns, rows, (6,))]
     if head is None and not any(entry.under for entry in tally.worst):
         shown_parts.append(
             "<p class=small>This log has no flips. A report of the recording, or of the log of <code>pandoricchia why</code>, shows the"

@@ -6,7 +6,7 @@ from typing import Counter, Iterator, List
 
 from ..numbers import text
 from .files import Failed, Sink, Source
-from .logs import Entry, Tally, entries
+from .logs import REFUSED, Entry, Tally, entries
 from .progress import Progress
 
 
@@ -38,7 +38,7 @@ def of_word(entry: Entry) -> str:
     """A word in a sentence."""
     said = f"word {entry.index}: answer {entry.answer}, {text(entry.answer)}; {plural(entry.flips, 'flip')}"
     said += f", {plural(entry.unlike, 'bit')} unlike, broken checks {entry.first} at the start and {entry.last} at the end"
-    more = [look for look in entry.looks if look != "refused"]
+    more = [look for look in entry.looks if look != REFUSED]
     return said + (f" ({'; '.join(more)})" if more else "")
 
 
@@ -56,7 +56,7 @@ def summarised(tally: Tally) -> str:
         lines += ["", "Bits in which they were changed:", *_table(tally.unlike, "unlike")]
     lines.append("")
     if tally.looks:
-        lines.append("Words that need a look: " + "; ".join(f"{tally.looks[look]:,} {look}" for look in sorted(tally.looks)))
+        lines.append(f"Words that need a look: {tally.looked()}")
         lines += [f"  {of_word(entry)}" for entry in tally.worst]
     else:
         lines.append("No word needs a look.")

@@ -167,8 +167,9 @@ def _log(verb: str, columns: str, work: Callable[[Ask, Part], Done], options: Na
     with Source(options.input) as source, Sink(None) as printed:
         told = head(source, options)
         ask = Ask(told.code, told.limit, keep=options.output is not None, reach=getattr(options, "reach", 0))
+        unknown = not told.offered or offered and told.code not in offered
         printed.write(columns.encode() + b"\n")
-        if not told.offered or offered and told.code not in offered:
+        if unknown:
             printed.write("".join(work(Ask(0), Part(0, b"")).lines).encode())
             return 1
         taken = True
