@@ -6,6 +6,8 @@ from html import escape
 from typing import Counter as Counts
 from typing import Dict, List, Mapping, NamedTuple, Sequence, Tuple
 
+from .logs import plural
+
 INK, LIGHT, PALE, RED, AMBER, GREY = "#16365c", "#8fb0d3", "#d5dbe1", "#c0392b", "#e0a030", "#555"
 
 #: Inside and edge of a dot, for words that were refused and taken.
@@ -131,7 +133,7 @@ def answers(counts: Mapping[int, int], meaning: Mapping[int, str], title: str) -
         y = 42 + 34 * k
         long = max(1.5, wide * counts[answer] / most) if counts[answer] else 0
         picture.text(left - 12, y + 16, f"{answer}: {meaning[answer]}", 13, "end")
-        picture.bar(left, y, long, 24, RED if answer else INK, f"answer {answer}: {counts[answer]:,} words")
+        picture.bar(left, y, long, 24, RED if answer else INK, f"answer {answer}: {plural(counts[answer], 'word')}")
         picture.text(left + long + 8, y + 16, share(counts[answer], whole), 13, "start")
     picture.line(f"M{left} 34V{42 + 34 * len(shown)}", "#444")
     return picture.drawn()
@@ -159,7 +161,7 @@ def columns(series: Sequence[Tuple[str, str, Mapping[int, int]]], title: str, ac
             x, wide = field.x(value + 0.1 + s * room), field.wide * room / bins
             high = max(1.5, field.y(0) - field.y(count))
             numbers = _binned(value, bin_width)
-            picture.bar(x, field.y(0) - high, max(1.0, wide - 1), high, colour, f"{name} {numbers}: {count:,} words")
+            picture.bar(x, field.y(0) - high, max(1.0, wide - 1), high, colour, f"{name} {numbers}: {plural(count, 'word')}")
             if not small:
                 picture.text(x + wide / 2, field.y(0) - high - 5, f"{count:,}", 11, fill=GREY)
     every = 1 if bin_width == 1 and bins <= 24 else 2 if bin_width == 1 else 6
@@ -197,7 +199,7 @@ def starts(counts: Mapping[Tuple[int, int, bool], int], halved: bool, title: str
     most = max(cells.values(), default=1)
     for (x, y, taken), count in sorted(cells.items(), key=lambda cell: -cell[1]):
         radius = 3.5 + 10.5 * (count / max(most, 25)) ** 0.5
-        said = f"{count:,} {'taken' if taken else 'refused'}: {x:,} broken checks, {y:,} flips"
+        said = f"{count:,} {'taken' if taken else 'refused'}: {plural(x, 'broken check')}, {plural(y, 'flip')}"
         picture.dot(field.x(x), field.y(y), radius, *TAKEN[taken], said, 0.75)
     field.foot("broken checks at the start")
     for x, taken, words in ((6, True, "taken"), (76, False, "refused")):
@@ -237,7 +239,7 @@ def run(first: int, flips: Sequence[Flip], title: str) -> str:
     for k, flip in enumerate(flips, 1):
         back = seen.get(flip.bit, 0) % 2 == 1
         seen[flip.bit] = seen.get(flip.bit, 0) + 1
-        said = f"flip {k}: bit {flip.bit}, excess {flip.excess}, {flip.left} checks left"
+        said = f"flip {k}: bit {flip.bit}, excess {flip.excess}, {plural(flip.left, 'check')} left"
         radius = 5 if labels else 2.5
         picture.dot(field.x(k), field.y(flip.left), radius, "#fff" if back else INK, RED if back else INK, said)
         colour = RED if back else "#222"
@@ -268,7 +270,7 @@ def outcomes(rows: Sequence[Tuple[int, Mapping[str, int]]], kinds: Sequence[Tupl
             part = 100 * counts.get(kind, 0) / whole
             if part:
                 high = field.y(below) - field.y(below + part)
-                said = f"{wrong} wrong bits, {kind}: {counts[kind]:,} of {whole:,}"
+                said = f"{plural(wrong, 'wrong bit')}, {kind}: {counts[kind]:,} of {whole:,}"
                 picture.bar(field.x(k + 0.1), field.y(below + part), 0.8 * field.wide / len(rows), high, colour, said)
             below += part
         if k % every == 0:

@@ -22,6 +22,11 @@ _FIRST = ("word", "codeblock")
 _COLUMNS = ("answer", "flips", "first", "last", "unlike")
 
 
+def plural(count: int, word: str) -> str:
+    """So many of them, in words of a sentence."""
+    return f"{count:,} {word}" if count == 1 else f"{count:,} {word}s"
+
+
 class Entry(NamedTuple):
     """A word of a log, and what is kept of it: its octets where they are at hand, and the lines that stand under it."""
 

@@ -42,12 +42,12 @@ def _value(action: argparse.Action) -> str:
     return f" {action.metavar or action.dest.upper()}" if action.option_strings and action.nargs != 0 else ""
 
 
-def _leaves(made: argparse.ArgumentParser) -> Iterator[argparse.ArgumentParser]:
+def leaves(made: argparse.ArgumentParser) -> Iterator[argparse.ArgumentParser]:
     """The verbs that can be run, in their order."""
     below = [action for action in made._actions if isinstance(action, argparse._SubParsersAction)]
     for action in below:
         for inner in action.choices.values():
-            yield from _leaves(inner)
+            yield from leaves(inner)
     if not below:
         yield made
 
@@ -91,7 +91,7 @@ def manual() -> str:
         ),
         ".SH VERBS",
     ]
-    for verb in _leaves(made):
+    for verb in leaves(made):
         lines += _verb(verb)
     lines.append(".SH EXIT STATUS")
     for status, meaning in STATUS:

@@ -13,11 +13,11 @@ from . import charts
 from .charts import Flip
 from .files import Refusal, Sink, Source
 from .jobs import ordered
-from .logs import PROMISED, RUN_REFUSED, Entry, Tally, entries, is_log
+from .logs import PROMISED, RUN_REFUSED, Entry, Tally, entries, is_log, plural
 from .page import NAMES, facts, page, section, table
 from .progress import Progress
 from .recordings import Head, Part, parts, told
-from .summary import lines_of, plural
+from .summary import lines_of
 from .words import PLACES, nearest_text
 
 
@@ -109,11 +109,11 @@ def _note(line: str) -> str:
         return f"No bit has an excess above 0: bit {rest[0]} comes nearest to a flip, with excess {rest[1]}."
     if kind == "nearest" and rest == ["none"]:
         return "No codeword lies within three flips of the word as it was received."
-    if kind == "nearest" and rest[:1] == ["0"]:
+    if kind == "nearest" and rest == ["0"]:
         return "The word as it was received is a codeword."
-    if kind == "nearest" and rest:
-        bits = " and ".join(rest[1:])
-        return f"The nearest codeword is {plural(int(rest[0]), 'flip')} from the word as it was received: bit {bits}."
+    if kind == "nearest" and len(rest) > 1:
+        bits = "bit " + rest[1] if len(rest) == 2 else f"bits {', '.join(rest[1:-1])} and {rest[-1]}"
+        return f"The nearest codeword is {plural(len(rest) - 1, 'flip')} from the word as it was received: {bits}."
     return line
 
 

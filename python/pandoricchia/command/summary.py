@@ -6,7 +6,7 @@ from typing import Counter, Iterator, List
 
 from ..numbers import text
 from .files import Failed, Sink, Source
-from .logs import REFUSED, Entry, Tally, entries
+from .logs import REFUSED, Entry, Tally, entries, plural
 from .progress import Progress
 
 
@@ -27,11 +27,6 @@ def lines_of(source: Source, bar: Progress, start: bytes = b"") -> Iterator[str]
         except UnicodeDecodeError:
             raise Failed(f"{source.name}: no log of words") from None
         bar.at(source.place)
-
-
-def plural(count: int, word: str) -> str:
-    """So many of them, in words of a sentence."""
-    return f"{count:,} {word}" if count == 1 else f"{count:,} {word}s"
 
 
 def of_word(entry: Entry) -> str:
