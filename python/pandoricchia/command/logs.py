@@ -30,7 +30,7 @@ def plural(count: int, word: str) -> str:
 class Entry(NamedTuple):
     """A word of a log, and what is kept of it: its octets where they are at hand, and the lines that stand under it."""
 
-    index: int
+    word: int
     answer: int
     flips: int
     first: int
@@ -59,7 +59,7 @@ class Entry(NamedTuple):
     @property
     def badness(self) -> Tuple[bool, bool, int, int, int, int]:
         """Refused runs come first, then other refusals, then words that need a look; by broken checks, then by flips."""
-        return (self.answer in RUN_REFUSED, not self.taken, len(self.looks), self.first, self.flips, -self.index)
+        return (self.answer in RUN_REFUSED, not self.taken, len(self.looks), self.first, self.flips, -self.word)
 
 
 def is_log(start: bytes) -> bool:

@@ -30,16 +30,16 @@ class Head(NamedTuple):
 class Part(NamedTuple):
     """Some words of a recording, and the index of the first. The last word of the last part may be cut short."""
 
-    index: int
+    start: int
     octets: bytes
 
     def words(self, length: int) -> Iterator[Tuple[int, memoryview]]:
         """Each word of so many octets with its index; for a code that is not offered, one word without octets."""
         octets = memoryview(self.octets)
         if not length:
-            yield self.index, octets[:0]
+            yield self.start, octets[:0]
             return
-        for k, place in enumerate(range(0, len(octets), length), self.index):
+        for k, place in enumerate(range(0, len(octets), length), self.start):
             yield k, octets[place:place + length]
 
 

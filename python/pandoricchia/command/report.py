@@ -35,6 +35,9 @@ class _Hashed(Source):
         super().__init__(name)
         self.hash = hashlib.sha256()
 
+    def __enter__(self) -> _Hashed:
+        return self
+
     def read(self, most: int) -> bytes:
         octets = super().read(most)
         self.hash.update(octets)
@@ -51,7 +54,7 @@ def count_part(code: int, limit: int, worst: int, part: Part) -> Tally:
     out = bytearray(length)
     for index, word in part.words(length):
         given = calls.correct(code, word, limit, out)
-        entry = Entry(index, *(int(value) for value in given[:5]))
+        entry = Entry(index, int(given.number), given.flips, given.first, given.last, given.unlike)
         tally.add(entry._replace(octets=bytes(word)) if entry.looks else entry)
     return tally
 
@@ -119,7 +122,7 @@ def _note(line: str) -> str:
 
 def _word(entry: Entry, head: Optional[Head]) -> str:
     """A word that needs a look, with its run."""
-    title = f"Word {entry.index}: answer {entry.answer}, {text(entry.answer)}"
+    title = f"Word {entry.word}: answer {entry.answer}, {text(entry.answer)}"
     said = f"{plural(entry.flips, 'flip')}, {plural(entry.unlike, 'bit')} unlike, {plural(entry.first, 'check')} broken at the start,"
     said += f" {entry.last} at the end. It needs a look: {'; '.join(entry.looks)}."
     shown = _run_of(entry, head)
@@ -128,7 +131,7 @@ def _word(entry: Entry, head: Optional[Head]) -> str:
         shown_parts[-1] += " " + " ".join(escape(_note(line)) for line in shown.notes)
     shown_parts[-1] += "</p>"
     if shown is not None and shown.flips:
-        shown_parts.append(charts.run(entry.first, shown.flips, f"Word {entry.index}: checks still broken after each flip"))
+        shown_parts.append(charts.run(entry.first, shown.flips, f"Word {entry.word}: checks still broken after each flip"))
         rows = [(k, *flip) for k, flip in enumerate(shown.flips, 1)]
         flips = table(("flip", "bit", "excess", "checks left"), rows)
         shown_parts.append(f"<details><summary>The {plural(len(rows), 'flip')} in numbers</summary>{flips}</details>")
@@ -227,7 +230,7 @@ def made(counted: Counted, name: str, digest: str, worst: int) -> str:
 def _looks(tally: Tally, head: Optional[Head], worst: int) -> str:
     if not tally.looks:
         return section("Words that need a look", "<p>None: every word was taken, with at most two bits changed and none turned back.</p>")
-    rows = [(entry.index, entry.answer, entry.flips, entry.first, entry.last, entry.unlike, "; ".join(entry.looks)) for entry in tally.worst]
+    rows = [(entry.word, entry.answer, entry.flips, entry.first, entry.last, entry.unlike, "; ".join(entry.looks)) for entry in tally.worst]
     columns = ("word", "answer", "flips", "first", "last", "unlike", "why")
     shown_parts = [f"<p>{escape(tally.looked())}. The worst, at most {worst}, first:</p>", table(columns, rows, (6,))]
     if head is None and not any(entry.under for entry in tally.worst):

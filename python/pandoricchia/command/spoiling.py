@@ -3,7 +3,7 @@ from __future__ import annotations
 
 import math
 import random
-from typing import Iterable, Iterator
+from typing import Iterable, Iterator, Set
 
 from .. import calls
 
@@ -20,7 +20,7 @@ def bits(code: int) -> int:
 
 def places(draws: random.Random, wrong: int, below: int) -> Iterator[int]:
     """So many different numbers below a bound."""
-    found = set()
+    found: Set[int] = set()
     while len(found) < wrong:
         place = draws.getrandbits(below.bit_length())
         if place < below and place not in found:

@@ -31,7 +31,7 @@ def lines_of(source: Source, bar: Progress, start: bytes = b"") -> Iterator[str]
 
 def of_word(entry: Entry) -> str:
     """A word in a sentence."""
-    said = f"word {entry.index}: answer {entry.answer}, {text(entry.answer)}; {plural(entry.flips, 'flip')}"
+    said = f"word {entry.word}: answer {entry.answer}, {text(entry.answer)}; {plural(entry.flips, 'flip')}"
     said += f", {plural(entry.unlike, 'bit')} unlike, broken checks {entry.first} at the start and {entry.last} at the end"
     more = [look for look in entry.looks if look != REFUSED]
     return said + (f" ({'; '.join(more)})" if more else "")
