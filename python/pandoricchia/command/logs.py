@@ -136,9 +136,9 @@ class Tally:
             self.unlike[entry.unlike] += 1
         if entry.taken or entry.answer in RUN_REFUSED:
             self.starts[entry.first, entry.flips, entry.taken] += 1
-        for look in entry.looks:
-            self.looks[look] += 1
-        if entry.looks:
+        looks = entry.looks
+        if looks:
+            self.looks.update(looks)
             self._keep(entry)
 
     def join(self, other: Tally) -> None:
