@@ -62,9 +62,9 @@ class Failures(unittest.TestCase):
     def test_writes(self) -> None:
         for verb in ("correct", "report", "spoil --wrong 1", "blocks export", "open"):
             ran = command(*verb.split(), CODE1, "--output", self.place / "none" / "out")
-            self.assertEqual((ran.status, ran.said.splitlines()[0].split(": ", 1)[1]), (2, f"{self.place}/none/out: No such file or directory"))
+            self.assertEqual((ran.status, ran.said.split(": ", 1)[1]), (2, f"{self.place}/none/out: No such file or directory\n"))
             ran = command(*verb.split(), CODE1, "--output", "/dev/full")
-            self.assertEqual((ran.status, ran.said.splitlines()[0].split(": ", 1)[1]), (2, "/dev/full: No space left on device"))
+            self.assertEqual((ran.status, ran.said.split(": ", 1)[1]), (2, "/dev/full: No space left on device\n"))
         with open("/dev/full", "wb") as full:
             running = process("correct", CODE1, stdout=full, stderr=subprocess.PIPE)
         self.assertEqual(running.communicate()[1], b"pandoricchia correct: standard output: No space left on device\n")

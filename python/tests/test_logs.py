@@ -33,7 +33,8 @@ class Summaries(unittest.TestCase):
                     self.assertEqual(shown, [[str(value), str(count)] for value, count in sorted(counts.items())], log.name)
 
     def test_text(self) -> None:
-        log = HEAD + b"0 0 0 0 0 0\n1 0 3 11 0 1\n  flip 24 5 6\n  flip 19 3 3\n  flip 24 3 0\n2 0 3 9 0 3\n3 5 1 4 2 1\n  flip 7 1 2\n  stuck 75 -1\n"
+        log = HEAD + b"0 0 0 0 0 0\n1 0 3 11 0 1\n  flip 24 5 6\n  flip 19 3 3\n  flip 24 3 0\n2 0 3 9 0 3\n3 5 1 4 2 1\n"
+        log += b"  flip 7 1 2\n  stuck 75 -1\n"
         wanted = """4 words: 3 taken, 1 refused
 
  answer         words  meaning
@@ -73,6 +74,8 @@ Words that need a look: 1 refused; 1 with more than 2 bits changed; 1 with a bit
             (HEAD + b"0 0 0 0 0 0\n1 0 0 0 0 x\n", "line 3 is no line of a log"),
             (HEAD + b"0 0 0 0 0 0\n\n", "line 3 is no line of a log"),
             (HEAD + b"0 0 0 0 0 0\n1 0 0 0 0", "line 3 is cut short"),
+            (HEAD + bytes(1 << 20), "no log of words"),
+            (HEAD + b"0 0 0 0 0 0\n" + b"  flip 0 1 1\n" * 600, "more lines than can stand under a word"),
         ):
             ran = command("summary", given=log)
             self.assertEqual((ran.status, ran.out, ran.said.count("\n")), (2, b"", 1), log)

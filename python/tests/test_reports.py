@@ -36,7 +36,8 @@ class Reports(unittest.TestCase):
             page.titles(),
             ["Words by answer", "Words that were taken, by flips and by unlike bits", "Broken checks at the start against flips"],
         )
-        for said in ("answer 0: 10 words", "answer 6: 3 words", "flips 1: 3 words", "unlike 4: 1 word", "1 refused: 98 broken checks, 0 flips"):
+        said = "answer 0: 10 words;answer 6: 3 words;flips 1: 3 words;unlike 4: 1 word;1 refused: 98 broken checks, 0 flips"
+        for said in said.split(";"):
             self.assertIn(said, page.bars())
         self.assertIn("This log has no flips", page.text)
 
@@ -57,7 +58,7 @@ class Reports(unittest.TestCase):
     def test_many(self) -> None:
         """Many words that a chart can't tell apart: the page stays small, and no dot lies above the bound."""
         lines = ["word answer flips first last unlike"]
-        lines += [f"{k} {5 * (k % 3 == 0)} {k % (first // 2 + 1)} {first} {k % 2} 0" for k, first in enumerate(range(4, 1000)) for _ in range(9)]
+        lines += [f"{k} {5 * (k % 3 == 0)} {k % (first // 2 + 1)} {first} {k % 2} 0" for k, first in enumerate(range(4, 1000))]
         lines += [f"0 0 {flips} {first} 0 0" for first in range(100, 900, 9) for flips in range(0, first // 2, 9)]
         ran = command("report", given=("\n".join(lines) + "\n").encode())
         self.assertLess(len(ran.out), 1_500_000)

@@ -163,8 +163,10 @@ class Words(unittest.TestCase):
 
     def test_draws(self) -> None:
         """What a seed draws is the same everywhere: a campaign can be told by its seed."""
-        self.assertEqual(command("spoil", "--wrong", 3, "--seed", 7, "--code", 1, given=bytes(16)).out.hex(), "00040000000000004000000040000000")
-        self.assertEqual(command("spoil", "--rate", 0.1, "--seed", "x", "--code", 1, given=bytes(16)).out.hex(), "000000480202100011a2002202000020")
+        drawn = command("spoil", "--wrong", 3, "--seed", 7, "--code", 1, given=bytes(16)).out
+        self.assertEqual(drawn.hex(), "00040000000000004000000040000000")
+        drawn = command("spoil", "--rate", 0.1, "--seed", "x", "--code", 1, given=bytes(16)).out
+        self.assertEqual(drawn.hex(), "000000480202100011a2002202000020")
 
     def test_opened(self) -> None:
         out = self.place / "out"

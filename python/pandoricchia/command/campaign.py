@@ -103,8 +103,9 @@ def drawn(found: Dict[int, Rows], options: Namespace) -> str:
     colours = [charts.INK, charts.AMBER, charts.RED, "#e39a92", "#777"]
     kinds = _kinds()
     sections = [
-        "<p>Random information was encoded, so many bits of the word were turned over, and the word was corrected. <i>Right</i>: the run"
-        " ended at the word that was sent. <i>Another codeword</i>: it ended at one that was not sent, and nothing in the received word tells."
+        "<p>Random information was encoded, so many bits of the word were turned over, and the word was corrected. <i>Right</i>:"
+        " the run ended at the word that was sent. <i>Another codeword</i>: it ended at one that was not sent, and nothing in the"
+        " received word tells."
         " <i>Refused</i>, with the number of the refusal: "
         + "; ".join(f"{int(number)}, {text(number)}" for number in REFUSALS)
         + ". What is promised is one wrong bit, under every code, and two under codes 4 and 5: these are proved to come back right."

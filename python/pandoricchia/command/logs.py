@@ -18,6 +18,9 @@ PROMISED = 2
 #: Why somebody should look at most of the words that need a look.
 REFUSED = "refused"
 
+#: A run's flips, why it stuck, and the nearest codeword: no more lines stand under a word.
+UNDER = 513
+
 _FIRST = ("word", "codeblock")
 _COLUMNS = ("answer", "flips", "first", "last", "unlike")
 
@@ -79,6 +82,8 @@ def entries(lines: Iterable[str], name: str) -> Iterator[Entry]:
     for number, line in numbered:
         if line.startswith(" "):
             under.append(line.strip())
+            if len(under) > UNDER:
+                raise Failed(f"{name}: line {number}: more lines than can stand under a word")
             continue
         if held is not None:
             yield _entry(held, under)
@@ -153,7 +158,8 @@ class Tally:
 
     def looked(self) -> str:
         """How many words need a look for each reason, in a sentence's part."""
-        return "; ".join(f"{count:,} {look if look == REFUSED else 'with ' + look}" for look, count in sorted(self.looks.items(), reverse=True))
+        found = sorted(self.looks.items(), reverse=True)
+        return "; ".join(f"{count:,} {look if look == REFUSED else 'with ' + look}" for look, count in found)
 
     @property
     def worst(self) -> List[Entry]:

@@ -110,11 +110,13 @@ def _seed(parser: argparse.ArgumentParser) -> None:
 
 
 def _jobs(parser: argparse.ArgumentParser) -> None:
-    parser.add_argument("-j", "--jobs", type=_number(1, 1024), default=1, metavar="N", help="spread the work over N processes (1 unless said)")
+    many = "spread the work over N processes (1 unless said)"
+    parser.add_argument("-j", "--jobs", type=_number(1, 1024), default=1, metavar="N", help=many)
 
 
 def _worst(parser: argparse.ArgumentParser, default: int) -> None:
-    parser.add_argument("--worst", type=_number(0, 1000), default=default, metavar="N", help=f"show the N worst words ({default} unless said)")
+    many = f"show the N worst words ({default} unless said)"
+    parser.add_argument("--worst", type=_number(0, 1000), default=default, metavar="N", help=many)
 
 
 BARE = "the input is words of this code, 1 to 5, without the three octets of a recording"
@@ -209,7 +211,8 @@ def _words(verbs: Verbs) -> None:
     )
     _input(nearest, "the recording")
     _output(nearest, "where the mended words go, else nowhere")
-    nearest.add_argument("-r", "--reach", type=_number(0, 3), default=3, metavar="FLIPS", help="search up to so many flips, 0 to 3 (3 unless said)")
+    many = "search up to so many flips, 0 to 3 (3 unless said)"
+    nearest.add_argument("-r", "--reach", type=_number(0, 3), default=3, metavar="FLIPS", help=many)
     _code(nearest, "the input is words of code 1, without the three octets of a recording", (1,))
     _jobs(nearest)
 
@@ -322,10 +325,10 @@ def _pictures(verbs: Verbs) -> None:
     _output(tried, "where the page with the charts goes, else nowhere")
     _code(tried, "this code alone, 1 to 5; all unless said")
     _limit(tried, "the most flips of a word, 0 to 65535, which is none and stands unless said")
-    tried.add_argument(
-        "-w", "--wrong", type=_number(0, 8176), metavar="BITS", help="up to so many wrong bits (12, 16, 24, 40 and 40 for codes 1 to 5 unless said)"
-    )
-    tried.add_argument("-n", "--words", type=_number(1, 10**9), default=100, metavar="N", help="words for each number of wrong bits (100 unless said)")
+    many = f"up to so many wrong bits (for codes 1 to 5 {', '.join(map(str, campaign.MOST.values()))} unless said)"
+    tried.add_argument("-w", "--wrong", type=_number(0, 8176), metavar="BITS", help=many)
+    many = "words for each number of wrong bits (100 unless said)"
+    tried.add_argument("-n", "--words", type=_number(1, 10**9), default=100, metavar="N", help=many)
     _seed(tried)
     _jobs(tried)
 

@@ -10,6 +10,10 @@ from .logs import REFUSED, Entry, Tally, entries, plural
 from .progress import Progress
 
 
+#: No line of a log is as long.
+LINE = 4096
+
+
 def lines_of(source: Source, bar: Progress, start: bytes = b"") -> Iterator[str]:
     """The lines of a text input, each with its end, of which ``start`` is read already."""
     rest = start
@@ -17,6 +21,8 @@ def lines_of(source: Source, bar: Progress, start: bytes = b"") -> Iterator[str]
         part = source.read(65536)
         whole = (rest + part).split(b"\n")
         rest = whole.pop()
+        if len(rest) > LINE:
+            raise Failed(f"{source.name}: no log of words")
         try:
             for line in whole:
                 yield line.decode("ascii") + "\n"
