@@ -3,4 +3,5 @@ import sys
 
 from .command import main
 
-sys.exit(main())
+if __name__ == "__main__":  # not again in a process of --jobs
+    sys.exit(main())

@@ -30,6 +30,9 @@ def run(arguments: Optional[Sequence[str]] = None) -> int:
     except (Failed, ImportError) as error:
         say(f"{label}: {error}")
         return 2
+    except (OSError, MemoryError) as error:  # as where no process can be started
+        say(f"{label}: {error or type(error).__name__}")
+        return 2
     except Refusal as error:
         say(f"{label}: {error}")
         return 1

@@ -3,6 +3,7 @@ constant memory. Nothing here asks the library."""
 from __future__ import annotations
 
 import heapq
+import re
 from collections import Counter
 from typing import Counter as Counts
 from typing import Iterable, Iterator, List, NamedTuple, Optional, Tuple
@@ -21,6 +22,7 @@ REFUSED = "refused"
 #: A run's flips, why it stuck, and the nearest codeword: no more lines stand under a word.
 UNDER = 513
 
+_UNDER = re.compile(r"  (flip \d+ -?\d+ \d+|stuck \d+ -?\d+|nearest (none|\d+( \d+)*))\n")
 _FIRST = ("word", "codeblock")
 _COLUMNS = ("answer", "flips", "first", "last", "unlike")
 
@@ -81,6 +83,8 @@ def entries(lines: Iterable[str], name: str) -> Iterator[Entry]:
     under: List[str] = []
     for number, line in numbered:
         if line.startswith(" "):
+            if not _UNDER.fullmatch(line):
+                raise Failed(f"{name}: line {number} is no line of a log")
             under.append(line.strip())
             if len(under) > UNDER:
                 raise Failed(f"{name}: line {number}: more lines than can stand under a word")
@@ -90,10 +94,9 @@ def entries(lines: Iterable[str], name: str) -> Iterator[Entry]:
         fields, under = line.split(), []
         if not line.endswith("\n"):
             raise Failed(f"{name}: line {number} is cut short")
-        try:
-            held = [int(fields[k]) for k in at]
-        except (IndexError, ValueError):
-            raise Failed(f"{name}: line {number} is no line of a log") from None
+        if len(fields) < len(columns) or not all(fields[k].isdigit() for k in at):
+            raise Failed(f"{name}: line {number} is no line of a log")
+        held = [int(fields[k]) for k in at]
     if held is not None:
         yield _entry(held, under)
 

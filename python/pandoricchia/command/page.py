@@ -28,7 +28,7 @@ code { font-size: 0.92em; }
 summary { cursor: pointer; color: #16365c; }
 @media print {
   body { font-size: 11pt; margin: 0; max-width: none; }
-  section, figure, svg, tr { break-inside: avoid; }
+  svg, tr { break-inside: avoid; }
   h2, h3 { break-after: avoid; }
   svg * { print-color-adjust: exact; -webkit-print-color-adjust: exact; }
 }

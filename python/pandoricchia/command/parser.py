@@ -111,7 +111,7 @@ def _seed(parser: argparse.ArgumentParser) -> None:
 
 def _jobs(parser: argparse.ArgumentParser) -> None:
     many = "spread the work over N processes (1 unless said)"
-    parser.add_argument("-j", "--jobs", type=_number(1, 1024), default=1, metavar="N", help=many)
+    parser.add_argument("-j", "--jobs", type=_number(1, 256), default=1, metavar="N", help=many)
 
 
 def _worst(parser: argparse.ArgumentParser, default: int) -> None:

@@ -101,23 +101,21 @@ def _run_of(entry: Entry, head: Optional[Head]) -> Optional[Shown]:
     if not entry.under and entry.flips:
         return None
     fields = [line.split() for line in entry.under]
-    flips = [Flip(*map(int, words[1:])) for words in fields if words[0] == "flip" and len(words) == 4]
+    flips = [Flip(*map(int, words[1:])) for words in fields if words[0] == "flip"]
     return Shown(flips, [line for line in entry.under if not line.startswith("flip")])
 
 
 def _note(line: str) -> str:
     """A line under a word of why's log, in a sentence."""
     kind, *rest = line.split()
-    if kind == "stuck" and len(rest) == 2:
+    if kind == "stuck":
         return f"No bit has an excess above 0: bit {rest[0]} comes nearest to a flip, with excess {rest[1]}."
-    if kind == "nearest" and rest == ["none"]:
+    if rest == ["none"]:
         return "No codeword lies within three flips of the word as it was received."
-    if kind == "nearest" and rest == ["0"]:
+    if len(rest) == 1:
         return "The word as it was received is a codeword."
-    if kind == "nearest" and len(rest) > 1:
-        bits = "bit " + rest[1] if len(rest) == 2 else f"bits {', '.join(rest[1:-1])} and {rest[-1]}"
-        return f"The nearest codeword is {plural(len(rest) - 1, 'flip')} from the word as it was received: {bits}."
-    return line
+    bits = "bit " + rest[1] if len(rest) == 2 else f"bits {', '.join(rest[1:-1])} and {rest[-1]}"
+    return f"The nearest codeword is {plural(len(rest) - 1, 'flip')} from the word as it was received: {bits}."
 
 
 def _word(entry: Entry, head: Optional[Head]) -> str:
@@ -126,19 +124,19 @@ def _word(entry: Entry, head: Optional[Head]) -> str:
     said = f"{plural(entry.flips, 'flip')}, {plural(entry.unlike, 'bit')} unlike, {plural(entry.first, 'check')} broken at the start,"
     said += f" {entry.last} at the end. It needs a look: {'; '.join(entry.looks)}."
     shown = _run_of(entry, head)
-    shown_parts = [f"<h3>{escape(title)}</h3>", f"<p>{escape(said)}"]
+    pieces = [f"<h3>{escape(title)}</h3>", f"<p>{escape(said)}"]
     if shown is not None:
-        shown_parts[-1] += " " + " ".join(escape(_note(line)) for line in shown.notes)
-    shown_parts[-1] += "</p>"
+        pieces[-1] += " " + " ".join(escape(_note(line)) for line in shown.notes)
+    pieces[-1] += "</p>"
     if shown is not None and shown.flips:
-        shown_parts.append(charts.run(entry.first, shown.flips, f"Word {entry.word}: checks still broken after each flip"))
+        pieces.append(charts.run(entry.first, shown.flips, f"Word {entry.word}: checks still broken after each flip"))
         rows = [(k, *flip) for k, flip in enumerate(shown.flips, 1)]
         flips = table(("flip", "bit", "excess", "checks left"), rows)
-        shown_parts.append(f"<details><summary>The {plural(len(rows), 'flip')} in numbers</summary>{flips}</details>")
+        pieces.append(f"<details><summary>The {plural(len(rows), 'flip')} in numbers</summary>{flips}</details>")
     if entry.octets:
         octets = entry.octets.hex().upper()
-        shown_parts.append(f"<details><summary>The word as it was received</summary><p class=small><code>{octets}</code></p></details>")
-    return "\n".join(shown_parts)
+        pieces.append(f"<details><summary>The word as it was received</summary><p class=small><code>{octets}</code></p></details>")
+    return "\n".join(pieces)
 
 
 def _proved(code: Optional[int]) -> List[str]:
@@ -232,15 +230,15 @@ def _looks(tally: Tally, head: Optional[Head], worst: int) -> str:
         return section("Words that need a look", "<p>None: every word was taken, with at most two bits changed and none turned back.</p>")
     rows = [(entry.word, entry.answer, entry.flips, entry.first, entry.last, entry.unlike, "; ".join(entry.looks)) for entry in tally.worst]
     columns = ("word", "answer", "flips", "first", "last", "unlike", "why")
-    shown_parts = [f"<p>{escape(tally.looked())}. The worst, at most {worst}, first:</p>", table(columns, rows, (6,))]
+    pieces = [f"<p>{escape(tally.looked())}. The worst, at most {worst}, first:</p>", table(columns, rows, (6,))]
     if head is None and not any(entry.under for entry in tally.worst):
-        shown_parts.append(
+        pieces.append(
             "<p class=small>This log has no flips. A report of the recording, or of the log of <code>pandoricchia why</code>, shows the"
             " runs flip by flip.</p>"
         )
     else:
-        shown_parts += [_word(entry, head) for entry in tally.worst]
-    return section("Words that need a look", *shown_parts)
+        pieces += [_word(entry, head) for entry in tally.worst]
+    return section("Words that need a look", *pieces)
 
 
 def report(options: Namespace) -> int:
