@@ -104,13 +104,16 @@ class Sink:
             self._discard()
             raise Failed(f"{self.name}: {reason(error)}") from error
 
+    def _close(self) -> None:
+        descriptor, self._descriptor = self._descriptor, 1
+        if descriptor > 2:
+            os.close(descriptor)
+
     def _discard(self) -> None:
         if self._part:
             os.unlink(self._part)
             self._part = ""
-        if self._descriptor > 2:
-            os.close(self._descriptor)
-            self._descriptor = 1
+        self._close()
 
     def __enter__(self) -> Sink:
         return self
@@ -118,14 +121,17 @@ class Sink:
     def __exit__(
         self, kind: Optional[Type[BaseException]], error: Optional[BaseException], trace: Optional[TracebackType]
     ) -> None:
-        if kind is None and self._part:
-            try:
+        if kind is not None:
+            self._discard()
+            return
+        try:
+            self._close()  # which may be where a full disk shows
+            if self._part:
                 os.replace(self._part, self._path)
-            except OSError as failed:
-                self._discard()
-                raise Failed(f"{self.name}: {reason(failed)}") from failed
-            self._part = ""
-        self._discard()
+                self._part = ""
+        except OSError as failed:
+            self._discard()
+            raise Failed(f"{self.name}: {reason(failed)}") from failed
 
     def write(self, octets: bytes) -> None:
         """Writes all of them."""

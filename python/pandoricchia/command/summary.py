@@ -18,7 +18,7 @@ def lines_of(source: Source, bar: Progress, start: bytes = b"") -> Iterator[str]
     """The lines of a text input, each with its end, of which ``start`` is read already."""
     rest = start
     while True:
-        part = source.read(65536)
+        part = source.read(16384)
         whole = (rest + part).split(b"\n")
         rest = whole.pop()
         if len(rest) > LINE:
