@@ -294,7 +294,8 @@ def _pictures(verbs: Verbs) -> None:
         "summary", summary.summary, "say what a log holds as a whole",
         "The input is a log of correct, why, frames or unit read, or of the program of that kind. How many words have each answer,"
         " flips and unlike by how many, and the words that need a look: those that are refused, those in which a bit was turned and"
-        " turned back, and those that were taken with more than two bits changed, which is more than is promised for any code.",
+        " turned back, and those that were taken with more than two bits changed, which is more than is promised for any code."
+        " The status is 1 if a word was refused.",
         "pandoricchia summary heard.log",
     )
     _input(short, "the log")
@@ -305,7 +306,7 @@ def _pictures(verbs: Verbs) -> None:
         "report", report.report, "make one page of HTML from a log or a recording",
         "The input is a log, as for summary, or a recording, or with --code words. The page needs nothing from elsewhere: answers by"
         " kind, flips and unlike, broken checks at the start against flips, the worst words with their runs flip by flip (of a"
-        " recording, or of a log of why), and what was proved of these numbers.",
+        " recording, or of a log of why), and what was proved of these numbers. The status is 1 if a word was refused.",
         "pandoricchia report heard.bin --output heard.html",
     )
     _input(long, "the log or the recording")
