@@ -3,9 +3,10 @@
 # library with the judge on N inputs of each call under each telecommand code, and N / 10 of each near-Earth one; SEED=..
 # repeats a campaign. `make bench` counts the instructions of each call. `make alist` writes the parity matrices of codes 1
 # to 4 in target/alist, in a format that other programs read; `make peers` asks such programs about the library's words.
-# `make install PREFIX=.. DESTDIR=..` installs header, Rust module, libraries, pkg-config file and programs, building what
-# is missing; `make uninstall` removes just those.
-.PHONY: run test lib shared compare bench alist peers install uninstall
+# `make install PREFIX=.. DESTDIR=..` installs header, Rust module, libraries, pkg-config file, programs, the Python package
+# and its command with a man page, building what is missing; `make uninstall` removes just those. `make man` makes the man
+# page again.
+.PHONY: run test lib shared compare bench alist peers man install uninstall
 N ?= 20000
 SAMPLE ?= samples/code5.bin
 ARCHIVE = target/staticlib/libpandoricchia.a
@@ -18,7 +19,10 @@ PREFIX ?= /usr/local
 BINDIR ?= $(PREFIX)/bin
 INCLUDEDIR ?= $(PREFIX)/include
 LIBDIR ?= $(PREFIX)/lib
+MANDIR ?= $(PREFIX)/share/man
 DATADIR ?= $(PREFIX)/share/pandoricchia
+# The Python package stands here, and the command's launcher finds it from its own place; so a staged install can be tried.
+PACKAGE = $(DATADIR)/python/pandoricchia
 
 run:
 	rt check wordbench
@@ -55,6 +59,9 @@ alist: target/bin/charts
 peers: lib target/bin/charts
 	outside/peers
 
+man:
+	PYTHONPATH=python PYTHONDONTWRITEBYTECODE=1 python3 -m pandoricchia.command.manual > man/pandoricchia.1
+
 # What install finds missing.
 $(ARCHIVE):
 	rt staticlib capi
@@ -67,7 +74,8 @@ target/bin/%:
 	rt check $*
 
 install: $(ARCHIVE) $(SHARED) $(PROGRAMS:%=target/bin/%)
-	install -d $(DESTDIR)$(BINDIR) $(DESTDIR)$(INCLUDEDIR) $(DESTDIR)$(LIBDIR)/pkgconfig $(DESTDIR)$(DATADIR)
+	install -d $(DESTDIR)$(BINDIR) $(DESTDIR)$(INCLUDEDIR) $(DESTDIR)$(LIBDIR)/pkgconfig $(DESTDIR)$(PACKAGE)/command \
+	    $(DESTDIR)$(MANDIR)/man1
 	install -m 755 $(PROGRAMS:%=target/bin/%) $(DESTDIR)$(BINDIR)
 	install -m 644 include/pandoricchia.h $(DESTDIR)$(INCLUDEDIR)
 	install -m 644 include/pandoricchia.rs $(DESTDIR)$(DATADIR)
@@ -77,10 +85,18 @@ install: $(ARCHIVE) $(SHARED) $(PROGRAMS:%=target/bin/%)
 	sed -e 's|@PREFIX@|$(PREFIX)|' -e 's|@INCLUDEDIR@|$(INCLUDEDIR)|' -e 's|@LIBDIR@|$(LIBDIR)|' -e 's|@VERSION@|$(VERSION)|' \
 	    include/pandoricchia.pc.in > $(DESTDIR)$(LIBDIR)/pkgconfig/pandoricchia.pc
 	chmod 644 $(DESTDIR)$(LIBDIR)/pkgconfig/pandoricchia.pc
+	install -m 644 python/pandoricchia/*.py python/pandoricchia/py.typed $(DESTDIR)$(PACKAGE)
+	install -m 644 python/pandoricchia/command/*.py $(DESTDIR)$(PACKAGE)/command
+	ln -srf $(DESTDIR)$(LIBDIR)/libpandoricchia.so.$(VERSION) $(DESTDIR)$(PACKAGE)/libpandoricchia.so.$(MAJOR)
+	sed 's|@PYTHON@|$(shell realpath -m --relative-to=$(BINDIR) $(dir $(PACKAGE)))|' python/pandoricchia.in > $(DESTDIR)$(BINDIR)/pandoricchia
+	chmod 755 $(DESTDIR)$(BINDIR)/pandoricchia
+	install -m 644 man/pandoricchia.1 $(DESTDIR)$(MANDIR)/man1
 
 uninstall:
 	rm -f $(PROGRAMS:%=$(DESTDIR)$(BINDIR)/%) $(DESTDIR)$(INCLUDEDIR)/pandoricchia.h $(DESTDIR)$(DATADIR)/pandoricchia.rs
 	rm -f $(DESTDIR)$(LIBDIR)/libpandoricchia.a $(DESTDIR)$(LIBDIR)/libpandoricchia.so
 	rm -f $(DESTDIR)$(LIBDIR)/libpandoricchia.so.$(MAJOR) $(DESTDIR)$(LIBDIR)/libpandoricchia.so.$(VERSION)
-	rm -f $(DESTDIR)$(LIBDIR)/pkgconfig/pandoricchia.pc
+	rm -f $(DESTDIR)$(LIBDIR)/pkgconfig/pandoricchia.pc $(DESTDIR)$(BINDIR)/pandoricchia $(DESTDIR)$(MANDIR)/man1/pandoricchia.1
+	rm -rf $(DESTDIR)$(PACKAGE)
+	[ ! -d $(DESTDIR)$(DATADIR)/python ] || rmdir $(DESTDIR)$(DATADIR)/python
 	[ ! -d $(DESTDIR)$(DATADIR) ] || rmdir $(DESTDIR)$(DATADIR)

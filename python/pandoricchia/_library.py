@@ -165,7 +165,19 @@ def load() -> ctypes.CDLL:
     return library
 
 
-LIBRARY = load()
+class _Library:
+    """The library's calls. It is loaded when the first is asked for: help, and what is made of logs, do without it."""
+
+    def __getattr__(self, name: str) -> Any:
+        if not name.startswith("pandoricchia_"):
+            raise AttributeError(name)
+        library = load()
+        for call in CALLS:
+            setattr(self, "pandoricchia_" + call, getattr(library, "pandoricchia_" + call))
+        return getattr(library, name)
+
+
+LIBRARY = _Library()
 
 
 # Lending octets. The buffer protocol gives the address of an object's own octets, read-only or not, and holds the object in

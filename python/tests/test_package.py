@@ -11,7 +11,7 @@ import subprocess
 import sys
 import tempfile
 import unittest
-from typing import Dict, Optional, Tuple
+from typing import Dict, Optional, Set, Tuple
 
 from pandoricchia import _library
 
@@ -26,6 +26,11 @@ def newest(name: str) -> Tuple[int, ...]:
         return tuple(int(part) for part in importlib.metadata.version(name).split(".")[:2])
     except (importlib.metadata.PackageNotFoundError, ValueError):
         return ()
+
+
+def files(folder: pathlib.Path) -> Set[str]:
+    """The files under a folder, by their names there."""
+    return {str(path.relative_to(folder)) for path in folder.rglob("*") if path.is_file() and path.parent.name != "__pycache__"}
 
 
 class Package(unittest.TestCase):
@@ -80,9 +85,7 @@ class Package(unittest.TestCase):
             command = ["-c", "import setuptools; setuptools.setup()", "--quiet", "build", "--build-lib", str(target)]
         done = subprocess.run([sys.executable, *command], cwd=source, capture_output=True, text=True, check=False)
         self.assertEqual(done.returncode, 0, done.stderr)
-        installed = {path.name for path in (target / "pandoricchia").iterdir() if path.is_file()}
-        kept = {path.name for path in (TOP / "python/pandoricchia").iterdir() if path.is_file()}
-        self.assertEqual(installed, kept)
+        self.assertEqual(files(target / "pandoricchia"), files(TOP / "python/pandoricchia"))
         found = self.run_python(target, str(self.library))
         self.assertEqual(found.stdout.split(), [str(target / "pandoricchia/__init__.py"), "1020"], found.stderr)
 

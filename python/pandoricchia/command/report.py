@@ -1,0 +1,252 @@
+"""The verb report: one page from a log or a recording, which a test engineer can hand to the auditor."""
+from __future__ import annotations
+
+import hashlib
+from argparse import Namespace
+from functools import partial
+from html import escape
+from typing import Dict, List, NamedTuple, Optional
+
+from .. import calls
+from ..numbers import Number, text
+from . import charts
+from .charts import Flip
+from .files import Refusal, Sink, Source
+from .jobs import ordered
+from .logs import PROMISED, RUN_REFUSED, Entry, Tally, entries, is_log, plural
+from .page import NAMES, facts, page, section, table
+from .progress import Progress
+from .recordings import Head, Part, parts, told
+from .summary import lines_of
+from .words import PLACES, nearest_text
+
+
+class Counted(NamedTuple):
+    """A tally, and of which recording; no head for a log."""
+
+    tally: Tally
+    head: Optional[Head]
+
+
+class _Hashed(Source):
+    """An input that is hashed as it is read."""
+
+    def __init__(self, name: Optional[str]) -> None:
+        super().__init__(name)
+        self.hash = hashlib.sha256()
+
+    def __enter__(self) -> _Hashed:
+        return self
+
+    def read(self, most: int) -> bytes:
+        octets = super().read(most)
+        self.hash.update(octets)
+        return octets
+
+
+# What is counted.
+
+
+def count_part(code: int, limit: int, worst: int, part: Part) -> Tally:
+    """The tally of some words, which another process may make."""
+    tally = Tally(worst)
+    length = calls.word_octets(code)
+    out = bytearray(length)
+    for index, word in part.words(length):
+        given = calls.correct(code, word, limit, out)
+        entry = Entry(index, int(given.number), given.flips, given.first, given.last, given.unlike)
+        tally.add(entry._replace(octets=bytes(word)) if entry.looks else entry)
+    return tally
+
+
+def _counted(source: Source, options: Namespace, bar: Progress) -> Counted:
+    tally = Tally(options.worst)
+    start = b"" if options.code is not None else source.read(3)
+    if is_log(start):
+        for entry in entries(lines_of(source, bar, start), source.name):
+            tally.add(entry)
+        return Counted(tally, None)
+    head = told(start, options)
+    if not head.offered:
+        raise Refusal(f"{source.name}: no log, and as a recording number {int(Number.CODE)}: {Number.CODE.text}")
+    work = partial(count_part, head.code, head.limit, options.worst)
+    for counted in ordered(work, parts(source, calls.word_octets(head.code)), options.jobs):
+        tally.join(counted)
+        bar.at(source.place)
+    return Counted(tally, head)
+
+
+# What is shown.
+
+
+class Shown(NamedTuple):
+    """A run to be drawn: its flips, and what is said of its end."""
+
+    flips: List[Flip]
+    notes: List[str]
+
+
+def _run_of(entry: Entry, head: Optional[Head]) -> Optional[Shown]:
+    """The run on a word, from the library where its octets are at hand, else from the lines under it in the log."""
+    if entry.answer not in (0, *RUN_REFUSED):
+        return None
+    if head is not None:
+        places = calls.flip_table(PLACES)
+        listed = calls.list(head.code, entry.octets, head.limit, places)
+        flips = [Flip(*record) for record in calls.flip_records(places, listed.flips)]
+        notes = [f"stuck {listed.bit} {listed.excess}"] if listed.number == Number.STUCK else []
+        if head.code == 1 and listed.number in (Number.STUCK, Number.LIMIT):
+            notes.append("nearest " + nearest_text(memoryview(entry.octets)))
+        return Shown(flips, notes)
+    if not entry.under and entry.flips:
+        return None
+    fields = [line.split() for line in entry.under]
+    flips = [Flip(*map(int, words[1:])) for words in fields if words[0] == "flip"]
+    return Shown(flips, [line for line in entry.under if not line.startswith("flip")])
+
+
+def _note(line: str) -> str:
+    """A line under a word of why's log, in a sentence."""
+    kind, *rest = line.split()
+    if kind == "stuck":
+        return f"No bit has an excess above 0: bit {rest[0]} comes nearest to a flip, with excess {rest[1]}."
+    if rest == ["none"]:
+        return "No codeword lies within three flips of the word as it was received."
+    if len(rest) == 1:
+        return "The word as it was received is a codeword."
+    bits = "bit " + rest[1] if len(rest) == 2 else f"bits {', '.join(rest[1:-1])} and {rest[-1]}"
+    return f"The nearest codeword is {plural(len(rest) - 1, 'flip')} from the word as it was received: {bits}."
+
+
+def _word(entry: Entry, head: Optional[Head]) -> str:
+    """A word that needs a look, with its run."""
+    title = f"Word {entry.word}: answer {entry.answer}, {text(entry.answer)}"
+    said = f"{plural(entry.flips, 'flip')}, {plural(entry.unlike, 'bit')} unlike, {plural(entry.first, 'check')} broken at the start,"
+    said += f" {entry.last} at the end. It needs a look: {'; '.join(entry.looks)}."
+    shown = _run_of(entry, head)
+    pieces = [f"<h3>{escape(title)}</h3>", f"<p>{escape(said)}"]
+    if shown is not None:
+        pieces[-1] += " " + " ".join(escape(_note(line)) for line in shown.notes)
+    pieces[-1] += "</p>"
+    if shown is not None and shown.flips:
+        pieces.append(charts.run(entry.first, shown.flips, f"Word {entry.word}: checks still broken after each flip"))
+        rows = [(k, *flip) for k, flip in enumerate(shown.flips, 1)]
+        flips = table(("flip", "bit", "excess", "checks left"), rows)
+        pieces.append(f"<details><summary>The {plural(len(rows), 'flip')} in numbers</summary>{flips}</details>")
+    if entry.octets:
+        octets = entry.octets.hex().upper()
+        pieces.append(f"<details><summary>The word as it was received</summary><p class=small><code>{octets}</code></p></details>")
+    return "\n".join(pieces)
+
+
+def _proved(code: Optional[int]) -> List[str]:
+    """What was proved of these numbers, in sentences; for one code, or for what a log tells."""
+    half = "half of the checks broken at the start" if code in (4, 5) else "the checks broken at the start"
+    if code is None:
+        half += " (codes 4 and 5: half of them)"
+    covered = {None: "any bit but code 5's last two, which are filling", 5: "any bit but the last two, which are filling"}
+    said = [
+        "For every input the library's number, flips, broken checks at the start and at the end, unlike bits and output octets"
+        " are those of one short definition, the flipping run.",
+        "A log that <code>wordbench</code> wrote is that definition's log, line by line, up to the system's reading and writing."
+        if code is None
+        else "The numbers on this page were asked of the library, word by word.",
+        "Answer 0 means: the run ended with no check broken, at a word that the encoder can give.",
+        f"Flips are never more than the limit, and never more than {half}. Unlike is never more than flips, and both are even or"
+        " both odd.",
+        "A codeword comes back as it is, with no flips.",
+        f"One wrong bit alone is mended by exactly one flip, under a limit of at least 1: {covered.get(code, 'any bit')}.",
+    ]
+    if code in (None, 4, 5):
+        where = "Under codes 4 and 5 two" if code is None else "Two"
+        said.append(f"{where} wrong bits, under a limit of at least 2, are mended by exactly two flips.")
+    if code in (None, 1, 2, 3):
+        said.append("Codes 1 to 3 never give answer 8.")
+    return said
+
+
+def _not_claimed(code: Optional[int]) -> List[str]:
+    tried = {
+        1: "under code 1 no more than one wrong bit is promised to be mended",
+        2: "two wrong bits were tried, every pair, and all are mended; of three there is no promise",
+        3: "two wrong bits were tried, every pair, and all are mended; of three there is no promise",
+    }.get(code or 0, "of three wrong bits there is no promise")
+    return [
+        "That a word which was taken is the one that was sent, where more bits were wrong than is promised"
+        f" ({tried}). A run may end at another codeword, and the log does not know.",
+        "Any coding gain or error rate.",
+        "What the compiler, the machine, and reading and writing add: that lies outside the proofs, and is tested.",
+    ]
+
+
+def _items(sentences: List[str]) -> str:
+    return "<ul>" + "\n".join(f"<li>{sentence}</li>" for sentence in sentences) + "</ul>"
+
+
+def made(counted: Counted, name: str, digest: str, worst: int) -> str:
+    """The page."""
+    tally, head = counted
+    code = head.code if head else None
+    meaning: Dict[int, str] = {answer: text(answer) for answer in tally.answers}
+    title = f"Words of code {head.code}, {NAMES[head.code]}" if head else "Words of a log"
+    under = f"From the {'recording' if head else 'log'} <code>{escape(name)}</code>, SHA-256 <code>{digest}</code>"
+    under += f", under a limit of {head.limit:,} flips." if head else ". A log does not say which code and which limit it is of."
+    most = max(tally.unlike, default=0)
+    sections = [
+        facts(
+            [
+                (f"{tally.words:,}", "words", False),
+                (f"{tally.answers[0]:,}", "taken", False),
+                (f"{tally.refused:,}", "refused", tally.refused > 0),
+                (f"{most:,}", "bits changed in one word at most", most > PROMISED),
+            ]
+        )
+    ]
+    if not tally.words:
+        sections.append("<p>There are no words in it.</p>")
+    else:
+        sections.append(section("Answers", charts.answers(tally.answers, meaning, "Words by answer")))
+    if tally.answers[0]:
+        series = [("flips", charts.INK, tally.flips), ("unlike", charts.LIGHT, tally.unlike)]
+        sections.append(
+            section(
+                "Flips and unlike bits of the words that were taken",
+                "<p>Flips are the steps of the run; unlike are the bits in which the received and the final word differ. They are not"
+                " the same where a run flips a bit and later flips it back, and neither is a count of wrong bits.</p>",
+                charts.columns(series, "Words that were taken, by flips and by unlike bits", "flips, or unlike bits, of a word"),
+            )
+        )
+    if tally.starts:
+        halved = code in (4, 5)
+        sections.append(section("Broken checks and flips", charts.starts(tally.starts, halved, "Broken checks at the start against flips")))
+    sections.append(_looks(tally, head, worst))
+    sections.append(section("What was proved of these numbers", _items(_proved(code))))
+    sections.append(section("What is not claimed", _items(_not_claimed(code))))
+    return page(title, under, sections)
+
+
+def _looks(tally: Tally, head: Optional[Head], worst: int) -> str:
+    if not tally.looks:
+        return section("Words that need a look", "<p>None: every word was taken, with at most two bits changed and none turned back.</p>")
+    rows = [(entry.word, entry.answer, entry.flips, entry.first, entry.last, entry.unlike, "; ".join(entry.looks)) for entry in tally.worst]
+    columns = ("word", "answer", "flips", "first", "last", "unlike", "why")
+    pieces = [f"<p>{escape(tally.looked())}. The worst, at most {worst}, first:</p>", table(columns, rows, (6,))]
+    if head is None and not any(entry.under for entry in tally.worst):
+        pieces.append(
+            "<p class=small>This log has no flips. A report of the recording, or of the log of <code>pandoricchia why</code>, shows the"
+            " runs flip by flip.</p>"
+        )
+    else:
+        pieces += [_word(entry, head) for entry in tally.worst]
+    return section("Words that need a look", *pieces)
+
+
+def report(options: Namespace) -> int:
+    """The page of a log or a recording."""
+    with _Hashed(options.input) as source:
+        with Progress("report", source.size) as bar:
+            counted = _counted(source, options, bar)
+        digest = source.hash.hexdigest()
+    with Sink(options.output) as out:
+        out.write(made(counted, source.name, digest, options.worst).encode())
+    return 1 if counted.tally.refused else 0

@@ -1,0 +1,68 @@
+"""A page of HTML as a browser would take it: well made, from nowhere else, and what it says."""
+from __future__ import annotations
+
+import re
+import shutil
+import subprocess
+import unittest
+from html.parser import HTMLParser
+from pathlib import Path
+from typing import List, Optional, Tuple
+from xml.etree import ElementTree
+
+_EMPTY = ("meta", "link")
+
+
+class Page(HTMLParser):
+    """What a page says, its charts apart; an element that is not closed is an error."""
+
+    def __init__(self, test: unittest.TestCase, whole: bytes) -> None:
+        super().__init__()
+        self.text = ""
+        self._test, self._open = test, [""]
+        drawings = re.findall(r"<svg.*?</svg>", whole.decode(), re.S)
+        self.charts = [ElementTree.fromstring(drawing) for drawing in drawings]
+        self.feed(whole.decode())
+        self.close()
+        test.assertEqual(self._open, [""])
+
+    def handle_starttag(self, tag: str, attrs: List[Tuple[str, Optional[str]]]) -> None:
+        self._test.assertNotIn(tag, ("script", "img", "iframe", "object"))
+        for name, value in attrs:
+            self._test.assertFalse(name in ("src", "href") and not (value or "").startswith("data:"), (tag, name, value))
+        if tag not in _EMPTY:
+            self._open.append(tag)
+
+    def handle_startendtag(self, tag: str, attrs: List[Tuple[str, Optional[str]]]) -> None:
+        """An element of a chart that holds nothing."""
+
+    def handle_endtag(self, tag: str) -> None:
+        self._test.assertEqual(self._open.pop(), tag)
+
+    def handle_data(self, data: str) -> None:
+        if "style" not in self._open:
+            self.text += data
+
+    def titles(self) -> List[str]:
+        """The charts' titles."""
+        return [str(chart.findtext("{http://www.w3.org/2000/svg}title")) for chart in self.charts]
+
+    def bars(self) -> List[str]:
+        """What the charts say of their bars and dots."""
+        return [str(title.text) for chart in self.charts for title in list(chart.iter("{http://www.w3.org/2000/svg}title"))[1:]]
+
+
+def browser() -> Optional[str]:
+    """A browser that can do without a screen."""
+    names = ("chromium", "chromium-browser", "google-chrome", "chrome")
+    return next((found for found in map(shutil.which, names) if found), None)
+
+
+def shown(page: Path, profile: Path) -> Tuple[str, str]:
+    """The document as the browser has it, and what its console says."""
+    found = browser()
+    assert found
+    words = [found, "--headless", "--no-sandbox", "--disable-gpu", "--disable-extensions", "--no-first-run", "--enable-logging=stderr"]
+    words += [f"--user-data-dir={profile}", "--dump-dom", page.as_uri()]
+    ran = subprocess.run(words, capture_output=True, text=True, timeout=120, check=True)
+    return ran.stdout, "\n".join(line for line in ran.stderr.splitlines() if "CONSOLE" in line)

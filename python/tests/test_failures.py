@@ -1,0 +1,134 @@
+"""Status and line of what fails; outputs that come into place whole or not at all; pipes and signals."""
+from __future__ import annotations
+
+import os
+import pathlib
+import shutil
+import signal
+import stat
+import subprocess
+import sys
+import tempfile
+import time
+import unittest
+from typing import Any, List
+
+from pandoricchia import _library
+
+from .command import SAMPLES, TOP, command
+
+CODE1 = SAMPLES / "code1.bin"
+
+
+def process(*arguments: object, **more: Any) -> subprocess.Popen[bytes]:
+    """The command as a process of its own."""
+    environment = {**os.environ, "PYTHONPATH": str(TOP / "python"), **more.pop("env", {})}
+    whole: List[str] = [sys.executable, "-m", "pandoricchia", *map(str, arguments)]
+    return subprocess.Popen(whole, env=environment, **more)
+
+
+class Failures(unittest.TestCase):
+    def setUp(self) -> None:
+        self.place = pathlib.Path(tempfile.mkdtemp())
+        self.addCleanup(shutil.rmtree, self.place)
+        self.out = self.place / "out"
+
+    def test_usage(self) -> None:
+        """One line, which names the help, and nothing on standard output."""
+        for words in (
+            "", "nothing", "correct a b", "correct --limit 65536", "correct --limit x", "correct --code 6", "correct --jobs 0",
+            "encode", "encode --code 0", "spoil", "spoil --wrong 1 --rate 0.1", "spoil --rate 2", "spoil --wrong -1", "nearest --reach 4",
+            "nearest --code 2", "unit", "unit read", "unit write --code 2", "frames --edition x", "blocks", "bch", "campaign --words 0",
+            "correct --out x", "report --worst -1",
+        ):
+            ran = command(*words.split())
+            self.assertEqual((ran.status, ran.out, ran.said.count("\n")), (2, b"", 1), words)
+            self.assertRegex(ran.said, "^pandoricchia.*: .*; see pandoricchia.* --help\n$")
+        ran = command("spoil", "--wrong", 129, CODE1)
+        self.assertEqual(ran, (2, b"", "pandoricchia spoil: --wrong: a word of code 1 has 128 bits that can be wrong\n"))
+        ran = command("campaign", "--code", 1, "--wrong", 129)
+        self.assertEqual(ran, (2, b"", "pandoricchia campaign: --wrong: a word of code 1 has 128 bits that can be wrong\n"))
+
+    def test_reads(self) -> None:
+        for verb in ("correct", "summary", "report", "blocks import", "unit read --code 1", "bch check", "encode --code 1"):
+            words = verb.split()
+            name = " ".join(word for word in words if word[0] != "-" and word != "1")
+            ran = command(*words, self.place / "none")
+            self.assertEqual((ran.status, ran.said), (2, f"pandoricchia {name}: {self.place}/none: No such file or directory\n"))
+            ran = command(*words, self.place, "--output", self.out)
+            self.assertEqual((ran.status, ran.said), (2, f"pandoricchia {name}: {self.place}: Is a directory\n"))
+            self.assertEqual(list(self.place.iterdir()), [])
+
+    def test_writes(self) -> None:
+        for verb in ("correct", "report", "spoil --wrong 1", "blocks export", "open"):
+            ran = command(*verb.split(), CODE1, "--output", self.place / "none" / "out")
+            self.assertEqual((ran.status, ran.said.split(": ", 1)[1]), (2, f"{self.place}/none/out: No such file or directory\n"))
+            ran = command(*verb.split(), CODE1, "--output", "/dev/full")
+            self.assertEqual((ran.status, ran.said.split(": ", 1)[1]), (2, "/dev/full: No space left on device\n"))
+        with open("/dev/full", "wb") as full:
+            running = process("correct", CODE1, stdout=full, stderr=subprocess.PIPE)
+        self.assertEqual(running.communicate()[1], b"pandoricchia correct: standard output: No space left on device\n")
+        self.assertEqual(running.returncode, 2)
+
+    def test_closed(self) -> None:
+        """Closed standard streams: no file comes to stand in their place."""
+        words = [sys.executable, "-m", "pandoricchia", "correct", str(CODE1), "--output", str(self.out)]
+        environment = {**os.environ, "PYTHONPATH": str(TOP / "python")}
+        ran = subprocess.run(["sh", "-c", '"$@" >&-', "sh", *words], env=environment, stderr=subprocess.PIPE, check=False)
+        self.assertEqual((ran.returncode, ran.stderr), (2, b"pandoricchia correct: standard output: Bad file descriptor\n"))
+        self.assertEqual(list(self.place.iterdir()), [])
+
+    def test_in_place(self) -> None:
+        """The output may be the input; it keeps its mode, and a link to it stays one."""
+        recording = CODE1.read_bytes()
+        self.out.write_bytes(recording)
+        self.out.chmod(0o640)
+        link = self.place / "link"
+        link.symlink_to(self.out)
+        log = (SAMPLES / "code1.log").read_bytes()
+        self.assertEqual(command("correct", self.out, "--output", link), (1, log, ""))
+        self.assertTrue(link.is_symlink())
+        self.assertEqual(stat.S_IMODE(self.out.stat().st_mode), 0o640)
+        self.assertEqual(len(self.out.read_bytes()), len(recording))
+        self.assertNotEqual(self.out.read_bytes(), recording)
+        self.assertEqual(sorted(path.name for path in self.place.iterdir()), ["link", "out"])
+
+    def test_pipe(self) -> None:
+        """Nobody reads: it ends by the signal and says nothing."""
+        long = self.place / "long.bin"
+        long.write_bytes(b"\x01\0\x05" + bytes(16 * 40000))
+        for more in ((), ("--jobs", 2)):
+            running = process("correct", long, *more, stdout=subprocess.PIPE, stderr=subprocess.PIPE)
+            assert running.stdout is not None and running.stderr is not None
+            running.stdout.read(20)
+            running.stdout.close()
+            self.assertEqual(running.stderr.read(), b"")
+            running.stderr.close()
+            self.assertEqual(running.wait(), -signal.SIGPIPE)
+
+    def test_ended(self) -> None:
+        """A signal ends it, and what is unfinished is put away."""
+        running = process("correct", "--output", self.out, stdin=subprocess.PIPE, stdout=subprocess.DEVNULL)
+        assert running.stdin is not None
+        running.stdin.write(b"\x01\0\x05" + bytes(65536))
+        running.stdin.flush()
+        for _ in range(600):
+            if list(self.place.iterdir()):
+                break
+            time.sleep(0.05)
+        self.assertEqual(len(list(self.place.iterdir())), 1)
+        running.terminate()
+        self.assertEqual(running.wait(), -signal.SIGTERM)
+        running.stdin.close()
+        self.assertEqual(list(self.place.iterdir()), [])
+
+    def test_no_library(self) -> None:
+        """A line where the library is not there; help and summaries do without."""
+        none = {_library.ENVIRONMENT: str(self.place / "none.so")}
+        running = process("correct", CODE1, env=none, stdout=subprocess.PIPE, stderr=subprocess.PIPE)
+        out, said = running.communicate()
+        self.assertEqual((running.returncode, out, said.count(b"\n")), (2, b"", 1))
+        self.assertIn(b"pandoricchia correct: the shared library of pandoricchia can't be loaded", said)
+        running = process("summary", SAMPLES / "code1.log", env=none, stdout=subprocess.PIPE)
+        self.assertIn(b"15 words", running.communicate()[0])
+        self.assertEqual(running.returncode, 1)

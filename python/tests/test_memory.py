@@ -1,0 +1,56 @@
+"""Constant memory: an input that is three times as long takes no more of it."""
+from __future__ import annotations
+
+import pathlib
+import shutil
+import tempfile
+import tracemalloc
+import unittest
+
+from .command import SAMPLES, command
+
+#: Octets of a part that the command reads, and how much more the longer input may take.
+PART, MORE = 65536, 131072
+
+
+class Memory(unittest.TestCase):
+    def setUp(self) -> None:
+        self.place = pathlib.Path(tempfile.mkdtemp())
+        self.addCleanup(shutil.rmtree, self.place)
+
+    def most(self, octets: bytes, head: bytes, parts: int, *words: object) -> int:
+        """The most memory that the command has at a time, its standard output and the output file's octets not among it."""
+        given = self.place / "given"
+        with given.open("wb") as file:
+            file.write(head)
+            for _ in range(parts * PART // len(octets)):
+                file.write(octets)
+        tracemalloc.start()
+        try:
+            status = command(*words, given).status
+            peak = tracemalloc.get_traced_memory()[1]
+        finally:
+            tracemalloc.stop()
+        self.assertIn(status, (0, 1))
+        return peak
+
+    def same(self, octets: bytes, head: bytes, parts: int, *words: object) -> None:
+        """The command takes as much for an input of so many parts as for one that is three times as long."""
+        self.most(octets, head, 1, *words)  # what is kept after the first run is not counted
+        short, long = (self.most(octets, head, times * parts, *words, "--output", self.place / "out") for times in (1, 3))
+        self.assertLess(long, short + MORE, words)
+
+    def test_words(self) -> None:
+        recording = (SAMPLES / "code5.bin").read_bytes()
+        words = recording[3:3 + 1020 * 5]
+        for verb in ("correct", "spoil --wrong 1", "report"):
+            self.same(words, recording[:3], 3, *verb.split())
+        self.same(words, recording[:3], 8, "correct", "--jobs", 2)
+        self.same(bytes(892), b"", 3, "encode", "--code", 5)
+
+    def test_stream(self) -> None:
+        self.same((SAMPLES / "frames.stream").read_bytes()[2:], b"", 3, "frames", "--limit", 4)
+
+    def test_logs(self) -> None:
+        head, lines = (SAMPLES / "code5.log").read_bytes().split(b"\n", 1)
+        self.same(lines, head + b"\n", 1, "summary")

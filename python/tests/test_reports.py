@@ -1,0 +1,80 @@
+"""Reports of logs, read as a page is read, and shown in a browser where there is one. None of it needs the library."""
+from __future__ import annotations
+
+import hashlib
+import pathlib
+import re
+import shutil
+import tempfile
+import unittest
+
+from .command import SAMPLES, TOP, command
+from .pages import Page, browser, shown
+
+WHY = TOP / "crates/why/stdout"
+
+
+class Reports(unittest.TestCase):
+    def setUp(self) -> None:
+        self.place = pathlib.Path(tempfile.mkdtemp())
+        self.addCleanup(shutil.rmtree, self.place, ignore_errors=True)
+
+    def test_samples(self) -> None:
+        for log in sorted(SAMPLES.glob("*.log")):
+            ran = command("report", log)
+            self.assertEqual((ran.status, ran.said), (command("summary", log).status, ""), log.name)
+            page = Page(self, ran.out)
+            self.assertIn(hashlib.sha256(log.read_bytes()).hexdigest(), page.text)
+            self.assertIn("What was proved of these numbers", page.text)
+            words = len(log.read_text(encoding="ascii").splitlines()) - 1
+            self.assertIn(f"{words}words", page.text)
+            self.assertEqual("Words by answer" in page.titles(), words > 0)
+
+    def test_counts(self) -> None:
+        page = Page(self, command("report", SAMPLES / "code5.log").out)
+        self.assertEqual(
+            page.titles(),
+            ["Words by answer", "Words that were taken, by flips and by unlike bits", "Broken checks at the start against flips"],
+        )
+        said = "answer 0: 10 words;answer 6: 3 words;flips 1: 3 words;unlike 4: 1 word;1 refused: 98 broken checks, 0 flips"
+        for said in said.split(";"):
+            self.assertIn(said, page.bars())
+        self.assertIn("This log has no flips", page.text)
+
+    def test_runs(self) -> None:
+        """Of a log of why the worst words have their runs."""
+        page = Page(self, command("report", WHY, "--worst", 20).out)
+        self.assertIn("Word 14: checks still broken after each flip", page.titles())
+        self.assertIn("flip 1: bit 75, excess 1, 3 checks left", page.bars())
+        self.assertIn("The nearest codeword is 2 flips from the word as it was received: bits 80 and 109.", page.text)
+        self.assertIn("bit 75 comes nearest to a flip, with excess -1.", page.text)
+
+    def test_names(self) -> None:
+        """A file's name is shown as it is."""
+        log = self.place / "<b>&.log"
+        shutil.copy(SAMPLES / "paper.log", log)
+        self.assertIn(str(log), Page(self, command("report", log).out).text)
+
+    def test_many(self) -> None:
+        """Many words that a chart can't tell apart: the page stays small, and no dot lies above the bound."""
+        lines = ["word answer flips first last unlike"]
+        lines += [f"{k} {5 * (k % 3 == 0)} {k % (first // 2 + 1)} {first} {k % 2} 0" for k, first in enumerate(range(4, 1000))]
+        lines += [f"0 0 {flips} {first} 0 0" for first in range(100, 900, 9) for flips in range(0, first // 2, 9)]
+        ran = command("report", given=("\n".join(lines) + "\n").encode())
+        self.assertLess(len(ran.out), 1_500_000)
+        dots = [said for said in Page(self, ran.out).bars() if "broken check" in said]
+        self.assertGreater(len(dots), 500)
+        for said in dots:
+            first, flips = (int(number.replace(",", "")) for number in re.findall(r"([\d,]+) (?:broken|flip)", said))
+            self.assertLessEqual(flips, first, said)
+
+    def test_browser(self) -> None:
+        if not browser():
+            self.skipTest("showing a report needs chromium")
+        out = self.place / "page.html"
+        self.assertEqual(command("report", WHY, "--worst", 20, "--output", out).status, 1)
+        document, console = shown(out, self.place / "profile")
+        self.assertEqual(console, "")
+        for said in ("<title>Words of a log</title>", "Words by answer", "Word 14: answer 5", "What was proved of these numbers", "</svg>"):
+            self.assertTrue(said in document, said)
+        self.assertEqual(document.count("<svg"), out.read_text(encoding="utf-8").count("<svg"))
