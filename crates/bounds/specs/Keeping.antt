@@ -8,18 +8,24 @@ use Rattle.rules.specs.Codes.{Code}
 use Rattle.vectors.specs.Vectors.{wbit}
 use Rattle.layout.specs.declared.Shape.{Shape}
 use Rattle.layout.specs.Lent.{laid, score}
-use Rattle.bounds.specs.Reading.{Twice, hits, Gathered}
+use Rattle.bounds.specs.Reading.{Twice, hits}
 
 -- The bound of block b: the score of a bit of its, of which so many checks are met as `met` has for the block.
 abbrev pub bound : List ℕ → List ℕ → ℕ → ℕ
 bound counts met b = 8 + getD counts b 0 - 2 * getD met b 0
 
--- Starts, counts and met checks fit each other and a table.
-pub record Ready (h : List ℕ) (sh : Shape) (starts counts met : List ℕ) : Type 0 where
+-- Starts, counts and met checks fit each other and a shape.
+pub record Ready (sh : Shape) (starts counts met : List ℕ) : Type 0 where
+  pub some : 1 ≤ sh .size
+  pub held : sh .size ≤ 64 * sh .words
+  pub close : 64 * sh .words < sh .size + 64
+  pub words : sh .words ≤ 8
+  pub blocks : sh .blocks ≤ 16
   pub starts-long : length starts ≡ 128
   pub counts-long : length counts ≡ 16
   pub met-long : length met ≡ 16
-  pub gathered : Gathered h sh starts counts (sh .blocks)
+  pub low : (b : ℕ) → b < sh .blocks → getD counts b 0 ≤ 8
+  pub near : (b e : ℕ) → b < sh .blocks → e < getD counts b 0 → getD starts (8 * b + e) 0 ≤ 3072 + sh .size
   pub few : (b : ℕ) → b < sh .blocks → getD met b 0 ≤ getD counts b 0
 
 -- g is what the hits of each block give: twice their number, and 8 less n.
