@@ -15,9 +15,8 @@ use lib.Seq.{getD-set-same, getD-set-other}
 use Rattle.bits.specs.Bits.{Word, count, tally, if_then_else_, countOf}
 use Rattle.bits.proofs.Counting.{count-same, count-next, tally-le}
 use Rattle.layout.specs.declared.Shape.{Shape}
-use Rattle.layout.specs.Lent.{Fit, kept, total, placeOf, shiftsOf}
+use Rattle.layout.specs.Lent.{kept, total, placeOf, shiftsOf}
 use Rattle.bounds.specs.Reading.{Noted, Listed, asked, Starts, Gathered}
-use Rattle.bounds.specs.Keeping.{Ready}
 
 -- A row more is within all rows.
 pub within : (r n w : ℕ) → r < n → r * w + w ≤ n * w
@@ -150,20 +149,3 @@ gathered-more h sh l l′ counts b n room few here kept was i hi = go (ℕ-discr
         let e : getD counts i 0 ≡ getD (set counts b n) i 0 = sym (getD-set-other counts b i n 0 d) in
         let w = was i (omega arith) in
         (omega arith, subst (Starts h sh i l′) e (listed-kept (λ j hj. kept j (omega arith)) (w .1)))
-
--- What is gathered is ready, with met checks that are few.
-pub ready : {h : List ℕ} {sh : Shape} {starts counts met : List ℕ} → Fit h sh → Gathered h sh starts counts (sh .blocks) → length starts ≡ 128 → length counts ≡ 16 → length met ≡ 16
-    → ((b : ℕ) → b < sh .blocks → getD met b 0 ≤ getD counts b 0) → Ready sh starts counts met
-ready fit g a b c few = record {
-  some = fit .some;
-  held = fit .held;
-  close = fit .close;
-  words = fit .words;
-  blocks = fit .blocks;
-  starts-long = a;
-  counts-long = b;
-  met-long = c;
-  low = λ i hi. g i hi .0;
-  near = λ i e hi he. g i hi .1 .near e he;
-  few = few;
-}

@@ -4,13 +4,13 @@ use mathlib.Core.Path.{_≡_, refl, sym, ap, ap₂, _∙_, subst}
 use mathlib.Core.Bool.{Bool, true, false, _&&_}
 use mathlib.Core.List.{List, [], _∷_}
 use Prim.Native.Nat.{ℕ, zero, suc, _+_, _-_, _*_, _/_, _%_, _≤_, _<_}
-use native.Mathlib.Nat.{mod-lt, lt-of-not-le, add-zero, zero-add, mod-eq-of-lt, add-mod-left}
+use native.Mathlib.Nat.{mod-lt, div-add-mod', div-lt-iff-lt-mul, lt-of-not-le, add-zero, zero-add, mod-eq-of-lt, add-mod-left}
 use native.Mathlib.Numerals.{add-one}
 use native.Mathlib.Decide.{decLt, ℕ-discrete}
 use native.Mathlib.Omega.{arith}
 use borrow.Author.Tests.{lt-ltb, le-ltb, ltb-false, eq-eqb, ne-eqb}
 use lib.Dec.{eqb, ltb, lit<}
-use lib.ListN.{getD}
+use lib.ListN.{getD, length}
 use Rattle.bits.specs.Bits.{Word, _⊕_, sum, count, tally, flipped, if_then_else_, over, countOf}
 use Rattle.bits.proofs.Counting.{none-counted}
 use Rattle.bits.proofs.Sums.{⊕-assoc, ⊕-false, ⊕-comm, sum-same, eqb-iff}
@@ -18,10 +18,11 @@ use Rattle.rules.specs.Codes.{Code, bits}
 use Rattle.rules.specs.Checks.{metOf}
 use Rattle.rules.proofs.Flips.{met-flip, broken-met}
 use Rattle.layout.specs.declared.Shape.{Shape}
-use Rattle.layout.specs.Lent.{total, shiftsOf, Lent, laid, score}
+use Rattle.vectors.specs.Vectors.{wbit}
+use Rattle.layout.specs.Lent.{Fit, total, shiftsOf, Lent, laid, score}
 use Rattle.layout.proofs.Laying.{laid-at}
 use Rattle.bounds.specs.Reading.{Twice, other, Starts, Gathered}
-use Rattle.bounds.specs.Keeping.{Under}
+use Rattle.bounds.specs.Keeping.{Under, Ready, Kept}
 use Rattle.bounds.proofs.Turned.{degree-is}
 
 -- ---- the checks that are turned over, one start after the other
@@ -234,3 +235,61 @@ module _ (c : Code) (h : List ℕ) (sh : Shape) (lent : Lent c h sh) (from : ℕ
         broken-met c (flipped x n) i,
         degree-is h sh c lent b hb starts (getD counts b 0) (g b hb .1) k hk,
       )
+
+-- ---- the state
+
+-- What is gathered is ready, with met checks that are few.
+pub ready : {h : List ℕ} {sh : Shape} {starts counts met : List ℕ} → Fit h sh → Gathered h sh starts counts (sh .blocks) → length starts ≡ 128 → length counts ≡ 16 → length met ≡ 16
+    → ((b : ℕ) → b < sh .blocks → getD met b 0 ≤ getD counts b 0) → Ready sh starts counts met
+ready {h} {sh} {starts} {counts} fit g a b c few = record {
+  some = fit .some;
+  held = fit .held;
+  close = fit .close;
+  words = fit .words;
+  blocks = fit .blocks;
+  starts-long = a;
+  counts-long = b;
+  met-long = c;
+  low = λ i hi. g i hi .0;
+  near = λ i e hi he. g i hi .1 .near e he;
+  inside = λ i e k hi he hk. start-near h sh i k hk (omega (arith, fit .held, fit .words)) starts (getD counts i 0) (g i hi .1) e he .1;
+  few = few;
+}
+
+-- Met checks that have become fewer are still few.
+pub ready-fewer : {sh : Shape} {starts counts met met′ : List ℕ} (by : ℕ) → Ready sh starts counts met → length met′ ≡ 16 → ((b : ℕ) → b < 16 → getD met′ b 0 ≡ getD met b 0 - by) → Ready sh starts counts met′
+ready-fewer by r long fewer = record {
+  some = r .some;
+  held = r .held;
+  close = r .close;
+  words = r .words;
+  blocks = r .blocks;
+  starts-long = r .starts-long;
+  counts-long = r .counts-long;
+  met-long = long;
+  low = r .low;
+  near = r .near;
+  inside = r .inside;
+  few = λ b hb. omega (arith, r .few b hb, fewer b (omega (arith, r .blocks)));
+}
+
+-- A flip keeps the state.
+pub kept-flip : (sh : Shape) (starts counts met met′ : List ℕ) (d d′ : List ℕ) (bit : ℕ) → Ready sh starts counts met → bit < sh .blocks * sh .size
+    → ((b : ℕ) → b < 16 → getD met′ b 0 ≡ getD met b 0 - getD met (bit / sh .size) 0)
+    → ((p : ℕ) → wbit d′ p ≡ wbit d p ⊕ sum (getD counts (bit / sh .size) 0) (λ e. eqb p (getD starts (8 * (bit / sh .size) + e) 0 + bit % sh .size) ⊕ eqb p (other (sh .size) (getD starts (8 * (bit / sh .size) + e) 0 + bit % sh .size))))
+    → (c : Code) (h : List ℕ) (from : ℕ) (x : Word) → Lent c h sh → Gathered h sh starts counts (sh .blocks) → Kept c sh from x d counts met
+    → metOf c x bit ≡ getD met (bit / sh .size) 0 → Kept c sh from (flipped x bit) d′ counts met′
+kept-flip sh starts counts met met′ d d′ bit r hbit raised turned c h from x lent g was is =
+    let M = sh .size in
+    let b = bit / M in
+    let k = bit % M in
+    let some : 0 < M = r .some in
+    let hb : b < sh .blocks = div-lt-iff-lt-mul some .1 hbit in
+    let hk : k < M = mod-lt bit some in
+    let e : b * M + k ≡ bit = div-add-mod' bit M in
+    record {
+      twice = subst (λ n. Twice sh (sh .rows) (laid c sh (flipped x n)) (wbit d′)) e
+          (flipped-twice h sh b k hk (omega (arith, r .held, r .words)) starts (getD counts b 0) (g b hb .1) c lent hb (r .held) x (wbit d) (wbit d′) (was .twice) turned);
+      under = raised-under c h sh lent from starts counts g x bit met met′ (subst (λ n. bit < n) (sym (lent .bits-are)) hbit) (r .blocks) (r .few)
+          (λ j hj. raised j hj ∙ ap (λ n. getD met j 0 - n) (sym is)) (was .under);
+    }

@@ -1,7 +1,7 @@
 -- What is kept of a word from flip to flip.
 use mathlib.Core.Path.{_≡_}
 use mathlib.Core.List.{List}
-use Prim.Native.Nat.{ℕ, _+_, _-_, _*_, _≤_, _<_}
+use Prim.Native.Nat.{ℕ, _+_, _-_, _*_, _%_, _≤_, _<_}
 use lib.ListN.{length, getD}
 use Rattle.bits.specs.Bits.{Word}
 use Rattle.rules.specs.Codes.{Code}
@@ -26,6 +26,7 @@ pub record Ready (sh : Shape) (starts counts met : List ℕ) : Type 0 where
   pub met-long : length met ≡ 16
   pub low : (b : ℕ) → b < sh .blocks → getD counts b 0 ≤ 8
   pub near : (b e : ℕ) → b < sh .blocks → e < getD counts b 0 → getD starts (8 * b + e) 0 ≤ 3072 + sh .size
+  pub inside : (b e k : ℕ) → b < sh .blocks → e < getD counts b 0 → k < sh .size → (getD starts (8 * b + e) 0 + k) % 1024 < 2 * sh .size
   pub few : (b : ℕ) → b < sh .blocks → getD met b 0 ≤ getD counts b 0
 
 -- g is what the hits of each block give: twice their number, and 8 less n.

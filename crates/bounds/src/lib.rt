@@ -1,12 +1,15 @@
 // What a run keeps from flip to flip: the rows of the syndrome, each twice over; the starts of every block; and a bound for each block.
 ghost use mathlib.Core.Path.{_≡_};
-ghost use Prim.Native.Nat.{ℕ, _+_, _-_, _*_, _%_, _^_, _<_, _≤_};
+ghost use Prim.Native.Nat.{ℕ, _+_, _-_, _*_, _/_, _%_, _^_, _<_, _≤_};
 ghost use lib.ListN.{length, getD};
 ghost use Rattle.bits.specs.Bits.{Word, digit, sum, flipped, _⊕_};
+ghost use mathlib.Core.List.{List};
 ghost use Rattle.rules.specs.Codes.{Code};
+ghost use Rattle.rules.specs.Checks.{metOf};
 ghost use Rattle.vectors.specs.Vectors.{wbit, Holds, upTo, from};
-ghost use Rattle.layout.specs.Lent.{Fit, Lent, laid};
+ghost use Rattle.layout.specs.Lent.{Fit, Lent};
 ghost use Rattle.bounds.specs.Reading.{Twice, Placed, other, hits, light, Noted, Starts, Gathered};
+ghost use Rattle.bounds.specs.Keeping.{Ready, Kept};
 ghost use mathlib.Core.Bool.{_&&_};
 ghost use lib.Dec.{leb, ltb, eqb};
 use layout::Shape;
@@ -228,7 +231,7 @@ fn turn_check(d: &mut [u64], p: usize, m: usize)
 }
 
 // Turns the checks of bit k of a block over.
-pub fn turn_checks(d: &mut [u64], starts: &[u16], first: usize, n: usize, k: usize, m: usize)
+fn turn_checks(d: &mut [u64], starts: &[u16], first: usize, n: usize, k: usize, m: usize)
     requires { ⌜ (1 ≤ m) × (m ≤ 512) × (first + n ≤ length (now starts)) × (length (now starts) < 2 ^ 32) × (length (now d) ≡ 65) × ((e : ℕ) → e < n → (getD (now starts) (first + e) 0 + k < 4096) × ((getD (now starts) (first + e) 0 + k) % 1024 < 2 * m)) ⌝ }
     ensures { λ r. ⌜ ((p : ℕ) → wbit (now (d .exit)) p ≡ wbit (now (d .entry)) p ⊕ sum n (λ e. eqb p (getD (now (starts .entry)) (first + e) 0 + k) ⊕ eqb p (other m (getD (now (starts .entry)) (first + e) 0 + k)))) ⌝ }
 {
@@ -250,7 +253,7 @@ fn fewer(v: u8, by: u8) -> u8
 }
 
 // After a flip that broke so many checks, the bits of each block may have so many met checks fewer.
-pub fn raise(met: &mut [u8], by: u8)
+fn raise(met: &mut [u8], by: u8)
     requires { ⌜ length (now met) ≡ 16 ⌝ }
     ensures { λ r. ⌜ ((b : ℕ) → b < 16 → getD (now (met .exit)) b 0 ≡ getD (now (met .entry)) b 0 - by) ⌝ }
 {
@@ -259,4 +262,16 @@ pub fn raise(met: &mut [u8], by: u8)
         met[b] = fewer(met[b], by);
         b += 1;
     }
+}
+
+// Turns the checks of a bit over and raises the bounds; the bit has as many met checks as the bound of its block says.
+pub fn flip(d: &mut [u64], starts: &[u16], counts: &[u8], met: &mut [u8], sh: Shape, bit: usize)
+    requires { ⌜ Ready sh (now starts) (now counts) (now met) × (length (now d) ≡ 65) × (bit < sh .blocks * sh .size) ⌝ }
+    ensures { λ r. ⌜ Ready sh (now (starts .entry)) (now (counts .entry)) (now (met .exit)) × ((c : Code) (h : List ℕ) (from : ℕ) (x : Word) → Lent c h sh → Gathered h sh (now (starts .entry)) (now (counts .entry)) (sh .blocks) → Kept c sh from x (now (d .entry)) (now (counts .entry)) (now (met .entry)) → metOf c x bit ≡ getD (now (met .entry)) (bit / sh .size) 0 → Kept c sh from (flipped x bit) (now (d .exit)) (now (counts .entry)) (now (met .exit))) ⌝ }
+{
+    let b = bit / sh.size;
+    let n = counts[b] as usize;
+    turn_checks(d, starts, 8 * b, n, bit % sh.size, sh.size);
+    let by = met[b];
+    raise(met, by);
 }

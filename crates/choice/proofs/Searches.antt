@@ -156,6 +156,7 @@ module _ (sh : Shape) (from : ℕ) (d : Word) (starts counts met : List ℕ) (b 
           met-long = length-set met b (m + 1) ∙ r .met-long;
           low = r .low;
           near = r .near;
+          inside = r .inside;
           few = λ j hj. few j hj (ℕ-discrete j b);
         };
         under = λ g s u j k hj hk sent. under g s u j k hj hk sent (ℕ-discrete j b);
