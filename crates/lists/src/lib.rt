@@ -194,8 +194,9 @@ fn count_flips(o: Offer, word: &[u8], limit: u16) -> usize
     let mut y = [0u64; WORD];
     let mut s = [0u64; SYNDROME];
     let sh = measured::measure(o, word, &mut t, &mut y, &mut s);
-    let ran = runs::run(&mut y, &mut s, &t, sh, o.unsent, limit);
-    ran.flips as usize
+    let first = syndromes::broken(&s);
+    let ended = runs::run(&mut y, &s, &t, sh, o.unsent, limit, first);
+    ended.ran.flips as usize
 }
 
 // Whether a table of so many places serves the run on a word: by the bounds where they tell, else the flips are counted.
