@@ -62,7 +62,7 @@ def shown(page: Path, profile: Path) -> Tuple[str, str]:
     """The document as the browser has it, and what its console says."""
     found = browser()
     assert found
-    words = [found, "--headless", "--no-sandbox", "--disable-gpu", "--disable-extensions", "--no-first-run", "--enable-logging=stderr"]
+    words = [found, "--headless", "--no-sandbox", "--disable-gpu", "--disable-dev-shm-usage", "--no-first-run", "--enable-logging=stderr"]
     words += [f"--user-data-dir={profile}", "--dump-dom", page.as_uri()]
     ran = subprocess.run(words, capture_output=True, text=True, timeout=120, check=True)
     return ran.stdout, "\n".join(line for line in ran.stderr.splitlines() if "CONSOLE" in line)
