@@ -54,8 +54,11 @@ class Page(HTMLParser):
 
 def browser() -> Optional[str]:
     """A browser that can do without a screen."""
-    names = ("chromium", "chromium-browser", "google-chrome", "chrome")
-    return next((found for found in map(shutil.which, names) if found), None)
+    for name in ("chromium", "chromium-browser", "google-chrome", "chrome"):
+        found = shutil.which(name)
+        if found:
+            return found
+    return None
 
 
 def shown(page: Path, profile: Path) -> Tuple[str, str]:
