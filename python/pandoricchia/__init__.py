@@ -14,8 +14,8 @@ calls with outputs made for the caller, and raises ``Refused``.
 
 What is proved is proved of the library. This package stands outside the proofs; what it computes it asks of the library.
 
-The shared library is the one that the environment variable PANDORICCHIA_LIBRARY names, else one in this package's folder,
-else the system's.
+The shared library is loaded at the first call: the one that the environment variable PANDORICCHIA_LIBRARY names, else one in
+this package's folder, else the system's. ``pandoricchia.command`` is the command for a shell.
 """
 from ._library import VERSION as VERSION
 from .calls import bch_check as bch_check

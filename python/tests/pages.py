@@ -54,15 +54,18 @@ class Page(HTMLParser):
 
 def browser() -> Optional[str]:
     """A browser that can do without a screen."""
-    names = ("chromium", "chromium-browser", "google-chrome", "chrome")
-    return next((found for found in map(shutil.which, names) if found), None)
+    for name in ("chromium", "chromium-browser", "google-chrome", "chrome"):
+        found = shutil.which(name)
+        if found:
+            return found
+    return None
 
 
 def shown(page: Path, profile: Path) -> Tuple[str, str]:
     """The document as the browser has it, and what its console says."""
     found = browser()
     assert found
-    words = [found, "--headless", "--no-sandbox", "--disable-gpu", "--disable-extensions", "--no-first-run", "--enable-logging=stderr"]
+    words = [found, "--headless", "--no-sandbox", "--disable-gpu", "--disable-dev-shm-usage", "--no-first-run", "--enable-logging=stderr"]
     words += [f"--user-data-dir={profile}", "--dump-dom", page.as_uri()]
     ran = subprocess.run(words, capture_output=True, text=True, timeout=120, check=True)
     return ran.stdout, "\n".join(line for line in ran.stderr.splitlines() if "CONSOLE" in line)

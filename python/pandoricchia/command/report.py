@@ -152,14 +152,14 @@ def _proved(code: Optional[int]) -> List[str]:
         if code is None
         else "The numbers on this page were asked of the library, word by word.",
         "Answer 0 means: the run ended with no check broken, at a word that the encoder can give.",
-        f"Flips are never more than the limit, and never more than {half}. Unlike is never more than flips, and both are even or"
-        " both odd.",
+        f"Flips are never more than the limit, and never more than {half}. Unlike is never more than flips, and the two are both"
+        " even or both odd.",
         "A codeword comes back as it is, with no flips.",
         f"One wrong bit alone is mended by exactly one flip, under a limit of at least 1: {covered.get(code, 'any bit')}.",
     ]
     if code in (None, 4, 5):
         where = "Under codes 4 and 5 two" if code is None else "Two"
-        said.append(f"{where} wrong bits, under a limit of at least 2, are mended by exactly two flips.")
+        said.append(f"{where} such wrong bits, under a limit of at least 2, are mended by exactly two flips.")
     if code in (None, 1, 2, 3):
         said.append("Codes 1 to 3 never give answer 8.")
     return said
