@@ -568,8 +568,7 @@ struct judge_corrected fast_correct(uint8_t code, const uint8_t *word, size_t le
     answer.last = answer.first;      \
     answer.number = run(y, s, h, sh, code == 5 ? 18 : 0, limit, &answer.flips, &answer.last)
     FOR_CODE(code, RUN)
-    if (answer.flips != 0)
-        answer.unlike = unlike(code, word, len, y);
+    answer.unlike = answer.flips <= 1 ? answer.flips : unlike(code, word, len, y);
     if (answer.number == 0 && code >= 4 && !own_parity(y))
         answer.number = 8;
     if (answer.number == 0)
@@ -599,11 +598,12 @@ static uint8_t run_listed(uint64_t *y, uint64_t *s, const uint16_t *h, struct sh
 static uint32_t count_flips(uint8_t code, const uint8_t *word, size_t len, uint16_t limit)
 {
     uint64_t y[HELD], s[SYNDROME];
-    uint32_t flips = 0;
+    uint32_t flips = 0, left = 0;
     take(code, word, len, y);
 #define COUNT(h, steps, sh, lead) \
     syndrome(y, h, sh, s);        \
-    run(y, s, h, sh, code == 5 ? 18 : 0, limit, &flips)
+    left = broken(s, sh);         \
+    run(y, s, h, sh, code == 5 ? 18 : 0, limit, &flips, &left)
     FOR_CODE(code, COUNT)
     return flips;
 }
@@ -633,8 +633,7 @@ struct judge_listed fast_list(uint8_t code, const uint8_t *word, size_t len, uin
     answer.number = run_listed(y, s, h, sh, code == 5 ? 18 : 0, limit, &answer.flips, table, &reason); \
     answer.last = broken(s, sh)
     FOR_CODE(code, LIST)
-    if (answer.flips != 0)
-        answer.unlike = unlike(code, word, len, y);
+    answer.unlike = answer.flips <= 1 ? answer.flips : unlike(code, word, len, y);
     if (answer.number == 0 && code >= 4 && !own_parity(y))
         answer.number = 8;
     answer.bit = reason.bit;

@@ -149,8 +149,7 @@ module _ (n : ℕ) (information out : List ℕ) where
       encode-from t li lo
       ∙ ap (λ b. if b then refusedEncode out 4 else record {
         number = 0;
-        out =
-            written (code n) (encoded (code n) (lifted (code n) (bit information)));
+        out = written (code n) (encoded (code n) (lifted (code n) (bit information)));
       }) six
 
   pub encode-four : T (offered n) → length information ≡ code n .informationOctets → length out ≡ code n .wordOctets
@@ -160,8 +159,7 @@ module _ (n : ℕ) (information out : List ℕ) where
       encode-from t li lo
       ∙ ap (λ b. if b then refusedEncode out 4 else record {
         number = 0;
-        out =
-            written (code n) (encoded (code n) (lifted (code n) (bit information)));
+        out = written (code n) (encoded (code n) (lifted (code n) (bit information)));
       }) six
 
   pub encode-refused : (k : ℕ) → k ≡ refusal (offered n) (length information) (code n .informationOctets) (length out) (code n .wordOctets)

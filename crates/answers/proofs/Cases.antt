@@ -307,8 +307,7 @@ only-first : (out : List ℕ) → length out ≡ 16
       first = 5;
       last = 0;
       unlike = 1;
-      lowest =
-          lowest code1 (flipped (lifted code1 (bit (replicate 16 0))) 0);
+      lowest = lowest code1 (flipped (lifted code1 (bit (replicate 16 0))) 0);
       out = replicate 16 0;
     }
 unfolding code code1 parity16
@@ -321,8 +320,7 @@ only-first out lo =
       first = d;
       last = 0;
       unlike = 1;
-      lowest =
-          lowest code1 (flipped (lifted code1 (bit (replicate 16 0))) 0);
+      lowest = lowest code1 (flipped (lifted code1 (bit (replicate 16 0))) 0);
       out = replicate 16 0;
     }) degree1
 

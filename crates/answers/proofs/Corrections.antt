@@ -230,8 +230,7 @@ module _ (n : ℕ) (off : T (offered n)) (word out : List ℕ) (lw : length word
         flips = length (r .flips);
         first = broken (code n) x;
         last = 0;
-        unlike =
-            differing (code n) x (lifted (code n) (bit word));
+        unlike = differing (code n) x (lifted (code n) (bit word));
         lowest = lowest (code n) x;
         out = word;
       }
@@ -258,8 +257,7 @@ module _ (n : ℕ) (off : T (offered n)) (word out : List ℕ) (lw : length word
         first = broken (code n) x;
         last = 0;
         unlike = d;
-        lowest =
-            lowest (code n) x;
+        lowest = lowest (code n) x;
         out = z;
       })
       (ap (differing (code n) x) w)
@@ -280,8 +278,7 @@ module _ (n : ℕ) (off : T (offered n)) (word out : List ℕ) (lw : length word
           first = z;
           last = 0;
           unlike = d;
-          lowest =
-              lowest (code n) (lifted (code n) (bit word));
+          lowest = lowest (code n) (lifted (code n) (bit word));
           out = word;
         })
         met (differ-self (code n) (lifted (code n) (bit word)))
@@ -369,8 +366,7 @@ module _ (n : ℕ) (off : T (offered n)) (x : Word) (met : broken (code n) x ≡
         first = degreeOf (code n) n₀;
         last = degreeOf (code n) n₀;
         unlike = 0;
-        lowest =
-            lowest (code n) got;
+        lowest = lowest (code n) got;
         out = out;
       }
   unfolding ranCorrect

@@ -20,7 +20,7 @@ use Rattle.rules.specs.Flipping.{Next, quiet, stuck, flip, Way, greatestSent, b
 use Rattle.answers.specs.Calls.{refusal, unless, judged, Corrected, refusedCorrect, ranCorrect, ranFrom, correctAnswer}
 use Rattle.answers.specs.Lists.{Entry, entries, enteredIn, reason, Listed, listedBy, refusedList, ranList, listedFrom, listAnswer}
 use Rattle.bits.proofs.Counting.{count-le}
-use Rattle.rules.proofs.Runs.{every-run, run-within, run-ends, run-unchanged, End, ends-quiet, ends-stuck, ends-limit}
+use Rattle.rules.proofs.Runs.{every-run, run-within, run-ends, End, ends-quiet, ends-stuck, ends-limit}
 use Rattle.rules.proofs.Flips.{broken-flip, excess-is}
 use Rattle.rules.proofs.Greatest.{Greatest, not-less}
 use Rattle.rules.proofs.Ways.{Chooses, Chosen, run-fall, run-half, limit-serves, half-serves}
@@ -374,10 +374,3 @@ places-serve = five (λ n. (x : Word) → run (byExcess (code n)) 511 x .number 
     near : (n : ℕ) → T (nearEarthed n) → (x : Word) → run (byExcess (code n)) 511 x .number ≡ 6 → ⊥
     near n t x = half-serves (chooses n (near-offered n t)) (λ k l. (2, near-degree n t k l)) 511 x
         (omega (arith, broken-few (code n) x, near-checks n t))
-
--- and a limit above that changes nothing
-pub run-capped : (n : ℕ) → T (offered n) → (x : Word) (limit : ℕ) → 511 ≤ limit
-    → run (byExcess (code n)) 511 x ≡ run (byExcess (code n)) limit x
-run-capped n t x limit h =
-    let e : limit ≡ 511 + (limit - 511) = omega arith in
-    sym (ap (λ l. run (byExcess (code n)) l x) e ∙ run-unchanged (byExcess (code n)) (limit - 511) 511 x (places-serve n t x))

@@ -57,8 +57,7 @@ module _ (n : ℕ) (near : T (nearEarthed n)) (word out : List ℕ) (lw : length
         last = 0;
         unlike = 2;
         lowest = lowest (code n) (got b d);
-        out =
-            word;
+        out = word;
       }
   by-two limit b d hb hd apart =
       let pb : Published (code n) = published n off in
@@ -86,8 +85,7 @@ module _ (n : ℕ) (near : T (nearEarthed n)) (word out : List ℕ) (lw : length
         first = broken (code n) (got b d);
         last = 0;
         unlike = e;
-        lowest =
-            lowest (code n) (got b d);
+        lowest = lowest (code n) (got b d);
         out = word;
       })
       (m .flips) (ap (λ y. differing (code n) y x) same
@@ -103,8 +101,7 @@ module _ (n : ℕ) (near : T (nearEarthed n)) (word out : List ℕ) (lw : length
         last = 0;
         unlike = 2;
         lowest = lowest (code n) (got b d);
-        out =
-            word;
+        out = word;
       }
   two-back limit b d enough hb hd apart =
       let is : limit ≡ suc (suc (limit - 2)) = omega arith in

@@ -148,8 +148,7 @@ take-outcome κs a r₁ r₂ s₁ s₂ p q =
       taken = x .taken;
       complete = x .complete;
       corrected = numbers (x .corrected);
-      word =
-          x .corrected .out;
+      word = x .corrected .out;
     }) (p ∙ sym q)
 
 pub reader-outcome : (κs : Lfts 1) (a : ArgsD reader.signature κs) (r₁ r₂ : ResD reader.signature κs)
@@ -165,8 +164,7 @@ read-outcome κs a r₁ r₂ s₁ s₂ p q = (
   ap (λ x. record {
     corrected = numbers (x .corrected);
     none = x .none;
-    next =
-        record { kept = numbers (x .next .kept); code = x .next .code; limit = x .next .limit; place = x .next .place };
+    next = record { kept = numbers (x .next .kept); code = x .next .code; limit = x .next .limit; place = x .next .place };
   }) (p ∙ sym q),
   ap (λ x. x .corrected .out) (p ∙ sym q),
 )

@@ -5,6 +5,7 @@ use mathlib.Core.List.{List}
 use Prim.Native.Nat.{ℕ, _≤_, _<_}
 use lib.Dec.{eqb, lit≤}
 use lib.ListN.{length}
+use native.Mathlib.Omega.{arith}
 use borrow.Author.Tests.{eq-eqb, ne-eqb}
 use Rattle.bits.specs.Bits.{Word, bit, if_then_else_}
 use Rattle.rules.specs.Codes.{Code, code, bits}
@@ -12,11 +13,12 @@ use Rattle.rules.specs.Checks.{broken, lowest}
 use Rattle.rules.specs.Encoding.{lifted, written}
 use Rattle.rules.specs.Flipping.{Next as NextOf, byExcess, run}
 use Rattle.answers.specs.Calls.{Corrected, differing, judged, ranCorrect, nextStep, ranFrom, steppedFrom}
-use Rattle.rules.proofs.Runs.{no-flips}
 use Rattle.rules.proofs.Ways.{run-met}
 use Rattle.rules.proofs.Choosing.{by-excess}
 use Rattle.rules.proofs.Codewords.{lifted-unsent}
 use Rattle.answers.proofs.Refusals.{unsent-stay}
+use Rattle.answers.proofs.Differing.{differ-self}
+use Rattle.answers.proofs.Unlike.{run-near}
 use Rattle.layout.specs.declared.Shape.{Shape}
 use Rattle.layout.specs.Lent.{Fit, Lent, laid}
 use Rattle.measured.specs.Measured.{Measured}
@@ -35,6 +37,19 @@ numbers-same : {a a′ b b′ c c′ d d′ e e′ f f′ : ℕ} {o o′ : List 
 numbers-same {a} {a′} {b} {b′} {c} {c′} {d} {d′} {e} {e′} {f} {f′} {o} {o′} p q r s t u v =
     ap₂ (λ x y. numbers x y c d e f o) p q ∙ ap₂ (λ x y. numbers a′ b′ x y e f o) r s
     ∙ ap₂ (λ x y. numbers a′ b′ c′ d′ x y o) t u ∙ ap (numbers a′ b′ c′ d′ e′ f′) v
+
+-- the word at the end of a run
+pub ends-at : (c : Code) → c .unsent < bits c → (received end : Word) (limit flips : ℕ) → end ≡ run (byExcess c) limit (lifted c received) .word
+    → flips ≡ length (run (byExcess c) limit (lifted c received) .flips) → EndsAt c received end flips
+ends-at c some received end limit flips e f =
+    let x = lifted c received in
+    let near = run-near (by-excess c some) x limit x in
+    let d : differing c x end ≡ differing c x (run (byExcess c) limit x .word) = ap (differing c x) e in
+    record {
+      within = omega (arith, near .most, differ-self c x, d, f);
+      even = omega (arith, near .even, differ-self c x, d, f);
+      unsent = λ k h. ap (λ z. z k) e ∙ unsent-stay c (by-excess c some) limit x (lifted-unsent c received) k h;
+    }
 
 module _ (n : ℕ) (word t : List ℕ) (y s : Word) (sh : Shape) (m : Measured n word t y s sh) where
   pub holding : Holding t sh s
@@ -69,13 +84,8 @@ module _ (n : ℕ) (word t : List ℕ) (y s : Word) (sh : Shape) (m : Measured n
         ap (λ z. z k) (sym ran-word)
         ∙ unsent-stay (code n) (by-excess (code n) some) limit (lifted (code n) (bit word)) (lifted-unsent (code n) (bit word)) k h
 
-    -- where no flip was made it is the received word
     pub ran-ends : code n .unsent < bits (code n) → EndsAt (code n) (bit word) y′ (ran .flips)
-    ran-ends some = record {
-      same = λ e. sym ran-word ∙ no-flips (byExcess (code n)) limit (lifted (code n) (bit word))
-          (sym (to .flips ∙ ap (λ r. length (r .flips)) same-run) ∙ e);
-      unsent = ran-unsent some;
-    }
+    ran-ends some = ends-at (code n) some (bit word) y′ limit (ran .flips) (sym ran-word) (to .flips ∙ ap (λ r. length (r .flips)) same-run)
 
     module _ (first last number unlike low : ℕ)
         (at-first : (c : Code) (h : List ℕ) (sh : Shape) (x : Word) → Fit h sh → Lent c h sh → s ≡ laid c sh x → first ≡ broken c x)

@@ -24,8 +24,7 @@ asCorrected r out = record {
   first = r .first;
   last = r .last;
   unlike = r .unlike;
-  lowest =
-      r .lowest;
+  lowest = r .lowest;
   out = out;
 }
 

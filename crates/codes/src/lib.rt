@@ -186,13 +186,13 @@ pub fn open<'a>(code: u8, word: &'a [u8], number: &mut u8, lowest: &mut u32) -> 
     &word[..end]
 }
 
-// In how many bits the word at the end of a run differs from the received one: in none, where no flip was made.
+// In how many bits the word at the end of a run differs from the received one: no flip leaves it, and one turns one bit over.
 pub fn unlike_after(o: Offer, word: &[u8], y: &[u64], flips: u32) -> u32
     requires { ⌜ Known o × (length (now word) ≡ o .word) × (length (now y) ≡ wordRoom) ⌝ }
     ensures { λ r. ⌜ ((n : ℕ) → offered n ≡ true → o ≡ offerOf n → EndsAt (codeOf n) (bit (now (word .entry))) (wbit (now (y .entry))) flips → r ≡ differing (codeOf n) (lifted (codeOf n) (bit (now (word .entry)))) (wbit (now (y .entry)))) ⌝ }
 {
-    if flips == 0 {
-        return 0;
+    if flips <= 1 {
+        return flips;
     }
     unlike::unlike(word, y, o.unsent, o.bits - o.unsent) as u32
 }

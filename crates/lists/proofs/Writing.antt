@@ -14,7 +14,7 @@ use Rattle.rules.specs.Checks.{broken, lowest}
 use Rattle.rules.specs.Flipping.{quiet, stuck, flip, byExcess, Run, run}
 use Rattle.answers.specs.Calls.{judged, differing, ranCorrect}
 use Rattle.answers.specs.Lists.{Entry, entries, enteredIn, reason, Listed as ListedAnswer, refusedList, listAnswer}
-use Rattle.rules.proofs.Runs.{run-flip, no-flips}
+use Rattle.rules.proofs.Runs.{run-flip}
 use Rattle.rules.proofs.Ways.{run-met, run-fall, run-half}
 use Rattle.rules.proofs.Choosing.{by-excess}
 use Rattle.rules.proofs.Codewords.{lifted-unsent}
@@ -30,6 +30,7 @@ use Rattle.offer.specs.Offers.{offerOf, Known}
 use Rattle.offer.proofs.Offers.{is-offered}
 use Rattle.codes.specs.Ends.{EndsAt}
 use Rattle.codes.proofs.Admitted.{word-long}
+use Rattle.codes.proofs.Correcting.{ends-at}
 use Rattle.tables.specs.Flat.{Lends}
 use Rattle.measured.specs.Measured.{Measured}
 use Rattle.runs.specs.Turns.{Going, RunsTo}
@@ -208,10 +209,7 @@ module _ (n : ℕ) (word : List ℕ) (limit : ℕ) (l : Listing) (flips : ℕ) (
       ∙ unsent-stay (code n) (by-excess (code n) some) limit (wordOf n word) (lifted-unsent (code n) (bit word)) k h
 
   pub end-at : EndsAt (code n) (bit word) y flips
-  end-at = record {
-    same = λ z. e .word-is ∙ no-flips (byExcess (code n)) limit (wordOf n word) (sym (e .flips-are) ∙ z);
-    unsent = end-unsent;
-  }
+  end-at = ends-at (code n) some (bit word) y limit flips (e .word-is) (e .flips-are)
 
   pub ended-is : (excess′ : ℤ) → excess′ ≡ excess → (judge unlike : ℕ) → judge ≡ judged (code n) (runOf n word limit) → unlike ≡ differing
       (code n) (wordOf n word) y

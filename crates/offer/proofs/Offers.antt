@@ -128,8 +128,7 @@ fixed-five =
       less = lit≤ tt;
       multiple = lit≤ tt;
       unsent = refl;
-      low =
-          lit≤ tt;
+      low = lit≤ tt;
       bits-are = refl;
       most = lit≤ tt;
       fill = refl;
@@ -150,8 +149,7 @@ fixed-five =
       less = lit≤ tt;
       multiple = lit≤ tt;
       unsent = refl;
-      low =
-          lit≤ tt;
+      low = lit≤ tt;
       bits-are = refl;
       most = lit≤ tt;
       fill = refl;
@@ -172,8 +170,7 @@ fixed-five =
       less = lit≤ tt;
       multiple = lit≤ tt;
       unsent = refl;
-      low =
-          lit≤ tt;
+      low = lit≤ tt;
       bits-are = refl;
       most = lit≤ tt;
       fill = refl;
@@ -194,8 +191,7 @@ fixed-five =
       less = lit≤ tt;
       multiple = lit≤ tt;
       unsent = refl;
-      low =
-          lit≤ tt;
+      low = lit≤ tt;
       bits-are = refl;
       most = lit≤ tt;
       fill = refl;
@@ -216,8 +212,7 @@ fixed-five =
       less = lit≤ tt;
       multiple = lit≤ tt;
       unsent = refl;
-      low =
-          lit≤ tt;
+      low = lit≤ tt;
       bits-are = refl;
       most = lit≤ tt;
       fill = refl;

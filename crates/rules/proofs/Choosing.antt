@@ -111,8 +111,7 @@ module _ (c : Code) (some : c .unsent < bits c) where
         record {
           sent = omega (arith, f .bit, chosen-greatest x .from);
           under = omega (arith, f .bit, chosen-greatest x .under);
-          value =
-              f .value;
+          value = f .value;
           above = f .above;
         };
   }

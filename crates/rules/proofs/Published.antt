@@ -102,8 +102,7 @@ nearTests wordOctets informationOctets unsent = record {
   room = refl;
   tables = rows511;
   size = tt;
-  many =
-      tt;
+  many = tt;
   apart = apart511;
 }
 

@@ -57,12 +57,6 @@ module _ (way : Way) where
   run-within = every-run (λ limit x r. length (r .flips) ≤ limit) (λ limit x e. zero-le) (λ limit x n ex e. zero-le) (λ x n ex e. zero-le)
       (λ limit x n ex e r ih. suc-le-suc ih)
 
-  -- a run without flips stays where it was
-  pub no-flips : (limit : ℕ) (x : Word) → length (run way limit x .flips) ≡ 0 → run way limit x .word ≡ x
-  no-flips = every-run (λ limit x r. length (r .flips) ≡ 0 → r .word ≡ x) (λ limit x e z. refl) (λ limit x n ex e z. refl)
-      (λ x n ex e z. refl)
-      (λ limit x n ex e r ih z. absurd (omega (arith, z)))
-
   -- how a run ends
   pub data End (limit : ℕ) (r : Run) : Type 0 where
     ends-quiet : r .number ≡ 0 → way (r .word) ≡ quiet → End limit r

@@ -13,8 +13,8 @@ abbrev pub oneAt : ℕ → List ℕ → ℕ → ℕ → Bool
 oneAt M [] i column = false
 oneAt M (s ∷ shifts) i column = eqb ((i + s) % M) column || oneAt M shifts i column
 
--- Checks are numbered from 0, block row by block row: check k is row k mod M of block row k / M, and bit n is column n mod M of block n /
--- M.
+-- Checks are numbered from 0, block row by block row: check k is row k mod M of block row k / M, and bit n is column n mod M
+-- of block n / M.
 abbrev pub covers : Code → ℕ → ℕ → Bool
 covers c k n =
     let M = c .size in

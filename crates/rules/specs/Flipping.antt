@@ -9,8 +9,7 @@ use Rattle.rules.specs.Codes.{Code, bits}
 use Rattle.rules.specs.Checks.{broken, excess}
 
 -- What comes next for a word: no check is broken; or no bit that is sent has an excess above 0, the greatest being this bit's; or this bit,
--- of this excess,
--- is to be flipped.
+-- of this excess, is to be flipped.
 pub data Next : Type 0 where
   quiet : Next
   stuck : ℕ → ℤ → Next

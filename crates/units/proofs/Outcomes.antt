@@ -40,8 +40,7 @@ read-outcome κs a r₁ r₂ s₁ s₂ p q = (
   ap (λ x. record {
     corrected = numbers (x .corrected);
     none = x .none;
-    next =
-        record { kept = numbers (x .next .kept); code = x .next .code; limit = x .next .limit; place = x .next .place };
+    next = record { kept = numbers (x .next .kept); code = x .next .code; limit = x .next .limit; place = x .next .place };
   }) (p ∙ sym q),
   ap (λ x. x .corrected .out) (p ∙ sym q),
 )

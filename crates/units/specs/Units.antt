@@ -106,8 +106,7 @@ withOut r out = record {
   first = r .first;
   last = r .last;
   unlike = r .unlike;
-  lowest =
-      r .lowest;
+  lowest = r .lowest;
   out = out;
 }
 

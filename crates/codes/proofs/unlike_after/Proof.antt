@@ -1,12 +1,9 @@
--- `codes::unlike_after`: none without flips, else those of the bits that are sent. Assumes nothing.
-use mathlib.Core.Path.{sym, ap, _∙_}
+-- `codes::unlike_after`: as many as flips up to one, else those of the bits that are sent. Assumes nothing.
+use mathlib.Core.Path.{_∙_}
 use native.Mathlib.Omega.{arith}
 use Rattle.bits.specs.Bits.{bit}
 use Rattle.rules.specs.Codes.{code}
-use Rattle.rules.specs.Encoding.{lifted}
-use Rattle.answers.specs.Calls.{differing}
 use Rattle.rules.proofs.Numbers.{published}
-use Rattle.answers.proofs.Differing.{differ-self}
 use Rattle.vectors.specs.Vectors.{wbit}
 use Rattle.offer.proofs.Offers.{small, is-offered}
 use Rattle.codes.proofs.Admitted.{unsent-is, bits-are}
@@ -17,10 +14,7 @@ use Rattle.codes.proofs.unlike_after.Tie as tie
 
 returns : tie.Need-returns
 returns c =
-    let a = c .before .before .before in
-    λ n off is ends.
-    let x = lifted (code n) (bit (a .args .word .now)) in
-    sym (ap (differing (code n) x) (ends .same (c .if1 .taken)) ∙ differ-self (code n) x)
+    λ n off is ends. omega (arith, c .if1 .taken, ends .within, ends .even)
 
 sub-unlike : tie.Need-sub-unlike
 sub-unlike c = omega (arith, small (c .before .before .before .before .pre .0) .sends)

@@ -158,8 +158,7 @@ returns-2 c =
     ap₂ (λ y p. record {
       corrected = asCorrected (x .correct .result) y;
       none = false;
-      next =
-          record { kept = s .kept; code = s .code; limit = s .limit; place = p };
+      next = record { kept = s .kept; code = s .code; limit = s .limit; place = p };
     })
     (c .before .before .before .before .copy .ensures
     ∙ mended-part (a .args .state .code) (a .args .unit .now) (g .receive .last .1 .1 .1 .0) (p .word-buffer .result)
