@@ -7,97 +7,33 @@
 
 #include <float.h>
 
-struct kept {
-    uint64_t d[4 * 17];     /* the rows of the syndrome, each twice over */
-    unsigned starts[16][8]; /* where the checks of a block's bit 0 lie in d, */
-    unsigned degree[16];    /* how many there are, */
-    unsigned bound[16];     /* and how many of them can be broken, for any bit of the block */
-};
-
-LEAF void begin(const uint64_t *s, const uint16_t *h, struct shape sh, struct kept *st)
-{
-    unsigned room = 2 * sh.words + 1;
-    for (unsigned r = 0; r < sh.rows; r++)
-        twice(s + r * sh.words, sh, st->d + r * room);
-    for (unsigned b = 0; b < sh.blocks; b++) {
-        unsigned n = 0;
-        for (unsigned r = 0; r < sh.rows; r++)
-            for (unsigned e = 0; e < 2; e++) {
-                unsigned shift = h[2 * (r * sh.blocks + b) + e];
-                if (shift < sh.size)
-                    st->starts[b][n++] = 64 * room * r + (sh.size - shift);
-            }
-        st->degree[b] = st->bound[b] = n;
-    }
-}
-
-/* The bits of a block that have at most `met` of n checks met, 0 to 2, 64 to a word: with_two, with_one and with_none have at most
- * so many met among the checks looked at. */
-LEAF void weigh(const uint64_t *d, const unsigned *starts, unsigned n, unsigned met, struct shape sh, uint64_t *mask)
-{
-    for (unsigned k = 0; k < sh.words; k++) {
-        uint64_t all = ~UINT64_C(0), with_two = met > 1 ? all : 0, with_one = met > 0 ? all : 0, with_none = all;
-        for (unsigned e = 0; e < n; e++) {
-            uint64_t x = funnel(d[starts[e] / 64 + k], d[starts[e] / 64 + k + 1], starts[e] % 64);
-            with_two = (with_two & x) | with_one;
-            with_one = (with_one & x) | with_none;
-            with_none &= x;
-            if (met == 0 && e == 1 && with_none == 0)
-                break;
-        }
-        mask[k] = met == 0 ? with_none : met == 1 ? with_one : with_two;
-    }
-    mask[sh.words - 1] = front(mask[sh.words - 1], sh.size);
-}
-
-/* Once for each number of checks and of those met. */
-LEAF void weigh_block(const struct kept *st, unsigned b, struct shape sh, uint64_t *mask)
-{
-    unsigned n = st->degree[b], met = n - st->bound[b];
-    switch (4 * n + met) {
-#define WEIGH(N, MET)                                      \
-    case 4 * N + MET:                                      \
-        weigh(st->d, st->starts[b], N, MET, sh, mask);     \
-        break
-        WEIGH(3, 0);
-        WEIGH(3, 1);
-        WEIGH(4, 0);
-        WEIGH(4, 1);
-        WEIGH(5, 0);
-        WEIGH(5, 1);
-    default:
-        weigh(st->d, st->starts[b], 5, 2, sh, mask);
-    }
-}
-
 LEAF float size_of(float x)
 {
     return x < 0 ? -x : x;
 }
 
-/* The bit of greatest excess whose sample is the smallest, then the lowest; the excess is the score less 8. Where no bound allows
- * an excess above 0, none is looked for. */
-LEAF struct best smallest(struct kept *st, const float *samples, struct shape sh)
+/* The bit of greatest excess whose sample is the smallest, then the lowest; the excess is the score less 8. All blocks of the
+ * greatest bound are searched, and the bound of one that has no such bit goes down. */
+LEAF struct best smallest(struct kept *kept, const float *samples, struct shape sh)
 {
     for (;;) {
         struct best best = {0, 0};
         float least = 0;
         bool found = false;
         for (unsigned b = 0; b < sh.blocks; b++) {
-            unsigned score = 2 * st->bound[b] + 8 - st->degree[b];
-            best.score = best.score < score ? score : best.score;
+            unsigned bound = 8u + kept->counts[b] - 2u * kept->met[b];
+            best.score = best.score < bound ? bound : best.score;
         }
-        if (best.score <= 8)
-            return best;
         for (unsigned b = 0; b < sh.blocks; b++) {
-            if (2 * st->bound[b] + 8 - st->degree[b] != best.score)
+            if (8u + kept->counts[b] - 2u * kept->met[b] != best.score)
                 continue;
             bool any = false;
-            uint64_t masks[8];
-            weigh_block(st, b, sh, masks);
-            for (unsigned k = 0; k < sh.words; k++)
-                for (uint64_t mask = masks[k]; mask != 0; any = true) {
-                    unsigned place = (unsigned)__builtin_clzll(mask), bit = b * sh.size + 64 * k + place;
+            for (unsigned at = 0; at < sh.size; at += 64) {
+                uint64_t mask = light(kept, b, at);
+                if (mask != 0 && sh.size - at < 64)
+                    mask = front(mask, sh.size);
+                for (; mask != 0; any = true) {
+                    unsigned place = (unsigned)__builtin_clzll(mask), bit = b * sh.size + at + place;
                     mask ^= UINT64_C(1) << (63 - place);
                     if (!found || size_of(samples[bit]) < least) {
                         found = true;
@@ -105,27 +41,13 @@ LEAF struct best smallest(struct kept *st, const float *samples, struct shape sh
                         best.bit = bit;
                     }
                 }
+            }
             if (!any)
-                st->bound[b]--;
+                kept->met[b]++;
         }
         if (found)
             return best;
     }
-}
-
-/* Turns the bit's checks over in both places. Those that were met are broken now, so many more may be broken of any bit. */
-LEAF void flip_kept(struct kept *st, uint64_t *y, struct shape sh, unsigned bit)
-{
-    unsigned room = 64 * (2 * sh.words + 1), b = bit / sh.size, met = st->degree[b] - st->bound[b];
-    y[bit / 64] ^= UINT64_C(1) << (63 - bit % 64);
-    for (unsigned e = 0; e < st->degree[b]; e++) {
-        unsigned row = st->starts[b][e] / room * room, i = st->starts[b][e] % room + bit % sh.size;
-        unsigned lower = row + (i < sh.size ? i : i - sh.size), upper = lower + sh.size;
-        st->d[lower / 64] ^= UINT64_C(1) << (63 - lower % 64);
-        st->d[upper / 64] ^= UINT64_C(1) << (63 - upper % 64);
-    }
-    for (unsigned n = 0; met != 0 && n < sh.blocks; n++)
-        st->bound[n] = st->bound[n] + met < st->degree[n] ? st->bound[n] + met : st->degree[n];
 }
 
 LEAF uint8_t run_samples(const float *samples, uint64_t *y, const uint64_t *s, const uint16_t *h, struct shape sh, uint16_t limit,
@@ -133,15 +55,15 @@ LEAF uint8_t run_samples(const float *samples, uint64_t *y, const uint64_t *s, c
 {
     if (answer->last == 0)
         return 0;
-    struct kept st;
-    begin(s, h, sh, &st);
+    struct kept kept;
+    begin(s, h, sh, &kept);
     for (;;) {
-        struct best best = smallest(&st, samples, sh);
+        struct best best = smallest(&kept, samples, sh);
         if (best.score <= 8)
             return 5;
         if (answer->flips == limit)
             return 6;
-        flip_kept(&st, y, sh, best.bit);
+        flip_kept(y, &kept, sh, best.bit);
         answer->flips++;
         answer->last -= best.score - 8;
         if (answer->last == 0)
