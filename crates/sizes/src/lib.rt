@@ -1,0 +1,1 @@
+// Samples, and the run that chooses by their sizes.
