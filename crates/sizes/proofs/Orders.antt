@@ -9,10 +9,10 @@ use lib.Dec.{T, ltb, eqb, nltb→le}
 use lib.IntN.{ℤ}
 use lib.Ieee.{Float, nan, inf, fin, up, down, below, lt, eq, neg, ofBits, binary32}
 use lib.Ieee.Positive.{num, den, den-pos, through}
-use lib.ListN.{length}
+use lib.ListN.{length, List·getD-eq-default}
 use borrow.Author.Tests.{le-ltb, ltb-true, eqb-true}
 use Rattle.bits.specs.Bits.{if_then_else_}
-use Rattle.sizes.specs.Samples.{isOne, sampleOf, magnitude, smaller, isFinite, allFinite}
+use Rattle.sizes.specs.Samples.{isOne, sampleOf, read, magnitude, smaller, isFinite, allFinite}
 use Rattle.sizes.proofs.Smallest.{Ordered}
 
 both : (a b : Bool) → (a && b) ≡ true → (a ≡ true) × (b ≡ true)
@@ -137,3 +137,23 @@ finite-ordered samples f = record {
         order c a lc la ∙ le-ltb (num r * den s) (num s * den r)
         (through (num s) (num t) (num r) (den s) (den t) (den r) (den-pos t)
         (least (num t * den s) (num s * den t) (sym (order b a lb la) ∙ h)) (least (num r * den t) (num t * den r) (sym (order c b lc lb) ∙ k)))
+
+-- ---- past the last sample
+
+past-sample : (samples : List Float) (n : ℕ) → length samples ≤ n → sampleOf samples n ≡ nan
+past-sample samples n h = List·getD-eq-default samples nan {n = n} h
+
+pub past-read : (samples : List Float) (n : ℕ) → length samples ≤ n → read samples n ≡ false
+unfolding read lt
+past-read samples n h = ap isOne (past-sample samples n h)
+
+pub past-smaller : (samples : List Float) (n : ℕ) → length samples ≤ n → (k : ℕ) → (smaller samples n k ≡ false) × (smaller samples k n ≡ false)
+unfolding smaller lt
+past-smaller samples n h k =
+    (ap (λ s. lt (magnitude s) (magnitude (sampleOf samples k))) (past-sample samples n h),
+    ap (λ s. lt (magnitude (sampleOf samples k)) (magnitude s)) (past-sample samples n h) ∙ unordered (magnitude (sampleOf samples k)))
+  where
+    unordered : (s : Float) → lt s nan ≡ false
+    unordered nan = refl
+    unordered (inf s) = refl
+    unordered (fin s m e) = refl
