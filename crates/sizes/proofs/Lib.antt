@@ -1,3 +1,4 @@
 pub mod Smallest
 pub mod Choosing
 pub mod Orders
+pub mod Reading

@@ -1,7 +1,7 @@
 -- The order of finite samples by magnitude.
 use mathlib.Core.Path.{_≡_, refl, sym, ap, ap₂, _∙_, subst}
 use mathlib.Core.Bool.{Bool, true, false, true≢false, not, _&&_, _||_, Bool·beq}
-use mathlib.Core.List.{List, [], _∷_}
+use mathlib.Core.List.{List}
 use Prim.Native.Nat.{ℕ, zero, suc, _+_, _*_, _≤_, _<_}
 use native.Mathlib.Nat.{mul-one, zero-mul, zero-add}
 use native.Mathlib.Omega.{arith}
@@ -12,6 +12,7 @@ use lib.Ieee.Positive.{num, den, den-pos, through}
 use lib.ListN.{length, List·getD-eq-default}
 use borrow.Author.Tests.{le-ltb, ltb-true, eqb-true}
 use Rattle.bits.specs.Bits.{if_then_else_}
+use Rattle.bits.proofs.Sums.{below-at}
 use Rattle.sizes.specs.Samples.{isOne, sampleOf, read, magnitude, smaller, isFinite, allFinite}
 use Rattle.sizes.proofs.Smallest.{Ordered}
 
@@ -104,9 +105,11 @@ magnitude-lt (fin s m e) (fin t n d) f g = by (unsigned s m e) (unsigned t n d)
 -- every sample of a list that is finite throughout
 pub all-at : (samples : List Float) → allFinite samples ≡ true → (n : ℕ) → n < length samples → isFinite (sampleOf samples n) ≡ true
 unfolding allFinite
-all-at [] f n l = absurd (omega arith)
-all-at (s ∷ samples) f zero l = both (isFinite s) (allFinite samples) f .0
-all-at (s ∷ samples) f (suc n) l = all-at samples (both (isFinite s) (allFinite samples) f .1) n (omega arith)
+all-at samples f n l = as-true (isFinite (sampleOf samples n)) (below-at (length samples) (λ k. isFinite (sampleOf samples k)) (subst T (sym f) tt) n l)
+  where
+    as-true : (b : Bool) → T b → b ≡ true
+    as-true true t = refl
+    as-true false t = absurd t
 
 -- so finite samples are ordered by magnitude
 pub finite-ordered : (samples : List Float) → allFinite samples ≡ true → Ordered (smaller samples) (length samples)
@@ -149,9 +152,10 @@ past-read samples n h = ap isOne (past-sample samples n h)
 
 pub past-smaller : (samples : List Float) (n : ℕ) → length samples ≤ n → (k : ℕ) → (smaller samples n k ≡ false) × (smaller samples k n ≡ false)
 unfolding smaller lt
-past-smaller samples n h k =
-    (ap (λ s. lt (magnitude s) (magnitude (sampleOf samples k))) (past-sample samples n h),
-    ap (λ s. lt (magnitude (sampleOf samples k)) (magnitude s)) (past-sample samples n h) ∙ unordered (magnitude (sampleOf samples k)))
+past-smaller samples n h k = (
+  ap (λ s. lt (magnitude s) (magnitude (sampleOf samples k))) (past-sample samples n h),
+  ap (λ s. lt (magnitude (sampleOf samples k)) (magnitude s)) (past-sample samples n h) ∙ unordered (magnitude (sampleOf samples k)),
+)
   where
     unordered : (s : Float) → lt s nan ≡ false
     unordered nan = refl

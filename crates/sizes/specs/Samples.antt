@@ -1,10 +1,10 @@
 -- Samples: the bit of each, its magnitude, and whether it is a finite number.
-use mathlib.Core.Bool.{Bool, true, false, _&&_}
-use mathlib.Core.List.{List, [], _∷_}
+use mathlib.Core.Bool.{Bool, true, false}
+use mathlib.Core.List.{List}
 use Prim.Native.Nat.{ℕ}
 use lib.Ieee.{Float, nan, inf, fin, lt, neg, ofBits, binary32}
-use lib.ListN.{getD}
-use Rattle.bits.specs.Bits.{Word, if_then_else_}
+use lib.ListN.{length, getD}
+use Rattle.bits.specs.Bits.{Word, below, if_then_else_}
 
 -- The bit is 1 if the sample is below 0, so both zeros read as 0.
 abbrev pub isOne : Float → Bool
@@ -32,5 +32,4 @@ isFinite (inf negative) = false
 isFinite (fin negative digits exponent) = true
 
 unfoldable pub allFinite : List Float → Bool
-allFinite [] = true
-allFinite (s ∷ samples) = isFinite s && allFinite samples
+allFinite samples = below (length samples) (λ n. isFinite (sampleOf samples n))

@@ -1,1 +1,106 @@
 // Samples, and the run that chooses by their sizes.
+ghost use mathlib.Core.Path.{_≡_};
+ghost use mathlib.Core.Bool.{false};
+ghost use Prim.Native.Nat.{ℕ, _+_, _*_, _/_, _^_, _<_, _≤_};
+ghost use lib.ListN.{length};
+ghost use Rattle.bits.specs.Bits.{digit, below, if_then_else_};
+ghost use Rattle.vectors.specs.Vectors.{wbit, Holds, upTo, from, joined};
+ghost use Rattle.sizes.specs.Samples.{isOne, sampleOf, read as readOf, isFinite, allFinite};
+
+// The bits of some samples, and whether all of these are finite.
+struct Narrow {
+    bits: u32,
+    finite: bool,
+}
+
+struct Wide {
+    bits: u64,
+    finite: bool,
+}
+
+// Whether a sample is finite: each comparison is false of what is not a number.
+fn is_finite(s: f32) -> bool
+    ensures { λ r. ⌜ r ≡ isFinite s ⌝ }
+{
+    let top = f32::from_bits(0x7f80_0000);
+    (s < top) & (-top < s)
+}
+
+// The power of 2, if the sample is below 0.
+fn mark(s: f32, place: usize) -> u32
+    requires { ⌜ place < 32 ⌝ }
+    ensures { λ r. ⌜ r ≡ (if isOne s then 2 ^ place else 0) ⌝ }
+{
+    if s < 0.0 { 1 << place } else { 0 }
+}
+
+// The bits of the n samples from sample `at` on, in front, and whether these are finite.
+fn half(samples: &[f32], at: usize, n: usize) -> Narrow
+    requires { ⌜ (n ≤ 32) × (at + n ≤ length (now samples)) ⌝ }
+    ensures { λ r. ⌜ ((i : ℕ) → i < 32 → digit 32 (r .bits) i ≡ upTo n (from at (readOf (now (samples .entry)))) i) × (r .finite ≡ below n (λ i. isFinite (sampleOf (now (samples .entry)) (at + i)))) ⌝ }
+{
+    let mut bits: u32 = 0;
+    let mut finite = true;
+    let mut i = 0;
+    while i < n {
+        bits |= mark(samples[at + i], 31 - i);
+        finite = is_finite(samples[at + i]) & finite;
+        i += 1;
+    }
+    Narrow {
+        bits: bits,
+        finite: finite,
+    }
+}
+
+// The less of 32 and n.
+fn front(n: usize) -> usize
+    requires { ⌜ n ≤ 64 ⌝ }
+    ensures { λ r. ⌜ (r ≤ 32) × (r ≤ n) × (n ≤ r + 32) × (r < 32 → n ≡ r) ⌝ }
+{
+    if n < 32 { n } else { 32 }
+}
+
+// The same of up to 64 samples: in two halves, whose loops the compiler takes four samples at a time.
+fn word(samples: &[f32], at: usize, n: usize) -> Wide
+    requires { ⌜ (n ≤ 64) × (at + n ≤ length (now samples)) ⌝ }
+    ensures { λ r. ⌜ Holds (r .bits) (upTo n (from at (readOf (now (samples .entry))))) × (r .finite ≡ below n (λ i. isFinite (sampleOf (now (samples .entry)) (at + i)))) ⌝ }
+{
+    let m = front(n);
+    let a = half(samples, at, m);
+    let b = half(samples, at + m, n - m);
+    Wide {
+        bits: ((a.bits as u64) << 32) | b.bits as u64,
+        finite: b.finite & a.finite,
+    }
+}
+
+// The words that the samples fill whole.
+fn read_whole(samples: &[f32], y: &mut [u64]) -> bool
+    requires { ⌜ length (now samples) ≤ 64 * length (now y) ⌝ }
+    ensures { λ r. ⌜ (wbit (now (y .exit)) ≡ joined (64 * (length (now (samples .entry)) / 64)) (readOf (now (samples .entry))) (wbit (now (y .entry)))) × (r ≡ below (64 * (length (now (samples .entry)) / 64)) (λ i. isFinite (sampleOf (now (samples .entry)) i))) ⌝ }
+{
+    let whole = samples.len() / 64;
+    let mut finite = true;
+    let mut k = 0;
+    while k < whole {
+        let w = word(samples, 64 * k, 64);
+        y[k] = w.bits;
+        finite = w.finite & finite;
+        k += 1;
+    }
+    finite
+}
+
+// The bits read from the samples, in front of a vector of zeros, and whether every sample is finite.
+pub fn read(samples: &[f32], y: &mut [u64]) -> bool
+    requires { ⌜ (length (now samples) < 64 * length (now y)) × (wbit (now y) ≡ (λ n. false)) ⌝ }
+    ensures { λ r. ⌜ (wbit (now (y .exit)) ≡ readOf (now (samples .entry))) × (r ≡ allFinite (now (samples .entry))) ⌝ }
+{
+    let finite = read_whole(samples, y);
+    let k = samples.len() / 64;
+    let n = samples.len() % 64;
+    let w = word(samples, 64 * k, n);
+    y[k] = w.bits;
+    w.finite & finite
+}
