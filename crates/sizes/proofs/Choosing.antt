@@ -1,24 +1,24 @@
 -- The way of choosing by sizes: it takes a bit of greatest excess, whatever the sizes; with equal sizes it is the flipping run's.
 use mathlib.Core.Path.{_≡_, refl, sym, ap, ap₂, _∙_, subst, fun-ext}
-use mathlib.Core.Bool.{Bool, true, false, true≢false, not, _&&_}
+use mathlib.Core.Bool.{Bool, true, false, true≢false, not}
 use mathlib.Core.Logic.{_⊎_, inl, inr}
 use Prim.Native.Nat.{ℕ, _+_, _-_, _≤_, _<_}
 use native.Mathlib.Nat.{lt-of-not-le}
 use native.Mathlib.Decide.{decLt}
 use native.Mathlib.Omega.{arith}
-use lib.Dec.{T, leb, leb→le, nltb→le}
+use lib.Dec.{T, leb→le, nltb→le}
 use lib.IntN.{ℤ, pos, negsuc}
 use lib.Signed.{ltZ, leZ, _≤ℤ_}
 use borrow.Author.Tests.{ltb-true, lt-ltb}
 use Rattle.bits.specs.Bits.{Word, if_then_else_}
-use Rattle.bits.proofs.Sums.{and-l, and-r, not-true}
+use Rattle.bits.proofs.Sums.{not-true}
 use Rattle.rules.specs.Codes.{Code, bits}
 use Rattle.rules.specs.Checks.{broken, excess, brokenOf, metOf}
 use Rattle.rules.specs.Flipping.{Next, quiet, stuck, flip, Way, byExcess}
 use Rattle.rules.proofs.Ways.{Chosen, Chooses, TakesGreatest, above-is}
 use Rattle.rules.proofs.Choosing.{by-excess, by-greatest, chosen, chosen-greatest, next-flip}
-use Rattle.sizes.specs.Sizes.{smallest, reaching, instead, bySize}
-use Rattle.sizes.proofs.Smallest.{Is, smallest-one, smallest-first, Ordered, Smallest, smallest-has}
+use Rattle.sizes.specs.Sizes.{reaching, instead, smallestSent, bySize}
+use Rattle.sizes.proofs.Smallest.{Is, smallest-one, smallest-stays, Ordered, Smallest, smallest-has}
 
 -- what is not above and not below is equal
 level : (a b : ℤ) → T (leZ a b) → ltZ a b ≡ false → b ≡ a
@@ -31,7 +31,7 @@ level (negsuc a) (negsuc b) h e = ap negsuc (omega (arith, leb→le b a h, nltb�
 module _ (less : ℕ → ℕ → Bool) (c : Code) (x : Word) where
   -- the bit that is flipped in place of n
   abbrev pub best : ℕ → ℤ → ℕ
-  best n e = smallest less (reaching c x e) n (bits c)
+  best = smallestSent less c x
 
   pub size-quiet : bySize less c x ≡ quiet → byExcess c x ≡ quiet
   unfolding bySize
@@ -76,12 +76,9 @@ module _ (c : Code) (some : c .unsent < bits c) (x : Word) (first : ℕ) (ex : �
   f = by-excess c some .flips x first ex e
 
   -- has that excess, and may be flipped too
-  pub reaches : (n : ℕ) → reaching c x ex n ≡ true → n < bits c → Chosen c x n ex
-  reaches n r under =
-      let t : T (reaching c x ex n) = subst T (sym r) tt in
-      let sent = leb→le (c .unsent) n (and-l (leb (c .unsent) n) (not (ltZ (excess c x n) ex)) t) in
-      let low : ltZ (excess c x n) ex ≡ false = not-true (ltZ (excess c x n) ex) (and-r (leb (c .unsent) n) (not (ltZ (excess c x n) ex)) t) in
-      let is : ex ≡ excess c x n = level (excess c x n) ex (high n sent under) low in
+  pub reaches : (n : ℕ) → reaching c x ex n ≡ true → c .unsent ≤ n → n < bits c → Chosen c x n ex
+  reaches n r sent under =
+      let is : ex ≡ excess c x n = level (excess c x n) ex high (not-true (ltZ (excess c x n) ex) (subst T (sym r) tt)) in
       record {
         sent = sent;
         under = under;
@@ -89,17 +86,30 @@ module _ (c : Code) (some : c .unsent < bits c) (x : Word) (first : ℕ) (ex : �
         above = ltb-true (metOf c x n) (brokenOf c x n) (sym (above-is c x n) ∙ ap (ltZ (pos 0)) (sym is ∙ f .value) ∙ above-is c x first ∙ lt-ltb (metOf c x first) (brokenOf c x first) (f .above));
       }
     where
-      high : (n : ℕ) → c .unsent ≤ n → n < bits c → T (leZ (excess c x n) ex)
-      high n sent under =
+      high : T (leZ (excess c x n) ex)
+      high =
           let g = next-flip c x first ex e in
           subst (λ z. T (leZ (excess c x n) z)) (sym (g .value ∙ ap (excess c x) (g .bit))) (chosen-greatest c some x .most n sent (omega arith) .le)
 
-  pub best-chosen : (less : ℕ → ℕ → Bool) → Chosen c x (best less c x first ex) ex
-  best-chosen less = go (smallest-one less (reaching c x ex) first (bits c))
+  -- none that comes before it has
+  pub reached-first : (n : ℕ) → c .unsent ≤ n → reaching c x ex n ≡ true → first ≤ n
+  reached-first n sent r = go (decLt n first)
     where
-      go : Is less (reaching c x ex) first (best less c x first ex) (bits c) → Chosen c x (best less c x first ex) ex
+      go : Dec (n < first) → first ≤ n
+      go (no d) = omega (arith, lt-of-not-le d)
+      go (yes l) =
+          let g = next-flip c x first ex e in
+          let low = chosen-greatest c some x .lowest n sent (omega (arith, g .bit)) in
+          let is : ex ≡ excess c x (chosen c x) = g .value ∙ ap (excess c x) (g .bit) in
+          absurd (subst T (not-true (ltZ (excess c x n) ex) (subst T (sym r) tt)) (subst (λ z. T (ltZ (excess c x n) z)) (sym is) (low .lt)))
+
+  pub best-chosen : (less : ℕ → ℕ → Bool) → Chosen c x (best less c x first ex) ex
+  unfolding smallestSent
+  best-chosen less = go (smallest-one less (reaching c x ex) first (c .unsent) (bits c - c .unsent))
+    where
+      go : Is less (reaching c x ex) first (c .unsent) (best less c x first ex) (bits c - c .unsent) → Chosen c x (best less c x first ex) ex
       go (inl is) = subst (λ n. Chosen c x n ex) (sym is) f
-      go (inr p) = reaches (best less c x first ex) (p .0) (p .1)
+      go (inr p) = reaches (best less c x first ex) (p .0) (p .1) (omega (arith, p .2))
 
 -- so the way is one of those that the laws are over
 module _ (less : ℕ → ℕ → Bool) (c : Code) (some : c .unsent < bits c) where
@@ -124,33 +134,20 @@ module _ (less : ℕ → ℕ → Bool) (c : Code) (some : c .unsent < bits c) wh
 
 -- where no bit is smaller than another it is the flipping run's
 pub equal-sizes : (less : ℕ → ℕ → Bool) → ((n k : ℕ) → less n k ≡ false) → (c : Code) → bySize less c ≡ byExcess c
-unfolding bySize
+unfolding bySize smallestSent
 equal-sizes less none c = fun-ext (λ x. go x (byExcess c x))
   where
     go : (x : Word) (nx : Next) → instead (best less c x) nx ≡ nx
     go x quiet = refl
     go x (stuck n e) = refl
-    go x (flip n e) = ap (λ k. flip k e) (smallest-first less (reaching c x e) n (bits c) (λ k l m. none k n))
+    go x (flip n e) = ap (λ k. flip k e) (smallest-stays less (reaching c x e) n (c .unsent) (bits c - c .unsent) (λ k f l m. none k n))
 
 -- where the order is one: of the bits of greatest excess none is smaller than the one that is flipped, and those before it are greater
 pub size-smallest : (less : ℕ → ℕ → Bool) (c : Code) → c .unsent < bits c → Ordered less (bits c) → (x : Word) (n : ℕ) (ex : ℤ) → bySize less c x ≡ flip n ex
-    → Smallest less (reaching c x ex) (bits c) n
+    → Smallest less (reaching c x ex) (c .unsent) (bits c - c .unsent) n
+unfolding smallestSent
 size-smallest less c some ordered x n ex q =
     let i = size-flip less c x n ex q in
     let f = by-excess c some .flips x (i .first) ex (i .is) in
-    subst (Smallest less (reaching c x ex) (bits c)) (sym (i .bit)) (smallest-has less (reaching c x ex) (i .first) (bits c) ordered (f .under) (none (i .first) (i .is)) (bits c) (omega arith))
-  where
-    none : (first : ℕ) → byExcess c x ≡ flip first ex → (k : ℕ) → reaching c x ex k ≡ true → first ≤ k
-    none first e k r = go (decLt k first)
-      where
-        t : T (reaching c x ex k)
-        t = subst T (sym r) tt
-
-        go : Dec (k < first) → first ≤ k
-        go (no d) = omega (arith, lt-of-not-le d)
-        go (yes l) =
-            let g = next-flip c x first ex e in
-            let sent = leb→le (c .unsent) k (and-l (leb (c .unsent) k) (not (ltZ (excess c x k) ex)) t) in
-            let low = chosen-greatest c some x .lowest k sent (omega (arith, g .bit)) in
-            let is : ex ≡ excess c x (chosen c x) = g .value ∙ ap (excess c x) (g .bit) in
-            absurd (subst T (not-true (ltZ (excess c x k) ex) (and-r (leb (c .unsent) k) (not (ltZ (excess c x k) ex)) t)) (subst (λ z. T (ltZ (excess c x k) z)) (sym is) (low .lt)))
+    subst (Smallest less (reaching c x ex) (c .unsent) (bits c - c .unsent)) (sym (i .bit))
+    (smallest-has less (reaching c x ex) (i .first) (c .unsent) (bits c) ordered (f .under) (reached-first c some x (i .first) ex (i .is)) (bits c - c .unsent) (omega arith))

@@ -1,7 +1,6 @@
 -- The way of choosing by sizes.
 use mathlib.Core.Bool.{Bool, not, _&&_}
-use Prim.Native.Nat.{ℕ, zero, suc}
-use lib.Dec.{leb}
+use Prim.Native.Nat.{ℕ, zero, suc, _+_, _-_}
 use lib.IntN.{ℤ}
 use lib.Signed.{ltZ}
 use Rattle.bits.specs.Bits.{Word, if_then_else_}
@@ -9,18 +8,18 @@ use Rattle.rules.specs.Codes.{Code, bits}
 use Rattle.rules.specs.Checks.{excess}
 use Rattle.rules.specs.Flipping.{Next, quiet, stuck, flip, Way, byExcess}
 
--- Of a number and a later one, the later one only if it is marked and smaller.
+-- Of two bits, the later one only if it is marked and smaller.
 abbrev pub smallerOf : (ℕ → ℕ → Bool) → (ℕ → Bool) → ℕ → ℕ → ℕ
 smallerOf less marked earlier later = if marked later && less later earlier then later else earlier
 
--- Of the marked numbers below n, of which `first` is the lowest, the smallest; of several, the lowest.
-unfoldable pub smallest : (ℕ → ℕ → Bool) → (ℕ → Bool) → ℕ → ℕ → ℕ
-smallest less marked first zero = first
-smallest less marked first (suc n) = smallerOf less marked (smallest less marked first n) n
+-- Of a bit and those of the n bits from `first` on that are marked, the smallest; of several, the one that comes first.
+unfoldable pub smallest : (ℕ → ℕ → Bool) → (ℕ → Bool) → ℕ → ℕ → ℕ → ℕ
+smallest less marked bit first zero = bit
+smallest less marked bit first (suc n) = smallerOf less marked (smallest less marked bit first n) (first + n)
 
--- The bits that are sent and whose excess is not below e.
+-- The bits whose excess is not below e.
 abbrev pub reaching : Code → Word → ℤ → ℕ → Bool
-reaching c x e n = leb (c .unsent) n && not (ltZ (excess c x n) e)
+reaching c x e n = not (ltZ (excess c x n) e)
 
 -- In place of the bit that is to be flipped, another one.
 abbrev pub instead : (ℕ → ℤ → ℕ) → Next → Next
@@ -28,6 +27,10 @@ instead f quiet = quiet
 instead f (stuck n e) = stuck n e
 instead f (flip n e) = flip (f n e) e
 
--- Of bits with equal greatest excess, the smallest is flipped, then the lowest number. `less` says which of two bits is smaller.
+-- Of the bits with equal greatest excess, of which n is the lowest, the smallest; of several, the lowest number.
+unfoldable pub smallestSent : (ℕ → ℕ → Bool) → Code → Word → ℕ → ℤ → ℕ
+smallestSent less c x n e = smallest less (reaching c x e) n (c .unsent) (bits c - c .unsent)
+
+-- The way of choosing by sizes: it flips that one. `less` says which of two bits is smaller.
 unfoldable pub bySize : (ℕ → ℕ → Bool) → Code → Way
-bySize less c x = instead (λ first e. smallest less (reaching c x e) first (bits c)) (byExcess c x)
+bySize less c x = instead (smallestSent less c x) (byExcess c x)
