@@ -2,3 +2,4 @@ pub mod Smallest
 pub mod Choosing
 pub mod Orders
 pub mod Reading
+pub mod Masks

@@ -1,11 +1,13 @@
 // Samples, and the run that chooses by their sizes.
 ghost use mathlib.Core.Path.{_≡_};
-ghost use mathlib.Core.Bool.{false};
+ghost use mathlib.Core.Bool.{Bool, true, false};
 ghost use Prim.Native.Nat.{ℕ, _+_, _*_, _/_, _^_, _<_, _≤_};
+ghost use lib.Dec.{eqb};
 ghost use lib.ListN.{length};
-ghost use Rattle.bits.specs.Bits.{digit, below, if_then_else_};
+ghost use Rattle.bits.specs.Bits.{digit, _⊕_, below, if_then_else_};
 ghost use Rattle.vectors.specs.Vectors.{wbit, Holds, upTo, from, joined};
-ghost use Rattle.sizes.specs.Samples.{isOne, sampleOf, read as readOf, isFinite, allFinite};
+ghost use Rattle.sizes.specs.Samples.{isOne, sampleOf, read as readOf, magnitude as magnitudeOf, smaller as smallerOf, isFinite, allFinite};
+ghost use Rattle.sizes.specs.Sizes.{smallest as smallestOf};
 
 // The bits of some samples, and whether all of these are finite.
 struct Narrow {
@@ -103,4 +105,53 @@ pub fn read(samples: &[f32], y: &mut [u64]) -> bool
     let w = word(samples, 64 * k, n);
     y[k] = w.bits;
     w.finite & finite
+}
+
+// A sample's magnitude.
+fn magnitude(s: f32) -> f32
+    ensures { λ r. ⌜ r ≡ magnitudeOf s ⌝ }
+{
+    if s < 0.0 { -s } else { s }
+}
+
+// Of two bits, the later one only if its sample is smaller.
+fn smaller(samples: &[f32], earlier: usize, later: usize) -> usize
+    requires { ⌜ (earlier < length (now samples)) × (later < length (now samples)) ⌝ }
+    ensures { λ r. ⌜ r ≡ (if smallerOf (now (samples .entry)) later earlier then later else earlier) ⌝ }
+{
+    if magnitude(samples[later]) < magnitude(samples[earlier]) {
+        return later;
+    }
+    earlier
+}
+
+// The first bit of v that is set.
+fn first_set(v: u64) -> usize
+    requires { ⌜ 0 < v ⌝ }
+    ensures { λ r. ⌜ (r < 64) × (digit 64 v r ≡ true) × ((i : ℕ) → i < r → digit 64 v i ≡ false) ⌝ }
+{
+    u64::leading_zeros(v) as usize
+}
+
+// v with bit n turned over.
+fn turned(v: u64, n: usize) -> u64
+    requires { ⌜ n < 64 ⌝ }
+    ensures { λ r. ⌜ ((i : ℕ) → i < 64 → digit 64 r i ≡ digit 64 v i ⊕ eqb i n) ⌝ }
+{
+    v ^ (1u64 << (63 - n))
+}
+
+// The smallest of a bit and of the bits that are set in mask, which begins with bit `first`.
+pub fn smallest_of(samples: &[f32], mask: u64, first: usize, bit: usize) -> usize
+    requires { ⌜ (bit < length (now samples)) × ((i : ℕ) → i < 64 → digit 64 mask i ≡ true → first + i < length (now samples)) ⌝ }
+    ensures { λ r. ⌜ (r < length (now (samples .entry))) × ((marked : ℕ → Bool) (n : ℕ) → n ≤ 64 → Holds mask (upTo n (from first marked)) → r ≡ smallestOf (smallerOf (now (samples .entry))) marked bit first n) ⌝ }
+{
+    let mut left = mask;
+    let mut best = bit;
+    while left != 0 {
+        let i = first_set(left);
+        best = smaller(samples, best, first + i);
+        left = turned(left, i);
+    }
+    best
 }
