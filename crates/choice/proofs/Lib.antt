@@ -1,5 +1,2 @@
-pub mod Hits
-pub mod Entries
-pub mod Doubled
-pub mod Turned
+pub mod Searches
 pub mod Excesses

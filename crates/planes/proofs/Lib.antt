@@ -1,4 +1,3 @@
 pub mod Digits
-pub mod Narrowing
 pub mod Ranges
 pub mod Choice

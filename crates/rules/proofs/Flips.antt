@@ -1,13 +1,14 @@
 -- What one flip does to the checks, for any code.
 use mathlib.Core.Path.{_≡_, refl, sym, ap, ap₂, _∙_, fun-ext, subst}
 use mathlib.Core.Bool.{Bool, true, false, not, _&&_}
-use Prim.Native.Nat.{ℕ, suc, _+_, _-_, _≤_, _<_}
+use Prim.Native.Nat.{ℕ, zero, suc, _+_, _-_, _≤_, _<_, zero-le}
+use native.Mathlib.Nat.{le-step, lt-suc-self}
 use native.Mathlib.Omega.{arith}
-use lib.Dec.{T, eqb, ltb, ltb→lt, nltb→le}
+use lib.Dec.{T, eqb, ltb, ltb→lt, nltb→le, lit≤}
 use lib.IntN.{pos, negsuc, subℕ}
 use lib.Signed.{ltZ}
 use borrow.Author.Tests.{lt-ltb, le-ltb}
-use Rattle.bits.specs.Bits.{Word, _⊕_, sum, count, flipped}
+use Rattle.bits.specs.Bits.{Word, _⊕_, sum, count, tally, flipped}
 use Rattle.rules.specs.Codes.{Code, bits, checks}
 use Rattle.rules.specs.Checks.{covers, check, broken, brokenOf, metOf, degreeOf, excess}
 use Rattle.bits.proofs.Orders.{ltb-iff}
@@ -41,6 +42,28 @@ module _ (c : Code) (x : Word) (n : ℕ) where
       let turned : count (checks c) (check c (flipped x n)) ≡ count (checks c) (λ k. check c x k ⊕ covers c k n) =
       count-same (checks c) _ _ (λ k l. check-flip h k) in
       omega (arith, turned, count-xor (checks c) (check c x) (λ k. covers c k n), count-split (checks c) (check c x) (λ k. covers c k n))
+
+-- ---- the met checks of a bit after another was flipped
+
+left-met : (a b p : Bool) → tally (a && not p) ≤ tally (a && not (p ⊕ b)) + tally (b && not p)
+left-met true true true = lit≤ tt
+left-met true true false = lit≤ tt
+left-met true false true = lit≤ tt
+left-met true false false = lit≤ tt
+left-met false b p = zero-le
+
+count-either : (n : ℕ) (f g h : ℕ → Bool) → ((i : ℕ) → i < n → tally (f i) ≤ tally (g i) + tally (h i)) → count n f ≤ count n g + count n h
+unfolding count
+count-either zero f g h e = lit≤ tt
+count-either (suc n) f g h e = omega (arith, count-either n f g h (λ i l. e i (le-step l)), e n (lt-suc-self n))
+
+-- a flip breaks just the checks of the flipped bit that were met: no bit loses more met checks
+pub met-flip : (c : Code) (x : Word) (n m : ℕ) → m < bits c → metOf c x n ≤ metOf c (flipped x m) n + metOf c x m
+unfolding metOf
+met-flip c x n m h =
+    count-either (checks c) _ _ _ (λ k l.
+    subst (λ p. tally (covers c k n && not (check c x k)) ≤ tally (covers c k n && not p) + tally (covers c k m && not (check c x k)))
+    (sym (check-flip c x m h k)) (left-met (covers c k n) (covers c k m) (check c x k)))
 
 -- ---- the order of excesses
 

@@ -2,8 +2,8 @@
 use mathlib.Core.Path.{_≡_, refl, sym, ap, _∙_, subst}
 use mathlib.Core.Bool.{Bool, true, false, cond}
 use mathlib.Core.List.{List}
-use Prim.Native.Nat.{ℕ, suc, _+_, _-_, _*_, _≤_, _<_}
-use native.Mathlib.Nat.{zero-add, add-zero, lt-of-le-of-lt}
+use Prim.Native.Nat.{ℕ, suc, _+_, _-_, _*_, _/_, _%_, _≤_, _<_}
+use native.Mathlib.Nat.{mod-lt, div-add-mod', div-lt-iff-lt-mul, zero-add, add-zero, lt-of-le-of-lt}
 use native.Mathlib.Omega.{arith}
 use borrow.Author.Tests.{lt-ltb, le-ltb}
 use lib.IntN.{ℤ, pos, negsuc, subℕ, _-ℤ_}
@@ -13,19 +13,27 @@ use mir.Syntax.{w8}
 use mir.Val.{SFits, toZ, ofZ}
 use mir.Facts.{toZ-pos}
 use mir.ValLaws.{toZ-ofZ}
-use lib.ListN.{length}
+use lib.ListN.{length, getD, replicate}
 use Rattle.bits.specs.Bits.{Word, flipped, if_then_else_}
+use Rattle.bits.proofs.Octets.{zeros-at}
 use Rattle.rules.specs.Codes.{Code, bits}
-use Rattle.rules.specs.Checks.{broken}
+use Rattle.rules.specs.Checks.{broken, metOf, degreeOf}
 use Rattle.rules.specs.Flipping.{quiet, stuck, flip, Way, byExcess, ended, after, run}
-use Rattle.rules.proofs.Flips.{broken-met}
+use Rattle.rules.proofs.Flips.{broken-met, broken-flip}
 use Rattle.rules.proofs.Runs.{run-quiet, run-stuck, run-limit, run-flip}
 use Rattle.layout.specs.declared.Shape.{Shape}
-use Rattle.layout.specs.Lent.{Lent, laid, score}
+use Rattle.vectors.specs.Vectors.{wbit}
+use Rattle.layout.specs.Lent.{Fit, Lent, laid, score}
+use Rattle.bounds.specs.Reading.{Twice, Gathered}
+use Rattle.bounds.specs.Keeping.{Scored, Kept, Ready}
+use Rattle.bounds.proofs.Turned.{scored, degree-is}
+use Rattle.bounds.proofs.Flipped.{ready, begun-under}
+use Rattle.choice.specs.Searching.{Lowered, Found}
 use Rattle.planes.specs.Ranges.{Top}
 use Rattle.planes.proofs.Ranges.{top-ends}
 use Rattle.choice.proofs.Excesses.{best-next, degree-le}
-use Rattle.runs.specs.Turns.{RunsTo, Going}
+use Rattle.runs.specs.declared.Ran.{Ran}
+use Rattle.runs.specs.Turns.{RunsTo, Going, Carried}
 
 -- a score of at most 15, less 8, as a signed octet
 module _ (top : ℕ) (small : top ≤ 15) where
@@ -59,6 +67,49 @@ module _ {c : Code} {h : List ℕ} {sh : Shape} (lent : Lent c h sh) (x : Word) 
 
   pub next-flip : c .unsent ≡ from → (broken c x ≡ 0 → ⊥) → 8 < top → byExcess c x ≡ flip bit (subℕ top 8)
   next-flip u d l = best-next lent x (top-ends (sym u) refl t) d ∙ ap (λ b. if b then flip bit (subℕ top 8) else stuck bit (subℕ top 8)) (lt-ltb 8 top l)
+
+-- ---- a bit that was chosen
+
+module _ (c : Code) (h : List ℕ) (sh : Shape) (lent : Lent c h sh) (fit : Fit h sh) (starts counts : List ℕ) (g : Gathered h sh starts counts (sh .blocks)) (from : ℕ) (y : Word)
+    (d met met′ : List ℕ) (top bit : ℕ) (was : Kept c sh from y d counts met) (low : Lowered sh from (wbit d) starts counts met met′)
+    (found : Found sh from (wbit d) starts counts met top bit met′) where
+  scores : Scored (score c y) sh (wbit d) starts counts
+  scores = scored c h sh lent y (wbit d) (fit .held) (was .twice) starts counts g
+
+  pub chosen-top : Top (score c y) from (bits c) bit top
+  chosen-top = top-ends refl (sym (lent .bits-are)) (found .first (score c y) scores (was .under))
+
+  pub chosen-kept : Kept c sh from y d counts met′
+  chosen-kept = record { twice = was .twice; under = low .under (score c y) scores (was .under) }
+
+  -- It has as many met checks as the bound of its block says.
+  pub chosen-met : metOf c y bit ≡ getD met′ (bit / sh .size) 0
+  unfolding score
+  chosen-met =
+      let M = sh .size in
+      let b = bit / M in
+      let hb : b < sh .blocks = div-lt-iff-lt-mul (fit .some) .1 (found .inside) in
+      let degree = degree-is h sh c lent b hb starts (getD counts b 0) (g b hb .1) (bit % M) (mod-lt bit (fit .some)) in
+      omega (arith, chosen-top .is, found .here, broken-met c y bit, ap (degreeOf c) (div-add-mod' bit M), degree, low .ready .few b hb, g b hb .0)
+
+  -- A flip mends as many checks as its excess.
+  pub chosen-left : 8 < top → broken c (flipped y bit) + (top - 8) ≡ broken c y
+  unfolding score
+  chosen-left l = omega (arith, chosen-top .is, broken-met c y bit, broken-flip c y bit (chosen-top .under))
+
+pub carried-more : {c : Code} {sh : Shape} {from left : ℕ} {z y : Word} {d counts met : List ℕ} → y ≡ z → Kept c sh from z d counts met → left ≡ broken c z → Carried c sh from left y d counts met
+carried-more {c} {sh} {from} {left} {z} {y} {d} {counts} {met} e kept is = subst (λ w. Carried c sh from left w d counts met) (sym e) (record { kept = kept; left-is = is })
+
+-- What is kept of a word at the start: no met check is counted on.
+pub begun-kept : (c : Code) (h : List ℕ) (sh : Shape) (lent : Lent c h sh) (starts counts : List ℕ) → Gathered h sh starts counts (sh .blocks) → (from : ℕ) (x s : Word) (d : List ℕ)
+    → s ≡ laid c sh x → Twice sh (sh .rows) s (wbit d) → Kept c sh from x d counts (replicate 16 0)
+begun-kept c h sh lent starts counts g from x s d e two = record {
+  twice = subst (λ z. Twice sh (sh .rows) z (wbit d)) e two;
+  under = begun-under c h sh lent from starts counts g x (replicate 16 0) (zeros-at 16);
+}
+
+pub begun-ready : {h : List ℕ} {sh : Shape} {starts counts : List ℕ} → Fit h sh → Gathered h sh starts counts (sh .blocks) → length starts ≡ 128 → length counts ≡ 16 → Ready sh starts counts (replicate 16 0)
+begun-ready fit g a b = ready fit g a b refl (λ i hi. omega (arith, zeros-at 16 i))
 
 -- ---- the run, flip by flip
 
@@ -112,3 +163,7 @@ module _ (way : Way) (c : Code) (sh : Shape) (limit : ℕ) (x : Word) where
 
         turns : run way (limit - flips) y ≡ after n ex (run way (limit - (flips + 1)) (flipped y n))
         turns = ap (λ k. run way k y) left ∙ run-flip way (limit - (flips + 1)) y n ex e
+
+-- The same run by another record of it.
+pub runs-as : {way : Way} {c : Code} {sh : Shape} {limit : ℕ} {x y s : Word} (r r′ : Ran) → r′ .number ≡ r .number → r′ .flips ≡ r .flips → RunsTo way c sh limit x r y s → RunsTo way c sh limit x r′ y s
+runs-as r r′ p q to = record { number = p ∙ to .number; flips = q ∙ to .flips; word = to .word; held = to .held }

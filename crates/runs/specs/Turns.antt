@@ -7,7 +7,9 @@ use Rattle.bits.specs.Bits.{Word}
 use Rattle.rules.specs.Codes.{Code}
 use Rattle.rules.specs.Flipping.{Next as NextOf, quiet, stuck, flip, Way, run}
 use Rattle.layout.specs.declared.Shape.{Shape}
+use Rattle.rules.specs.Checks.{broken}
 use Rattle.layout.specs.Lent.{Lent, laid}
+use Rattle.bounds.specs.Keeping.{Kept}
 use Rattle.runs.specs.declared.Next.{Next}
 use Rattle.runs.specs.declared.Next.the-variants.{Quiet, Stuck, Flip}
 use Rattle.runs.specs.declared.Ran.{Ran}
@@ -18,6 +20,30 @@ pub record Holding (h : List ℕ) (sh : Shape) (s : Word) : Type 0 where
   pub word : Word
   pub lent : Lent code h sh
   pub held : s ≡ laid code sh word
+
+-- The run of the code c begins with the word y, whose syndrome is s; `first` of its checks are broken, and bits before bit `from` are not sent.
+pub record Begins (c : Code) (h : List ℕ) (sh : Shape) (from first : ℕ) (y s : Word) : Type 0 where
+  pub lent : Lent c h sh
+  pub unsent : c .unsent ≡ from
+  pub held : s ≡ laid c sh y
+  pub broken : first ≡ broken c y
+
+-- There is such a code.
+pub record Beginning (h : List ℕ) (sh : Shape) (from first : ℕ) (y s : Word) : Type 0 where
+  pub code : Code
+  pub begins : Begins code h sh from first y s
+
+-- The run has come to a word of which this is kept.
+pub record Carried (c : Code) (sh : Shape) (from left : ℕ) (y : Word) (d counts met : List ℕ) : Type 0 where
+  pub kept : Kept c sh from y d counts met
+  pub left-is : left ≡ broken c y
+
+-- There is a code of which this is kept.
+pub record Continuing (h : List ℕ) (sh : Shape) (from left : ℕ) (y : Word) (d counts met : List ℕ) : Type 0 where
+  pub code : Code
+  pub lent : Lent code h sh
+  pub unsent : code .unsent ≡ from
+  pub carried : Carried code sh from left y d counts met
 
 -- What comes next, as the definition has it.
 abbrev pub comesNext : Next → NextOf

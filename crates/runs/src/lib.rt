@@ -4,10 +4,13 @@ ghost use Prim.Native.Nat.{_*_, _≤_, _<_};
 ghost use lib.ListN.{length};
 ghost use Rattle.bits.specs.Bits.{Word};
 ghost use Rattle.rules.specs.Codes.{Code};
+ghost use Rattle.rules.specs.Checks.{broken};
 ghost use Rattle.rules.specs.Flipping.{byExcess};
 ghost use Rattle.vectors.specs.Vectors.{wbit};
 ghost use Rattle.layout.specs.Lent.{Fit, Lent, laid};
-ghost use Rattle.runs.specs.Turns.{Holding, Within, comesNext, RunsTo};
+ghost use Rattle.bounds.specs.Reading.{Gathered};
+ghost use Rattle.bounds.specs.Keeping.{Ready};
+ghost use Rattle.runs.specs.Turns.{Holding, Begins, Beginning, Carried, Continuing, Within, comesNext, RunsTo};
 use layout::Shape;
 
 // What comes next: quiet; or stuck, with the greatest excess and the lowest bit that has it; or this bit, of this excess, is to be flipped.
@@ -22,6 +25,12 @@ pub struct Ran {
     pub flips: u32,
 }
 
+// A run, and the broken checks at its end.
+pub struct Ended {
+    pub ran: Ran,
+    pub last: u32,
+}
+
 // What comes next for the word whose syndrome is s; bits before bit `from` are not sent.
 pub fn comes_next(s: &[u64], h: &[u16], sh: Shape, from: usize) -> Next
     requires { ⌜ Fit (now h) sh × (length (now s) ≡ 16) × (1 ≤ sh .blocks) × (from < sh .size) × Holding (now h) sh (wbit (now s)) ⌝ }
@@ -30,7 +39,12 @@ pub fn comes_next(s: &[u64], h: &[u16], sh: Shape, from: usize) -> Next
     if syndromes::is_quiet(s) {
         return Next::Quiet;
     }
-    let best = choice::choose(s, h, sh, from);
+    let mut d = [0u64; 65];
+    let mut starts = [0u16; 128];
+    let mut counts = [0u8; 16];
+    let mut met = [0u8; 16];
+    bounds::begin(s, h, sh, &mut d, &mut starts, &mut counts);
+    let best = choice::choose(&d, &starts, &counts, &mut met, sh, from);
     let excess = best.score as i8 - 8;
     if best.score <= 8 {
         return Next::Stuck(best.bit, excess);
@@ -38,38 +52,85 @@ pub fn comes_next(s: &[u64], h: &[u16], sh: Shape, from: usize) -> Next
     Next::Flip(best.bit, excess)
 }
 
-// The run from the word y with the syndrome s, under a limit: flips both until it ends.
-pub fn run(y: &mut [u64], s: &mut [u64], h: &[u16], sh: Shape, from: usize, limit: u16) -> Ran
-    requires { ⌜ Fit (now h) sh × (length (now y) ≡ 130) × (length (now s) ≡ 16) × (1 ≤ sh .blocks) × (from < sh .size) × Holding (now h) sh (wbit (now s)) ⌝ }
-    ensures { λ r. ⌜ ((c : Code) → Lent c (now (h .entry)) sh → c .unsent ≡ from → wbit (now (s .entry)) ≡ laid c sh (wbit (now (y .entry))) → RunsTo (byExcess c) c sh limit (wbit (now (y .entry))) r (wbit (now (y .exit))) (wbit (now (s .exit)))) ⌝ }
+// A run that ends.
+fn at_end(number: u8, flips: u32, last: u32) -> Ended
+    ensures { λ r. ⌜ (r .ran .number ≡ number) × (r .ran .flips ≡ flips) × (r .last ≡ last) ⌝ }
+{
+    Ended {
+        ran: Ran {
+            number: number,
+            flips: flips,
+        },
+        last: last,
+    }
+}
+
+// The run from the word y, of which d, starts, counts and met are kept, under a limit: flips until it ends. So many checks are broken.
+fn go_on(
+    y: &mut [u64],
+    d: &mut [u64],
+    starts: &[u16],
+    counts: &[u8],
+    met: &mut [u8],
+    h: &[u16],
+    sh: Shape,
+    from: usize,
+    limit: u16,
+    first: u32,
+) -> Ended
+    requires { ⌜ Fit (now h) sh × Gathered (now h) sh (now starts) (now counts) (sh .blocks) × Ready sh (now starts) (now counts) (now met) × (length (now y) ≡ 130) × (length (now d) ≡ 65) × (1 ≤ sh .blocks) × (from < sh .size) × Continuing (now h) sh from first (wbit (now y)) (now d) (now counts) (now met) ⌝ }
+    ensures { λ r. ⌜ ((c : Code) → Lent c (now (h .entry)) sh → c .unsent ≡ from → Carried c sh from first (wbit (now (y .entry))) (now (d .entry)) (now (counts .entry)) (now (met .entry)) → RunsTo (byExcess c) c sh limit (wbit (now (y .entry))) (r .ran) (wbit (now (y .exit))) (laid c sh (wbit (now (y .exit)))) × (r .last ≡ broken c (wbit (now (y .exit))))) ⌝ }
 {
     let most = limit as u32;
     let mut flips: u32 = 0;
-    loop {
-        let next = comes_next(s, h, sh, from);
-        match next {
-            Next::Quiet => {
-                return Ran {
-                    number: 0,
-                    flips: flips,
-                };
-            }
-            Next::Stuck(_, _) => {
-                return Ran {
-                    number: 5,
-                    flips: flips,
-                };
-            }
-            Next::Flip(bit, _) => {
-                if flips >= most {
-                    return Ran {
-                        number: 6,
-                        flips: flips,
-                    };
-                }
-                syndromes::flip(y, s, h, sh, bit);
-                flips += 1;
-            }
+    let mut left = first;
+    while left > 0 {
+        let best = choice::choose(d, starts, counts, met, sh, from);
+        if best.score <= 8 {
+            return at_end(5, flips, left);
         }
+        if flips >= most {
+            return at_end(6, flips, left);
+        }
+        vectors::turn_over(y, best.bit);
+        bounds::flip(d, starts, counts, met, sh, best.bit);
+        left -= best.score - 8;
+        flips += 1;
     }
+    at_end(0, flips, 0)
+}
+
+// The run from the word y with the syndrome s, of which so many checks are broken, under a limit: flips until it ends.
+pub fn run(
+    y: &mut [u64],
+    s: &[u64],
+    h: &[u16],
+    sh: Shape,
+    from: usize,
+    limit: u16,
+    first: u32,
+) -> Ended
+    requires { ⌜ Fit (now h) sh × (length (now y) ≡ 130) × (length (now s) ≡ 16) × (1 ≤ sh .blocks) × (from < sh .size) × Beginning (now h) sh from first (wbit (now y)) (wbit (now s)) ⌝ }
+    ensures { λ r. ⌜ ((c : Code) → Begins c (now (h .entry)) sh from first (wbit (now (y .entry))) (wbit (now (s .entry))) → RunsTo (byExcess c) c sh limit (wbit (now (y .entry))) (r .ran) (wbit (now (y .exit))) (laid c sh (wbit (now (y .exit)))) × (r .last ≡ broken c (wbit (now (y .exit))))) ⌝ }
+{
+    if first == 0 {
+        return at_end(0, 0, 0);
+    }
+    let mut d = [0u64; 65];
+    let mut starts = [0u16; 128];
+    let mut counts = [0u8; 16];
+    let mut met = [0u8; 16];
+    bounds::begin(s, h, sh, &mut d, &mut starts, &mut counts);
+    go_on(
+        y,
+        &mut d,
+        &starts,
+        &counts,
+        &mut met,
+        h,
+        sh,
+        from,
+        limit,
+        first,
+    )
 }

@@ -1,46 +1,78 @@
--- `choice::choose` meets its contract: the best of all blocks is the best of the word. Assumes nothing.
-use mathlib.Core.Path.{refl, sym, ap, _∙_}
-use Prim.Native.Nat.{_+_, _*_, _%_}
+-- `choice::choose` meets its contract: where nothing is found, the greatest bound has gone down. Assumes nothing.
+use mathlib.Core.Path.{sym, subst}
+use Prim.Native.Nat.{ℕ, _≤_, _<_}
+use native.Mathlib.Nat.{mul-le-mul-right}
 use native.Mathlib.Omega.{arith}
 use borrow.Author.Needs.{needs}
-use Rattle.planes.proofs.Ranges.{top-ends}
-use Rattle.choice.proofs.Hits.{within}
+use Rattle.vectors.specs.Vectors.{wbit}
+use Rattle.bounds.specs.Keeping.{bound}
+use Rattle.choice.specs.Searching.{highest, Lowered}
+use Rattle.choice.proofs.Searches.{highest-above, highest-less, lowered-twice, found-later}
 use Rattle.choice.proofs.choose.Statement.{statement}
 use Rattle.choice.proofs.choose.Tie as tie
 
-slice-aggregate-double-rows : tie.Need-slice-aggregate-double-rows
-slice-aggregate-double-rows c = search needs
+abbrev Inv-loop : tie.InvT-loop
+Inv-loop d starts counts met₀ sh from end met = Lowered sh from (wbit d) starts counts met₀ met
 
-slice-aggregate-double-rows-2 : tie.Need-slice-aggregate-double-rows-2
-slice-aggregate-double-rows-2 c = search needs
+abbrev μ-loop : tie.MeasureT-loop
+μ-loop d starts counts met₀ sh from end met = highest counts met (sh .blocks)
 
-double-rows-requires : tie.Need-double-rows-requires
-double-rows-requires c κs = search needs
+mul-end : tie.Need-mul-end Inv-loop μ-loop
+mul-end c =
+    let s = c .before .before .before .before .before in
+    let ready = s .pre .0 in
+    omega (arith, ready .held, ready .words, mul-le-mul-right {m = s .args .sh .blocks} {n = 16} (s .args .sh .size) (ready .blocks))
 
-slice-aggregate-best-of : tie.Need-slice-aggregate-best-of
-slice-aggregate-best-of c = search needs
+loop-holds : tie.Need-loop-holds Inv-loop μ-loop
+loop-holds c = record { ready = c .before .before .before .before .before .pre .0; under = λ g w u. u }
 
-slice-aggregate-best-of-2 : tie.Need-slice-aggregate-best-of-2
-slice-aggregate-best-of-2 c = search needs
+greatest-requires : tie.Need-greatest-requires Inv-loop μ-loop
+greatest-requires c κs =
+    let ready = c .before .loop .inv .ready in
+    (omega (arith, ready .counts-long, ready .blocks), omega (arith, ready .met-long, ready .blocks), λ b h. (ready .low b h, ready .few b h))
 
-best-of-requires : tie.Need-best-of-requires
-best-of-requires c κs = search needs
+first-at-requires : tie.Need-first-at-requires Inv-loop μ-loop
+first-at-requires c κs =
+    let s = c .before .before .before .before .before .before .before .before .before in
+    let a = s .args in
+    let l = c .before .before .before .loop in
+    (l .inv .ready, s .pre .1, s .pre .3, λ b h. subst (λ t. bound (a .counts .now) (l .met) b ≤ t) (sym (c .before .greatest .ensures)) (highest-above (a .counts .now) (l .met) (a .sh .blocks) b h))
 
-returns : tie.Need-returns
-returns c k lent x held =
-    let s = c .before .before .before .before .before .before .before .before .before .before .before in
-    let sh = s .args .sh in
-    top-ends refl (sym (lent .bits-are))
-    (c .before .best-of .ensures k lent x (λ r n hr hn. c .before .before .before .before .before .before .double-rows .ensures r n hr hn ∙ ap (λ y. y (64 * (r * sh .words) + n % sh .size)) held) .best (omega (arith, s .pre .3, within 0 (sh .blocks) (sh .size) (s .pre .2))))
+cast-t15 : tie.Need-cast-t15 Inv-loop μ-loop
+cast-t15 c = search needs
+
+same-length : tie.Need-same-length Inv-loop μ-loop
+same-length c = search needs
+
+returns : tie.Need-returns Inv-loop μ-loop
+returns c =
+    let f = c .before .before .before .first-at in
+    let l = c .before .before .before .before .before .before .before .loop in
+    (lowered-twice (l .inv) (f .ensures .lowered), found-later (l .inv) (f .ensures .found (c .if1 .taken)))
+
+loop-less : tie.Need-loop-less Inv-loop μ-loop
+loop-less c =
+    let s = c .before .before .before .before .before .before .before .before .before .before .before .before .before in
+    let a = s .args in
+    let l = c .before .before .before .before .before .before .before .loop in
+    let f = c .before .before .before .first-at in
+    highest-less (a .counts .now) (l .met) _ (a .sh .blocks) (c .before .before .before .before .before .greatest .result) (s .pre .2) (c .before .before .before .before .before .greatest .ensures) (f .ensures .none (c .if1 .left))
+
+loop-again : tie.Need-loop-again Inv-loop μ-loop
+loop-again c = lowered-twice (c .before .before .before .before .before .before .before .loop .inv) (c .before .before .before .first-at .ensures .lowered)
 
 pub choose-spec : {M : Type 1} → statement M
 choose-spec =
     tie.close
     (tie.spec
-    slice-aggregate-double-rows
-    slice-aggregate-double-rows-2
-    double-rows-requires
-    slice-aggregate-best-of
-    slice-aggregate-best-of-2
-    best-of-requires
-    returns)
+    Inv-loop
+    μ-loop
+    mul-end
+    loop-holds
+    greatest-requires
+    first-at-requires
+    cast-t15
+    same-length
+    returns
+    loop-less
+    loop-again)

@@ -1,0 +1,5 @@
+pub mod Entries
+pub mod Doubled
+pub mod Turned
+pub mod Weights
+pub mod Flipped

@@ -1,0 +1,86 @@
+-- `bounds::row` meets its contract: after k turns the first k words are those of the row, and what is past bit m is cleared at the end. Assumes nothing.
+use mathlib.Core.Path.{ap, _∙_}
+use Prim.Native.Nat.{_+_, _-_, _*_, _≤_}
+use native.Mathlib.Omega.{arith}
+use borrow.Author.Needs.{needs}
+use lib.ListN.{getD}
+use Rattle.vectors.specs.Vectors.{wbit, upTo, from}
+use Rattle.vectors.proofs.Filling.{Filled, filled-start, filled-more, word-holds}
+use Rattle.vectors.proofs.Spans.{upTo-joined}
+use Rattle.bounds.proofs.row.Statement.{statement}
+use Rattle.bounds.proofs.row.Tie as tie
+
+abbrev Inv-loop : tie.InvT-loop
+Inv-loop s at words m v₀ k₀ v k = (k ≤ words) × Filled v₀ (from (64 * at) (wbit s)) v k
+
+abbrev μ-loop : tie.MeasureT-loop
+μ-loop s at words m v₀ k₀ v k = words - k
+
+loop-holds : tie.Need-loop-holds Inv-loop μ-loop
+loop-holds c =
+    let a = c .before .before .args in
+    (omega arith, filled-start (a .v .now) (from (64 * a .at) (wbit (a .s .now))))
+
+add-v : tie.Need-add-v Inv-loop μ-loop
+add-v c = omega arith
+
+mul-v : tie.Need-mul-v Inv-loop μ-loop
+mul-v c = omega arith
+
+shared-slice-read-v : tie.Need-shared-slice-read-v Inv-loop μ-loop
+shared-slice-read-v c = omega arith
+
+mul-v-2 : tie.Need-mul-v-2 Inv-loop μ-loop
+mul-v-2 c = omega arith
+
+slice-write-v : tie.Need-slice-write-v Inv-loop μ-loop
+slice-write-v c = omega arith
+
+add-k : tie.Need-add-k Inv-loop μ-loop
+add-k c = omega arith
+
+loop-less : tie.Need-loop-less Inv-loop μ-loop
+loop-less c = omega arith
+
+loop-again : tie.Need-loop-again Inv-loop μ-loop
+loop-again c =
+    let a = c .before .before .before .before .before .args in
+    let l = c .before .before .loop in
+    let y = wbit (a .s .now) in (
+      omega arith,
+      filled-more (a .v .now) (from (64 * a .at) y) (l .v) (l .k) (l .inv .1) (getD (a .s .now) (a .at + l .k) 0) (omega arith)
+          (λ i hi. word-holds (a .s .now) (a .at + l .k) i hi ∙ ap y (omega arith)),
+    )
+
+trim-requires : tie.Need-trim-requires Inv-loop μ-loop
+trim-requires c κs = tt
+
+same-length : tie.Need-same-length Inv-loop μ-loop
+same-length c = search needs
+
+returns : tie.Need-returns Inv-loop μ-loop
+returns c =
+    let a = c .before .before .before .before .before .before .before .before .args in
+    let l = c .before .before .before .before .before .loop in
+    c .before .before .trim .ensures
+    ∙ ap (upTo (a .m)) (l .inv .1 .bits)
+    ∙ upTo-joined (a .m) (64 * l .k) (from (64 * a .at) (wbit (a .s .now))) (wbit (a .v .now)) (omega arith)
+
+pub row-spec : {M : Type 1} → statement M
+row-spec =
+    tie.close
+    (tie.spec
+    Inv-loop
+    μ-loop
+    loop-holds
+    add-v
+    mul-v
+    shared-slice-read-v
+    mul-v-2
+    slice-write-v
+    add-k
+    loop-less
+    loop-again
+    trim-requires
+    same-length
+    returns)
