@@ -163,58 +163,121 @@ static void syndrome(const uint64_t *y, const uint16_t *h, struct shape sh, uint
         s[r * sh.words + sh.words - 1] = front(s[r * sh.words + sh.words - 1], sh.size);
 }
 
-/* The best of 64 bits from bit at of a block on, and the best so far. */
-LEAF struct best best_part(const uint64_t *d, const unsigned *starts, unsigned n, unsigned first, unsigned at,
-                           unsigned valid, struct best best)
-{
-    uint64_t one = 0, two = 0, four = 0, mask = ~UINT64_C(0) << (64 - valid);
-    for (unsigned e = 0; e < n; e++) {
-        uint64_t x = window(d, starts[e] + at), carry = one & x;
-        four ^= two & carry;
-        two ^= carry;
-        one ^= x;
-    }
-    unsigned count = 0;
-    if (mask & four) {
-        mask &= four;
-        count = 4;
-    }
-    if (mask & two) {
-        mask &= two;
-        count += 2;
-    }
-    if (mask & one) {
-        mask &= one;
-        count += 1;
-    }
-    unsigned score = 2 * count + 8 - n;
-    if (best.score < score) {
-        best.score = score;
-        best.bit = first + at + (unsigned)__builtin_clzll(mask);
-    }
-    return best;
-}
-
-/* The bit of greatest excess from bit `from` on; the excess is the score less 8. */
-static struct best choose(const uint64_t *s, const uint16_t *h, struct shape sh, unsigned from)
-{
+/* What a run keeps from flip to flip: the rows of the syndrome, each twice over; the starts of every block and how many they
+ * are; and for each block a number of met checks that no bit of it that is sent falls below. */
+struct kept {
     uint64_t d[4 * 17];
+    uint16_t starts[16][8];
+    uint8_t counts[16], met[16];
+};
+
+static void begin(const uint64_t *s, const uint16_t *h, struct shape sh, struct kept *kept)
+{
     unsigned room = 2 * sh.words + 1;
-    struct best best = {0, from};
     for (unsigned r = 0; r < sh.rows; r++)
-        twice(s + r * sh.words, sh, d + r * room);
+        twice(s + r * sh.words, sh, kept->d + r * room);
     for (unsigned b = 0; b < sh.blocks; b++) {
-        unsigned starts[8], n = 0;
+        unsigned n = 0;
         for (unsigned r = 0; r < sh.rows; r++)
             for (unsigned e = 0; e < 2; e++) {
                 unsigned shift = h[2 * (r * sh.blocks + b) + e];
                 if (shift < sh.size)
-                    starts[n++] = 64 * room * r + (sh.size - shift);
+                    kept->starts[b][n++] = (uint16_t)(64 * room * r + (sh.size - shift));
             }
-        for (unsigned at = b == 0 ? from : 0; at < sh.size && best.score < 8 + n; at += 64)
-            best = best_part(d, starts, n, b * sh.size, at, sh.size - at < 64 ? sh.size - at : 64, best);
+        kept->counts[b] = (uint8_t)n;
+        kept->met[b] = 0;
     }
-    return best;
+}
+
+/* Of the 64 bits of block b from bit at on, those of which at most so many checks are met. */
+LEAF uint64_t light(const struct kept *kept, unsigned b, unsigned at)
+{
+    const uint16_t *starts = kept->starts[b];
+    unsigned n = kept->counts[b], met = kept->met[b];
+    if (met <= 1) {
+        uint64_t found = ~UINT64_C(0), spare = met == 1 ? ~UINT64_C(0) : 0;
+        for (unsigned e = 0; e < n; e++) {
+            uint64_t x = window(kept->d, starts[e] + at);
+            found = (found & x) | spare;
+            if (found == 0)
+                return 0;
+            spare &= x;
+        }
+        return found;
+    }
+    if (met == n)
+        return ~UINT64_C(0);
+    unsigned from = 8 - (n - met);
+    uint64_t one = from & 1 ? ~UINT64_C(0) : 0, two = from & 2 ? ~UINT64_C(0) : 0, four = from & 4 ? ~UINT64_C(0) : 0, over = 0;
+    for (unsigned e = 0; e < n; e++) {
+        uint64_t x = window(kept->d, starts[e] + at), carry = one & x, next = two & carry;
+        over |= four & next;
+        four ^= next;
+        two ^= carry;
+        one ^= x;
+    }
+    return over;
+}
+
+/* The first bit of block b from bit `from` on that has so few met checks; M if there is none. */
+LEAF unsigned first_in_block(const struct kept *kept, struct shape sh, unsigned b, unsigned from)
+{
+    for (unsigned at = 0; at < sh.size; at += 64) {
+        uint64_t found = light(kept, b, at);
+        if (found == 0)
+            continue;
+        if (sh.size - at < 64)
+            found = front(found, sh.size);
+        if (from > at)
+            found &= from - at < 64 ? ~UINT64_C(0) >> (from - at) : 0;
+        if (found != 0)
+            return at + (unsigned)__builtin_clzll(found);
+    }
+    return sh.size;
+}
+
+/* The bit of greatest excess from bit `from` on; the excess is the score less 8. The blocks of the greatest bound are searched
+ * in order, and the bound of one that has no such bit goes down. */
+static struct best choose(struct kept *kept, struct shape sh, unsigned from)
+{
+    for (;;) {
+        unsigned top = 0;
+        for (unsigned b = 0; b < sh.blocks; b++) {
+            unsigned bound = 8u + kept->counts[b] - 2u * kept->met[b];
+            if (top < bound)
+                top = bound;
+        }
+        for (unsigned b = 0; b < sh.blocks; b++) {
+            if (8u + kept->counts[b] - 2u * kept->met[b] != top)
+                continue;
+            unsigned k = first_in_block(kept, sh, b, b == 0 ? from : 0);
+            if (k < sh.size)
+                return (struct best){top, b * sh.size + k};
+            kept->met[b]++;
+        }
+    }
+}
+
+/* The bit of greatest excess of a word of which nothing is kept. */
+static struct best choose_once(const uint64_t *s, const uint16_t *h, struct shape sh, unsigned from)
+{
+    struct kept kept;
+    begin(s, h, sh, &kept);
+    return choose(&kept, sh, from);
+}
+
+/* Turns the checks of a bit over, in both places, and raises the bounds by as many as it broke. */
+LEAF void flip_kept(uint64_t *y, struct kept *kept, struct shape sh, unsigned bit)
+{
+    unsigned b = bit / sh.size, k = bit % sh.size, wide = 64 * (2 * sh.words + 1), by = kept->met[b];
+    y[bit / 64] ^= UINT64_C(1) << (63 - bit % 64);
+    for (unsigned e = 0; e < kept->counts[b]; e++) {
+        unsigned p = kept->starts[b][e] + k, other = p % wide < sh.size ? p + sh.size : p - sh.size;
+        kept->d[p / 64] ^= UINT64_C(1) << (63 - p % 64);
+        kept->d[other / 64] ^= UINT64_C(1) << (63 - other % 64);
+    }
+    for (unsigned n = 0; n < sh.blocks; n++)
+        kept->met[n] = (uint8_t)(kept->met[n] < by ? 0 : kept->met[n] - by);
 }
 
 LEAF void flip(uint64_t *y, uint64_t *s, const uint16_t *h, struct shape sh, unsigned bit)
@@ -231,19 +294,25 @@ LEAF void flip(uint64_t *y, uint64_t *s, const uint16_t *h, struct shape sh, uns
         }
 }
 
-static uint8_t run(uint64_t *y, uint64_t *s, const uint16_t *h, struct shape sh, unsigned from, uint16_t limit,
-                   uint32_t *flips)
+/* The run; left has the broken checks at its start, and gets those at its end. */
+static uint8_t run(uint64_t *y, const uint64_t *s, const uint16_t *h, struct shape sh, unsigned from, uint16_t limit,
+                   uint32_t *flips, uint32_t *left)
 {
-    for (*flips = 0;; ++*flips) {
-        if (quiet(s, sh))
-            return 0;
-        struct best best = choose(s, h, sh, from);
+    struct kept kept;
+    *flips = 0;
+    if (*left == 0)
+        return 0;
+    begin(s, h, sh, &kept);
+    for (; *left > 0; ++*flips) {
+        struct best best = choose(&kept, sh, from);
         if (best.score <= 8)
             return 5;
         if (*flips >= limit)
             return 6;
-        flip(y, s, h, sh, best.bit);
+        flip_kept(y, &kept, sh, best.bit);
+        *left -= best.score - 8;
     }
+    return 0;
 }
 
 /* For each parity block of a near-Earth word, whether the ones of the blocks that it is counted with are odd in number: see the crate ownparity. */
@@ -477,8 +546,8 @@ struct judge_corrected fast_correct(uint8_t code, const uint8_t *word, size_t le
     syndrome(y, h, sh, s);           \
     answer.first = broken(s, sh);    \
     answer.lowest = lowest(s, sh);   \
-    answer.number = run(y, s, h, sh, code == 5 ? 18 : 0, limit, &answer.flips); \
-    answer.last = broken(s, sh)
+    answer.last = answer.first;      \
+    answer.number = run(y, s, h, sh, code == 5 ? 18 : 0, limit, &answer.flips, &answer.last)
     FOR_CODE(code, RUN)
     if (answer.flips != 0)
         answer.unlike = unlike(code, word, len, y);
@@ -496,7 +565,7 @@ static uint8_t run_listed(uint64_t *y, uint64_t *s, const uint16_t *h, struct sh
     for (*flips = 0;; ++*flips) {
         if (quiet(s, sh))
             return 0;
-        struct best best = choose(s, h, sh, from);
+        struct best best = choose_once(s, h, sh, from);
         if (best.score <= 8) {
             *reason = (struct judge_fliprecord){best.bit, (int8_t)(best.score - 8), 0};
             return 5;
@@ -550,7 +619,7 @@ struct judge_stepped fast_step(uint8_t code, const uint8_t *word, size_t len, ui
     syndrome(y, h, sh, s);            \
     answer.quiet = quiet(s, sh);      \
     if (!answer.quiet)                \
-    best = choose(s, h, sh, 0)
+    best = choose_once(s, h, sh, 0)
     FOR_CODE(code, STEP)
     if (answer.quiet) {
         memcpy(out, word, len);

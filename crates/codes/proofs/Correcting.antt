@@ -22,7 +22,7 @@ use Rattle.layout.specs.Lent.{Fit, Lent, laid}
 use Rattle.measured.specs.Measured.{Measured}
 use Rattle.runs.specs.declared.Ran.{Ran}
 use Rattle.runs.specs.declared.Next.{Next}
-use Rattle.runs.specs.Turns.{Holding, RunsTo, comesNext}
+use Rattle.runs.specs.Turns.{Holding, Begins, Beginning, RunsTo, comesNext}
 use Rattle.codes.specs.Ends.{EndsAt}
 
 -- correct's numbers and the output, one by one
@@ -41,6 +41,13 @@ module _ (n : ℕ) (word t : List ℕ) (y s : Word) (sh : Shape) (m : Measured n
   holding = record { code = code n; word = y; lent = m .lends .lent; held = m .held }
 
   -- ---- correct
+
+  module _ (first : ℕ) (counted : (c : Code) (h : List ℕ) (sh : Shape) (x : Word) → Fit h sh → Lent c h sh → s ≡ laid c sh x → first ≡ broken c x) where
+    pub begins : (from : ℕ) → code n .unsent ≡ from → Begins (code n) t sh from first y s
+    begins from e = record { lent = m .lends .lent; unsent = e; held = m .held; broken = counted (code n) t sh y (m .lends .fit) (m .lends .lent) (m .held) }
+
+    pub beginning : (from : ℕ) → code n .unsent ≡ from → Beginning t sh from first y s
+    beginning from e = record { code = code n; begins = begins from e }
 
   module _ (limit : ℕ) (ran : Ran) (y′ s′ : Word) (to : RunsTo (byExcess (code n)) (code n) sh limit y ran y′ s′) where
     same-run : run (byExcess (code n)) limit y ≡ run (byExcess (code n)) limit (lifted (code n) (bit word))
@@ -70,7 +77,7 @@ module _ (n : ℕ) (word t : List ℕ) (y s : Word) (sh : Shape) (m : Measured n
 
     module _ (first last number unlike low : ℕ)
         (at-first : (c : Code) (h : List ℕ) (sh : Shape) (x : Word) → Fit h sh → Lent c h sh → s ≡ laid c sh x → first ≡ broken c x)
-        (at-last : (c : Code) (h : List ℕ) (sh : Shape) (x : Word) → Fit h sh → Lent c h sh → s′ ≡ laid c sh x → last ≡ broken c x)
+        (at-last : last ≡ broken (code n) y′)
         (at-lowest : (c : Code) (h : List ℕ) (x : Word) → Fit h sh → Lent c h sh → s ≡ laid c sh x → low ≡ lowest c x)
         (judge : number ≡ judged (code n) (run (byExcess (code n)) limit (lifted (code n) (bit word)))) (differs : unlike ≡ differing (code n) (lifted (code n) (bit word)) y′) (out out′ : List ℕ)
         (wrote : out′ ≡ (if eqb number 0 then written (code n) y′ else out)) where
@@ -79,7 +86,7 @@ module _ (n : ℕ) (word t : List ℕ) (y s : Word) (sh : Shape) (m : Measured n
       corrected-is =
           numbers-same judge (to .flips ∙ ap (λ r. length (r .flips)) same-run)
           (at-first (code n) t sh y (m .lends .fit) (m .lends .lent) (m .held) ∙ ap (broken (code n)) (m .bits))
-          (at-last (code n) t sh y′ (m .lends .fit) (m .lends .lent) (to .held) ∙ ap (broken (code n)) (sym ran-word))
+          (at-last ∙ ap (broken (code n)) (sym ran-word))
           (differs ∙ ap (differing (code n) (lifted (code n) (bit word))) (sym ran-word))
           (at-lowest (code n) t y (m .lends .fit) (m .lends .lent) (m .held) ∙ ap (lowest (code n)) (m .bits))
           (wrote ∙ ap₂ (λ k z. if eqb k 0 then written (code n) z else out) judge (sym ran-word))

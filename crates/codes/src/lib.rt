@@ -204,8 +204,8 @@ fn correct_taken(o: Offer, word: &[u8], limit: u16, out: &mut [u8]) -> Corrected
     let sh = measured::measure(o, word, &mut t, &mut y, &mut s);
     let first = syndromes::broken(&s);
     let lowest = syndromes::lowest(&s, sh);
-    let ran = runs::run(&mut y, &mut s, &t, sh, o.unsent, limit);
-    let last = syndromes::broken(&s);
+    let ended = runs::run(&mut y, &s, &t, sh, o.unsent, limit, first);
+    let ran = ended.ran;
     let unlike = unlike_after(o, word, &y, ran.flips);
     let number = judging::judge(o, &y, ran.number);
     if number == 0 {
@@ -215,7 +215,7 @@ fn correct_taken(o: Offer, word: &[u8], limit: u16, out: &mut [u8]) -> Corrected
         number: number,
         flips: ran.flips,
         first: first,
-        last: last,
+        last: ended.last,
         unlike: unlike,
         lowest: lowest,
     }

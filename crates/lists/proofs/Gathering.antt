@@ -121,6 +121,6 @@ module _ (n : ℕ) (off : offered n ≡ true) (word t : List ℕ) (y s : Word) (
           ap₂ (λ z w. listedBy numbers (record { bit = k .bit; excess = z }) w) excess-is (entered-is table l long)
           ∙ ap₂ (λ z w. listedBy z w (enteredIn (asEntries table) (entries (code n) (lifted (code n) (bit word)) (theRun .flips))))
           (corrected-is n word t y s sh m limit (record { number = k .number; flips = k .flips }) y′ s′ runs-to first last number unlike
-          low at-first at-last at-lowest judge differs [] _ refl) (sym why-is)
+          low at-first (at-last (code n) t sh y′ (m .lends .fit) (m .lends .lent) (runs-to .held)) at-lowest judge differs [] _ refl) (sym why-is)
           ∙ sym (list-fits (code n) (lifted (code n) (bit word)) theRun (asEntries table)
           (omega (arith, l, flips-are, length-map table asEntry)))

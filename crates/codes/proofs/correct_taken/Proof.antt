@@ -9,7 +9,7 @@ use Rattle.vectors.proofs.Filling.{zero-words}
 use Rattle.rules.proofs.Numbers.{published}
 use Rattle.offer.proofs.Offers.{small, is-offered}
 use Rattle.codes.proofs.Admitted.{shaped, word-long, unsent-is, bits-are, fitting}
-use Rattle.codes.proofs.Correcting.{holding, ran-number, ran-word, ran-met, ran-unsent, ran-ends, corrected-is, wrote-word, wrote-none}
+use Rattle.codes.proofs.Correcting.{begins, beginning, ran-number, ran-word, ran-met, ran-unsent, ran-ends, corrected-is, wrote-word, wrote-none}
 use borrow.Author.Needs.{needs}
 use Rattle.codes.proofs.correct_taken.Statement.{statement}
 use Rattle.codes.proofs.correct_taken.Tie as tie
@@ -57,16 +57,17 @@ slice-aggregate-run-3 c = search needs
 run-requires : tie.Need-run-requires
 run-requires c κs =
     let m = c .before .before .before .before .before .before .before .before .before .before in
+    let b = c .before .before .before .before .before in
     let a = m .before .before .before .before .before .before in
     let k = a .pre .0 in
-    let e = m .measure .ensures .1 (k .number) (k .offers) (k .is) in
-    (e .lends .fit, search needs, search needs, shaped k (m .measure .ensures .0) .0, shaped k (m .measure .ensures .0) .1, holding (k .number) (a .args .word .now) _ _ _ _ e)
-
-slice-aggregate-broken-2 : tie.Need-slice-aggregate-broken-2
-slice-aggregate-broken-2 c = search needs
-
-broken-requires-2 : tie.Need-broken-requires-2
-broken-requires-2 c κs = search needs
+    let e = m .measure .ensures .1 (k .number) (k .offers) (k .is) in (
+      e .lends .fit,
+      search needs,
+      search needs,
+      shaped k (m .measure .ensures .0) .0,
+      shaped k (m .measure .ensures .0) .1,
+      beginning (k .number) (a .args .word .now) _ _ _ _ e (b .broken .result) (b .broken .ensures) (a .args .o .unsent) (sym (unsent-is (k .number) (k .is) (k .offers))),
+    )
 
 slice-aggregate-unlike-after : tie.Need-slice-aggregate-unlike-after
 slice-aggregate-unlike-after c = search needs
@@ -78,14 +79,14 @@ slice-aggregate-judge : tie.Need-slice-aggregate-judge
 slice-aggregate-judge c = search needs
 
 judge-requires : tie.Need-judge-requires
-judge-requires c κs = (c .before .before .before .before .before .before .before .before .before .before .before .before .before .before .before .before .before .before .before .before .before .before .before .before .pre .0, search needs)
+judge-requires c κs = (c .before .before .before .before .before .before .before .before .before .before .before .before .before .before .before .before .before .before .before .before .before .before .pre .0, search needs)
 
 slice-aggregate-write : tie.Need-slice-aggregate-write
 slice-aggregate-write c = search needs
 
 write-requires : tie.Need-write-requires
 write-requires c κs =
-    let a = c .before .before .before .before .before .before .before .before .before .before .before .before .before .before .before .before .before .before .before .before .before .before .before .before .before .before .before .before in
+    let a = c .before .before .before .before .before .before .before .before .before .before .before .before .before .before .before .before .before .before .before .before .before .before .before .before .before .before in
     (search needs, small (a .pre .0) .unsent, omega (arith, a .pre .2, small (a .pre .0) .word), λ h. small (a .pre .0) .plain (omega (arith, h, a .pre .2)))
 
 same-length : tie.Need-same-length
@@ -95,22 +96,23 @@ returns : tie.Need-returns
 returns c =
     let j = c .before .before .before .before .before .before .before in
     let u = j .before .before in
-    let b2 = u .before .before in
-    let g = b2 .before .before .before .before in
+    let g = u .before .before .before .before in
     let w = g .before .before .before .before in
-    let b1 = w .before .before in
-    let m = b1 .before .before .before .before .before in
+    let b = w .before .before in
+    let m = b .before .before .before .before .before in
     let a = m .before .before .before .before .before .before in
     λ n off is.
     let word = a .args .word .now in
     let e = m .measure .ensures .1 n off is in
-    let to = g .run .ensures (code n) (e .lends .lent) (sym (unsent-is n is off)) (e .held) in
-    corrected-is n word _ _ _ _ e (a .args .limit) (g .run .result) _ _ to (b1 .broken .result) (b2 .broken2 .result) (j .judge .result) (u .unlike-after .result) (w .lowest .result)
-    (b1 .broken .ensures) (b2 .broken2 .ensures) (w .lowest .ensures)
+    let ends = g .run .ensures (code n) (begins n word _ _ _ _ e (b .broken .result) (b .broken .ensures) (a .args .o .unsent) (sym (unsent-is n is off))) in
+    let to = ends .0 in
+    let ran = g .run .result .ran in
+    corrected-is n word _ _ _ _ e (a .args .limit) ran _ _ to (b .broken .result) (g .run .result .last) (j .judge .result) (u .unlike-after .result) (w .lowest .result)
+    (b .broken .ensures) (ends .1) (w .lowest .ensures)
     (j .judge .ensures n off is (run (byExcess (code n)) (a .args .limit) (lifted (code n) (bit word)))
-    (ran-number n word _ _ _ _ e (a .args .limit) (g .run .result) _ _ to) (ran-word n word _ _ _ _ e (a .args .limit) (g .run .result) _ _ to) (ran-met n word _ _ _ _ e (a .args .limit) (g .run .result) _ _ to (published n (is-offered n off) .some))
-    (ran-unsent n word _ _ _ _ e (a .args .limit) (g .run .result) _ _ to (published n (is-offered n off) .some)))
-    (u .unlike-after .ensures n off is (ran-ends n word _ _ _ _ e (a .args .limit) (g .run .result) _ _ to (published n (is-offered n off) .some)))
+    (ran-number n word _ _ _ _ e (a .args .limit) ran _ _ to) (ran-word n word _ _ _ _ e (a .args .limit) ran _ _ to) (ran-met n word _ _ _ _ e (a .args .limit) ran _ _ to (published n (is-offered n off) .some))
+    (ran-unsent n word _ _ _ _ e (a .args .limit) ran _ _ to (published n (is-offered n off) .some)))
+    (u .unlike-after .ensures n off is (ran-ends n word _ _ _ _ e (a .args .limit) ran _ _ to (published n (is-offered n off) .some)))
     (a .args .out .now) _ (wrote-word _ _ _ _ (c .before .before .before .before .before .before .if1 .taken)
     (c .before .before .before .write .ensures (code n) (unsent-is n is off) (bits-are n is off) (word-long n is off (a .pre .2))))
 
@@ -118,22 +120,23 @@ returns-2 : tie.Need-returns-2
 returns-2 c =
     let j = c .before in
     let u = j .before .before in
-    let b2 = u .before .before in
-    let g = b2 .before .before .before .before in
+    let g = u .before .before .before .before in
     let w = g .before .before .before .before in
-    let b1 = w .before .before in
-    let m = b1 .before .before .before .before .before in
+    let b = w .before .before in
+    let m = b .before .before .before .before .before in
     let a = m .before .before .before .before .before .before in
     λ n off is.
     let word = a .args .word .now in
     let e = m .measure .ensures .1 n off is in
-    let to = g .run .ensures (code n) (e .lends .lent) (sym (unsent-is n is off)) (e .held) in
-    corrected-is n word _ _ _ _ e (a .args .limit) (g .run .result) _ _ to (b1 .broken .result) (b2 .broken2 .result) (j .judge .result) (u .unlike-after .result) (w .lowest .result)
-    (b1 .broken .ensures) (b2 .broken2 .ensures) (w .lowest .ensures)
+    let ends = g .run .ensures (code n) (begins n word _ _ _ _ e (b .broken .result) (b .broken .ensures) (a .args .o .unsent) (sym (unsent-is n is off))) in
+    let to = ends .0 in
+    let ran = g .run .result .ran in
+    corrected-is n word _ _ _ _ e (a .args .limit) ran _ _ to (b .broken .result) (g .run .result .last) (j .judge .result) (u .unlike-after .result) (w .lowest .result)
+    (b .broken .ensures) (ends .1) (w .lowest .ensures)
     (j .judge .ensures n off is (run (byExcess (code n)) (a .args .limit) (lifted (code n) (bit word)))
-    (ran-number n word _ _ _ _ e (a .args .limit) (g .run .result) _ _ to) (ran-word n word _ _ _ _ e (a .args .limit) (g .run .result) _ _ to) (ran-met n word _ _ _ _ e (a .args .limit) (g .run .result) _ _ to (published n (is-offered n off) .some))
-    (ran-unsent n word _ _ _ _ e (a .args .limit) (g .run .result) _ _ to (published n (is-offered n off) .some)))
-    (u .unlike-after .ensures n off is (ran-ends n word _ _ _ _ e (a .args .limit) (g .run .result) _ _ to (published n (is-offered n off) .some)))
+    (ran-number n word _ _ _ _ e (a .args .limit) ran _ _ to) (ran-word n word _ _ _ _ e (a .args .limit) ran _ _ to) (ran-met n word _ _ _ _ e (a .args .limit) ran _ _ to (published n (is-offered n off) .some))
+    (ran-unsent n word _ _ _ _ e (a .args .limit) ran _ _ to (published n (is-offered n off) .some)))
+    (u .unlike-after .ensures n off is (ran-ends n word _ _ _ _ e (a .args .limit) ran _ _ to (published n (is-offered n off) .some)))
     (a .args .out .now) _ (wrote-none _ _ _ (c .if1 .left))
 
 pub correct-taken-spec : {M : Type 1} → statement M
@@ -152,8 +155,6 @@ correct-taken-spec =
     slice-aggregate-run-2
     slice-aggregate-run-3
     run-requires
-    slice-aggregate-broken-2
-    broken-requires-2
     slice-aggregate-unlike-after
     unlike-after-requires
     slice-aggregate-judge
