@@ -3,29 +3,31 @@ use mathlib.Core.Path.{_≡_, refl, sym, ap, ap₂, _∙_, fun-ext, subst}
 use mathlib.Core.Bool.{Bool, true, false, not, _&&_}
 use mathlib.Core.List.{List}
 use Prim.Native.Nat.{ℕ, suc, _+_, _-_, _*_, _≤_, _<_, zero-le}
-use native.Mathlib.Nat.{lt-of-not-le, add-zero}
+use native.Mathlib.Nat.{lt-of-not-le}
 use native.Mathlib.Decide.{decLt}
 use native.Mathlib.Omega.{arith}
 use lib.Dec.{T, eqb, ltb}
 use lib.Ieee.{Float, eq, lt}
+use lib.IntN.{ℤ}
 use lib.ListN.{length}
 use borrow.Author.Tests.{lt-ltb, le-ltb}
 use Rattle.bits.specs.Bits.{Word, bit, octets, flipped, if_then_else_}
 use Rattle.rules.specs.Codes.{bits, checks, code, offered}
 use Rattle.rules.specs.Checks.{lowest, degreeOf}
 use Rattle.rules.specs.Encoding.{lifted, codeword}
-use Rattle.rules.specs.Flipping.{byExcess, run}
+use Rattle.rules.specs.Flipping.{flip, byExcess, run}
 use Rattle.answers.specs.Calls.{refusal, unless, Corrected, refusedCorrect, ranCorrect, correctAnswer}
 use Rattle.bits.proofs.Sums.{and-l}
 use Rattle.bits.proofs.Octets.{Octets, length-octets, bit-octets}
-use Rattle.rules.proofs.Ways.{Chooses, TakesGreatest}
-use Rattle.rules.proofs.Numbers.{published, Whole, whole, lifted-whole}
+use Rattle.rules.proofs.Ways.{Chooses}
+use Rattle.rules.proofs.Numbers.{published, whole, lifted-whole}
 use Rattle.answers.proofs.Answers.{refusal-cases, correct-taken}
 use Rattle.answers.proofs.Corrections.{ran-within-limit, ran-fall, ran-enough, ran-unchanged, ran-within-half, ran-half-enough, nearEarthed, near-degree, ran-back, ran-one-back}
 use Rattle.sizes.specs.Samples.{read, sampleOf, magnitude, smaller, isOne, allFinite}
-use Rattle.sizes.specs.Sizes.{bySize}
-use Rattle.sizes.proofs.Choosing.{by-size, size-greatest, equal-sizes}
-use Rattle.sizes.proofs.Orders.{eq-lt, past-read, past-smaller}
+use Rattle.sizes.specs.Sizes.{reaching, bySize}
+use Rattle.sizes.proofs.Smallest.{Ordered, Smallest}
+use Rattle.sizes.proofs.Choosing.{by-size, size-greatest, equal-sizes, size-smallest}
+use Rattle.sizes.proofs.Orders.{eq-lt, past-read, past-smaller, finite-ordered}
 use Rattle.samples.specs.Answers.{ranSamples, samplesAnswer}
 use Rattle.samples.proofs.Answers.{samples-cases, samples-taken}
 
@@ -111,6 +113,13 @@ module _ (n : ℕ) (t : T (sampled n)) (samples : List Float) (ls : length sampl
       ∙ ap (λ x. ranCorrect (code n) x (run (bySize (smaller samples) (code n)) (suc limit) x) out) (e ∙ ap (λ x. flipped x b) (sym up))
       ∙ ran-one-back n off word out lw lo oct is (sizes-choose n t (smaller samples)) (size-greatest (smaller samples) (code n) (some n t)) limit b (omega (arith, whole n t .unsent)) h
       ∙ ap (λ x. record { number = 0; flips = 1; first = degreeOf (code n) b; last = 0; unlike = 1; lowest = lowest (code n) (flipped x b); out = word }) up
+
+-- ---- what is flipped
+
+-- of the bits of greatest excess none has a smaller sample than the one that is flipped, and the samples of those before it are greater
+pub smallest-flipped : (n : ℕ) → T (sampled n) → (samples : List Float) → length samples ≡ bits (code n) → allFinite samples ≡ true → (x : Word) (k : ℕ) (ex : ℤ)
+    → bySize (smaller samples) (code n) x ≡ flip k ex → Smallest (smaller samples) (reaching (code n) x ex) (code n .unsent) (bits (code n) - code n .unsent) k
+smallest-flipped n t samples ls finite = size-smallest (smaller samples) (code n) (some n t) (subst (Ordered (smaller samples)) ls (finite-ordered samples finite))
 
 -- ---- with equal magnitudes everywhere it is the old run
 

@@ -40,7 +40,17 @@ pub struct Ended {
 
 // The smallest of a bit and of those bits of a block that have at most so many of their n checks met; and whether there is one of these.
 // The block's starts begin with start `from`, and its m bits with bit `first`.
-fn found_in(samples: &[f32], d: &[u64], starts: &[u16], from: usize, n: usize, met: usize, m: usize, first: usize, bit: usize) -> Found
+fn found_in(
+    samples: &[f32],
+    d: &[u64],
+    starts: &[u16],
+    from: usize,
+    n: usize,
+    met: usize,
+    m: usize,
+    first: usize,
+    bit: usize,
+) -> Found
     requires { ⌜ Within (now starts) (now d) from n m × (met ≤ n) × (bit < length (now samples)) × (first + m ≤ length (now samples)) ⌝ }
     ensures { λ r. ⌜ (r .bit < length (now (samples .entry))) × (r .bit ≡ smallest (smaller (now (samples .entry))) (λ k. light (wbit (now (d .entry))) (now (starts .entry)) from n met 0 m (k - first)) bit first m) × (r .any ≡ false → (k : ℕ) → k < m → light (wbit (now (d .entry))) (now (starts .entry)) from n met 0 m k ≡ false) ⌝ }
 {
@@ -61,15 +71,23 @@ fn found_in(samples: &[f32], d: &[u64], starts: &[u16], from: usize, n: usize, m
 
 // The smallest of a bit and of those of a block that have this score, which is the greatest; and how many of their n checks the bits of the block then
 // have met at least.
-fn seen_in(samples: &[f32], d: &[u64], starts: &[u16], from: usize, n: u8, met: u8, m: usize, first: usize, score: u32, bit: usize) -> Seen
+fn seen_in(
+    samples: &[f32],
+    d: &[u64],
+    starts: &[u16],
+    from: usize,
+    n: u8,
+    met: u8,
+    m: usize,
+    first: usize,
+    score: u32,
+    bit: usize,
+) -> Seen
     requires { ⌜ Within (now starts) (now d) from n m × (1 ≤ m) × (met ≤ n) × (bit < length (now samples)) × (first + m ≤ length (now samples)) × (8 < score) × (score ≤ 16) ⌝ }
     ensures { λ r. ⌜ (r .bit < length (now (samples .entry))) × (r .met ≤ n) × ((g : ℕ → ℕ) → ((k : ℕ) → k < m → g (first + k) ≡ 2 * hits (wbit (now (d .entry))) (now (starts .entry)) from n k + (8 - n)) → ((k : ℕ) → k < m → g (first + k) ≤ 8 + n - 2 * met) → ((k : ℕ) → k < m → g (first + k) ≤ score) → (r .bit ≡ smallest (smaller (now (samples .entry))) (scoring g score) bit first m) × ((k : ℕ) → k < m → g (first + k) ≤ 8 + n - 2 * (r .met)) × ((k : ℕ) → k < m → score ≤ g (first + k) → r .met ≡ (8 + n - score) / 2)) ⌝ }
 {
     if 8 + (n as u32) < score + 2 * met as u32 {
-        return Seen {
-            bit: bit,
-            met: met,
-        };
+        return Seen { bit: bit, met: met };
     }
     let t = (8 + n as u32 - score) / 2;
     let found = found_in(
@@ -97,7 +115,16 @@ fn seen_in(samples: &[f32], d: &[u64], starts: &[u16], from: usize, n: u8, met: 
 
 // The smallest of a bit and of all bits that have this score, which is the greatest. The bound of a block that has one is the score then; that of a block
 // that has none is less.
-pub fn smallest_at(samples: &[f32], d: &[u64], starts: &[u16], counts: &[u8], met: &mut [u8], sh: Shape, score: u32, bit: usize) -> usize
+pub fn smallest_at(
+    samples: &[f32],
+    d: &[u64],
+    starts: &[u16],
+    counts: &[u8],
+    met: &mut [u8],
+    sh: Shape,
+    score: u32,
+    bit: usize,
+) -> usize
     requires { ⌜ Ready sh (now starts) (now counts) (now met) × (length (now d) ≡ 65) × (length (now samples) ≡ sh .blocks * sh .size) × (bit < length (now samples)) × (8 < score) × (score ≤ 16) ⌝ }
     ensures { λ r. ⌜ (r < length (now (samples .entry))) × Ready sh (now (starts .entry)) (now (counts .entry)) (now (met .exit)) × ((g : ℕ → ℕ) → Scored g sh (wbit (now (d .entry))) (now (starts .entry)) (now (counts .entry)) → Under g sh 0 (now (counts .entry)) (now (met .entry)) → ((n : ℕ) → n < sh .blocks * sh .size → g n ≤ score) → (r ≡ smallest (smaller (now (samples .entry))) (scoring g score) bit 0 (sh .blocks * sh .size)) × Under g sh 0 (now (counts .entry)) (now (met .exit)) × Reached g sh score (now (counts .entry)) (now (met .exit)) (sh .blocks)) ⌝ }
 {
@@ -139,20 +166,21 @@ fn counted(samples: &[f32], y: &[u64], bit: usize, unlike: u32) -> u32
 }
 
 // Flips the smallest bit of the greatest score, of which one is given, in y and in what is kept; and says in how many bits y differs then from what was read.
-fn turn(samples: &[f32], y: &mut [u64], d: &mut [u64], starts: &[u16], counts: &[u8], met: &mut [u8], sh: Shape, best: Best, unlike: u32) -> u32
+fn turn(
+    samples: &[f32],
+    y: &mut [u64],
+    d: &mut [u64],
+    starts: &[u16],
+    counts: &[u8],
+    met: &mut [u8],
+    sh: Shape,
+    best: Best,
+    unlike: u32,
+) -> u32
     requires { ⌜ Ready sh (now starts) (now counts) (now met) × (length (now y) ≡ 130) × (length (now d) ≡ 65) × (length (now samples) ≡ sh .blocks * sh .size) × (length (now samples) ≤ 8176) × (best .bit < length (now samples)) × (8 < best .score) × (best .score ≤ 16) × (unlike < 65536) ⌝ }
     ensures { λ r. ⌜ Ready sh (now (starts .entry)) (now (counts .entry)) (now (met .exit)) × (r ≤ unlike + 1) × ((c : Code) (h : List ℕ) → Shown c h sh (now (samples .entry)) (now (y .entry)) (now (d .entry)) (now (starts .entry)) (now (counts .entry)) (now (met .entry)) best unlike → Turned c sh (now (samples .entry)) (now (y .entry)) best r (now (y .exit)) (now (d .exit)) (now (counts .entry)) (now (met .exit))) ⌝ }
 {
-    let bit = smallest_at(
-        samples,
-        d,
-        starts,
-        counts,
-        met,
-        sh,
-        best.score,
-        best.bit,
-    );
+    let bit = smallest_at(samples, d, starts, counts, met, sh, best.score, best.bit);
     let r = counted(samples, y, bit, unlike);
     vectors::turn_over(y, bit);
     bounds::flip(d, starts, counts, met, sh, bit);
@@ -174,7 +202,18 @@ fn at_end(number: u8, flips: u32, last: u32, unlike: u32) -> Ended
 }
 
 // The run from the word y that was read, of which d, starts, counts and met are kept, under a limit: flips until it ends. So many checks are broken.
-fn go_on(samples: &[f32], y: &mut [u64], d: &mut [u64], starts: &[u16], counts: &[u8], met: &mut [u8], h: &[u16], sh: Shape, limit: u16, first: u32) -> Ended
+fn go_on(
+    samples: &[f32],
+    y: &mut [u64],
+    d: &mut [u64],
+    starts: &[u16],
+    counts: &[u8],
+    met: &mut [u8],
+    h: &[u16],
+    sh: Shape,
+    limit: u16,
+    first: u32,
+) -> Ended
     requires { ⌜ Fit (now h) sh × Gathered (now h) sh (now starts) (now counts) (sh .blocks) × Ready sh (now starts) (now counts) (now met) × (length (now y) ≡ 130) × (length (now d) ≡ 65) × (1 ≤ sh .blocks) × (length (now samples) ≡ sh .blocks * sh .size) × (wbit (now y) ≡ readOf (now samples)) × Continuing (now h) sh 0 first (wbit (now y)) (now d) (now counts) (now met) ⌝ }
     ensures { λ r. ⌜ ((c : Code) → Lent c (now (h .entry)) sh → c .unsent ≡ 0 → Carried c sh 0 first (wbit (now (y .entry))) (now (d .entry)) (now (counts .entry)) (now (met .entry)) → SizesTo c sh (now (samples .entry)) limit (wbit (now (y .entry))) r (wbit (now (y .exit)))) ⌝ }
 {
@@ -198,7 +237,15 @@ fn go_on(samples: &[f32], y: &mut [u64], d: &mut [u64], starts: &[u16], counts: 
 }
 
 // The run from the word y that was read, with the syndrome s, of which so many checks are broken, under a limit: flips until it ends.
-pub fn run(samples: &[f32], y: &mut [u64], s: &[u64], h: &[u16], sh: Shape, limit: u16, first: u32) -> Ended
+pub fn run(
+    samples: &[f32],
+    y: &mut [u64],
+    s: &[u64],
+    h: &[u16],
+    sh: Shape,
+    limit: u16,
+    first: u32,
+) -> Ended
     requires { ⌜ Fit (now h) sh × (length (now y) ≡ 130) × (length (now s) ≡ 16) × (1 ≤ sh .blocks) × (length (now samples) ≡ sh .blocks * sh .size) × (wbit (now y) ≡ readOf (now samples)) × Beginning (now h) sh 0 first (wbit (now y)) (wbit (now s)) ⌝ }
     ensures { λ r. ⌜ ((c : Code) → Begins c (now (h .entry)) sh 0 first (wbit (now (y .entry))) (wbit (now (s .entry))) → SizesTo c sh (now (samples .entry)) limit (wbit (now (y .entry))) r (wbit (now (y .exit)))) ⌝ }
 {
@@ -210,5 +257,16 @@ pub fn run(samples: &[f32], y: &mut [u64], s: &[u64], h: &[u16], sh: Shape, limi
     let mut counts = [0u8; 16];
     let mut met = [0u8; 16];
     bounds::begin(s, h, sh, &mut d, &mut starts, &mut counts);
-    go_on(samples, y, &mut d, &starts, &counts, &mut met, h, sh, limit, first)
+    go_on(
+        samples,
+        y,
+        &mut d,
+        &starts,
+        &counts,
+        &mut met,
+        h,
+        sh,
+        limit,
+        first,
+    )
 }

@@ -49,9 +49,15 @@ seen-in-requires c κs =
     let a = s .args in
     let l = c .before .before .before .before .loop in
     let hb : l .b < a .sh .blocks = omega arith in
-    let r = l .inv .2 in
-    (block-within (a .sh) (a .starts .now) (a .counts .now) (l .met) r (l .b) hb (a .d .now) (s .pre .1), r .some, r .few (l .b) hb, l .inv .1,
-    omega (arith, s .pre .2, block-room (l .b) (a .sh .blocks) (a .sh .size) hb), s .pre .4, s .pre .5)
+    let r = l .inv .2 in (
+      block-within (a .sh) (a .starts .now) (a .counts .now) (l .met) r (l .b) hb (a .d .now) (s .pre .1),
+      r .some,
+      r .few (l .b) hb,
+      l .inv .1,
+      omega (arith, s .pre .2, block-room (l .b) (a .sh .blocks) (a .sh .size) hb),
+      s .pre .4,
+      s .pre .5,
+    )
 
 slice-write-met : tie.Need-slice-write-met Inv-loop μ-loop
 slice-write-met c = omega (arith, c .before .before .before .before .before .loop .inv .2 .met-long, c .before .before .before .before .before .before .before .before .before .before .before .pre .0 .blocks)
@@ -77,10 +83,11 @@ loop-again c =
       λ g scored under most.
           let was = l .inv .3 g scored under most in
           let made = e .ensures .2 g (λ k h. scored (l .b) k hb h) (λ k h. was .1 (l .b) k hb h (omega arith))
-          (λ k h. most (l .b * a .sh .size + k) (omega (arith, block-room (l .b) (a .sh .blocks) (a .sh .size) hb))) in
-          (blocks-more (smaller (a .samples .now)) (scoring g (a .score)) (a .bit) (l .b) (a .sh .size) (l .best) (e .result .bit) (was .0) (made .0),
-          under-set (a .sh) (a .starts .now) (a .counts .now) (l .met) r (l .b) hb g v (was .1) (made .1),
-          reached-set (a .sh) (a .starts .now) (a .counts .now) (l .met) r (l .b) hb g (a .score) v (was .2) (made .2)),
+          (λ k h. most (l .b * a .sh .size + k) (omega (arith, block-room (l .b) (a .sh .blocks) (a .sh .size) hb))) in (
+            blocks-more (smaller (a .samples .now)) (scoring g (a .score)) (a .bit) (l .b) (a .sh .size) (l .best) (e .result .bit) (was .0) (made .0),
+            under-set (a .sh) (a .starts .now) (a .counts .now) (l .met) r (l .b) hb g v (was .1) (made .1),
+            reached-set (a .sh) (a .starts .now) (a .counts .now) (l .met) r (l .b) hb g (a .score) v (was .2) (made .2),
+          ),
     )
 
 same-length : tie.Need-same-length Inv-loop μ-loop
