@@ -12,6 +12,9 @@ ghost use Rattle.codes.specs.Answers.{asCorrected};
 ghost use Rattle.sizes.specs.Samples.{read as readOf};
 ghost use Rattle.samples.specs.Answers.{ranSamples, samplesAnswer};
 use codes::Corrected;
+use layout::SYNDROME;
+use layout::TABLE;
+use layout::WORD;
 use offer::Offer;
 
 // What a call that is refused by 1 to 3 or 16 gives besides its number.
@@ -33,9 +36,10 @@ fn correct_read(o: Offer, samples: &[f32], limit: u16, y: &mut [u64], out: &mut 
     requires { ⌜ Known o × (o .steps ≡ true) × (length (now samples) ≡ o .bits) × (length (now y) ≡ 130) × (length (now out) ≡ o .word) × (wbit (now y) ≡ readOf (now samples)) ⌝ }
     ensures { λ r. ⌜ ((n : ℕ) → offered n ≡ true → o ≡ offerOf n → asCorrected r (now (out .exit)) ≡ ranSamples n (now (samples .entry)) limit (now (out .entry))) ⌝ }
 {
-    let mut t = [0u16; 64];
-    let mut s = [0u64; 16];
-    let sh = measured::checks(o, y, &mut t, &mut s);
+    let mut t = [0u16; TABLE];
+    let mut s = [0u64; SYNDROME];
+    let of = o.shape;
+    let sh = measured::checks(of.size, y, &mut t, &mut s);
     let first = syndromes::broken(&s);
     let lowest = syndromes::lowest(&s, sh);
     let end = sizing::run(samples, y, &s, &t, sh, limit, first);
@@ -63,7 +67,7 @@ pub fn correct_samples(code: u8, samples: &[f32], limit: u16, out: &mut [u8]) ->
     if number != 0 {
         return refused(number);
     }
-    let mut y = [0u64; 130];
+    let mut y = [0u64; WORD];
     if !sizes::read(samples, &mut y) {
         return refused(16);
     }

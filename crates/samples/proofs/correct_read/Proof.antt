@@ -21,6 +21,8 @@ slice-aggregate-checks-2 c = search needs
 checks-requires : tie.Need-checks-requires
 checks-requires c κs =
     let z = zero-words 16 in
+    let k = c .before .before .pre .0 in
+    let size = record { number = k .number; offers = k .offers; is = ap (λ z. z .shape .size) (k .is) } in
     search needs
 
 slice-aggregate-broken : tie.Need-slice-aggregate-broken
@@ -36,7 +38,7 @@ lowest-requires : tie.Need-lowest-requires
 lowest-requires c κs =
     let m = c .before .before .before .before .before .checks in
     let k = c .before .before .before .before .before .before .before .before .before .before .before .before .pre .0 in
-    let w = fitting (m .ensures .1 (k .number) (k .offers) (k .is) .0 .fit) in
+    let w = fitting (m .ensures (k .number) (k .offers) (ap (λ z. z .shape .size) (k .is)) .1 .fit) in
     (search needs, w .0, w .1, w .2, w .3)
 
 slice-aggregate-run : tie.Need-slice-aggregate-run
@@ -51,16 +53,16 @@ run-requires c κs =
     let s = c .before .before .before .before .before .before .before .before .before .before .before .before .before .before .before .before in
     let f = c .before .before .before .before .before .broken in
     let k = s .pre .0 in
-    let e = m .ensures .1 (k .number) (k .offers) (k .is) in (
-      e .0 .fit,
+    let e = m .ensures (k .number) (k .offers) (ap (λ z. z .shape .size) (k .is)) in (
+      e .1 .fit,
       search needs,
       search needs,
-      shaped k (m .ensures .0) .0,
-      s .pre .2 ∙ bits-are (k .number) (k .is) (k .offers) ∙ e .0 .lent .bits-are,
+      shaped k (e .0 ∙ sym (ap (λ z. z .shape) (k .is))) .0,
+      s .pre .2 ∙ bits-are (k .number) (k .is) (k .offers) ∙ e .1 .lent .bits-are,
       s .pre .5,
       record {
         code = code (k .number);
-        begins = record { lent = e .0 .lent; unsent = all-sent (k .number) (k .is) (s .pre .1); held = e .1; broken = f .ensures (code (k .number)) _ _ _ (e .0 .fit) (e .0 .lent) (e .1) };
+        begins = record { lent = e .1 .lent; unsent = all-sent (k .number) (k .is) (s .pre .1); held = e .2; broken = f .ensures (code (k .number)) _ _ _ (e .1 .fit) (e .1 .lent) (e .2) };
       },
     )
 
@@ -88,11 +90,11 @@ returns c =
     let s = c .before .before .before .before .before .before .before .before .before .before .before .before .before .before .before .before .before .before .before .before .before .before .before .before .before .before .before .before .before .before in
     let a = s .args in
     λ n off is.
-    let e = m .ensures .1 n off is in
+    let e = m .ensures n off (ap (λ z. z .shape .size) is) in
     let t : T (offered n && not (eqb n 5)) = as-truth (steps-by n is (s .pre .1)) in
-    let at-first = f .ensures (code n) _ _ _ (e .0 .fit) (e .0 .lent) (e .1) in
-    let to = g .ensures (code n) (record { lent = e .0 .lent; unsent = all-sent n is (s .pre .1); held = e .1; broken = at-first }) in
-    corrected-is n t _ (a .samples .now) (a .limit) (g .result) _ _ (s .pre .5) to (f .result) (w .result) (j .result) at-first (w .ensures (code n) _ _ (e .0 .fit) (e .0 .lent) (e .1))
+    let at-first = f .ensures (code n) _ _ _ (e .1 .fit) (e .1 .lent) (e .2) in
+    let to = g .ensures (code n) (record { lent = e .1 .lent; unsent = all-sent n is (s .pre .1); held = e .2; broken = at-first }) in
+    corrected-is n t _ (a .samples .now) (a .limit) (g .result) _ _ (s .pre .5) to (f .result) (w .result) (j .result) at-first (w .ensures (code n) _ _ (e .1 .fit) (e .1 .lent) (e .2))
     (j .ensures n off is (theRun n t _ (a .samples .now) (a .limit) (g .result) _ _ (s .pre .5) to) (ran-number n t _ (a .samples .now) (a .limit) (g .result) _ _ (s .pre .5) to)
     (ran-word n t _ (a .samples .now) (a .limit) (g .result) _ _ (s .pre .5) to) (ran-met n t _ (a .samples .now) (a .limit) (g .result) _ _ (s .pre .5) to) (ran-unsent n t _ (a .samples .now) (a .limit) (g .result) _ _ (s .pre .5) to))
     (a .out .now) _ (wrote-word _ _ _ _ (c .before .before .before .before .before .before .before .if1 .taken)
@@ -111,11 +113,11 @@ returns-2 c =
     let s = c .before .before .before .before .before .before .before .before .before .before .before .before .before .before .before .before .before .before .before .before .before .before .before in
     let a = s .args in
     λ n off is.
-    let e = m .ensures .1 n off is in
+    let e = m .ensures n off (ap (λ z. z .shape .size) is) in
     let t : T (offered n && not (eqb n 5)) = as-truth (steps-by n is (s .pre .1)) in
-    let at-first = f .ensures (code n) _ _ _ (e .0 .fit) (e .0 .lent) (e .1) in
-    let to = g .ensures (code n) (record { lent = e .0 .lent; unsent = all-sent n is (s .pre .1); held = e .1; broken = at-first }) in
-    corrected-is n t _ (a .samples .now) (a .limit) (g .result) _ _ (s .pre .5) to (f .result) (w .result) (j .result) at-first (w .ensures (code n) _ _ (e .0 .fit) (e .0 .lent) (e .1))
+    let at-first = f .ensures (code n) _ _ _ (e .1 .fit) (e .1 .lent) (e .2) in
+    let to = g .ensures (code n) (record { lent = e .1 .lent; unsent = all-sent n is (s .pre .1); held = e .2; broken = at-first }) in
+    corrected-is n t _ (a .samples .now) (a .limit) (g .result) _ _ (s .pre .5) to (f .result) (w .result) (j .result) at-first (w .ensures (code n) _ _ (e .1 .fit) (e .1 .lent) (e .2))
     (j .ensures n off is (theRun n t _ (a .samples .now) (a .limit) (g .result) _ _ (s .pre .5) to) (ran-number n t _ (a .samples .now) (a .limit) (g .result) _ _ (s .pre .5) to)
     (ran-word n t _ (a .samples .now) (a .limit) (g .result) _ _ (s .pre .5) to) (ran-met n t _ (a .samples .now) (a .limit) (g .result) _ _ (s .pre .5) to) (ran-unsent n t _ (a .samples .now) (a .limit) (g .result) _ _ (s .pre .5) to))
     (a .out .now) _ (wrote-none _ _ _ (c .if1 .left))
