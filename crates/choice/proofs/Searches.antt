@@ -3,27 +3,24 @@
 use mathlib.Core.Path.{_≡_, refl, sym, ap, ap₂, _∙_, subst}
 use mathlib.Core.Bool.{Bool, true, false, _&&_, true≢false, and-eq-true-iff}
 use mathlib.Core.List.{List}
-use mathlib.Core.Logic.{⊎-elim}
 use Prim.Native.Nat.{ℕ, zero, suc, _+_, _-_, _*_, _/_, _%_, _≤_, _<_, zero-le}
 use native.Mathlib.Nat.{mod-lt, div-add-mod', div-lt-iff-lt-mul, lt-of-not-le, le-refl, lt-suc-self, le-step, suc-mul, mul-le-mul-right}
 use native.Mathlib.Numerals.{add-one}
 use native.Mathlib.Decide.{decLt, ℕ-discrete}
 use native.Mathlib.Omega.{arith}
-use borrow.Author.Tests.{ne-eqb, lt-ltb, le-ltb, ltb-true, le-leb, lt-leb, leb-true, leb-false}
+use borrow.Author.Tests.{ne-eqb, lt-ltb, le-ltb, ltb-true, le-leb, leb-true, leb-false}
 use lib.Dec.{leb, ltb}
 use lib.ListN.{getD, length, set, length-set}
 use lib.Seq.{getD-set-same, getD-set-other}
 use lib.Arith.{digits-div, digits-lt}
 use Rattle.bits.specs.Bits.{Word, digit, least, if_then_else_}
-use Rattle.bits.proofs.Leasts.{least-found, least-none, least-below, least-holds}
-use Rattle.bits.proofs.Orders.{le-or-lt}
+use Rattle.bits.proofs.Leasts.{least-found, least-below, least-holds}
 use Rattle.vectors.specs.Vectors.{Holds, from as bitsFrom}
 use Rattle.vectors.proofs.Firsts.{First}
-use Rattle.planes.specs.Ranges.{Top}
 use Rattle.layout.specs.declared.Shape.{Shape}
 use Rattle.bounds.specs.Reading.{hits, light}
 use Rattle.bounds.specs.Keeping.{bound, Ready, Scored, Under}
-use Rattle.choice.specs.Searching.{highest, beginIn, Lowered, Looked, Found, Sought}
+use Rattle.choice.specs.Searching.{highest, beginIn, Lowered, Looked, Found}
 
 -- ---- the first bit of a block, word after word
 

@@ -40,6 +40,25 @@ fn first_in_block(
     sh.size
 }
 
+// The same: a search for bits without a met check is the most frequent one, and a loop of its own for the compiler.
+fn first_light(
+    d: &[u64],
+    starts: &[u16],
+    b: usize,
+    n: usize,
+    met: usize,
+    begin: usize,
+    sh: Shape,
+) -> usize
+    requires { ⌜ (1 ≤ sh .size) × (sh .size ≤ 64 * sh .words) × (64 * sh .words < sh .size + 64) × (sh .words ≤ 8) × (b < 16) × (n ≤ 8) × (met ≤ n) × (length (now d) ≡ 65) × (length (now starts) ≡ 128) × ((e : ℕ) → e < n → getD (now starts) (8 * b + e) 0 ≤ 3072 + sh .size) ⌝ }
+    ensures { λ r. ⌜ r ≡ least (sh .size) (light (wbit (now (d .entry))) (now (starts .entry)) (8 * b) n met begin (sh .size)) ⌝ }
+{
+    if met == 0 {
+        return first_in_block(d, starts, b, n, 0, begin, sh);
+    }
+    first_in_block(d, starts, b, n, met, begin, sh)
+}
+
 // The bound of block b.
 fn bound_of(counts: &[u8], met: &[u8], b: usize) -> u8
     requires { ⌜ (b < length (now counts)) × (b < length (now met)) × (getD (now counts) b 0 ≤ 8) × (getD (now met) b 0 ≤ getD (now counts) b 0) ⌝ }
@@ -100,7 +119,7 @@ fn look(
         return sh.size;
     }
     let n = counts[b] as usize;
-    let k = first_in_block(d, starts, b, n, met[b] as usize, begin_in(b, from), sh);
+    let k = first_light(d, starts, b, n, met[b] as usize, begin_in(b, from), sh);
     if k < sh.size {
         return k;
     }

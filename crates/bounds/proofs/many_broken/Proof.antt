@@ -1,7 +1,6 @@
 -- `bounds::many_broken` meets its contract: after e turns, the counts and what they carried over. Assumes nothing.
-use mathlib.Core.Path.{_≡_, sym, ap, _∙_}
+use mathlib.Core.Path.{_≡_, ap, _∙_}
 use Prim.Native.Nat.{ℕ, _+_, _-_, _*_, _≤_, _<_}
-use native.Mathlib.Nat.{add-zero}
 use native.Mathlib.Omega.{arith}
 use lib.Dec.{leb}
 use Rattle.bits.specs.Bits.{digit, tally}

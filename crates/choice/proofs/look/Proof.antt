@@ -1,6 +1,6 @@
 -- `choice::look` meets its contract, by the tests' answers. Assumes nothing.
-use mathlib.Core.Path.{_≡_, sym, ap, _∙_}
-use Prim.Native.Nat.{ℕ, _*_}
+use mathlib.Core.Path.{sym, ap, _∙_}
+use Prim.Native.Nat.{_*_}
 use native.Mathlib.Omega.{arith}
 use borrow.Author.Needs.{needs}
 use lib.ListN.{getD}
@@ -37,21 +37,21 @@ cast-n c =
     let s = c .before .before .before .before .before .before .before .before in
     omega (arith, s .pre .0 .low (s .args .b) (s .pre .3))
 
-slice-read-first-in-block : tie.Need-slice-read-first-in-block
-slice-read-first-in-block c =
+slice-read-first-light : tie.Need-slice-read-first-light
+slice-read-first-light c =
     let s = c .before .before .before .before .before .before .before .before .before in
     omega (arith, s .pre .0 .met-long, s .pre .0 .blocks, s .pre .3)
 
-cast-first-in-block : tie.Need-cast-first-in-block
-cast-first-in-block c =
+cast-first-light : tie.Need-cast-first-light
+cast-first-light c =
     let s = c .before .before .before .before .before .before .before .before .before in
     omega (arith, s .pre .0 .low (s .args .b) (s .pre .3), s .pre .0 .few (s .args .b) (s .pre .3))
 
 begin-in-requires : tie.Need-begin-in-requires
 begin-in-requires c κs = search needs
 
-first-in-block-requires : tie.Need-first-in-block-requires
-first-in-block-requires c κs =
+first-light-requires : tie.Need-first-light-requires
+first-light-requires c κs =
     let s = c .before .before .before .before .before .before .before .before .before .before in
     let r = s .pre .0 in
     let b = s .args .b in
@@ -67,8 +67,8 @@ returns-2 c =
     let f = c .before .before in
     let m = f .before .before .before .before in
     looked-found (a .sh) (a .from) (wbit (a .d .now)) (a .starts .now) (a .counts .now) (a .met .now) (a .b) (a .top) (s .pre .0) (s .pre .2) (s .pre .3) (s .pre .4)
-    (f .first-in-block .result) (sym (m .before .bound-of .ensures) ∙ m .if1 .left)
-    (f .first-in-block .ensures ∙ ap (λ n. least (a .sh .size) (light (wbit (a .d .now)) (a .starts .now) (8 * a .b) (getD (a .counts .now) (a .b) 0) (getD (a .met .now) (a .b) 0) n (a .sh .size))) (f .before .begin-in .ensures))
+    (f .first-light .result) (sym (m .before .bound-of .ensures) ∙ m .if1 .left)
+    (f .first-light .ensures ∙ ap (λ n. least (a .sh .size) (light (wbit (a .d .now)) (a .starts .now) (8 * a .b) (getD (a .counts .now) (a .b) 0) (getD (a .met .now) (a .b) 0) n (a .sh .size))) (f .before .begin-in .ensures))
     (c .if2 .taken)
 
 slice-read-met : tie.Need-slice-read-met
@@ -96,8 +96,8 @@ returns-3 c =
     let f = c .before .before .before in
     let m = f .before .before .before .before in
     looked-missed (a .sh) (a .from) (wbit (a .d .now)) (a .starts .now) (a .counts .now) (a .met .now) (a .b) (a .top) (s .pre .0) (s .pre .2) (s .pre .3) (s .pre .4)
-    (f .first-in-block .result) (sym (m .before .bound-of .ensures) ∙ m .if1 .left)
-    (f .first-in-block .ensures ∙ ap (λ n. least (a .sh .size) (light (wbit (a .d .now)) (a .starts .now) (8 * a .b) (getD (a .counts .now) (a .b) 0) (getD (a .met .now) (a .b) 0) n (a .sh .size))) (f .before .begin-in .ensures))
+    (f .first-light .result) (sym (m .before .bound-of .ensures) ∙ m .if1 .left)
+    (f .first-light .ensures ∙ ap (λ n. least (a .sh .size) (light (wbit (a .d .now)) (a .starts .now) (8 * a .b) (getD (a .counts .now) (a .b) 0) (getD (a .met .now) (a .b) 0) n (a .sh .size))) (f .before .begin-in .ensures))
     (c .before .if2 .left)
 
 pub look-spec : {M : Type 1} → statement M
@@ -109,10 +109,10 @@ look-spec =
     returns
     shared-slice-read-n
     cast-n
-    slice-read-first-in-block
-    cast-first-in-block
+    slice-read-first-light
+    cast-first-light
     begin-in-requires
-    first-in-block-requires
+    first-light-requires
     same-length-2
     returns-2
     slice-read-met

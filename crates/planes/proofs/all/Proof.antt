@@ -1,5 +1,5 @@
 -- `planes::all` meets its contract: the three bits of the number, each at every place. Assumes nothing.
-use mathlib.Core.Path.{ap, _∙_}
+use mathlib.Core.Path.{ap}
 use native.Mathlib.Omega.{arith}
 use borrow.Author.Needs.{needs}
 use Rattle.bits.specs.Bits.{tally}

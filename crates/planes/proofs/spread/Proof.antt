@@ -1,5 +1,5 @@
 -- `planes::spread` meets its contract: all ones or all zeros. Assumes nothing.
-use mathlib.Core.Path.{sym, ap, _∙_}
+use mathlib.Core.Path.{sym, _∙_}
 use lib.Dec.{eqb}
 use borrow.Author.Tests.{eq-eqb, ne-eqb}
 use Rattle.bits.proofs.Octets.{digit-zero}

@@ -1,6 +1,5 @@
 -- `runs::comes_next`: what comes next, from whether a check is broken and the best score. Assumes nothing.
 use mathlib.Core.Path.{sym, ap, _∙_}
-use native.Mathlib.Omega.{arith}
 use borrow.Author.Needs.{needs}
 use borrow.Author.Tests.{eqb-true, eqb-false}
 use Rattle.rules.specs.Checks.{broken}

@@ -1,17 +1,16 @@
 -- `runs::go_on`: the loop has come to the run's word after so many flips, for every code that is lent. Assumes nothing.
-use mathlib.Core.Path.{_≡_, refl, sym, ap, _∙_, subst}
-use Prim.Native.Nat.{ℕ, _+_, _-_, _*_, _/_, _≤_, _<_}
+use mathlib.Core.Path.{_≡_, refl, sym, _∙_, subst}
+use Prim.Native.Nat.{_+_, _-_, _≤_, _<_}
 use native.Mathlib.Omega.{arith}
 use borrow.Author.Needs.{needs}
 use lib.ListN.{length}
-use Rattle.bits.specs.Bits.{flipped}
 use Rattle.rules.specs.Codes.{Code}
 use Rattle.rules.specs.Checks.{broken}
 use Rattle.rules.specs.Flipping.{byExcess}
 use Rattle.rules.proofs.Choosing.{quiet-next}
 use Rattle.vectors.specs.Vectors.{wbit}
 use Rattle.layout.specs.Lent.{Lent, laid}
-use Rattle.bounds.specs.Keeping.{Ready, Kept}
+use Rattle.bounds.specs.Keeping.{Ready}
 use Rattle.runs.specs.Turns.{Going, Carried}
 use Rattle.runs.proofs.Turning.{going-start, ends-quiet, ends-stuck, ends-limit, goes-on, next-stuck, next-flip, chosen-top, chosen-kept, chosen-met, chosen-left, carried-more, runs-as}
 use Rattle.runs.proofs.go_on.Statement.{statement}
