@@ -20,10 +20,13 @@ slice-aggregate-checks-2 c = search needs
 
 checks-requires : tie.Need-checks-requires
 checks-requires c κs =
-    let z = zero-words 16 in
-    let k = c .before .before .pre .0 in
-    let size = record { number = k .number; offers = k .offers; is = ap (λ z. z .shape .size) (k .is) } in
-    search needs
+    let k = c .before .before .before .before .before .before .before .pre .0 in (
+      record { number = k .number; offers = k .offers; is = ap (λ z. z .shape .size) (k .is) },
+      search needs,
+      search needs,
+      search needs,
+      zero-words 16,
+    )
 
 slice-aggregate-broken : tie.Need-slice-aggregate-broken
 slice-aggregate-broken c = search needs
@@ -37,7 +40,7 @@ slice-aggregate-lowest c = search needs
 lowest-requires : tie.Need-lowest-requires
 lowest-requires c κs =
     let m = c .before .before .before .before .before .checks in
-    let k = c .before .before .before .before .before .before .before .before .before .before .before .before .pre .0 in
+    let k = c .before .before .before .before .before .before .before .before .before .before .before .before .before .pre .0 in
     let w = fitting (m .ensures (k .number) (k .offers) (ap (λ z. z .shape .size) (k .is)) .1 .fit) in
     (search needs, w .0, w .1, w .2, w .3)
 
@@ -50,7 +53,7 @@ slice-aggregate-run-2 c = search needs
 run-requires : tie.Need-run-requires
 run-requires c κs =
     let m = c .before .before .before .before .before .before .before .before .before .checks in
-    let s = c .before .before .before .before .before .before .before .before .before .before .before .before .before .before .before .before in
+    let s = c .before .before .before .before .before .before .before .before .before .before .before .before .before .before .before .before .before in
     let f = c .before .before .before .before .before .broken in
     let k = s .pre .0 in
     let e = m .ensures (k .number) (k .offers) (ap (λ z. z .shape .size) (k .is)) in (
@@ -71,7 +74,7 @@ judge-requires c κs = search needs
 
 write-requires : tie.Need-write-requires
 write-requires c κs =
-    let k = c .before .before .before .before .before .before .before .before .before .before .before .before .before .before .before .before .before .before .before .before .before .before .before .before .before .pre in
+    let k = c .before .before .before .before .before .before .before .before .before .before .before .before .before .before .before .before .before .before .before .before .before .before .before .before .before .before .pre in
     (search needs, small (k .0) .unsent, omega (arith, k .4, small (k .0) .word), λ h. small (k .0) .plain (omega (arith, h, k .4)))
 
 same-length : tie.Need-same-length
@@ -87,7 +90,7 @@ returns c =
     let w = c .before .before .before .before .before .before .before .before .before .before .before .before .before .before .before .before .before .lowest in
     let f = c .before .before .before .before .before .before .before .before .before .before .before .before .before .before .before .before .before .before .before .broken in
     let m = c .before .before .before .before .before .before .before .before .before .before .before .before .before .before .before .before .before .before .before .before .before .before .before .checks in
-    let s = c .before .before .before .before .before .before .before .before .before .before .before .before .before .before .before .before .before .before .before .before .before .before .before .before .before .before .before .before .before .before in
+    let s = c .before .before .before .before .before .before .before .before .before .before .before .before .before .before .before .before .before .before .before .before .before .before .before .before .before .before .before .before .before .before .before in
     let a = s .args in
     λ n off is.
     let e = m .ensures n off (ap (λ z. z .shape .size) is) in
@@ -110,7 +113,7 @@ returns-2 c =
     let w = c .before .before .before .before .before .before .before .before .before .before .lowest in
     let f = c .before .before .before .before .before .before .before .before .before .before .before .before .broken in
     let m = c .before .before .before .before .before .before .before .before .before .before .before .before .before .before .before .before .checks in
-    let s = c .before .before .before .before .before .before .before .before .before .before .before .before .before .before .before .before .before .before .before .before .before .before .before in
+    let s = c .before .before .before .before .before .before .before .before .before .before .before .before .before .before .before .before .before .before .before .before .before .before .before .before in
     let a = s .args in
     λ n off is.
     let e = m .ensures n off (ap (λ z. z .shape .size) is) in
