@@ -119,7 +119,7 @@ pub fn run(
     let mut d = [0u64; 65];
     let mut starts = [0u16; 128];
     let mut counts = [0u8; 16];
-    let mut met = [0u8; 16];
+    let mut met = [0u8; 16]; // begun anew
     bounds::begin(s, h, sh, &mut d, &mut starts, &mut counts);
     go_on(
         y,
