@@ -8,6 +8,7 @@ use Rattle.rules.specs.Codes.{Code}
 use Rattle.vectors.specs.Vectors.{wbit}
 use Rattle.layout.specs.declared.Shape.{Shape}
 use Rattle.layout.specs.Lent.{laid, score}
+use Rattle.layout.specs.Rooms.{blocksRoom, startsRoom}
 use Rattle.bounds.specs.Reading.{Twice, hits}
 
 -- The bound of block b: the score of a bit of its, of which so many checks are met as `met` has for the block.
@@ -21,9 +22,9 @@ pub record Ready (sh : Shape) (starts counts met : List ℕ) : Type 0 where
   pub close : 64 * sh .words < sh .size + 64
   pub words : sh .words ≤ 8
   pub blocks : sh .blocks ≤ 16
-  pub starts-long : length starts ≡ 128
-  pub counts-long : length counts ≡ 16
-  pub met-long : length met ≡ 16
+  pub starts-long : length starts ≡ startsRoom
+  pub counts-long : length counts ≡ blocksRoom
+  pub met-long : length met ≡ blocksRoom
   pub low : (b : ℕ) → b < sh .blocks → getD counts b 0 ≤ 8
   pub near : (b e : ℕ) → b < sh .blocks → e < getD counts b 0 → getD starts (8 * b + e) 0 ≤ 3072 + sh .size
   pub inside : (b e k : ℕ) → b < sh .blocks → e < getD counts b 0 → k < sh .size → (getD starts (8 * b + e) 0 + k) % 1024 < 2 * sh .size

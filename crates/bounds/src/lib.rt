@@ -12,6 +12,8 @@ ghost use Rattle.bounds.specs.Reading.{Twice, Placed, other, hits, light
 ghost use Rattle.bounds.specs.Keeping.{Ready, Kept};
 ghost use mathlib.Core.Bool.{_&&_};
 ghost use lib.Dec.{leb, ltb, eqb};
+ghost use Rattle.layout.specs.Rooms.{blocksRoom, rowsRoom, startsRoom, syndromeRoom};
+use layout::BLOCK;
 use layout::Shape;
 use planes::add;
 use planes::all;
@@ -39,7 +41,7 @@ fn note(h: &[u16], at: usize, m: usize, row: usize, starts: &mut [u16], n: usize
 
 // The starts of block b at its eight places, and how many they are.
 fn gather(h: &[u16], sh: Shape, b: usize, starts: &mut [u16]) -> usize
-    requires { ⌜ Fit (now h) sh × (b < sh .blocks) × (length (now starts) ≡ 128) ⌝ }
+    requires { ⌜ Fit (now h) sh × (b < sh .blocks) × (length (now starts) ≡ startsRoom) ⌝ }
     ensures { λ r. ⌜ (r ≤ 8) × Starts (now (h .entry)) sh b (now (starts .exit)) r × ((e : ℕ) → e < 8 * b → getD (now (starts .exit)) e 0 ≡ getD (now (starts .entry)) e 0) ⌝ }
 {
     let m = sh.size;
@@ -56,7 +58,7 @@ fn gather(h: &[u16], sh: Shape, b: usize, starts: &mut [u16]) -> usize
 
 // The starts of every block, and how many each has.
 fn gather_all(h: &[u16], sh: Shape, starts: &mut [u16], counts: &mut [u8])
-    requires { ⌜ Fit (now h) sh × (length (now starts) ≡ 128) × (length (now counts) ≡ 16) ⌝ }
+    requires { ⌜ Fit (now h) sh × (length (now starts) ≡ startsRoom) × (length (now counts) ≡ blocksRoom) ⌝ }
     ensures { λ r. ⌜ Gathered (now (h .entry)) sh (now (starts .exit)) (now (counts .exit)) (sh .blocks) ⌝ }
 {
     let mut b = 0;
@@ -105,7 +107,7 @@ fn double_row(s: &[u64], at: usize, words: usize, m: usize, v: &mut [u64], d: &m
 
 // Every row of the syndrome twice over.
 fn double_rows(s: &[u64], sh: Shape, v: &mut [u64], d: &mut [u64])
-    requires { ⌜ (1 ≤ sh .size) × (sh .size ≤ 64 * sh .words) × (sh .words ≤ 8) × (sh .rows ≤ 4) × (sh .rows * sh .words ≤ 16) × (length (now s) ≡ 16) × (length (now v) ≡ 8) × (length (now d) ≡ 65) ⌝ }
+    requires { ⌜ (1 ≤ sh .size) × (sh .size ≤ 64 * sh .words) × (sh .words ≤ 8) × (sh .rows ≤ 4) × (sh .rows * sh .words ≤ 16) × (length (now s) ≡ syndromeRoom) × (length (now v) ≡ 8) × (length (now d) ≡ rowsRoom) ⌝ }
     ensures { λ r. ⌜ Twice sh (sh .rows) (wbit (now (s .entry))) (wbit (now (d .exit))) ⌝ }
 {
     let words = sh.words;
@@ -119,10 +121,10 @@ fn double_rows(s: &[u64], sh: Shape, v: &mut [u64], d: &mut [u64])
 
 // The doubled rows of the syndrome s, and the starts of every block. The bounds begin with no met check.
 pub fn begin(s: &[u64], h: &[u16], sh: Shape, d: &mut [u64], starts: &mut [u16], counts: &mut [u8])
-    requires { ⌜ Fit (now h) sh × (length (now s) ≡ 16) × (length (now d) ≡ 65) × (length (now starts) ≡ 128) × (length (now counts) ≡ 16) ⌝ }
+    requires { ⌜ Fit (now h) sh × (length (now s) ≡ syndromeRoom) × (length (now d) ≡ rowsRoom) × (length (now starts) ≡ startsRoom) × (length (now counts) ≡ blocksRoom) ⌝ }
     ensures { λ r. ⌜ Twice sh (sh .rows) (wbit (now (s .entry))) (wbit (now (d .exit))) × Gathered (now (h .entry)) sh (now (starts .exit)) (now (counts .exit)) (sh .blocks) ⌝ }
 {
-    let mut v: [u64; 8] = [0; 8];
+    let mut v = [0u64; BLOCK];
     double_rows(s, sh, &mut v, d);
     gather_all(h, sh, starts, counts);
 }
@@ -219,7 +221,7 @@ pub fn weigh(
 
 // Turns the check at p over, in both places.
 fn turn_check(d: &mut [u64], p: usize, m: usize)
-    requires { ⌜ (1 ≤ m) × (m ≤ 512) × (p % 1024 < 2 * m) × (p < 4096) × (length (now d) ≡ 65) ⌝ }
+    requires { ⌜ (1 ≤ m) × (m ≤ 512) × (p % 1024 < 2 * m) × (p < 4096) × (length (now d) ≡ rowsRoom) ⌝ }
     ensures { λ r. ⌜ wbit (now (d .exit)) ≡ flipped (flipped (wbit (now (d .entry))) p) (other m p) ⌝ }
 {
     turn_over(d, p);
@@ -232,7 +234,7 @@ fn turn_check(d: &mut [u64], p: usize, m: usize)
 
 // Turns the checks of bit k of a block over.
 fn turn_checks(d: &mut [u64], starts: &[u16], first: usize, n: usize, k: usize, m: usize)
-    requires { ⌜ (1 ≤ m) × (m ≤ 512) × (first + n ≤ length (now starts)) × (length (now starts) < 2 ^ 32) × (length (now d) ≡ 65) × ((e : ℕ) → e < n → (getD (now starts) (first + e) 0 + k < 4096) × ((getD (now starts) (first + e) 0 + k) % 1024 < 2 * m)) ⌝ }
+    requires { ⌜ (1 ≤ m) × (m ≤ 512) × (first + n ≤ length (now starts)) × (length (now starts) < 2 ^ 32) × (length (now d) ≡ rowsRoom) × ((e : ℕ) → e < n → (getD (now starts) (first + e) 0 + k < 4096) × ((getD (now starts) (first + e) 0 + k) % 1024 < 2 * m)) ⌝ }
     ensures { λ r. ⌜ ((p : ℕ) → wbit (now (d .exit)) p ≡ wbit (now (d .entry)) p ⊕ sum n (λ e. eqb p (getD (now (starts .entry)) (first + e) 0 + k) ⊕ eqb p (other m (getD (now (starts .entry)) (first + e) 0 + k)))) ⌝ }
 {
     let mut e = 0;
@@ -254,7 +256,7 @@ fn fewer(v: u8, by: u8) -> u8
 
 // After a flip that broke so many checks, the bits of each block may have so many met checks fewer.
 fn raise(met: &mut [u8], by: u8)
-    requires { ⌜ length (now met) ≡ 16 ⌝ }
+    requires { ⌜ length (now met) ≡ blocksRoom ⌝ }
     ensures { λ r. ⌜ ((b : ℕ) → b < 16 → getD (now (met .exit)) b 0 ≡ getD (now (met .entry)) b 0 - by) ⌝ }
 {
     let mut b = 0;
@@ -266,7 +268,7 @@ fn raise(met: &mut [u8], by: u8)
 
 // Turns the checks of a bit over and raises the bounds; the bit has as many met checks as the bound of its block says.
 pub fn flip(d: &mut [u64], starts: &[u16], counts: &[u8], met: &mut [u8], sh: Shape, bit: usize)
-    requires { ⌜ Ready sh (now starts) (now counts) (now met) × (length (now d) ≡ 65) × (bit < sh .blocks * sh .size) ⌝ }
+    requires { ⌜ Ready sh (now starts) (now counts) (now met) × (length (now d) ≡ rowsRoom) × (bit < sh .blocks * sh .size) ⌝ }
     ensures { λ r. ⌜ Ready sh (now (starts .entry)) (now (counts .entry)) (now (met .exit)) × ((c : Code) (h : List ℕ) (from : ℕ) (x : Word) → Lent c h sh → Gathered h sh (now (starts .entry)) (now (counts .entry)) (sh .blocks) → Kept c sh from x (now (d .entry)) (now (counts .entry)) (now (met .entry)) → metOf c x bit ≡ getD (now (met .entry)) (bit / sh .size) 0 → Kept c sh from (flipped x bit) (now (d .exit)) (now (counts .entry)) (now (met .exit))) ⌝ }
 {
     let b = bit / sh.size;

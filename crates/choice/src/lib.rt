@@ -8,6 +8,7 @@ ghost use Rattle.vectors.specs.Vectors.{wbit};
 ghost use Rattle.bounds.specs.Reading.{light};
 ghost use Rattle.bounds.specs.Keeping.{bound, Ready};
 ghost use Rattle.choice.specs.Searching.{highest, beginIn, Lowered, Looked, Found, Sought};
+ghost use Rattle.layout.specs.Rooms.{rowsRoom, startsRoom};
 use layout::Shape;
 
 // A bit, and its score.
@@ -26,7 +27,7 @@ fn first_in_block(
     begin: usize,
     sh: Shape,
 ) -> usize
-    requires { ⌜ (1 ≤ sh .size) × (sh .size ≤ 64 * sh .words) × (64 * sh .words < sh .size + 64) × (sh .words ≤ 8) × (b < 16) × (n ≤ 8) × (met ≤ n) × (length (now d) ≡ 65) × (length (now starts) ≡ 128) × ((e : ℕ) → e < n → getD (now starts) (8 * b + e) 0 ≤ 3072 + sh .size) ⌝ }
+    requires { ⌜ (1 ≤ sh .size) × (sh .size ≤ 64 * sh .words) × (64 * sh .words < sh .size + 64) × (sh .words ≤ 8) × (b < 16) × (n ≤ 8) × (met ≤ n) × (length (now d) ≡ rowsRoom) × (length (now starts) ≡ startsRoom) × ((e : ℕ) → e < n → getD (now starts) (8 * b + e) 0 ≤ 3072 + sh .size) ⌝ }
     ensures { λ r. ⌜ r ≡ least (sh .size) (light (wbit (now (d .entry))) (now (starts .entry)) (8 * b) n met begin (sh .size)) ⌝ }
 {
     let mut k = 0;
@@ -50,7 +51,7 @@ fn first_light(
     begin: usize,
     sh: Shape,
 ) -> usize
-    requires { ⌜ (1 ≤ sh .size) × (sh .size ≤ 64 * sh .words) × (64 * sh .words < sh .size + 64) × (sh .words ≤ 8) × (b < 16) × (n ≤ 8) × (met ≤ n) × (length (now d) ≡ 65) × (length (now starts) ≡ 128) × ((e : ℕ) → e < n → getD (now starts) (8 * b + e) 0 ≤ 3072 + sh .size) ⌝ }
+    requires { ⌜ (1 ≤ sh .size) × (sh .size ≤ 64 * sh .words) × (64 * sh .words < sh .size + 64) × (sh .words ≤ 8) × (b < 16) × (n ≤ 8) × (met ≤ n) × (length (now d) ≡ rowsRoom) × (length (now starts) ≡ startsRoom) × ((e : ℕ) → e < n → getD (now starts) (8 * b + e) 0 ≤ 3072 + sh .size) ⌝ }
     ensures { λ r. ⌜ r ≡ least (sh .size) (light (wbit (now (d .entry))) (now (starts .entry)) (8 * b) n met begin (sh .size)) ⌝ }
 {
     if met == 0 {
@@ -112,7 +113,7 @@ fn look(
     b: usize,
     top: u8,
 ) -> usize
-    requires { ⌜ Ready sh (now starts) (now counts) (now met) × (length (now d) ≡ 65) × (from < sh .size) × (b < sh .blocks) × (bound (now counts) (now met) b ≤ top) ⌝ }
+    requires { ⌜ Ready sh (now starts) (now counts) (now met) × (length (now d) ≡ rowsRoom) × (from < sh .size) × (b < sh .blocks) × (bound (now counts) (now met) b ≤ top) ⌝ }
     ensures { λ r. ⌜ Looked sh from (wbit (now (d .entry))) (now (starts .entry)) (now (counts .entry)) b top r (now (met .entry)) (now (met .exit)) ⌝ }
 {
     if bound_of(counts, met, b) != top {
@@ -137,7 +138,7 @@ fn first_at(
     from: usize,
     top: u8,
 ) -> usize
-    requires { ⌜ Ready sh (now starts) (now counts) (now met) × (length (now d) ≡ 65) × (from < sh .size) × ((b : ℕ) → b < sh .blocks → bound (now counts) (now met) b ≤ top) ⌝ }
+    requires { ⌜ Ready sh (now starts) (now counts) (now met) × (length (now d) ≡ rowsRoom) × (from < sh .size) × ((b : ℕ) → b < sh .blocks → bound (now counts) (now met) b ≤ top) ⌝ }
     ensures { λ r. ⌜ Sought sh from (wbit (now (d .entry))) (now (starts .entry)) (now (counts .entry)) (now (met .entry)) top r (now (met .exit)) ⌝ }
 {
     let mut b = 0;
@@ -160,7 +161,7 @@ pub fn choose(
     sh: Shape,
     from: usize,
 ) -> Best
-    requires { ⌜ Ready sh (now starts) (now counts) (now met) × (length (now d) ≡ 65) × (1 ≤ sh .blocks) × (from < sh .size) ⌝ }
+    requires { ⌜ Ready sh (now starts) (now counts) (now met) × (length (now d) ≡ rowsRoom) × (1 ≤ sh .blocks) × (from < sh .size) ⌝ }
     ensures { λ r. ⌜ Lowered sh from (wbit (now (d .entry))) (now (starts .entry)) (now (counts .entry)) (now (met .entry)) (now (met .exit)) × Found sh from (wbit (now (d .entry))) (now (starts .entry)) (now (counts .entry)) (now (met .entry)) (r .score) (r .bit) (now (met .exit)) ⌝ }
 {
     let end = sh.blocks * sh.size;

@@ -16,3 +16,15 @@ doubledRoom = 16
 -- the places of a parity table
 abbrev pub tableRoom : ℕ
 tableRoom = 64
+
+-- the 64-bit words of the rows of a syndrome, each twice over, and one more
+abbrev pub rowsRoom : ℕ
+rowsRoom = 65
+
+-- eight starts for each block
+abbrev pub startsRoom : ℕ
+startsRoom = 128
+
+-- a number for each block
+abbrev pub blocksRoom : ℕ
+blocksRoom = 16

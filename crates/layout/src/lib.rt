@@ -20,3 +20,11 @@ pub const BLOCK: usize = 8;
 pub const DOUBLED: usize = 16;
 
 pub const TABLE: usize = 64;
+
+// And of what a run keeps: the words of the rows of a syndrome, each twice over, with one to read past them; eight starts for each
+// block; and a number for each block.
+pub const ROWS: usize = 65;
+
+pub const STARTS: usize = 128;
+
+pub const BLOCKS: usize = 16;

@@ -13,6 +13,7 @@ use Rattle.rules.specs.Flipping.{byExcess, Run, run}
 use Rattle.answers.specs.Calls.{ranCorrect}
 use Rattle.answers.specs.Lists.{Entry, entries, reason, Listed as ListedAnswer, listedBy, listAnswer}
 use Rattle.vectors.specs.Vectors.{wbit}
+use Rattle.layout.specs.Rooms.{syndromeRoom, tableRoom, wordRoom}
 use Rattle.offer.specs.Offers.{offerOf}
 use Rattle.tables.specs.Flat.{Lends}
 use Rattle.runs.specs.Turns.{Going}
@@ -40,7 +41,7 @@ endsWith n word limit table =
 
 -- Room for what is measured of a word, as zeros.
 abbrev pub Blank : List ℕ → List ℕ → List ℕ → Type 0
-Blank t y s = (length t ≡ 64) × (length y ≡ 130) × (length s ≡ 16) × (wbit y ≡ (λ n. false)) × (wbit s ≡ (λ n. false))
+Blank t y s = (length t ≡ tableRoom) × (length y ≡ wordRoom) × (length s ≡ syndromeRoom) × (wbit y ≡ (λ n. false)) × (wbit s ≡ (λ n. false))
 
 -- The list is of this code, word and limit, and knows what was measured of the word.
 pub record Measures (n : ℕ) (word : List ℕ) (limit : ℕ) (l : Listing) : Type 0 where
@@ -63,8 +64,8 @@ pub record Ends (n : ℕ) (word : List ℕ) (limit : ℕ) (l : Listing) (flips :
 -- The run has come to y after so many flips, and its list goes on from there; a table of this room serves.
 pub record Stands (n : ℕ) (word : List ℕ) (limit room : ℕ) (l : Listing) (flips : ℕ) (t y s : List ℕ) : Type 0 where
   pub measures : Measures n word limit l
-  pub y-long : length y ≡ 130
-  pub s-long : length s ≡ 16
+  pub y-long : length y ≡ wordRoom
+  pub s-long : length s ≡ syndromeRoom
   pub lends : Lends n t (l .offer .shape)
   pub left : l .record .left ≡ broken (code n) (wbit y)
   pub going : Going (byExcess (code n)) (code n) (l .offer .shape) limit (wordOf n word) flips (wbit y) (wbit s)

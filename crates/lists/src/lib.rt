@@ -16,6 +16,7 @@ ghost use Rattle.offer.specs.Offers.{offerOf, Known};
 ghost use Rattle.lists.specs.Answers.{asEntries, asListed, listedAs};
 ghost use Rattle.lists.specs.declared.FlipRecord.{FlipRecord};
 ghost use Rattle.lists.specs.Listings.{wordOf, runOf, endsWith, Blank, Ends, Stands, Standing, Lists, Goes};
+ghost use Rattle.layout.specs.Rooms.{wordRoom};
 use layout::SYNDROME;
 use layout::TABLE;
 use layout::WORD;
@@ -90,7 +91,7 @@ fn ended(
     bit: u32,
     excess: i8,
 ) -> Listing
-    requires { ⌜ Known (l .offer) × (length (now word) ≡ l .offer .word) × (length (now y) ≡ 130) × (flips ≤ 65535) ⌝ }
+    requires { ⌜ Known (l .offer) × (length (now word) ≡ l .offer .word) × (length (now y) ≡ wordRoom) × (flips ≤ 65535) ⌝ }
     ensures { λ r. ⌜ (r .goes ≡ false) × (r .place ≡ flips) × ((n limit : ℕ) → Ends n (now (word .entry)) limit l flips (wbit (now (y .entry))) number bit excess → (table : List Entry) → listedAs (r .answer) table ≡ endsWith n (now (word .entry)) limit table) ⌝ }
 {
     let o = l.offer;

@@ -11,6 +11,10 @@ ghost use Rattle.layout.specs.Lent.{Fit, Lent, laid};
 ghost use Rattle.bounds.specs.Reading.{Gathered};
 ghost use Rattle.bounds.specs.Keeping.{Ready};
 ghost use Rattle.runs.specs.Turns.{Holding, Begins, Beginning, Carried, Continuing, Within, comesNext, RunsTo};
+ghost use Rattle.layout.specs.Rooms.{rowsRoom, syndromeRoom, wordRoom};
+use layout::BLOCKS;
+use layout::ROWS;
+use layout::STARTS;
 use layout::Shape;
 
 // What comes next: quiet; or stuck, with the greatest excess and the lowest bit that has it; or this bit, of this excess, is to be flipped.
@@ -33,16 +37,16 @@ pub struct Ended {
 
 // What comes next for the word whose syndrome is s; bits before bit `from` are not sent.
 pub fn comes_next(s: &[u64], h: &[u16], sh: Shape, from: usize) -> Next
-    requires { ⌜ Fit (now h) sh × (length (now s) ≡ 16) × (1 ≤ sh .blocks) × (from < sh .size) × Holding (now h) sh (wbit (now s)) ⌝ }
+    requires { ⌜ Fit (now h) sh × (length (now s) ≡ syndromeRoom) × (1 ≤ sh .blocks) × (from < sh .size) × Holding (now h) sh (wbit (now s)) ⌝ }
     ensures { λ r. ⌜ Within (sh .blocks * sh .size) r × ((c : Code) → Lent c (now (h .entry)) sh → c .unsent ≡ from → (x : Word) → wbit (now (s .entry)) ≡ laid c sh x → byExcess c x ≡ comesNext r) ⌝ }
 {
     if syndromes::is_quiet(s) {
         return Next::Quiet;
     }
-    let mut d = [0u64; 65];
-    let mut starts = [0u16; 128];
-    let mut counts = [0u8; 16];
-    let mut met = [0u8; 16];
+    let mut d = [0u64; ROWS];
+    let mut starts = [0u16; STARTS];
+    let mut counts = [0u8; BLOCKS];
+    let mut met = [0u8; BLOCKS];
     bounds::begin(s, h, sh, &mut d, &mut starts, &mut counts);
     let best = choice::choose(&d, &starts, &counts, &mut met, sh, from);
     let excess = best.score as i8 - 8;
@@ -78,7 +82,7 @@ fn go_on(
     limit: u16,
     first: u32,
 ) -> Ended
-    requires { ⌜ Fit (now h) sh × Gathered (now h) sh (now starts) (now counts) (sh .blocks) × Ready sh (now starts) (now counts) (now met) × (length (now y) ≡ 130) × (length (now d) ≡ 65) × (1 ≤ sh .blocks) × (from < sh .size) × Continuing (now h) sh from first (wbit (now y)) (now d) (now counts) (now met) ⌝ }
+    requires { ⌜ Fit (now h) sh × Gathered (now h) sh (now starts) (now counts) (sh .blocks) × Ready sh (now starts) (now counts) (now met) × (length (now y) ≡ wordRoom) × (length (now d) ≡ rowsRoom) × (1 ≤ sh .blocks) × (from < sh .size) × Continuing (now h) sh from first (wbit (now y)) (now d) (now counts) (now met) ⌝ }
     ensures { λ r. ⌜ ((c : Code) → Lent c (now (h .entry)) sh → c .unsent ≡ from → Carried c sh from first (wbit (now (y .entry))) (now (d .entry)) (now (counts .entry)) (now (met .entry)) → RunsTo (byExcess c) c sh limit (wbit (now (y .entry))) (r .ran) (wbit (now (y .exit))) (laid c sh (wbit (now (y .exit)))) × (r .last ≡ broken c (wbit (now (y .exit))))) ⌝ }
 {
     let most = limit as u32;
@@ -110,16 +114,16 @@ pub fn run(
     limit: u16,
     first: u32,
 ) -> Ended
-    requires { ⌜ Fit (now h) sh × (length (now y) ≡ 130) × (length (now s) ≡ 16) × (1 ≤ sh .blocks) × (from < sh .size) × Beginning (now h) sh from first (wbit (now y)) (wbit (now s)) ⌝ }
+    requires { ⌜ Fit (now h) sh × (length (now y) ≡ wordRoom) × (length (now s) ≡ syndromeRoom) × (1 ≤ sh .blocks) × (from < sh .size) × Beginning (now h) sh from first (wbit (now y)) (wbit (now s)) ⌝ }
     ensures { λ r. ⌜ ((c : Code) → Begins c (now (h .entry)) sh from first (wbit (now (y .entry))) (wbit (now (s .entry))) → RunsTo (byExcess c) c sh limit (wbit (now (y .entry))) (r .ran) (wbit (now (y .exit))) (laid c sh (wbit (now (y .exit)))) × (r .last ≡ broken c (wbit (now (y .exit))))) ⌝ }
 {
     if first == 0 {
         return at_end(0, 0, 0);
     }
-    let mut d = [0u64; 65];
-    let mut starts = [0u16; 128];
-    let mut counts = [0u8; 16];
-    let mut met = [0u8; 16];
+    let mut d = [0u64; ROWS];
+    let mut starts = [0u16; STARTS];
+    let mut counts = [0u8; BLOCKS];
+    let mut met = [0u8; BLOCKS]; // begun anew
     bounds::begin(s, h, sh, &mut d, &mut starts, &mut counts);
     go_on(
         y,

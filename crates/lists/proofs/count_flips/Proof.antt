@@ -68,7 +68,7 @@ returns c =
     λ n off is.
     let e = m .measure .ensures .1 n off is in
     let counted = begins n (a .args .word .now) _ _ _ _ e (b .broken .result) (b .broken .ensures) (a .args .o .unsent)
-        (sym (unsent-is n is off)) in
+    (sym (unsent-is n is off)) in
     g .run .ensures (code n) counted .0 .flips ∙ ap (λ x. length (run (byExcess (code n)) (a .args .limit) x .flips)) (e .bits)
 
 pub count-flips-spec : {M : Type 1} → statement M
