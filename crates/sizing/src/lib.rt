@@ -16,6 +16,9 @@ ghost use Rattle.sizing.specs.Searching.{Within, Reached, scoring};
 ghost use Rattle.sizing.specs.Turning.{Shown, Turned, SizesTo};
 ghost use Rattle.runs.specs.Turns.{Begins, Beginning, Carried, Continuing};
 use choice::Best;
+use layout::BLOCKS;
+use layout::ROWS;
+use layout::STARTS;
 use layout::Shape;
 use runs::Ran;
 
@@ -252,10 +255,10 @@ pub fn run(
     if first == 0 {
         return at_end(0, 0, 0, 0);
     }
-    let mut d = [0u64; 65];
-    let mut starts = [0u16; 128];
-    let mut counts = [0u8; 16];
-    let mut met = [0u8; 16];
+    let mut d = [0u64; ROWS];
+    let mut starts = [0u16; STARTS];
+    let mut counts = [0u8; BLOCKS];
+    let mut met = [0u8; BLOCKS];
     bounds::begin(s, h, sh, &mut d, &mut starts, &mut counts);
     go_on(
         samples,
