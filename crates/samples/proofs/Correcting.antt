@@ -36,7 +36,8 @@ module _ (n : ℕ) {o : Offer} (is : o ≡ offerOf n) where
   pub samples-refusal : {k : ℕ} (input output : ℕ) → k ≡ refusal (o .steps) input (o .bits) output (o .word)
       → k ≡ refusal (offered n && not (eqb n 5)) input (bits (code n)) output (code n .wordOctets)
   samples-refusal input output e =
-      e ∙ refusal-as input output (ap (λ z. z .steps) is ∙ offers n .steps) (λ f. bits-are n is (first (offered n) _ f)) (λ f. word-long n is (first (offered n) _ f) refl)
+      e ∙ refusal-as input output (ap (λ z. z .steps) is ∙ offers n .steps) (λ f. bits-are n is (first (offered n) _ f))
+      (λ f. word-long n is (first (offered n) _ f) refl)
     where
       first : (a b : Bool) → (a && b) ≡ true → a ≡ true
       first true b e = refl
@@ -57,7 +58,8 @@ numbers-same {a} {a′} {b} {b′} {c} {c′} {d} {d′} {e} {e′} {f} {f′} {
     ap₂ (λ x y. numbers x y c d e f o) p q ∙ ap₂ (λ x y. numbers a′ b′ x y e f o) r s
     ∙ ap₂ (λ x y. numbers a′ b′ c′ d′ x y o) t u ∙ ap (numbers a′ b′ c′ d′ e′ f′) v
 
-module _ (n : ℕ) (t : T (offered n && not (eqb n 5))) (sh : Shape) (samples : List Float) (limit : ℕ) (end : Ended) (x y : Word) (read-is : x ≡ read samples)
+module _ (n : ℕ) (t : T (offered n && not (eqb n 5))) (sh : Shape) (samples : List Float) (limit : ℕ) (end : Ended) (x y : Word)
+    (read-is : x ≡ read samples)
     (to : SizesTo (code n) sh samples limit x end y) where
   abbrev pub theRun : Run
   theRun = run (bySize (smaller samples) (code n)) limit (read samples)
@@ -77,13 +79,15 @@ module _ (n : ℕ) (t : T (offered n && not (eqb n 5))) (sh : Shape) (samples : 
   pub ran-unsent : (k : ℕ) → k < code n .unsent → y k ≡ false
   ran-unsent k h = absurd (not-suc-le-zero (subst (λ u. k < u) (whole n t .unsent) h))
 
-  module _ (first low number : ℕ) (at-first : first ≡ broken (code n) x) (at-lowest : low ≡ lowest (code n) x) (judge : number ≡ judged (code n) theRun) (out out′ : List ℕ)
+  module _ (first low number : ℕ) (at-first : first ≡ broken (code n) x) (at-lowest : low ≡ lowest (code n) x)
+      (judge : number ≡ judged (code n) theRun) (out out′ : List ℕ)
       (wrote : out′ ≡ (if eqb number 0 then written (code n) y else out)) where
     pub corrected-is : numbers number (end .ran .flips) first (end .last) (end .unlike) low out′ ≡ ranSamples n samples limit out
     unfolding ranCorrect
     corrected-is =
         numbers-same judge (to .runs .flips ∙ ap (λ r. length (r .flips)) same) (at-first ∙ ap (broken (code n)) read-is)
-        (to .last ∙ ap (broken (code n)) (sym ran-word)) (to .differs ∙ ap₂ (differing (code n)) read-is (sym ran-word)) (at-lowest ∙ ap (lowest (code n)) read-is)
+        (to .last ∙ ap (broken (code n)) (sym ran-word)) (to .differs ∙ ap₂ (differing (code n)) read-is (sym ran-word)) (at-lowest
+        ∙ ap (lowest (code n)) read-is)
         (wrote ∙ ap₂ (λ k z. if eqb k 0 then written (code n) z else out) judge (sym ran-word))
 
 -- the output of a run that was taken, and of one that was refused

@@ -27,4 +27,5 @@ finiteFrom n samples limit out = if allFinite samples then ranSamples n samples 
 unfoldable pub samplesAnswer : ℕ → List Float → ℕ → List ℕ → Corrected
 samplesAnswer n samples limit out =
     let c = code n in
-    unless (refusal (offered n && not (eqb n 5)) (length samples) (bits c) (length out) (c .wordOctets)) (refusedCorrect out) (finiteFrom n samples limit out)
+    unless (refusal (offered n && not (eqb n 5)) (length samples) (bits c) (length out) (c .wordOctets)) (refusedCorrect out)
+    (finiteFrom n samples limit out)

@@ -83,13 +83,15 @@ module _ (c : Code) (some : c .unsent < bits c) (x : Word) (first : ℕ) (ex : �
         sent = sent;
         under = under;
         value = is;
-        above = ltb-true (metOf c x n) (brokenOf c x n) (sym (above-is c x n) ∙ ap (ltZ (pos 0)) (sym is ∙ f .value) ∙ above-is c x first ∙ lt-ltb (metOf c x first) (brokenOf c x first) (f .above));
+        above = ltb-true (metOf c x n) (brokenOf c x n) (sym (above-is c x n) ∙ ap (ltZ (pos 0)) (sym is ∙ f .value) ∙ above-is c x first
+            ∙ lt-ltb (metOf c x first) (brokenOf c x first) (f .above));
       }
     where
       high : T (leZ (excess c x n) ex)
       high =
           let g = next-flip c x first ex e in
-          subst (λ z. T (leZ (excess c x n) z)) (sym (g .value ∙ ap (excess c x) (g .bit))) (chosen-greatest c some x .most n sent (omega arith) .le)
+          subst (λ z. T (leZ (excess c x n) z)) (sym (g .value ∙ ap (excess c x) (g .bit)))
+          (chosen-greatest c some x .most n sent (omega arith) .le)
 
   -- none that comes before it has
   pub reached-first : (n : ℕ) → c .unsent ≤ n → reaching c x ex n ≡ true → first ≤ n
@@ -101,13 +103,15 @@ module _ (c : Code) (some : c .unsent < bits c) (x : Word) (first : ℕ) (ex : �
           let g = next-flip c x first ex e in
           let low = chosen-greatest c some x .lowest n sent (omega (arith, g .bit)) in
           let is : ex ≡ excess c x (chosen c x) = g .value ∙ ap (excess c x) (g .bit) in
-          absurd (subst T (not-true (ltZ (excess c x n) ex) (subst T (sym r) tt)) (subst (λ z. T (ltZ (excess c x n) z)) (sym is) (low .lt)))
+          absurd (subst T (not-true (ltZ (excess c x n) ex) (subst T (sym r) tt))
+          (subst (λ z. T (ltZ (excess c x n) z)) (sym is) (low .lt)))
 
   pub best-chosen : (less : ℕ → ℕ → Bool) → Chosen c x (best less c x first ex) ex
   unfolding smallestSent
   best-chosen less = go (smallest-one less (reaching c x ex) first (c .unsent) (bits c - c .unsent))
     where
-      go : Is less (reaching c x ex) first (c .unsent) (best less c x first ex) (bits c - c .unsent) → Chosen c x (best less c x first ex) ex
+      go : Is less (reaching c x ex) first (c .unsent) (best less c x first ex) (bits c - c .unsent)
+          → Chosen c x (best less c x first ex) ex
       go (inl is) = subst (λ n. Chosen c x n ex) (sym is) f
       go (inr p) = reaches (best less c x first ex) (p .0) (p .1) (omega (arith, p .2))
 
@@ -143,11 +147,13 @@ equal-sizes less none c = fun-ext (λ x. go x (byExcess c x))
     go x (flip n e) = ap (λ k. flip k e) (smallest-stays less (reaching c x e) n (c .unsent) (bits c - c .unsent) (λ k f l m. none k n))
 
 -- where the order is one: of the bits of greatest excess none is smaller than the one that is flipped, and those before it are greater
-pub size-smallest : (less : ℕ → ℕ → Bool) (c : Code) → c .unsent < bits c → Ordered less (bits c) → (x : Word) (n : ℕ) (ex : ℤ) → bySize less c x ≡ flip n ex
+pub size-smallest : (less : ℕ → ℕ → Bool) (c : Code) → c .unsent < bits c → Ordered less (bits c) → (x : Word) (n : ℕ) (ex : ℤ)
+    → bySize less c x ≡ flip n ex
     → Smallest less (reaching c x ex) (c .unsent) (bits c - c .unsent) n
 unfolding smallestSent
 size-smallest less c some ordered x n ex q =
     let i = size-flip less c x n ex q in
     let f = by-excess c some .flips x (i .first) ex (i .is) in
     subst (Smallest less (reaching c x ex) (c .unsent) (bits c - c .unsent)) (sym (i .bit))
-    (smallest-has less (reaching c x ex) (i .first) (c .unsent) (bits c) ordered (f .under) (reached-first c some x (i .first) ex (i .is)) (bits c - c .unsent) (omega arith))
+    (smallest-has less (reaching c x ex) (i .first) (c .unsent) (bits c) ordered (f .under) (reached-first c some x (i .first) ex (i .is))
+    (bits c - c .unsent) (omega arith))

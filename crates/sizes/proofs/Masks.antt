@@ -24,7 +24,8 @@ use Rattle.sizes.proofs.Smallest.{smallest-stays, smallest-parts, small
 pub one-bit : (n i : ℕ) → n < 64 → i < 64 → digit 64 ((1 * 2 ^ (63 - n)) % 2 ^ 64) i ≡ eqb i n
 one-bit n i h l =
     let e : 63 - n ≡ 64 - suc n = omega arith in
-    ap (λ z. digit 64 z i) (ap (λ z. z % 2 ^ 64) (one-mul (2 ^ (63 - n))) ∙ mod-eq-of-lt (pow-lt {i = 63 - n} {j = 64} (omega arith)) ∙ ap (λ z. 2 ^ z) e) ∙ digit-power 64 n i h l
+    ap (λ z. digit 64 z i) (ap (λ z. z % 2 ^ 64) (one-mul (2 ^ (63 - n))) ∙ mod-eq-of-lt (pow-lt {i = 63 - n} {j = 64} (omega arith))
+    ∙ ap (λ z. 2 ^ z) e) ∙ digit-power 64 n i h l
 
 -- the bits that a mask marks, which begins with bit `first`
 abbrev pub marks : ℕ → ℕ → ℕ → Bool
@@ -38,7 +39,8 @@ module _ (less : ℕ → ℕ → Bool) (first : ℕ) where
       let e : n + (64 - n) ≡ 64 = omega arith in
       ap (smallest less (marks v first) bit first) (sym e)
       ∙ smallest-parts less (marks v first) bit first n (64 - n)
-      ∙ smallest-stays less (marks v first) (smallest less (marks v first) bit first n) (first + n) (64 - n) (λ k f l m. absurd (true≢false (sym m ∙ past k f l)))
+      ∙ smallest-stays less (marks v first) (smallest less (marks v first) bit first n) (first + n) (64 - n)
+      (λ k f l m. absurd (true≢false (sym m ∙ past k f l)))
       ∙ smallest-same less (marks v first) marked bit first n inside
     where
       past : (k : ℕ) → first + n ≤ k → k < first + n + (64 - n) → marks v first k ≡ false
@@ -52,7 +54,8 @@ module _ (less : ℕ → ℕ → Bool) (first : ℕ) where
   -- nothing of an empty one
   pub masked-none : (v bit : ℕ) → v ≡ 0 → smallest less (marks v first) bit first 64 ≡ bit
   masked-none v bit e =
-      smallest-stays less (marks v first) bit first 64 (λ k f l m. absurd (true≢false (sym m ∙ ap (λ z. digit 64 z (k - first)) e ∙ digit-zero 64 (k - first))))
+      smallest-stays less (marks v first) bit first 64
+      (λ k f l m. absurd (true≢false (sym m ∙ ap (λ z. digit 64 z (k - first)) e ∙ digit-zero 64 (k - first))))
 
   -- the first of a mask, and then the others
   module _ (v v′ i : ℕ) (inside : i < 64) (here : digit 64 v i ≡ true) (clear : (k : ℕ) → k < i → digit 64 v k ≡ false)
@@ -77,8 +80,10 @@ module _ (less : ℕ → ℕ → Bool) (first : ℕ) where
         ap (smallest less (marks v′ first) best first) (sym n)
         ∙ smallest-parts less (marks v′ first) best first (suc i) (63 - i)
         ∙ ap (λ k. smallest less (marks v′ first) k (first + suc i) (63 - i))
-        (smallest-stays less (marks v′ first) best first (suc i) (λ k f l m. absurd (true≢false (sym m ∙ gone (k - first) (omega arith)))) ∙ e ∙ sym front)
-        ∙ smallest-same less (marks v′ first) (marks v first) _ (first + suc i) (63 - i) (λ k f l. kept (k - first) (omega arith) (omega arith))
+        (smallest-stays less (marks v′ first) best first (suc i) (λ k f l m. absurd (true≢false (sym m ∙ gone (k - first) (omega arith))))
+        ∙ e ∙ sym front)
+        ∙ smallest-same less (marks v′ first) (marks v first) _ (first + suc i) (63 - i)
+        (λ k f l. kept (k - first) (omega arith) (omega arith))
         ∙ sym (smallest-parts less (marks v first) bit first (suc i) (63 - i))
         ∙ ap (smallest less (marks v first) bit first) n
       where
@@ -88,7 +93,8 @@ module _ (less : ℕ → ℕ → Bool) (first : ℕ) where
         front : smallest less (marks v first) bit first (suc i) ≡ (if less (first + i) bit then first + i else bit)
         front =
             ap₂ (λ k a. if a && less (first + i) k then first + i else k)
-            (smallest-stays less (marks v first) bit first i (λ k f l m. absurd (true≢false (sym m ∙ clear (k - first) (omega arith))))) (ap (digit 64 v) place ∙ here)
+            (smallest-stays less (marks v first) bit first i (λ k f l m. absurd (true≢false (sym m ∙ clear (k - first) (omega arith)))))
+            (ap (digit 64 v) place ∙ here)
 
     -- what is left was set
     pub left-set : (k : ℕ) → k < 64 → digit 64 v′ k ≡ true → digit 64 v k ≡ true
@@ -105,14 +111,17 @@ module _ (less : ℕ → ℕ → Bool) (first : ℕ) where
             some e = true≢false (sym here ∙ ap (λ z. digit 64 z i) e ∙ digit-zero 64 i)
 
             go : First 64 v (leadingZeros 64 v) → leadingZeros 64 v ≡ i
-            go f = ⊎-elim (λ (g : i ≤ leadingZeros 64 v). ⊎-elim (λ (u : leadingZeros 64 v ≤ i). omega arith) (λ (u : i < leadingZeros 64 v). absurd (true≢false (sym here ∙ f .clear i u))) (le-or-lt (leadingZeros 64 v) i))
-                (λ (g : leadingZeros 64 v < i). absurd (true≢false (sym (f .here) ∙ clear (leadingZeros 64 v) g))) (le-or-lt i (leadingZeros 64 v))
+            go f = ⊎-elim (λ (g : i ≤ leadingZeros 64 v). ⊎-elim (λ (u : leadingZeros 64 v ≤ i). omega arith)
+                (λ (u : i < leadingZeros 64 v). absurd (true≢false (sym here ∙ f .clear i u))) (le-or-lt (leadingZeros 64 v) i))
+                (λ (g : leadingZeros 64 v < i). absurd (true≢false (sym (f .here) ∙ clear (leadingZeros 64 v) g)))
+                (le-or-lt i (leadingZeros 64 v))
 
         later : Dec (v′ ≡ 0) → i < leadingZeros 64 v′
         later (yes e) = omega (arith, inside, ap (leadingZeros 64) e ∙ leading-of-zero 64)
         later (no d) =
             let f = first-digit 64 v′ (pos-of-ne-zero d) small′ in
-            ⊎-elim (λ (g : leadingZeros 64 v′ ≤ i). absurd (true≢false (sym (f .here) ∙ gone (leadingZeros 64 v′) g))) (λ (g : i < leadingZeros 64 v′). g) (le-or-lt (leadingZeros 64 v′) i)
+            ⊎-elim (λ (g : leadingZeros 64 v′ ≤ i). absurd (true≢false (sym (f .here) ∙ gone (leadingZeros 64 v′) g)))
+            (λ (g : i < leadingZeros 64 v′). g) (le-or-lt (leadingZeros 64 v′) i)
 
 -- one of two numbers
 pub smaller-in : (b : Bool) (n k top : ℕ) → n < top → k < top → (if b then n else k) < top

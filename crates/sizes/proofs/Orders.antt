@@ -63,13 +63,19 @@ pub unsigned : (s : Bool) (m : ℕ) (e : ℤ) → Unsigned m e (magnitude (fin s
 unfolding lt neg ofBits
 unsigned false m e = record {
   sign = false;
-  is = ap (λ b. if b then fin true m e else fin false m e) (le-ltb (m * up e * 1) (0 * 1 * down e) (omega (arith, ap (λ z. z * down e) (zero-mul 1), zero-mul (down e))));
+  is = ap (λ b. if b then fin true m e else fin false m e)
+      (le-ltb (m * up e * 1) (0 * 1 * down e) (omega (arith, ap (λ z. z * down e) (zero-mul 1), zero-mul (down e))));
   zero-if = λ f. absurd (true≢false (sym f));
 }
 unsigned true m e = go (isOne (fin true m e)) refl
   where
     go : (b : Bool) → isOne (fin true m e) ≡ b → Unsigned m e (magnitude (fin true m e))
-    go true f = record { sign = false; is = ap (λ b. if b then fin false m e else fin true m e) f; zero-if = λ g. absurd (true≢false (sym g)) }
+    go true f = record {
+      sign = false;
+      is = ap (λ b. if b then fin false m e else fin true m e) f;
+      zero-if =
+          λ g. absurd (true≢false (sym g));
+    }
     go false f = record {
       sign = true;
       is = ap (λ b. if b then fin false m e else fin true m e) f;
@@ -77,7 +83,8 @@ unsigned true m e = go (isOne (fin true m e)) refl
     }
 
 -- of finite samples, the order of magnitudes is that of fractions
-pub magnitude-lt : (s t : Float) → isFinite s ≡ true → isFinite t ≡ true → lt (magnitude s) (magnitude t) ≡ ltb (num s * den t) (num t * den s)
+pub magnitude-lt : (s t : Float) → isFinite s ≡ true → isFinite t ≡ true
+    → lt (magnitude s) (magnitude t) ≡ ltb (num s * den t) (num t * den s)
 unfolding lt
 magnitude-lt nan t f g = absurd (true≢false (sym f))
 magnitude-lt (inf s) t f g = absurd (true≢false (sym f))
@@ -97,15 +104,18 @@ magnitude-lt (fin s m e) (fin t n d) f g = by (unsigned s m e) (unsigned t n d)
     signs true false u v = ap₂ ltb (sym (u refl)) (ap (λ z. z + b) (u refl) ∙ zero-add b)
     signs true true u v = ap₂ ltb (v refl ∙ sym (u refl)) (u refl ∙ sym (v refl))
 
-    by : Unsigned m e (magnitude (fin s m e)) → Unsigned n d (magnitude (fin t n d)) → lt (magnitude (fin s m e)) (magnitude (fin t n d)) ≡ ltb a b
+    by : Unsigned m e (magnitude (fin s m e)) → Unsigned n d (magnitude (fin t n d))
+        → lt (magnitude (fin s m e)) (magnitude (fin t n d)) ≡ ltb a b
     by u v =
         ap₂ lt (u .is) (v .is)
-        ∙ signs (u .sign) (v .sign) (λ z. ap (λ k. k * down d) (u .zero-if z) ∙ zero-mul (down d)) (λ z. ap (λ k. k * down e) (v .zero-if z) ∙ zero-mul (down e))
+        ∙ signs (u .sign) (v .sign) (λ z. ap (λ k. k * down d) (u .zero-if z) ∙ zero-mul (down d))
+        (λ z. ap (λ k. k * down e) (v .zero-if z) ∙ zero-mul (down e))
 
 -- every sample of a list that is finite throughout
 pub all-at : (samples : List Float) → allFinite samples ≡ true → (n : ℕ) → n < length samples → isFinite (sampleOf samples n) ≡ true
 unfolding allFinite
-all-at samples f n l = as-true (isFinite (sampleOf samples n)) (below-at (length samples) (λ k. isFinite (sampleOf samples k)) (subst T (sym f) tt) n l)
+all-at samples f n l = as-true (isFinite (sampleOf samples n)) (below-at (length samples) (λ k. isFinite (sampleOf samples k))
+    (subst T (sym f) tt) n l)
   where
     as-true : (b : Bool) → T b → b ≡ true
     as-true true t = refl
@@ -127,19 +137,22 @@ finite-ordered samples f = record {
     is a b la lb h =
         let s = sampleOf samples a in
         let t = sampleOf samples b in
-        order b a lb la ∙ le-ltb (num t * den s) (num s * den t) (omega (arith, ltb-true (num s * den t) (num t * den s) (sym (order a b la lb) ∙ h)))
+        order b a lb la ∙ le-ltb (num t * den s) (num s * den t)
+        (omega (arith, ltb-true (num s * den t) (num t * den s) (sym (order a b la lb) ∙ h)))
 
     least : (a b : ℕ) → ltb a b ≡ false → b ≤ a
     least a b e = nltb→le a b (subst (λ t. T (not t)) (sym e) tt)
 
-    through-is : (a b c : ℕ) → a < length samples → b < length samples → c < length samples → smaller samples b a ≡ false → smaller samples c b ≡ false → smaller samples c a ≡ false
+    through-is : (a b c : ℕ) → a < length samples → b < length samples → c < length samples → smaller samples b a ≡ false
+        → smaller samples c b ≡ false → smaller samples c a ≡ false
     through-is a b c la lb lc h k =
         let s = sampleOf samples a in
         let t = sampleOf samples b in
         let r = sampleOf samples c in
         order c a lc la ∙ le-ltb (num r * den s) (num s * den r)
         (through (num s) (num t) (num r) (den s) (den t) (den r) (den-pos t)
-        (least (num t * den s) (num s * den t) (sym (order b a lb la) ∙ h)) (least (num r * den t) (num t * den r) (sym (order c b lc lb) ∙ k)))
+        (least (num t * den s) (num s * den t) (sym (order b a lb la) ∙ h)) (least (num r * den t) (num t * den r) (sym (order c b lc lb)
+        ∙ k)))
 
 -- ---- past the last sample
 
@@ -150,7 +163,8 @@ pub past-read : (samples : List Float) (n : ℕ) → length samples ≤ n → re
 unfolding read lt
 past-read samples n h = ap isOne (past-sample samples n h)
 
-pub past-smaller : (samples : List Float) (n : ℕ) → length samples ≤ n → (k : ℕ) → (smaller samples n k ≡ false) × (smaller samples k n ≡ false)
+pub past-smaller : (samples : List Float) (n : ℕ) → length samples ≤ n → (k : ℕ) → (smaller samples n k ≡ false)
+    × (smaller samples k n ≡ false)
 unfolding smaller lt
 past-smaller samples n h k = (
   ap (λ s. lt (magnitude s) (magnitude (sampleOf samples k))) (past-sample samples n h),

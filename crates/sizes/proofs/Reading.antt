@@ -93,7 +93,8 @@ two-halves x at m n u v m32 short n64 mn small du dv i l =
         ap₂ _||_ (front ∙ place-below u 32 j (omega arith)) (ap (place v) e ∙ dv k (omega arith)) ∙ go (decLt m 32)
       where
         go : Dec (m < 32) → upTo (n - m) (from (at + m) x) (i - 32) ≡ upTo n (from at x) i
-        go (yes r) = ap (λ b. b && x (at + m + (i - 32))) (le-ltb (i - 32) (n - m) (omega (arith, short r))) ∙ sym (ap (λ b. b && x (at + i)) (le-ltb i n (omega (arith, short r))))
+        go (yes r) = ap (λ b. b && x (at + m + (i - 32))) (le-ltb (i - 32) (n - m) (omega (arith, short r)))
+            ∙ sym (ap (λ b. b && x (at + i)) (le-ltb i n (omega (arith, short r))))
         go (no r) =
             let is : m ≡ 32 = omega (arith, lt-of-not-le r) in
             let p : at + m + (i - 32) ≡ at + i = omega (arith, is) in
@@ -109,7 +110,8 @@ two-halves x at m n u v m32 short n64 mn small du dv i l =
 -- what holds of every number below a + b
 pub below-more : (a b : ℕ) (f : ℕ → Bool) → below (a + b) f ≡ (below b (λ i. f (a + i)) && below a f)
 below-more a zero f = ap (λ n. below n f) (add-zero a)
-below-more a (suc b) f = ap (λ n. below n f) (add-suc a b) ∙ ap (λ z. f (a + b) && z) (below-more a b f) ∙ both (f (a + b)) (below b (λ i. f (a + i))) (below a f)
+below-more a (suc b) f = ap (λ n. below n f) (add-suc a b) ∙ ap (λ z. f (a + b) && z) (below-more a b f)
+    ∙ both (f (a + b)) (below b (λ i. f (a + i))) (below a f)
   where
     both : (p q r : Bool) → (p && (q && r)) ≡ ((p && q) && r)
     both true q r = refl

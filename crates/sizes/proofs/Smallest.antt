@@ -30,24 +30,28 @@ module _ (less : ℕ → ℕ → Bool) (marked : ℕ → Bool) (bit first : ℕ)
       more k (inl e) = inl e
       more k (inr p) = inr (p .0, p .1, omega (arith, p .2))
 
-      go : (a b : Bool) → marked (first + n) ≡ a → Is (smallest less marked bit first n) n → Is (if a && b then first + n else smallest less marked bit first n) (suc n)
+      go : (a b : Bool) → marked (first + n) ≡ a → Is (smallest less marked bit first n) n
+          → Is (if a && b then first + n else smallest less marked bit first n) (suc n)
       go true true e i = inr (e, omega arith, omega arith)
       go true false e i = more _ i
       go false b e i = more _ i
 
   -- where none that is marked is smaller it is the bit
-  pub smallest-stays : (n : ℕ) → ((k : ℕ) → first ≤ k → k < first + n → marked k ≡ true → less k bit ≡ false) → smallest less marked bit first n ≡ bit
+  pub smallest-stays : (n : ℕ) → ((k : ℕ) → first ≤ k → k < first + n → marked k ≡ true → less k bit ≡ false)
+      → smallest less marked bit first n ≡ bit
   unfolding smallest
   smallest-stays zero h = refl
   smallest-stays (suc n) h =
       ap (λ k. smallerOf less marked k (first + n)) (smallest-stays n (λ k f l. h k f (omega arith))) ∙ go (marked (first + n)) refl
     where
       go : (a : Bool) → marked (first + n) ≡ a → smallerOf less marked bit (first + n) ≡ bit
-      go true e = ap (λ b. if marked (first + n) && b then first + n else bit) (h (first + n) (omega arith) (omega arith) e) ∙ ap (λ b. if b then first + n else bit) (and-false (marked (first + n)))
+      go true e = ap (λ b. if marked (first + n) && b then first + n else bit) (h (first + n) (omega arith) (omega arith) e)
+          ∙ ap (λ b. if b then first + n else bit) (and-false (marked (first + n)))
       go false e = ap (λ b. if b && less (first + n) bit then first + n else bit) e
 
   -- bits in two parts
-  pub smallest-parts : (a b : ℕ) → smallest less marked bit first (a + b) ≡ smallest less marked (smallest less marked bit first a) (first + a) b
+  pub smallest-parts : (a b : ℕ) → smallest less marked bit first (a + b) ≡ smallest less marked (smallest less marked bit first a)
+      (first + a) b
   unfolding smallest
   smallest-parts a zero = ap (smallest less marked bit first) (add-zero a)
   smallest-parts a (suc b) =
@@ -55,12 +59,14 @@ module _ (less : ℕ → ℕ → Bool) (marked : ℕ → Bool) (bit first : ℕ)
       ∙ ap₂ (smallerOf less marked) (smallest-parts a b) (sym (add-assoc first a b))
 
 -- it depends on the marks of the n bits alone
-pub smallest-same : (less : ℕ → ℕ → Bool) (marked marked′ : ℕ → Bool) (bit first n : ℕ) → ((k : ℕ) → first ≤ k → k < first + n → marked k ≡ marked′ k)
+pub smallest-same : (less : ℕ → ℕ → Bool) (marked marked′ : ℕ → Bool) (bit first n : ℕ)
+    → ((k : ℕ) → first ≤ k → k < first + n → marked k ≡ marked′ k)
     → smallest less marked bit first n ≡ smallest less marked′ bit first n
 unfolding smallest
 smallest-same less marked marked′ bit first zero h = refl
 smallest-same less marked marked′ bit first (suc n) h =
-    ap₂ (λ k a. if a && less (first + n) k then first + n else k) (smallest-same less marked marked′ bit first n (λ k f l. h k f (omega arith))) (h (first + n) (omega arith) (omega arith))
+    ap₂ (λ k a. if a && less (first + n) k then first + n else k)
+    (smallest-same less marked marked′ bit first n (λ k f l. h k f (omega arith))) (h (first + n) (omega arith) (omega arith))
 
 -- ---- where the order is one
 
@@ -96,7 +102,8 @@ module _ (less : ℕ → ℕ → Bool) (marked : ℕ → Bool) (bit first top : 
       self false f = f
 
       -- what was not smaller than the last one is greater than one that is smaller
-      over : Smallest less marked first n best → Is less marked bit first best n → less now best ≡ true → (k : ℕ) → first ≤ k → k < now → marked k ≡ true → (b : Bool) → less now k ≡ b
+      over : Smallest less marked first n best → Is less marked bit first best n → less now best ≡ true → (k : ℕ) → first ≤ k → k < now
+          → marked k ≡ true → (b : Bool) → less now k ≡ b
           → less now k ≡ true
       over s is f k from l m true g = g
       over s is f k from l m false g =
@@ -106,7 +113,8 @@ module _ (less : ℕ → ℕ → Bool) (marked : ℕ → Bool) (bit first top : 
       not-past (inl is) e l = omega (arith, is, none now (omega arith) e)
       not-past (inr p) e l = omega (arith, p .2)
 
-      stays : Smallest less marked first n best → (marked now ≡ true → less now best ≡ false) → (marked now ≡ true → now < best → ⊥) → Smallest less marked first (suc n) best
+      stays : Smallest less marked first n best → (marked now ≡ true → less now best ≡ false) → (marked now ≡ true → now < best → ⊥)
+          → Smallest less marked first (suc n) best
       stays s here past = record {
         least = λ k from l m. by k from l m (ℕ-discrete k now);
         lowest = λ k from l m u. after k from l m u (ℕ-discrete k now);
@@ -120,7 +128,8 @@ module _ (less : ℕ → ℕ → Bool) (marked : ℕ → Bool) (bit first top : 
           after k from l m u (yes e) = absurd (past (ap marked (sym e) ∙ m) (omega arith))
           after k from l m u (no d) = s .lowest k from (omega arith) m u
 
-      moves : Smallest less marked first n best → Is less marked bit first best n → less now best ≡ true → Smallest less marked first (suc n) now
+      moves : Smallest less marked first n best → Is less marked bit first best n → less now best ≡ true
+          → Smallest less marked first (suc n) now
       moves s is f = record {
         least = λ k from l m. by k from l m (ℕ-discrete k now);
         lowest = λ k from l m u. over s is f k from u m (less now k) refl;

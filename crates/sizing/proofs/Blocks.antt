@@ -52,26 +52,33 @@ module _ (sh : Shape) (starts counts met : List ℕ) (r : Ready sh starts counts
     low = r .low;
     near = r .near;
     inside = r .inside;
-    few = changed met b v (omega (arith, r .met-long, r .blocks)) (λ i z. i < sh .blocks → z ≤ getD counts i 0) (λ l. h) (λ i d l. r .few i l);
+    few = changed met b v (omega (arith, r .met-long, r .blocks)) (λ i z. i < sh .blocks → z ≤ getD counts i 0) (λ l. h)
+        (λ i d l. r .few i l);
   }
 
-  pub under-set : (g : ℕ → ℕ) (v : ℕ) → Under g sh 0 counts met → ((k : ℕ) → k < sh .size → g (b * sh .size + k) ≤ 8 + getD counts b 0 - 2 * v) → Under g sh 0 counts (set met b v)
+  pub under-set : (g : ℕ → ℕ) (v : ℕ) → Under g sh 0 counts met
+      → ((k : ℕ) → k < sh .size → g (b * sh .size + k) ≤ 8 + getD counts b 0 - 2 * v) → Under g sh 0 counts (set met b v)
   under-set g v was here i k hi hk u =
-      changed met b v (omega (arith, r .met-long, r .blocks)) (λ i z. i < sh .blocks → k < sh .size → g (i * sh .size + k) ≤ 8 + getD counts i 0 - 2 * z)
+      changed met b v (omega (arith, r .met-long, r .blocks)) (λ i z. i < sh .blocks → k < sh .size
+      → g (i * sh .size + k) ≤ 8 + getD counts i 0 - 2 * z)
       (λ l l′. here k l′) (λ i d l l′. was i k l l′ (omega arith)) i hi hk
 
-  pub reached-set : (g : ℕ → ℕ) (score v : ℕ) → Reached g sh score counts met b → ((k : ℕ) → k < sh .size → score ≤ g (b * sh .size + k) → v ≡ (8 + getD counts b 0 - score) / 2)
+  pub reached-set : (g : ℕ → ℕ) (score v : ℕ) → Reached g sh score counts met b
+      → ((k : ℕ) → k < sh .size → score ≤ g (b * sh .size + k) → v ≡ (8 + getD counts b 0 - score) / 2)
       → Reached g sh score counts (set met b v) (b + 1)
   reached-set g score v was here i k hi hk u =
-      changed met b v (omega (arith, r .met-long, r .blocks)) (λ i z. i < b + 1 → k < sh .size → score ≤ g (i * sh .size + k) → z ≡ (8 + getD counts i 0 - score) / 2)
+      changed met b v (omega (arith, r .met-long, r .blocks)) (λ i z. i < b + 1 → k < sh .size → score ≤ g (i * sh .size + k)
+      → z ≡ (8 + getD counts i 0 - score) / 2)
       (λ l l′ u′. here k l′ u′) (λ i d l l′ u′. was i k (omega arith) l′ u′) i hi hk u
 
 -- one block more
-pub blocks-more : (less : ℕ → ℕ → Bool) (marked : ℕ → Bool) (bit b m best best′ : ℕ) → best ≡ smallest less marked bit 0 (b * m) → best′ ≡ smallest less marked best (b * m) m
+pub blocks-more : (less : ℕ → ℕ → Bool) (marked : ℕ → Bool) (bit b m best best′ : ℕ) → best ≡ smallest less marked bit 0 (b * m)
+    → best′ ≡ smallest less marked best (b * m) m
     → best′ ≡ smallest less marked bit 0 ((b + 1) * m)
 blocks-more less marked bit b m best best′ e f =
     let n : b * m + m ≡ (b + 1) * m = omega arith in
-    f ∙ ap (λ k. smallest less marked k (b * m) m) e ∙ ap (λ k. smallest less marked (smallest less marked bit 0 (b * m)) k m) (sym (zero-add (b * m)))
+    f ∙ ap (λ k. smallest less marked k (b * m) m) e ∙ ap (λ k. smallest less marked (smallest less marked bit 0 (b * m)) k m)
+    (sym (zero-add (b * m)))
     ∙ sym (smallest-parts less marked bit 0 (b * m) m) ∙ ap (smallest less marked bit 0) n
 
 pub blocks-none : (less : ℕ → ℕ → Bool) (marked : ℕ → Bool) (bit m : ℕ) → bit ≡ smallest less marked bit 0 (0 * m)

@@ -69,7 +69,8 @@ module _ (less : ℕ → ℕ → Bool) (d : Word) (starts : List ℕ) (start n m
   found-all at best h e =
       let p : m + (at - m) ≡ at = omega arith in
       e ∙ ap (smallest less marked bit first) (sym p) ∙ smallest-parts less marked bit first m (at - m)
-      ∙ smallest-stays less marked (smallest less marked bit first m) (first + m) (at - m) (λ k f l t. absurd (true≢false (sym t ∙ past (k - first) (omega arith))))
+      ∙ smallest-stays less marked (smallest less marked bit first m) (first + m) (at - m)
+      (λ k f l t. absurd (true≢false (sym t ∙ past (k - first) (omega arith))))
 
   -- where none is light a check more is met
   heavy : ((k : ℕ) → k < m → lights k ≡ false) → (k : ℕ) → k < m → hits d starts start n k + met < n
@@ -82,7 +83,8 @@ module _ (less : ℕ → ℕ → Bool) (d : Word) (starts : List ℕ) (start n m
 
   module _ (g : ℕ → ℕ) (few : n ≤ 8) (scored : (k : ℕ) → k < m → g (first + k) ≡ 2 * hits d starts start n k + (8 - n)) (score : ℕ) where
     -- the light bits are those of the score, where the bits that have at most so many checks met are
-    pub by-score : met ≡ (8 + n - score) / 2 → score ≤ 8 + n → smallest less marked bit first m ≡ smallest less (scoring g score) bit first m
+    pub by-score : met ≡ (8 + n - score) / 2 → score ≤ 8 + n
+        → smallest less marked bit first m ≡ smallest less (scoring g score) bit first m
     by-score e h = smallest-same less marked (scoring g score) bit first m (λ k f l.
         let p : first + (k - first) ≡ k = omega arith in
         level (k - first) (omega arith) ∙ ap (λ j. leb score (g j)) p)
@@ -90,7 +92,8 @@ module _ (less : ℕ → ℕ → Bool) (d : Word) (starts : List ℕ) (start n m
         level : (k : ℕ) → k < m → lights k ≡ leb score (g (first + k))
         level k l =
             shown k true (lt-ltb k m l)
-            ∙ leb-iff n (hits d starts start n k + met) score (g (first + k)) (λ u. omega (arith, scored k l)) (λ u. omega (arith, scored k l))
+            ∙ leb-iff n (hits d starts start n k + met) score (g (first + k)) (λ u. omega (arith, scored k l))
+            (λ u. omega (arith, scored k l))
 
     -- where the bound is below it none has
     pub under-score : ((k : ℕ) → k < m → g (first + k) < score) → bit ≡ smallest less (scoring g score) bit first m

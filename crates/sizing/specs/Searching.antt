@@ -18,7 +18,8 @@ pub record Within (starts d : List ℕ) (from n m : ℕ) : Type 0 where
 
 -- Of the first blocks, those that have a bit of this score or a greater one have it as their bound.
 abbrev pub Reached : (ℕ → ℕ) → Shape → ℕ → List ℕ → List ℕ → ℕ → Type 0
-Reached g sh score counts met blocks = (b k : ℕ) → b < blocks → k < sh .size → score ≤ g (b * sh .size + k) → getD met b 0 ≡ (8 + getD counts b 0 - score) / 2
+Reached g sh score counts met blocks = (b k : ℕ) → b < blocks → k < sh .size → score ≤ g (b * sh .size + k)
+    → getD met b 0 ≡ (8 + getD counts b 0 - score) / 2
 
 -- The bits that have at least this score.
 abbrev pub scoring : (ℕ → ℕ) → ℕ → ℕ → Bool

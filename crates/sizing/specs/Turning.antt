@@ -21,8 +21,10 @@ use Rattle.sizes.specs.Samples.{read, smaller}
 use Rattle.sizes.specs.Sizes.{bySize}
 use Rattle.sizing.specs.declared.Ended.{Ended}
 
--- The state is that of the word y, which has a broken check; this bit has the greatest score; and y differs in so many bits from what was read.
-pub record Shown (c : Code) (h : List ℕ) (sh : Shape) (samples : List Float) (y d starts counts met : List ℕ) (best : Best) (unlike : ℕ) : Type 0 where
+-- The state is that of the word y, which has a broken check; this bit has the greatest score; and y differs in so many bits from what was
+-- read.
+pub record Shown (c : Code) (h : List ℕ) (sh : Shape) (samples : List Float) (y d starts counts met : List ℕ) (best : Best)
+    (unlike : ℕ) : Type 0 where
   pub lent : Lent c h sh
   pub gathered : Gathered h sh starts counts (sh .blocks)
   pub all : c .unsent ≡ 0
@@ -32,7 +34,8 @@ pub record Shown (c : Code) (h : List ℕ) (sh : Shape) (samples : List Float) (
   pub differs : unlike ≡ differing c (read samples) (wbit y)
 
 -- The smallest such bit was flipped, and the state is that of the word afterwards.
-pub record Turned (c : Code) (sh : Shape) (samples : List Float) (y : List ℕ) (best : Best) (unlike : ℕ) (y′ d′ counts met′ : List ℕ) : Type 0 where
+pub record Turned (c : Code) (sh : Shape) (samples : List Float) (y : List ℕ) (best : Best) (unlike : ℕ)
+    (y′ d′ counts met′ : List ℕ) : Type 0 where
   pub bit : ℕ
   pub next : bySize (smaller samples) c (wbit y) ≡ flip bit (subℕ (best .score) 8)
   pub word : wbit y′ ≡ flipped (wbit y) bit
@@ -40,8 +43,10 @@ pub record Turned (c : Code) (sh : Shape) (samples : List Float) (y : List ℕ) 
   pub left : broken c (wbit y′) + (best .score - 8) ≡ broken c (wbit y)
   pub differs : unlike ≡ differing c (read samples) (wbit y′)
 
--- The run by sizes from x has come to y after so many flips; the state is y's, so many checks are broken, and it differs in so many bits from what was read.
-pub record Coming (c : Code) (sh : Shape) (samples : List Float) (limit : ℕ) (x : Word) (flips : ℕ) (y d counts met : List ℕ) (left unlike : ℕ) : Type 0 where
+-- The run by sizes from x has come to y after so many flips; the state is y's, so many checks are broken, and it differs in so many bits
+-- from what was read.
+pub record Coming (c : Code) (sh : Shape) (samples : List Float) (limit : ℕ) (x : Word) (flips : ℕ) (y d counts met : List ℕ)
+    (left unlike : ℕ) : Type 0 where
   pub going : Going (bySize (smaller samples) c) c sh limit x flips (wbit y) (laid c sh (wbit y))
   pub carried : Carried c sh 0 left (wbit y) d counts met
   pub differs : unlike ≡ differing c (read samples) (wbit y)

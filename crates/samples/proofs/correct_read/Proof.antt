@@ -7,7 +7,8 @@ use Rattle.rules.specs.Codes.{code, offered}
 use Rattle.vectors.proofs.Filling.{zero-words}
 use Rattle.offer.proofs.Offers.{small}
 use Rattle.codes.proofs.Admitted.{as-truth, shaped, fitting, steps-by, word-long, unsent-is, bits-are}
-use Rattle.samples.proofs.Correcting.{all-sent, theRun, ran-number, ran-word, ran-met, ran-unsent, corrected-is, wrote-word, wrote-none}
+use Rattle.samples.proofs.Correcting.{all-sent, theRun, ran-number, ran-word, ran-met, ran-unsent, corrected-is, wrote-word}
+use Rattle.samples.proofs.Correcting.{wrote-none}
 use borrow.Author.Needs.{needs}
 use Rattle.samples.proofs.correct_read.Statement.{statement}
 use Rattle.samples.proofs.correct_read.Tie as tie
@@ -53,7 +54,8 @@ slice-aggregate-run-2 c = search needs
 run-requires : tie.Need-run-requires
 run-requires c κs =
     let m = c .before .before .before .before .before .before .before .before .before .checks in
-    let s = c .before .before .before .before .before .before .before .before .before .before .before .before .before .before .before .before .before in
+    let s = c .before .before .before .before .before .before .before .before .before .before .before .before .before .before .before
+    .before .before in
     let f = c .before .before .before .before .before .broken in
     let k = s .pre .0 in
     let e = m .ensures (k .number) (k .offers) (ap (λ z. z .shape .size) (k .is)) in (
@@ -65,7 +67,13 @@ run-requires c κs =
       s .pre .5,
       record {
         code = code (k .number);
-        begins = record { lent = e .1 .lent; unsent = all-sent (k .number) (k .is) (s .pre .1); held = e .2; broken = f .ensures (code (k .number)) _ _ _ (e .1 .fit) (e .1 .lent) (e .2) };
+        begins = record {
+          lent = e .1 .lent;
+          unsent = all-sent (k .number) (k .is) (s .pre .1);
+          held = e .2;
+          broken =
+              f .ensures (code (k .number)) _ _ _ (e .1 .fit) (e .1 .lent) (e .2);
+        };
       },
     )
 
@@ -74,7 +82,8 @@ judge-requires c κs = search needs
 
 write-requires : tie.Need-write-requires
 write-requires c κs =
-    let k = c .before .before .before .before .before .before .before .before .before .before .before .before .before .before .before .before .before .before .before .before .before .before .before .before .before .before .pre in
+    let k = c .before .before .before .before .before .before .before .before .before .before .before .before .before .before .before
+    .before .before .before .before .before .before .before .before .before .before .before .pre in
     (search needs, small (k .0) .unsent, omega (arith, k .4, small (k .0) .word), λ h. small (k .0) .plain (omega (arith, h, k .4)))
 
 same-length : tie.Need-same-length
@@ -87,19 +96,27 @@ returns : tie.Need-returns
 returns c =
     let j = c .before .before .before .before .before .before .before .before .judge in
     let g = c .before .before .before .before .before .before .before .before .before .before .before .before .before .run in
-    let w = c .before .before .before .before .before .before .before .before .before .before .before .before .before .before .before .before .before .lowest in
-    let f = c .before .before .before .before .before .before .before .before .before .before .before .before .before .before .before .before .before .before .before .broken in
-    let m = c .before .before .before .before .before .before .before .before .before .before .before .before .before .before .before .before .before .before .before .before .before .before .before .checks in
-    let s = c .before .before .before .before .before .before .before .before .before .before .before .before .before .before .before .before .before .before .before .before .before .before .before .before .before .before .before .before .before .before .before in
+    let w = c .before .before .before .before .before .before .before .before .before .before .before .before .before .before .before
+    .before .before .lowest in
+    let f = c .before .before .before .before .before .before .before .before .before .before .before .before .before .before .before
+    .before .before .before .before .broken in
+    let m = c .before .before .before .before .before .before .before .before .before .before .before .before .before .before .before
+    .before .before .before .before .before .before .before .before .checks in
+    let s = c .before .before .before .before .before .before .before .before .before .before .before .before .before .before .before
+    .before .before .before .before .before .before .before .before .before .before .before .before .before .before .before .before in
     let a = s .args in
     λ n off is.
     let e = m .ensures n off (ap (λ z. z .shape .size) is) in
     let t : T (offered n && not (eqb n 5)) = as-truth (steps-by n is (s .pre .1)) in
     let at-first = f .ensures (code n) _ _ _ (e .1 .fit) (e .1 .lent) (e .2) in
     let to = g .ensures (code n) (record { lent = e .1 .lent; unsent = all-sent n is (s .pre .1); held = e .2; broken = at-first }) in
-    corrected-is n t _ (a .samples .now) (a .limit) (g .result) _ _ (s .pre .5) to (f .result) (w .result) (j .result) at-first (w .ensures (code n) _ _ (e .1 .fit) (e .1 .lent) (e .2))
-    (j .ensures n off is (theRun n t _ (a .samples .now) (a .limit) (g .result) _ _ (s .pre .5) to) (ran-number n t _ (a .samples .now) (a .limit) (g .result) _ _ (s .pre .5) to)
-    (ran-word n t _ (a .samples .now) (a .limit) (g .result) _ _ (s .pre .5) to) (ran-met n t _ (a .samples .now) (a .limit) (g .result) _ _ (s .pre .5) to) (ran-unsent n t _ (a .samples .now) (a .limit) (g .result) _ _ (s .pre .5) to))
+    corrected-is n t _ (a .samples .now) (a .limit) (g .result) _ _ (s .pre .5) to (f .result) (w .result) (j .result) at-first
+    (w .ensures (code n) _ _ (e .1 .fit) (e .1 .lent) (e .2))
+    (j .ensures n off is (theRun n t _ (a .samples .now) (a .limit) (g .result) _ _ (s .pre .5) to)
+    (ran-number n t _ (a .samples .now) (a .limit) (g .result) _ _ (s .pre .5) to)
+    (ran-word n t _ (a .samples .now) (a .limit) (g .result) _ _ (s .pre .5) to)
+    (ran-met n t _ (a .samples .now) (a .limit) (g .result) _ _ (s .pre .5) to)
+    (ran-unsent n t _ (a .samples .now) (a .limit) (g .result) _ _ (s .pre .5) to))
     (a .out .now) _ (wrote-word _ _ _ _ (c .before .before .before .before .before .before .before .if1 .taken)
     (c .before .before .before .before .write .ensures (code n) (unsent-is n is off) (bits-are n is off) (word-long n is off (s .pre .4))))
 
@@ -112,17 +129,23 @@ returns-2 c =
     let g = c .before .before .before .before .before .before .run in
     let w = c .before .before .before .before .before .before .before .before .before .before .lowest in
     let f = c .before .before .before .before .before .before .before .before .before .before .before .before .broken in
-    let m = c .before .before .before .before .before .before .before .before .before .before .before .before .before .before .before .before .checks in
-    let s = c .before .before .before .before .before .before .before .before .before .before .before .before .before .before .before .before .before .before .before .before .before .before .before .before in
+    let m = c .before .before .before .before .before .before .before .before .before .before .before .before .before .before .before
+    .before .checks in
+    let s = c .before .before .before .before .before .before .before .before .before .before .before .before .before .before .before
+    .before .before .before .before .before .before .before .before .before in
     let a = s .args in
     λ n off is.
     let e = m .ensures n off (ap (λ z. z .shape .size) is) in
     let t : T (offered n && not (eqb n 5)) = as-truth (steps-by n is (s .pre .1)) in
     let at-first = f .ensures (code n) _ _ _ (e .1 .fit) (e .1 .lent) (e .2) in
     let to = g .ensures (code n) (record { lent = e .1 .lent; unsent = all-sent n is (s .pre .1); held = e .2; broken = at-first }) in
-    corrected-is n t _ (a .samples .now) (a .limit) (g .result) _ _ (s .pre .5) to (f .result) (w .result) (j .result) at-first (w .ensures (code n) _ _ (e .1 .fit) (e .1 .lent) (e .2))
-    (j .ensures n off is (theRun n t _ (a .samples .now) (a .limit) (g .result) _ _ (s .pre .5) to) (ran-number n t _ (a .samples .now) (a .limit) (g .result) _ _ (s .pre .5) to)
-    (ran-word n t _ (a .samples .now) (a .limit) (g .result) _ _ (s .pre .5) to) (ran-met n t _ (a .samples .now) (a .limit) (g .result) _ _ (s .pre .5) to) (ran-unsent n t _ (a .samples .now) (a .limit) (g .result) _ _ (s .pre .5) to))
+    corrected-is n t _ (a .samples .now) (a .limit) (g .result) _ _ (s .pre .5) to (f .result) (w .result) (j .result) at-first
+    (w .ensures (code n) _ _ (e .1 .fit) (e .1 .lent) (e .2))
+    (j .ensures n off is (theRun n t _ (a .samples .now) (a .limit) (g .result) _ _ (s .pre .5) to)
+    (ran-number n t _ (a .samples .now) (a .limit) (g .result) _ _ (s .pre .5) to)
+    (ran-word n t _ (a .samples .now) (a .limit) (g .result) _ _ (s .pre .5) to)
+    (ran-met n t _ (a .samples .now) (a .limit) (g .result) _ _ (s .pre .5) to)
+    (ran-unsent n t _ (a .samples .now) (a .limit) (g .result) _ _ (s .pre .5) to))
     (a .out .now) _ (wrote-none _ _ _ (c .if1 .left))
 
 pub correct-read-spec : {M : Type 1} → statement M

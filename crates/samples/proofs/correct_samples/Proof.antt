@@ -26,7 +26,8 @@ returns c =
     let f = c .before .before in
     let a = c .before .before .before .before .before .before .args in
     c .refused .ensures (a .out .now)
-    ∙ sym (samples-refused (a .code) (a .samples .now) (a .limit) (a .out .now) _ (samples-refusal (a .code) (f .before .of .ensures) _ _ (f .refusal .ensures)) (c .before .if1 .taken))
+    ∙ sym (samples-refused (a .code) (a .samples .now) (a .limit) (a .out .now) _
+    (samples-refusal (a .code) (f .before .of .ensures) _ _ (f .refusal .ensures)) (c .before .if1 .taken))
 
 slice-aggregate-read : tie.Need-slice-aggregate-read
 slice-aggregate-read c = search needs
@@ -36,7 +37,8 @@ read-requires c κs =
     let f = c .before .before in
     let a = c .before .before .before .before .before .before .args in
     let is = f .before .of .ensures in
-    let t = taken (a .code) is (f .before .of .result .steps) (steps-offered (a .code) is) (length (a .samples .now)) (f .before .of .result .bits) (length (a .out .now)) (f .before .of .result .word) (f .refusal .ensures) (c .before .if1 .left) in
+    let t = taken (a .code) is (f .before .of .result .steps) (steps-offered (a .code) is) (length (a .samples .now))
+    (f .before .of .result .bits) (length (a .out .now)) (f .before .of .result .word) (f .refusal .ensures) (c .before .if1 .left) in
     let z = zero-words 130 in
     (omega (arith, t .input-is, small (t .known) .bits), z)
 
@@ -49,9 +51,11 @@ returns-2 c =
     let a = c .before .before .before .before .before .before .before .before .before .before .args in
     let n = a .code in
     let is = f .before .of .ensures in
-    let t = taken n is (f .before .of .result .steps) (steps-offered n is) _ _ _ _ (f .refusal .ensures) (c .before .before .before .before .before .if1 .left) in
+    let t = taken n is (f .before .of .result .steps) (steps-offered n is) _ _ _ _ (f .refusal .ensures)
+    (c .before .before .before .before .before .if1 .left) in
     c .refused2 .ensures (a .out .now)
-    ∙ sym (samples-sixteen n (a .samples .now) (a .limit) (a .out .now) (as-truth (steps-by n is (t .chosen))) (t .input-is ∙ bits-are n is (t .offers)) (word-long n is (t .offers) (t .output-is))
+    ∙ sym (samples-sixteen n (a .samples .now) (a .limit) (a .out .now) (as-truth (steps-by n is (t .chosen))) (t .input-is
+    ∙ bits-are n is (t .offers)) (word-long n is (t .offers) (t .output-is))
     (sym (c .before .before .before .read .ensures .1) ∙ not-true (c .before .before .before .read .result) (c .before .if2 .taken)))
 
 slice-aggregate-correct-read : tie.Need-slice-aggregate-correct-read
@@ -62,7 +66,9 @@ correct-read-requires c κs =
     let f = c .before .before .before .before .before .before .before in
     let a = c .before .before .before .before .before .before .before .before .before .before .before .args in
     let is = f .before .of .ensures in
-    let t = taken (a .code) is (f .before .of .result .steps) (steps-offered (a .code) is) (length (a .samples .now)) (f .before .of .result .bits) (length (a .out .now)) (f .before .of .result .word) (f .refusal .ensures) (c .before .before .before .before .before .before .if1 .left) in
+    let t = taken (a .code) is (f .before .of .result .steps) (steps-offered (a .code) is) (length (a .samples .now))
+    (f .before .of .result .bits) (length (a .out .now)) (f .before .of .result .word) (f .refusal .ensures)
+    (c .before .before .before .before .before .before .if1 .left) in
     (t .known, t .chosen, t .input-is, search needs, t .output-is, c .before .before .before .before .read .ensures .0)
 
 same-length : tie.Need-same-length
@@ -71,13 +77,18 @@ same-length c = search needs
 returns-3 : tie.Need-returns-3
 returns-3 c =
     let f = c .before .before .before .before .before .before .before .before .before .before .before in
-    let a = c .before .before .before .before .before .before .before .before .before .before .before .before .before .before .before .args in
+    let a = c .before .before .before .before .before .before .before .before .before .before .before .before .before .before .before
+    .args in
     let n = a .code in
     let is = f .before .of .ensures in
-    let t = taken n is (f .before .of .result .steps) (steps-offered n is) _ _ _ _ (f .refusal .ensures) (c .before .before .before .before .before .before .before .before .before .before .if1 .left) in
+    let t = taken n is (f .before .of .result .steps) (steps-offered n is) _ _ _ _ (f .refusal .ensures)
+    (c .before .before .before .before .before .before .before .before .before .before .if1 .left) in
     c .before .before .before .correct-read .ensures n (t .offers) is
-    ∙ sym (samples-taken n (a .samples .now) (a .limit) (a .out .now) (as-truth (steps-by n is (t .chosen))) (t .input-is ∙ bits-are n is (t .offers)) (word-long n is (t .offers) (t .output-is))
-    (sym (c .before .before .before .before .before .before .before .before .read .ensures .1) ∙ not-false (c .before .before .before .before .before .before .before .before .read .result) (c .before .before .before .before .before .before .if2 .left)))
+    ∙ sym (samples-taken n (a .samples .now) (a .limit) (a .out .now) (as-truth (steps-by n is (t .chosen))) (t .input-is
+    ∙ bits-are n is (t .offers)) (word-long n is (t .offers) (t .output-is))
+    (sym (c .before .before .before .before .before .before .before .before .read .ensures .1)
+    ∙ not-false (c .before .before .before .before .before .before .before .before .read .result)
+    (c .before .before .before .before .before .before .if2 .left)))
 
 pub correct-samples-spec : {M : Type 1} → statement M
 correct-samples-spec =

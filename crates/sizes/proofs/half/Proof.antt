@@ -13,7 +13,8 @@ use Rattle.sizes.proofs.half.Tie as tie
 
 abbrev Inv-loop : tie.InvT-loop
 Inv-loop samples at n bits₀ finite₀ i₀ bits finite i =
-    (i ≤ n) × ((j : ℕ) → j < 32 → digit 32 bits j ≡ upTo i (from at (read samples)) j) × (finite ≡ below i (λ j. isFinite (sampleOf samples (at + j))))
+    (i ≤ n) × ((j : ℕ) → j < 32 → digit 32 bits j ≡ upTo i (from at (read samples)) j)
+    × (finite ≡ below i (λ j. isFinite (sampleOf samples (at + j))))
 
 abbrev μ-loop : tie.MeasureT-loop
 μ-loop samples at n bits₀ finite₀ i₀ bits finite i = n - i
@@ -63,8 +64,10 @@ loop-again c =
     let x = from (a .at) (read (a .samples .now)) in
     let one : l .i + 1 ≡ suc (l .i) = omega arith in (
       omega arith,
-      marked-more x (l .bits) (l .i) (c .before .before .mark .result) (omega arith) (l .inv .1) (unfold read in c .before .before .mark .ensures),
-      ap₂ (λ p q. p && q) (c .is-finite .ensures) (l .inv .2) ∙ ap (λ k. below k (λ j. isFinite (sampleOf (a .samples .now) (a .at + j)))) (sym one),
+      marked-more x (l .bits) (l .i) (c .before .before .mark .result) (omega arith) (l .inv .1)
+          (unfold read in c .before .before .mark .ensures),
+      ap₂ (λ p q. p && q) (c .is-finite .ensures) (l .inv .2) ∙ ap (λ k. below k (λ j. isFinite (sampleOf (a .samples .now) (a .at + j))))
+          (sym one),
     )
 
 returns : tie.Need-returns Inv-loop μ-loop

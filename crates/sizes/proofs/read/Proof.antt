@@ -47,7 +47,8 @@ returns c =
     let all : 64 * k + n ≡ length (a .samples .now) = omega arith in (
       word-stored (r .last .1 .0) k x (wbit (a .y .now)) (r .ensures .0) (w .result .bits) (omega arith)
           (rest-held x (64 * k) n (w .result .bits) (λ i h. past-read (a .samples .now) i (omega (arith, all))) (w .ensures .0))
-          ∙ joined-end (64 * (k + 1)) x (wbit (a .y .now)) (λ i h. ap (λ z. z i) (s .pre .1) ∙ sym (past-read (a .samples .now) i (omega (arith, all)))),
+          ∙ joined-end (64 * (k + 1)) x (wbit (a .y .now)) (λ i h. ap (λ z. z i) (s .pre .1)
+          ∙ sym (past-read (a .samples .now) i (omega (arith, all)))),
       ap₂ (λ p q. p && q) (w .ensures .1) (r .ensures .1) ∙ sym (below-more (64 * k) n g) ∙ ap (λ m. below m g) all,
     )
 

@@ -52,7 +52,8 @@ loop-again c =
     let g : ℕ → _ = λ i. isFinite (sampleOf (a .samples .now) i) in
     let n : 64 * (l .k + 1) ≡ 64 * l .k + 64 = omega arith in (
       omega arith,
-      filled-more (a .y .now) x (l .y) (l .k) (l .inv .1) (w .result .bits) (omega arith) (all-held x (64 * l .k) (w .result .bits) (w .ensures .0)),
+      filled-more (a .y .now) x (l .y) (l .k) (l .inv .1) (w .result .bits) (omega arith)
+          (all-held x (64 * l .k) (w .result .bits) (w .ensures .0)),
       ap₂ (λ p q. p && q) (w .ensures .1) (l .inv .2) ∙ sym (below-more (64 * l .k) 64 g) ∙ ap (λ k. below k g) (sym n),
     )
 

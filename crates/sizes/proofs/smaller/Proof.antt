@@ -29,13 +29,15 @@ returns : tie.Need-returns
 unfolding smaller
 returns c =
     let a = c .before .before .before .before .before .before .args in
-    sym (ap (λ b. if b then a .later else a .earlier) (sym (ap₂ lt (c .before .before .before .magnitude .ensures) (c .before .magnitude2 .ensures)) ∙ c .if1 .taken))
+    sym (ap (λ b. if b then a .later else a .earlier)
+    (sym (ap₂ lt (c .before .before .before .magnitude .ensures) (c .before .magnitude2 .ensures)) ∙ c .if1 .taken))
 
 returns-2 : tie.Need-returns-2
 unfolding smaller
 returns-2 c =
     let a = c .before .before .before .before .before .before .args in
-    sym (ap (λ b. if b then a .later else a .earlier) (sym (ap₂ lt (c .before .before .before .magnitude .ensures) (c .before .magnitude2 .ensures)) ∙ c .if1 .left))
+    sym (ap (λ b. if b then a .later else a .earlier)
+    (sym (ap₂ lt (c .before .before .before .magnitude .ensures) (c .before .magnitude2 .ensures)) ∙ c .if1 .left))
 
 pub smaller-spec : {M : Type 1} → statement M
 smaller-spec =

@@ -47,7 +47,8 @@ loop-less c =
     let f = c .before .before .first-set in
     let l = c .before .before .before .before .loop in
     let a = c .before .before .before .before .before .before .args in
-    left-less (smaller (a .samples .now)) (a .first) (l .left) (c .turned .result) (f .result) (f .ensures .0) (f .ensures .1) (f .ensures .2) (c .turned .ensures) (l .inv .0) (search needs)
+    left-less (smaller (a .samples .now)) (a .first) (l .left) (c .turned .result) (f .result) (f .ensures .0) (f .ensures .1)
+    (f .ensures .2) (c .turned .ensures) (l .inv .0) (search needs)
 
 loop-again : tie.Need-loop-again Inv-loop μ-loop
 loop-again c =
@@ -58,17 +59,23 @@ loop-again c =
     let i = f .result in
     let s = c .before .smaller in (
       search needs,
-      subst (λ k. k < length (a .samples .now)) (sym (s .ensures)) (smaller-in (less (a .first + i) (l .best)) (a .first + i) (l .best) (length (a .samples .now)) (l .inv .2 i (f .ensures .0) (f .ensures .1)) (l .inv .1)),
-      λ k h e. l .inv .2 k h (left-set less (a .first) (l .left) (c .turned .result) i (f .ensures .0) (f .ensures .1) (f .ensures .2) (c .turned .ensures) k h e),
-      masked-more less (a .first) (l .left) (c .turned .result) i (f .ensures .0) (f .ensures .1) (f .ensures .2) (c .turned .ensures) (l .best) (s .result) (s .ensures) ∙ l .inv .3,
+      subst (λ k. k < length (a .samples .now)) (sym (s .ensures)) (smaller-in (less (a .first + i) (l .best)) (a .first + i) (l .best)
+          (length (a .samples .now)) (l .inv .2 i (f .ensures .0) (f .ensures .1)) (l .inv .1)),
+      λ k h e. l .inv .2 k h (left-set less (a .first) (l .left) (c .turned .result) i (f .ensures .0) (f .ensures .1) (f .ensures .2)
+          (c .turned .ensures) k h e),
+      masked-more less (a .first) (l .left) (c .turned .result) i (f .ensures .0) (f .ensures .1) (f .ensures .2) (c .turned .ensures)
+          (l .best) (s .result) (s .ensures) ∙ l .inv .3,
     )
 
 returns : tie.Need-returns Inv-loop μ-loop
 returns c =
     let l = c .before .loop in
     let a = c .before .before .before .args in
-    let less = smaller (a .samples .now) in
-    (l .inv .1, λ marked n h holds. sym (masked-none less (a .first) (l .left) (l .best) (c .loop-test .left)) ∙ l .inv .3 ∙ masked less (a .first) (a .mask) (a .bit) marked n h holds)
+    let less = smaller (a .samples .now) in (
+      l .inv .1,
+      λ marked n h holds. sym (masked-none less (a .first) (l .left) (l .best) (c .loop-test .left)) ∙ l .inv .3
+          ∙ masked less (a .first) (a .mask) (a .bit) marked n h holds,
+    )
 
 pub smallest-of-spec : {M : Type 1} → statement M
 smallest-of-spec =

@@ -27,7 +27,8 @@ unfolding read
 returns c =
     let a = c .before .before .before .before .before .args in
     let x = read (a .samples .now) (a .bit) in
-    let same : tally (x ⊕ wbit (a .y .now) (a .bit)) ≡ 0 = alike x (wbit (a .y .now) (a .bit)) (ap (Bool·beq x) (sym (c .before .is-set .ensures)) ∙ c .if1 .taken) in
+    let same : tally (x ⊕ wbit (a .y .now) (a .bit)) ≡ 0 = alike x (wbit (a .y .now) (a .bit))
+    (ap (Bool·beq x) (sym (c .before .is-set .ensures)) ∙ c .if1 .taken) in
     (omega arith, λ h. omega arith)
 
 returns-2 : tie.Need-returns-2
@@ -35,7 +36,8 @@ unfolding read
 returns-2 c =
     let a = c .before .before .before .before .before .before .args in
     let x = read (a .samples .now) (a .bit) in
-    let other : tally (x ⊕ wbit (a .y .now) (a .bit)) ≡ 1 = apart x (wbit (a .y .now) (a .bit)) (ap (Bool·beq x) (sym (c .before .before .is-set .ensures)) ∙ c .before .if1 .left) in
+    let other : tally (x ⊕ wbit (a .y .now) (a .bit)) ≡ 1 = apart x (wbit (a .y .now) (a .bit))
+    (ap (Bool·beq x) (sym (c .before .before .is-set .ensures)) ∙ c .before .if1 .left) in
     (omega arith, λ h. absurd (omega (arith, c .if2 .taken)))
 
 sub-result : tie.Need-sub-result
@@ -46,7 +48,8 @@ unfolding read
 returns-3 c =
     let a = c .before .before .before .before .before .before .args in
     let x = read (a .samples .now) (a .bit) in
-    let other : tally (x ⊕ wbit (a .y .now) (a .bit)) ≡ 1 = apart x (wbit (a .y .now) (a .bit)) (ap (Bool·beq x) (sym (c .before .before .is-set .ensures)) ∙ c .before .if1 .left) in
+    let other : tally (x ⊕ wbit (a .y .now) (a .bit)) ≡ 1 = apart x (wbit (a .y .now) (a .bit))
+    (ap (Bool·beq x) (sym (c .before .before .is-set .ensures)) ∙ c .before .if1 .left) in
     (omega arith, λ h. omega (arith, c .if2 .left))
 
 pub counted-spec : {M : Type 1} → statement M

@@ -16,7 +16,8 @@ use Rattle.sizing.proofs.found_in.Tie as tie
 
 abbrev Inv-loop : tie.InvT-loop
 Inv-loop samples d starts from n met m first bit best₀ any₀ at₀ best any at =
-    (at ≤ m + 63) × (best < length samples) × (best ≡ smallest (smaller samples) (marked (smaller samples) (wbit d) starts from n met m first bit) bit first at)
+    (at ≤ m + 63) × (best < length samples)
+    × (best ≡ smallest (smaller samples) (marked (smaller samples) (wbit d) starts from n met m first bit) bit first at)
     × (any ≡ false → (k : ℕ) → k < at → light (wbit d) starts from n met 0 m k ≡ false)
 
 abbrev μ-loop : tie.MeasureT-loop
@@ -25,8 +26,13 @@ abbrev μ-loop : tie.MeasureT-loop
 loop-holds : tie.Need-loop-holds Inv-loop μ-loop
 loop-holds c =
     let s = c .before .before .before in
-    let a = s .args in
-    (omega arith, s .pre .2, found-none (smaller (a .samples .now)) (wbit (a .d .now)) (a .starts .now) (a .from) (a .n) (a .met) (a .m) (a .first) (a .bit), λ e k l. absurd (omega arith))
+    let a = s .args in (
+      omega arith,
+      s .pre .2,
+      found-none (smaller (a .samples .now)) (wbit (a .d .now)) (a .starts .now) (a .from) (a .n) (a .met) (a .m)
+          (a .first) (a .bit),
+      λ e k l. absurd (omega arith),
+    )
 
 weigh-requires : tie.Need-weigh-requires Inv-loop μ-loop
 weigh-requires c κs =
@@ -41,8 +47,15 @@ smallest-of-requires : tie.Need-smallest-of-requires Inv-loop μ-loop
 smallest-of-requires c κs =
     let s = c .before .before .before .before .before .before in
     let a = s .args in
-    let l = c .before .before .loop in
-    (l .inv .1, λ i h e. omega (arith, s .pre .3, mask-inside (smaller (a .samples .now)) (wbit (a .d .now)) (a .starts .now) (a .from) (a .n) (a .met) (a .m) (a .first) (a .bit) (l .at) (c .weigh .result) (c .weigh .ensures) i h e))
+    let l = c .before .before .loop in (
+      l .inv .1,
+      λ i h e. omega (
+        arith,
+        s .pre .3,
+        mask-inside (smaller (a .samples .now)) (wbit (a .d .now)) (a .starts .now) (a .from)
+            (a .n) (a .met) (a .m) (a .first) (a .bit) (l .at) (c .weigh .result) (c .weigh .ensures) i h e,
+      ),
+    )
 
 add-at : tie.Need-add-at Inv-loop μ-loop
 add-at c = omega (arith, c .before .before .before .before .before .before .before .pre .0 .size)
@@ -61,11 +74,14 @@ loop-again c =
     let marks = marked less (wbit (a .d .now)) (a .starts .now) (a .from) (a .n) (a .met) (a .m) (a .first) (a .bit) in (
       omega arith,
       f .ensures .0,
-      found-more less (wbit (a .d .now)) (a .starts .now) (a .from) (a .n) (a .met) (a .m) (a .first) (a .bit) (l .at) (w .result) (w .ensures) (l .best) (f .result) (l .inv .2)
-          (f .ensures .1 marks 64 (omega arith) (mask-marks less (wbit (a .d .now)) (a .starts .now) (a .from) (a .n) (a .met) (a .m) (a .first) (a .bit) (l .at) (w .result) (w .ensures))),
+      found-more less (wbit (a .d .now)) (a .starts .now) (a .from) (a .n) (a .met) (a .m) (a .first) (a .bit) (l .at) (w .result)
+          (w .ensures) (l .best) (f .result) (l .inv .2)
+          (f .ensures .1 marks 64 (omega arith) (mask-marks less (wbit (a .d .now)) (a .starts .now) (a .from) (a .n) (a .met) (a .m)
+          (a .first) (a .bit) (l .at) (w .result) (w .ensures))),
       λ e.
           let p = neither (l .any) (not (eqb (w .result) 0)) e in
-          none-more less (wbit (a .d .now)) (a .starts .now) (a .from) (a .n) (a .met) (a .m) (a .first) (a .bit) (l .at) (w .result) (w .ensures) (l .inv .3 (p .0)) (is-zero (w .result) (p .1)),
+          none-more less (wbit (a .d .now)) (a .starts .now) (a .from) (a .n) (a .met) (a .m) (a .first) (a .bit) (l .at) (w .result)
+          (w .ensures) (l .inv .3 (p .0)) (is-zero (w .result) (p .1)),
     )
 
 returns : tie.Need-returns Inv-loop μ-loop
@@ -74,7 +90,8 @@ returns c =
     let a = s .args in
     let l = c .before .loop in (
       l .inv .1,
-      found-all (smaller (a .samples .now)) (wbit (a .d .now)) (a .starts .now) (a .from) (a .n) (a .met) (a .m) (a .first) (a .bit) (l .at) (l .best) (omega arith) (l .inv .2),
+      found-all (smaller (a .samples .now)) (wbit (a .d .now)) (a .starts .now) (a .from) (a .n) (a .met) (a .m) (a .first) (a .bit)
+          (l .at) (l .best) (omega arith) (l .inv .2),
       λ e k h. l .inv .3 e k (omega arith),
     )
 

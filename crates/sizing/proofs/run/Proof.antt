@@ -24,7 +24,8 @@ returns c k w =
     let none : broken k y ≡ 0 = sym (w .broken) ∙ c .before .if1 .taken in
     record {
       runs = runs-as _ _ (e .0) (e .1)
-          (ends-quiet way k (a .sh) (a .limit) y 0 y (laid k (a .sh) y) (going-start way k (a .sh) (a .limit) y (laid k (a .sh) y) refl) (sized-quiet (smaller (a .samples .now)) (w .lent) (w .unsent) y none));
+          (ends-quiet way k (a .sh) (a .limit) y 0 y (laid k (a .sh) y) (going-start way k (a .sh) (a .limit) y (laid k (a .sh) y) refl)
+          (sized-quiet (smaller (a .samples .now)) (w .lent) (w .unsent) y none));
       last = e .2 ∙ sym none;
       differs = e .3 ∙ sym (differ-self k y);
     }
@@ -55,7 +56,8 @@ slice-aggregate-go-on-4 c = search needs
 
 go-on-requires : tie.Need-go-on-requires
 go-on-requires c κs =
-    let s = c .before .before .before .before .before .before .before .before .before .before .before .before .before .before .before .before .before in
+    let s = c .before .before .before .before .before .before .before .before .before .before .before .before .before .before .before
+    .before .before in
     let a = s .args in
     let m = c .before .before .before .before .before .before .before .before .begin in
     let w = s .pre .6 in
@@ -72,7 +74,11 @@ go-on-requires c κs =
         code = w .code;
         lent = k .lent;
         unsent = k .unsent;
-        carried = record { kept = begun-kept (w .code) (a .h .now) (a .sh) (k .lent) _ _ (m .ensures .1) 0 (wbit (a .y .now)) _ _ (k .held) (m .ensures .0); left-is = k .broken };
+        carried = record {
+          kept = begun-kept (w .code) (a .h .now) (a .sh) (k .lent) _ _ (m .ensures .1) 0 (wbit (a .y .now)) _ _ (k .held)
+              (m .ensures .0);
+          left-is = k .broken;
+        };
       },
     )
 
@@ -81,11 +87,15 @@ same-length c = search needs
 
 returns-2 : tie.Need-returns-2
 returns-2 c k e =
-    let s = c .before .before .before .before .before .before .before .before .before .before .before .before .before .before .before .before .before .before .before .before .before .before in
+    let s = c .before .before .before .before .before .before .before .before .before .before .before .before .before .before .before
+    .before .before .before .before .before .before .before in
     let a = s .args in
     let m = c .before .before .before .before .before .before .before .before .before .before .before .before .before .begin in
     c .before .before .before .before .go-on .ensures k (e .lent) (e .unsent)
-    (record { kept = begun-kept k (a .h .now) (a .sh) (e .lent) _ _ (m .ensures .1) 0 (wbit (a .y .now)) _ _ (e .held) (m .ensures .0); left-is = e .broken })
+    (record {
+      kept = begun-kept k (a .h .now) (a .sh) (e .lent) _ _ (m .ensures .1) 0 (wbit (a .y .now)) _ _ (e .held) (m .ensures .0);
+      left-is = e .broken;
+    })
 
 pub run-spec : {M : Type 1} → statement M
 run-spec =

@@ -25,7 +25,8 @@ returns c =
       s .pre .3,
       s .pre .2,
       λ g scored under most. (
-        under-score (smaller (a .samples .now)) (wbit (a .d .now)) (a .starts .now) (a .from) (a .n) (a .met) (a .m) (a .first) (a .bit) g (s .pre .0 .few) scored (a .score) (λ k l. omega (arith, under k l, c .if1 .taken, s .pre .5)),
+        under-score (smaller (a .samples .now)) (wbit (a .d .now)) (a .starts .now) (a .from) (a .n) (a .met) (a .m) (a .first) (a .bit) g
+            (s .pre .0 .few) scored (a .score) (λ k l. omega (arith, under k l, c .if1 .taken, s .pre .5)),
         under,
         λ k l h. absurd (omega (arith, under k l, h, c .if1 .taken, s .pre .5)),
       ),
@@ -54,7 +55,9 @@ returns-2 c =
       f .ensures .0,
       omega (arith, s .pre .5),
       λ g scored under most. (
-        f .ensures .1 ∙ by-score (smaller (a .samples .now)) (wbit (a .d .now)) (a .starts .now) (a .from) (a .n) ((8 + a .n - a .score) / 2) (a .m) (a .first) (a .bit) g (s .pre .0 .few) scored (a .score) refl (omega (arith, c .before .before .if1 .left)),
+        f .ensures .1 ∙ by-score (smaller (a .samples .now)) (wbit (a .d .now)) (a .starts .now) (a .from) (a .n)
+            ((8 + a .n - a .score) / 2) (a .m) (a .first) (a .bit) g (s .pre .0 .few) scored (a .score) refl
+            (omega (arith, c .before .before .if1 .left)),
         λ k l. omega (arith, most k l, c .before .before .if1 .left),
         λ k l h. refl,
       ),
@@ -73,10 +76,14 @@ returns-3 c =
     let f = c .before .found-in in
     let none = f .ensures .2 (c .if2 .left) in (
       f .ensures .0,
-      heavier (smaller (a .samples .now)) (wbit (a .d .now)) (a .starts .now) (a .from) (a .n) ((8 + a .n - a .score) / 2) (a .m) (a .first) (a .bit) none (s .pre .1),
+      heavier (smaller (a .samples .now)) (wbit (a .d .now)) (a .starts .now) (a .from) (a .n) ((8 + a .n - a .score) / 2) (a .m)
+          (a .first) (a .bit) none (s .pre .1),
       λ g scored under most.
-          let low = lower (smaller (a .samples .now)) (wbit (a .d .now)) (a .starts .now) (a .from) (a .n) ((8 + a .n - a .score) / 2) (a .m) (a .first) (a .bit) g (s .pre .0 .few) scored (a .score) none in (
-            f .ensures .1 ∙ by-score (smaller (a .samples .now)) (wbit (a .d .now)) (a .starts .now) (a .from) (a .n) ((8 + a .n - a .score) / 2) (a .m) (a .first) (a .bit) g (s .pre .0 .few) scored (a .score) refl (omega (arith, c .before .before .if1 .left)),
+          let low = lower (smaller (a .samples .now)) (wbit (a .d .now)) (a .starts .now) (a .from) (a .n) ((8 + a .n - a .score) / 2)
+          (a .m) (a .first) (a .bit) g (s .pre .0 .few) scored (a .score) none in (
+            f .ensures .1 ∙ by-score (smaller (a .samples .now)) (wbit (a .d .now)) (a .starts .now) (a .from) (a .n)
+                ((8 + a .n - a .score) / 2) (a .m) (a .first) (a .bit) g (s .pre .0 .few) scored (a .score) refl
+                (omega (arith, c .before .before .if1 .left)),
             low,
             λ k l h. absurd (omega (arith, low k l, h, c .before .before .if1 .left)),
           ),

@@ -17,7 +17,8 @@ abbrev Inv-loop : tie.InvT-loop
 Inv-loop samples d starts counts met₀ sh score bit m best₀ b₀ met best b =
     (b ≤ sh .blocks) × (best < length samples) × Ready sh starts counts met
     × ((g : ℕ → ℕ) → Scored g sh (wbit d) starts counts → Under g sh 0 counts met₀ → ((n : ℕ) → n < sh .blocks * sh .size → g n ≤ score)
-    → (best ≡ smallest (smaller samples) (scoring g score) bit 0 (b * sh .size)) × Under g sh 0 counts met × Reached g sh score counts met b)
+    → (best ≡ smallest (smaller samples) (scoring g score) bit 0 (b * sh .size)) × Under g sh 0 counts met
+    × Reached g sh score counts met b)
 
 abbrev μ-loop : tie.MeasureT-loop
 μ-loop samples d starts counts met₀ sh score bit m best₀ b₀ met best b = sh .blocks - b
@@ -25,17 +26,34 @@ abbrev μ-loop : tie.MeasureT-loop
 loop-holds : tie.Need-loop-holds Inv-loop μ-loop
 loop-holds c =
     let s = c .before .before .before .before .before in
-    let a = s .args in
-    (omega arith, s .pre .3, s .pre .0, λ g scored under most. (blocks-none (smaller (a .samples .now)) (scoring g (a .score)) (a .bit) (a .sh .size), under, λ i k h. absurd (omega arith)))
+    let a = s .args in (
+      omega arith,
+      s .pre .3,
+      s .pre .0,
+      λ g scored under most. (
+        blocks-none (smaller (a .samples .now)) (scoring g (a .score)) (a .bit)
+            (a .sh .size),
+        under,
+        λ i k h. absurd (omega arith),
+      ),
+    )
 
 mul-seen-in : tie.Need-mul-seen-in Inv-loop μ-loop
 mul-seen-in c = omega (arith, c .before .before .before .before .before .before .before .before .pre .0 .blocks)
 
 shared-slice-read-seen-in : tie.Need-shared-slice-read-seen-in Inv-loop μ-loop
-shared-slice-read-seen-in c = omega (arith, c .before .before .before .before .before .before .before .before .before .pre .0 .blocks, c .before .before .before .before .before .before .before .before .before .pre .0 .counts-long)
+shared-slice-read-seen-in c = omega (
+  arith,
+  c .before .before .before .before .before .before .before .before .before .pre .0 .blocks,
+  c .before .before .before .before .before .before .before .before .before .pre .0 .counts-long,
+)
 
 slice-read-seen-in : tie.Need-slice-read-seen-in Inv-loop μ-loop
-slice-read-seen-in c = omega (arith, c .before .before .before .before .loop .inv .2 .met-long, c .before .before .before .before .before .before .before .before .before .before .pre .0 .blocks)
+slice-read-seen-in c = omega (
+  arith,
+  c .before .before .before .before .loop .inv .2 .met-long,
+  c .before .before .before .before .before .before .before .before .before .before .pre .0 .blocks,
+)
 
 mul-seen-in-2 : tie.Need-mul-seen-in-2 Inv-loop μ-loop
 mul-seen-in-2 c =
@@ -60,7 +78,11 @@ seen-in-requires c κs =
     )
 
 slice-write-met : tie.Need-slice-write-met Inv-loop μ-loop
-slice-write-met c = omega (arith, c .before .before .before .before .before .loop .inv .2 .met-long, c .before .before .before .before .before .before .before .before .before .before .before .pre .0 .blocks)
+slice-write-met c = omega (
+  arith,
+  c .before .before .before .before .before .loop .inv .2 .met-long,
+  c .before .before .before .before .before .before .before .before .before .before .before .pre .0 .blocks,
+)
 
 add-b : tie.Need-add-b Inv-loop μ-loop
 add-b c = omega arith
@@ -84,14 +106,16 @@ loop-again c =
           let was = l .inv .3 g scored under most in
           let made = e .ensures .2 g (λ k h. scored (l .b) k hb h) (λ k h. was .1 (l .b) k hb h (omega arith))
           (λ k h. most (l .b * a .sh .size + k) (omega (arith, block-room (l .b) (a .sh .blocks) (a .sh .size) hb))) in (
-            blocks-more (smaller (a .samples .now)) (scoring g (a .score)) (a .bit) (l .b) (a .sh .size) (l .best) (e .result .bit) (was .0) (made .0),
+            blocks-more (smaller (a .samples .now)) (scoring g (a .score)) (a .bit) (l .b) (a .sh .size) (l .best) (e .result .bit)
+                (was .0) (made .0),
             under-set (a .sh) (a .starts .now) (a .counts .now) (l .met) r (l .b) hb g v (was .1) (made .1),
             reached-set (a .sh) (a .starts .now) (a .counts .now) (l .met) r (l .b) hb g (a .score) v (was .2) (made .2),
           ),
     )
 
 same-length : tie.Need-same-length Inv-loop μ-loop
-same-length c = c .before .before .loop .inv .2 .met-long ∙ sym (c .before .before .before .before .before .before .before .before .pre .0 .met-long)
+same-length c = c .before .before .loop .inv .2 .met-long
+    ∙ sym (c .before .before .before .before .before .before .before .before .pre .0 .met-long)
 
 returns : tie.Need-returns Inv-loop μ-loop
 returns c =
@@ -102,8 +126,11 @@ returns c =
       l .inv .1,
       l .inv .2,
       λ g scored under most.
-          let was = l .inv .3 g scored under most in
-          (was .0 ∙ ap (λ b. smallest (smaller (a .samples .now)) (scoring g (a .score)) (a .bit) 0 (b * a .sh .size)) all, was .1, λ i k h. was .2 i k (omega arith)),
+          let was = l .inv .3 g scored under most in (
+            was .0 ∙ ap (λ b. smallest (smaller (a .samples .now)) (scoring g (a .score)) (a .bit) 0 (b * a .sh .size)) all,
+            was .1,
+            λ i k h. was .2 i k (omega arith),
+          ),
     )
 
 pub smallest-at-spec : {M : Type 1} → statement M

@@ -16,8 +16,16 @@ turn-over-requires c κs = search needs
 
 flip-requires : tie.Need-flip-requires
 flip-requires c κs =
-    let a = c .before .before .before .before .before .before .before .before .before .before .smallest-at in
-    (a .ensures .1, search needs, omega (arith, a .ensures .0, c .before .before .before .before .before .before .before .before .before .before .before .before .before .before .before .before .before .before .before .pre .3))
+    let a = c .before .before .before .before .before .before .before .before .before .before .smallest-at in (
+      a .ensures .1,
+      search needs,
+      omega (
+        arith,
+        a .ensures .0,
+        c .before .before .before .before .before .before .before .before .before .before .before .before .before
+            .before .before .before .before .before .before .pre .3,
+      ),
+    )
 
 same-length : tie.Need-same-length
 same-length c = search needs
@@ -30,16 +38,20 @@ same-length-3 c = search needs
 
 returns : tie.Need-returns
 returns c =
-    let s = c .before .before .before .before .before .before .before .before .before .before .before .before .before .before .before .before .before .before .before .before .before .before .before .before in
+    let s = c .before .before .before .before .before .before .before .before .before .before .before .before .before .before .before
+    .before .before .before .before .before .before .before .before .before in
     let a = s .args in
     let f = c .before .before .before .before .flip in
     let o = c .before .before .before .before .before .before .before .before .before .turn-over in
     let n = c .before .before .before .before .before .before .before .before .before .before .before .counted in
-    let m = c .before .before .before .before .before .before .before .before .before .before .before .before .before .before .before .smallest-at in (
+    let m = c .before .before .before .before .before .before .before .before .before .before .before .before .before .before .before
+    .smallest-at in (
       f .ensures .0,
       n .ensures .0,
-      λ k h shown. turned-is k h (a .sh) (a .samples .now) (a .y .now) (a .d .now) (a .starts .now) (a .counts .now) (a .met .now) (a .best) (a .unlike) shown
-          (s .pre .0 .some) (s .pre .0 .held) (s .pre .6) (m .result) _ (m .ensures .2) (n .result) (n .ensures .1) _ (o .ensures) _ _ (f .ensures .1),
+      λ k h shown. turned-is k h (a .sh) (a .samples .now) (a .y .now) (a .d .now) (a .starts .now) (a .counts .now) (a .met .now)
+          (a .best) (a .unlike) shown
+          (s .pre .0 .some) (s .pre .0 .held) (s .pre .6) (m .result) _ (m .ensures .2) (n .result) (n .ensures .1) _ (o .ensures) _ _
+          (f .ensures .1),
     )
 
 pub turn-spec : {M : Type 1} → statement M
