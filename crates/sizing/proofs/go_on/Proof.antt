@@ -79,7 +79,7 @@ returns c k lent u w =
     (shown-top k (a .h .now) (a .sh) lent (s .pre .0) (a .starts .now) (a .counts .now) (s .pre .1) u (l .y) (l .d) (l .met) _ (l .left)
     (i .carried) (f .result) (f .ensures .0) (f .ensures .1)) (shown-some k (a .h .now) (a .sh) lent (s .pre .0) (a .starts .now)
     (a .counts .now) (s .pre .1) u (l .y) (l .d) (l .met) _ (l .left) (i .carried) (f .result) (f .ensures .0) (f .ensures .1)
-        (c .before .before .before .before .before .before .before .before .loop-test .taken)) (c .before .if1 .taken) in
+    (c .before .before .before .before .before .before .before .before .loop-test .taken)) (c .before .if1 .taken) in
     record {
       runs = runs-as _ _ (e .0) (e .1) (ends-stuck (bySize (smaller (a .samples .now)) k) k (a .sh) (a .limit) (wbit (a .y .now))
           (l .flips) (wbit (l .y)) _ (i .going) _ _ next);
@@ -112,7 +112,7 @@ returns-2 c k lent u w =
     (shown-top k (a .h .now) (a .sh) lent (s .pre .0) (a .starts .now) (a .counts .now) (s .pre .1) u (l .y) (l .d) (l .met) _ (l .left)
     (i .carried) (f .result) (f .ensures .0) (f .ensures .1)) _ refl (shown-some k (a .h .now) (a .sh) lent (s .pre .0) (a .starts .now)
     (a .counts .now) (s .pre .1) u (l .y) (l .d) (l .met) _ (l .left) (i .carried) (f .result) (f .ensures .0) (f .ensures .1)
-        (c .before .before .before .before .before .before .before .before .before .loop-test .taken)) (c .before .before .if1 .left) in
+    (c .before .before .before .before .before .before .before .before .before .loop-test .taken)) (c .before .before .if1 .left) in
     record {
       runs = runs-as _ _ (e .0) (e .1) (ends-limit (bySize (smaller (a .samples .now)) k) k (a .sh) (a .limit) (wbit (a .y .now))
           (l .flips) (wbit (l .y)) _ (i .going) _ _ next (c .before .if2 .taken));
@@ -159,7 +159,7 @@ sub-left-2 c =
     (shown (w .code) (a .h .now) (a .sh) (w .lent) (s .pre .0) (a .starts .now) (a .counts .now) (s .pre .1) (w .unsent) (l .y) (l .d)
     (l .met) _ (l .left) (i .carried) (f .result) (f .ensures .0) (f .ensures .1)
     (c .before .before .before .before .before .before .before .before .before .before .before .before .before .before .before .before
-        .before .before .before .loop-test .taken) (a .samples .now) (l .unlike) (i .differs)) in
+    .before .before .before .loop-test .taken) (a .samples .now) (l .unlike) (i .differs)) in
     omega (arith, i .carried .left-is, t .left)
 
 add-flips : tie.Need-add-flips Inv-loop μ-loop
