@@ -2,15 +2,14 @@
 use mathlib.Core.Path.{_≡_, refl, sym, ap, ap₂, _∙_, subst}
 use mathlib.Core.Bool.{Bool, true, false, not, _&&_}
 use mathlib.Core.List.{List}
-use Prim.Native.Nat.{ℕ, _*_, _≤_, _<_}
+use Prim.Native.Nat.{ℕ, _<_}
 use native.Mathlib.Nat.{not-suc-le-zero}
-use native.Mathlib.Omega.{arith}
 use lib.Dec.{T, eqb}
 use lib.Ieee.{Float}
 use lib.ListN.{length}
 use borrow.Author.Tests.{eq-eqb, ne-eqb}
 use Rattle.bits.specs.Bits.{Word, if_then_else_}
-use Rattle.rules.specs.Codes.{Code, code, bits, offered}
+use Rattle.rules.specs.Codes.{code, bits, offered}
 use Rattle.rules.specs.Checks.{broken, lowest}
 use Rattle.rules.specs.Encoding.{written}
 use Rattle.rules.specs.Flipping.{Run, run}
@@ -19,11 +18,10 @@ use Rattle.rules.proofs.Numbers.{whole}
 use Rattle.answers.specs.Calls.{refusal, Corrected, differing, judged, ranCorrect}
 use Rattle.answers.proofs.Answers.{refusal-as}
 use Rattle.layout.specs.declared.Shape.{Shape}
-use Rattle.layout.specs.Lent.{laid}
 use Rattle.offer.specs.declared.Offer.{Offer}
 use Rattle.offer.specs.Offers.{offerOf}
 use Rattle.offer.proofs.Offers.{offers}
-use Rattle.codes.proofs.Admitted.{steps-by, steps-offered, bits-are, word-long}
+use Rattle.codes.proofs.Admitted.{steps-by, bits-are, word-long}
 use Rattle.sizes.specs.Samples.{read, smaller}
 use Rattle.sizes.specs.Sizes.{bySize}
 use Rattle.sizing.specs.declared.Ended.{Ended}

@@ -1,20 +1,20 @@
 -- The way of choosing by sizes: it takes a bit of greatest excess, whatever the sizes; with equal sizes it is the flipping run's.
-use mathlib.Core.Path.{_≡_, refl, sym, ap, ap₂, _∙_, subst, fun-ext}
+use mathlib.Core.Path.{_≡_, refl, sym, ap, _∙_, subst, fun-ext}
 use mathlib.Core.Bool.{Bool, true, false, true≢false, not}
-use mathlib.Core.Logic.{_⊎_, inl, inr}
-use Prim.Native.Nat.{ℕ, _+_, _-_, _≤_, _<_}
+use mathlib.Core.Logic.{inl, inr}
+use Prim.Native.Nat.{ℕ, _-_, _≤_, _<_}
 use native.Mathlib.Nat.{lt-of-not-le}
 use native.Mathlib.Decide.{decLt}
 use native.Mathlib.Omega.{arith}
 use lib.Dec.{T, leb→le, nltb→le}
 use lib.IntN.{ℤ, pos, negsuc}
-use lib.Signed.{ltZ, leZ, _≤ℤ_}
+use lib.Signed.{ltZ, leZ}
 use borrow.Author.Tests.{ltb-true, lt-ltb}
-use Rattle.bits.specs.Bits.{Word, if_then_else_}
+use Rattle.bits.specs.Bits.{Word}
 use Rattle.bits.proofs.Sums.{not-true}
 use Rattle.rules.specs.Codes.{Code, bits}
-use Rattle.rules.specs.Checks.{broken, excess, brokenOf, metOf}
-use Rattle.rules.specs.Flipping.{Next, quiet, stuck, flip, Way, byExcess}
+use Rattle.rules.specs.Checks.{excess, brokenOf, metOf}
+use Rattle.rules.specs.Flipping.{Next, quiet, stuck, flip, byExcess}
 use Rattle.rules.proofs.Ways.{Chosen, Chooses, TakesGreatest, above-is}
 use Rattle.rules.proofs.Choosing.{by-excess, by-greatest, chosen, chosen-greatest, next-flip}
 use Rattle.sizes.specs.Sizes.{reaching, instead, smallestSent, bySize}

@@ -2,12 +2,12 @@
 use mathlib.Core.Path.{_≡_, refl, sym, ap, ap₂, _∙_, subst}
 use mathlib.Core.Bool.{Bool, true, false, true≢false, not, _&&_, _||_, Bool·beq}
 use mathlib.Core.List.{List}
-use Prim.Native.Nat.{ℕ, zero, suc, _+_, _*_, _≤_, _<_}
+use Prim.Native.Nat.{ℕ, zero, _+_, _*_, _≤_, _<_}
 use native.Mathlib.Nat.{mul-one, zero-mul, zero-add}
 use native.Mathlib.Omega.{arith}
 use lib.Dec.{T, ltb, eqb, nltb→le}
 use lib.IntN.{ℤ}
-use lib.Ieee.{Float, nan, inf, fin, up, down, below, lt, eq, neg, ofBits, binary32}
+use lib.Ieee.{Float, nan, inf, fin, up, down, below, lt, eq, neg, ofBits}
 use lib.Ieee.Positive.{num, den, den-pos, through}
 use lib.ListN.{length, List·getD-eq-default}
 use borrow.Author.Tests.{le-ltb, ltb-true, eqb-true}

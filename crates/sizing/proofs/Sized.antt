@@ -1,6 +1,6 @@
 -- What comes next by sizes, from the greatest score and the smallest bit that has it.
-use mathlib.Core.Path.{_≡_, refl, sym, ap, ap₂, _∙_, subst}
-use mathlib.Core.Bool.{Bool, true, false, true≢false, not}
+use mathlib.Core.Path.{_≡_, refl, sym, ap, _∙_}
+use mathlib.Core.Bool.{Bool, not}
 use mathlib.Core.Logic.{inl, inr}
 use mathlib.Core.List.{List}
 use Prim.Native.Nat.{ℕ, _+_, _-_, _*_, _/_, _%_, _≤_, _<_}
@@ -14,7 +14,7 @@ use lib.Signed.{ltZ}
 use borrow.Author.Tests.{le-leb, lt-leb, lt-ltb, le-ltb, leb-true}
 use Rattle.bits.specs.Bits.{Word, flipped}
 use Rattle.rules.specs.Codes.{Code, bits}
-use Rattle.rules.specs.Checks.{broken, excess, brokenOf, metOf, degreeOf}
+use Rattle.rules.specs.Checks.{broken, excess, metOf, degreeOf}
 use Rattle.rules.specs.Flipping.{quiet, stuck, flip}
 use Rattle.rules.proofs.Flips.{broken-met, broken-flip, sub-order}
 use Rattle.rules.proofs.Choosing.{quiet-next}

@@ -93,7 +93,8 @@ returns-2 c =
           (f .ensures .1)) u (eqb-false (broken k x) 0
           (sym (c .before .before .before .before .before .before .before .before .before .before .before .before .before .before .before
           .before .before .is-quiet .ensures k _ _ x (s .pre .0) l e)
-          ∙ c .before .before .before .before .before .before .before .before .before .before .before .before .before .before .before .before .if1 .left)) (c .if2 .taken)
+          ∙ c .before .before .before .before .before .before .before .before .before .before .before .before .before .before .before
+          .before .if1 .left)) (c .if2 .taken)
           ∙ ap (stuck (f .result .bit)) (sym (excess-kept _ (top-small (w .lent) (w .word) t))),
     )
 
@@ -116,7 +117,8 @@ returns-3 c =
           (f .ensures .1)) u (eqb-false (broken k x) 0
           (sym (c .before .before .before .before .before .before .before .before .before .before .before .before .before .before .before
           .before .before .is-quiet .ensures k _ _ x (s .pre .0) l e)
-          ∙ c .before .before .before .before .before .before .before .before .before .before .before .before .before .before .before .before .if1 .left)) (c .if2 .left)
+          ∙ c .before .before .before .before .before .before .before .before .before .before .before .before .before .before .before
+          .before .if1 .left)) (c .if2 .left)
           ∙ ap (flip (f .result .bit)) (sym (excess-kept _ (top-small (w .lent) (w .word) t))),
     )
 

@@ -1,7 +1,7 @@
 -- `sizes::read_whole`: after k turns the first k words have the samples' bits. Assumes nothing.
 use mathlib.Core.Path.{_≡_, refl, sym, ap, ap₂, _∙_}
 use mathlib.Core.Bool.{_&&_}
-use Prim.Native.Nat.{ℕ, _+_, _-_, _*_, _/_, _≤_, _<_}
+use Prim.Native.Nat.{ℕ, _+_, _-_, _*_, _/_, _≤_}
 use native.Mathlib.Omega.{arith}
 use lib.ListN.{length}
 use Rattle.bits.specs.Bits.{below}
@@ -9,7 +9,6 @@ use Rattle.vectors.specs.Vectors.{wbit, joined}
 use Rattle.vectors.proofs.Filling.{Filled, filled-start, filled-more}
 use Rattle.sizes.specs.Samples.{read, sampleOf, isFinite}
 use Rattle.sizes.proofs.Reading.{below-more, all-held}
-use borrow.Author.Needs.{needs}
 use Rattle.sizes.proofs.read_whole.Statement.{statement}
 use Rattle.sizes.proofs.read_whole.Tie as tie
 

@@ -1,5 +1,5 @@
 -- `sizes::smaller`: by the magnitudes. Assumes nothing.
-use mathlib.Core.Path.{_≡_, sym, ap, ap₂, _∙_}
+use mathlib.Core.Path.{sym, ap, ap₂, _∙_}
 use lib.Ieee.{lt}
 use Rattle.bits.specs.Bits.{if_then_else_}
 use Rattle.sizes.specs.Samples.{smaller}

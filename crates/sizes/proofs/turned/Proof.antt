@@ -1,9 +1,7 @@
 -- `sizes::turned`: one bit more or less. Assumes nothing.
-use mathlib.Core.Path.{_≡_, ap, _∙_}
-use Prim.Native.Nat.{suc, _-_, _^_}
-use native.Mathlib.Omega.{arith}
+use mathlib.Core.Path.{ap, _∙_}
 use Rattle.bits.specs.Bits.{digit, _⊕_}
-use Rattle.vectors.proofs.Places.{digit-xor, digit-power}
+use Rattle.vectors.proofs.Places.{digit-xor}
 use Rattle.sizes.proofs.Masks.{one-bit}
 use borrow.Author.Needs.{needs}
 use Rattle.sizes.proofs.turned.Statement.{statement}

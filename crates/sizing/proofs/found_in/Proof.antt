@@ -1,5 +1,5 @@
 -- `sizing::found_in`: the best of the bits so far, 64 more at each turn. Assumes nothing.
-use mathlib.Core.Path.{_≡_, refl, sym, ap, _∙_}
+use mathlib.Core.Path.{_≡_}
 use mathlib.Core.Bool.{false, not}
 use Prim.Native.Nat.{ℕ, _+_, _-_, _≤_, _<_}
 use native.Mathlib.Omega.{arith}
@@ -10,7 +10,6 @@ use Rattle.bounds.specs.Reading.{light}
 use Rattle.sizes.specs.Samples.{smaller}
 use Rattle.sizes.specs.Sizes.{smallest}
 use Rattle.sizing.proofs.Levels.{marked, mask-marks, mask-inside, found-more, none-more, found-all, found-none, neither, is-zero}
-use borrow.Author.Needs.{needs}
 use Rattle.sizing.proofs.found_in.Statement.{statement}
 use Rattle.sizing.proofs.found_in.Tie as tie
 

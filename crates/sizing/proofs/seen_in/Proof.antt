@@ -1,5 +1,5 @@
 -- `sizing::seen_in`: the light bits have the score; where there are none, the bound is lowered. Assumes nothing.
-use mathlib.Core.Path.{_≡_, refl, sym, _∙_}
+use mathlib.Core.Path.{refl, _∙_}
 use Prim.Native.Nat.{_+_, _-_, _/_}
 use native.Mathlib.Omega.{arith}
 use Rattle.vectors.specs.Vectors.{wbit}

@@ -1,15 +1,14 @@
 -- `sizing::smallest_at`: the smallest of the blocks so far; the bounds hold. Assumes nothing.
-use mathlib.Core.Path.{_≡_, refl, sym, ap, _∙_}
+use mathlib.Core.Path.{_≡_, sym, ap, _∙_}
 use Prim.Native.Nat.{ℕ, _+_, _-_, _*_, _≤_, _<_}
 use native.Mathlib.Omega.{arith}
-use lib.ListN.{length, getD}
+use lib.ListN.{length}
 use Rattle.vectors.specs.Vectors.{wbit}
 use Rattle.bounds.specs.Keeping.{Ready, Scored, Under}
 use Rattle.sizes.specs.Samples.{smaller}
 use Rattle.sizes.specs.Sizes.{smallest}
 use Rattle.sizing.specs.Searching.{Reached, scoring}
 use Rattle.sizing.proofs.Blocks.{block-room, block-within, ready-set, under-set, reached-set, blocks-more, blocks-none}
-use borrow.Author.Needs.{needs}
 use Rattle.sizing.proofs.smallest_at.Statement.{statement}
 use Rattle.sizing.proofs.smallest_at.Tie as tie
 
