@@ -1,5 +1,5 @@
 -- `samples::correct_read`: the run's numbers, its judgement and its word. Assumes nothing.
-use mathlib.Core.Path.{_∙_}
+use mathlib.Core.Path.{sym, ap, _∙_}
 use mathlib.Core.Bool.{not, _&&_}
 use native.Mathlib.Omega.{arith}
 use lib.Dec.{T, eqb}
