@@ -47,6 +47,8 @@ compare: lib
 	outside/run_x86 target/outside/bch_compare $$(( $(N) / 100 )) $(N) $(or $(SEED),1)
 	outside/build_c target/outside/nearest_compare outside/nearest_compare.c outside/nearest_judge.c outside/judge.c
 	outside/run_x86 target/outside/nearest_compare $$(( $(N) / 100 )) $(or $(SEED),1)
+	outside/build_c target/outside/samples_compare outside/samples_compare.c outside/samples_judge.c outside/judge.c
+	outside/run_x86 target/outside/samples_compare $$(( $(N) / 10 )) $(or $(SEED),1)
 	outside/build_c target/outside/frames_compare outside/frames_compare.c outside/frames_judge.c outside/judge.c
 	outside/run_x86 target/outside/frames_compare $$(( $(N) / 100 )) $(or $(SEED),1)
 

@@ -13,7 +13,8 @@
  * Octets are handed over as a pointer and their number. What a call reads must not overlap what it writes. Every call
  * answers for every code number and every length.
  *
- * A pointer whose length is 0 may be NULL: nothing is read or written through it. Octets may lie at any address.
+ * A pointer whose length is 0 may be NULL: nothing is read or written through it. Octets may lie at any address; samples and flip
+ * records must be aligned for their type.
  * The library keeps no state and allocates nothing: calls may run in any threads at once, each on its own output.
  * A call takes less than PANDORICCHIA_STACK_OCTETS of stack, list less than PANDORICCHIA_LIST_STACK_OCTETS, take less than
  * PANDORICCHIA_TAKE_STACK_OCTETS. The archive asks for memcpy and memset, and nothing else.
@@ -53,19 +54,19 @@ extern "C" {
 #define PANDORICCHIA_LIST_STACK_OCTETS 8192
 #define PANDORICCHIA_TAKE_STACK_OCTETS 16384
 
-/* The number that each call returns. The lowest that applies is given, except that 5 to 8 come in the order of the run, and 18
- * before 17. A call that returns any other number than PANDORICCHIA_DONE is refused and has written nothing, but for list,
+/* The number that each call returns. The lowest that applies is given, except that 5 to 8 come in the order of the run, 16 before
+ * them, and 18 before 17. A call that returns any other number than PANDORICCHIA_DONE is refused and has written nothing, but for list,
  * which writes its records with 5 to 8 too. */
 enum pandoricchia_number {
     PANDORICCHIA_DONE = 0,           /* done; the output, if there is one, is written whole */
     PANDORICCHIA_CODE = 1,           /* the code is not offered by this call */
     PANDORICCHIA_INPUT_LENGTH = 2,   /* the input's length differs from the table above */
-    PANDORICCHIA_OUTPUT_LENGTH = 3,  /* encode, correct, step, nearest: the output's length differs */
+    PANDORICCHIA_OUTPUT_LENGTH = 3,  /* encode, correct, correct_samples, step, nearest: the output's length differs */
     PANDORICCHIA_LAST_SIX = 4,       /* encode, code 4: one of the six last bits is set */
-    PANDORICCHIA_STUCK = 5,          /* correct, list, step: checks are broken, and no bit has an excess above 0 */
-    PANDORICCHIA_LIMIT = 6,          /* correct, list: the limit is reached */
+    PANDORICCHIA_STUCK = 5,          /* correct, correct_samples, list, step: checks are broken, and no bit has an excess above 0 */
+    PANDORICCHIA_LIMIT = 6,          /* correct, correct_samples, list: the limit is reached */
     PANDORICCHIA_UNSENT = 7,         /* never given: no run sets a bit that is not sent */
-    PANDORICCHIA_PARITY = 8,         /* correct, list, codes 4 and 5: quiet, but the parity is not the encoder's */
+    PANDORICCHIA_PARITY = 8,         /* correct, correct_samples, list, codes 4 and 5: quiet, but the parity is not the encoder's */
     PANDORICCHIA_BROKEN = 9,         /* open: a check is broken */
     PANDORICCHIA_PLACES = 10,        /* list: the run has more flips than the table has places */
     PANDORICCHIA_NO_START = 11,      /* reader: the whole start sequence is not there */
@@ -73,6 +74,7 @@ enum pandoricchia_number {
     PANDORICCHIA_NO_BCH_WORD = 13,   /* bch_check: no codeword differs in at most one bit; detect-only: the word is none */
     PANDORICCHIA_LAST_TWO = 14,      /* open, code 5: no check is broken, but one of the last two bits is set */
     PANDORICCHIA_OTHER_PARITY = 15,  /* open, code 5: neither, but the parity is not the encoder's */
+    PANDORICCHIA_SAMPLE = 16,        /* correct_samples: a sample is infinite or not a number */
     PANDORICCHIA_NONE_NEAR = 17,     /* nearest: no codeword lies within the reach */
     PANDORICCHIA_REACH = 18,         /* nearest: the reach is above 3 */
     PANDORICCHIA_EDITION = 19,       /* taker_for: the edition is not known */
@@ -118,6 +120,8 @@ static inline const char *pandoricchia_text(uint8_t number)
         return "one of the last two bits set";
     case PANDORICCHIA_OTHER_PARITY:
         return "parity not the encoder's";
+    case PANDORICCHIA_SAMPLE:
+        return "a sample is infinite or not a number";
     case PANDORICCHIA_NONE_NEAR:
         return "no codeword within the reach";
     case PANDORICCHIA_REACH:
@@ -175,7 +179,7 @@ typedef struct pandoricchia_opened {
 pandoricchia_opened pandoricchia_open(uint8_t code, const uint8_t *word, size_t word_len);
 
 typedef struct pandoricchia_corrected {
-    uint8_t number;   /* 0 to 3 or 5 to 8 */
+    uint8_t number;   /* 0 to 3, 5 to 8 or 16 */
     uint32_t flips;   /* how many flips the run made: never more than the limit, nor than first */
     uint32_t first;   /* broken checks of the word as received */
     uint32_t last;    /* broken checks at the end of the run */
@@ -191,6 +195,14 @@ typedef struct pandoricchia_corrected {
  * lowest. */
 pandoricchia_corrected pandoricchia_correct(uint8_t code, const uint8_t *word, size_t word_len, uint16_t limit,
                                             uint8_t *out, size_t out_len);
+
+/* Correct by sample sizes, codes 1 to 4: a sample for each bit, 128, 256, 512 or 8176 of them, which samples_len counts. A bit is 1
+ * if its sample is below 0, so both zeros read as 0. Correct's run on the bits read, but of several bits of greatest excess the one
+ * whose sample has the smallest magnitude is flipped, and of those the lowest. Samples are compared and no more: with equal
+ * magnitudes it is correct. The numbers are correct's: unlike counts against the bits read, lowest is of those. Refusals 1 to 3
+ * and 16, in this order, return all other values as 0. */
+pandoricchia_corrected pandoricchia_correct_samples(uint8_t code, const float *samples, size_t samples_len, uint16_t limit,
+                                                    uint8_t *out, size_t out_len);
 
 typedef struct pandoricchia_fliprecord {
     uint32_t bit;   /* the bit that was flipped; of code 5 in the run's numbering, 18 to 8175 */

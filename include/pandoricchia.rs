@@ -29,6 +29,7 @@ pub const NO_TAIL: u8 = 12;
 pub const NO_BCH_WORD: u8 = 13;
 pub const LAST_TWO: u8 = 14;
 pub const OTHER_PARITY: u8 = 15;
+pub const SAMPLE: u8 = 16;
 pub const NONE_NEAR: u8 = 17;
 pub const REACH: u8 = 18;
 pub const EDITION: u8 = 19;
@@ -179,6 +180,7 @@ extern "C" {
     fn pandoricchia_quick(code: u8, word: *const u8, word_len: usize) -> Answered;
     fn pandoricchia_open(code: u8, word: *const u8, word_len: usize) -> Opened;
     fn pandoricchia_correct(code: u8, word: *const u8, word_len: usize, limit: u16, out: *mut u8, out_len: usize) -> Corrected;
+    fn pandoricchia_correct_samples(code: u8, samples: *const f32, samples_len: usize, limit: u16, out: *mut u8, out_len: usize) -> Corrected;
     fn pandoricchia_list(code: u8, word: *const u8, word_len: usize, limit: u16, table: *mut FlipRecord, table_len: usize) -> Listed;
     fn pandoricchia_step(code: u8, word: *const u8, word_len: usize, out: *mut u8, out_len: usize) -> Stepped;
     fn pandoricchia_nearest(word: *const u8, word_len: usize, reach: u8, out: *mut u8, out_len: usize) -> Reached;
@@ -220,6 +222,7 @@ pub fn text(number: u8) -> &'static str {
         NO_BCH_WORD => "no codeword differs in at most one bit; detect-only: the word is none",
         LAST_TWO => "one of the last two bits set",
         OTHER_PARITY => "parity not the encoder's",
+        SAMPLE => "a sample is infinite or not a number",
         NONE_NEAR => "no codeword within the reach",
         REACH => "reach above 3",
         EDITION => "edition not known",
@@ -279,6 +282,13 @@ pub fn open(code: u8, word: &[u8]) -> Result<&[u8], Unopened> {
 #[must_use]
 pub fn correct(code: u8, word: &[u8], limit: u16, out: &mut [u8]) -> Corrected {
     unsafe { pandoricchia_correct(code, word.as_ptr(), word.len(), limit, out.as_mut_ptr(), out.len()) }
+}
+
+/// Correct's run on the bits of the samples, a sample for each bit, which is 1 if it is below 0: of several bits of greatest
+/// excess the one whose sample has the smallest magnitude is flipped, and of those the lowest. Codes 1 to 4.
+#[must_use]
+pub fn correct_samples(code: u8, samples: &[f32], limit: u16, out: &mut [u8]) -> Corrected {
+    unsafe { pandoricchia_correct_samples(code, samples.as_ptr(), samples.len(), limit, out.as_mut_ptr(), out.len()) }
 }
 
 /// Correct's run, with a record for each flip in the table; for number 5 the greatest excess and the lowest bit that has it.

@@ -11,6 +11,7 @@
 #include "fast.h"
 #include "judge.h"
 #include "pandoricchia.h"
+#include "samples_fast.h"
 
 #include <stdio.h>
 #include <stdlib.h>
@@ -38,6 +39,7 @@ static uint64_t draw(void)
 }
 
 static uint8_t information[WORDS][LONGEST], word[WORDS][LONGEST], out[LONGEST];
+static float samples[WORDS][8 * LONGEST];
 static struct judge_fliprecord table[LONGEST];
 static unsigned long flips;
 
@@ -59,6 +61,22 @@ static bool break_group(uint8_t code, const char *group, uint8_t *x)
         n = 62; /* the last check of a block row is not broken alone */
     break_check(code, from + (unsigned)(draw() % n), x);
     return true;
+}
+
+/* A sample for each bit of the words, as a receiver may give them: 1 to 3 in size, and 0.01 to 0.6 where the bit is wrong. */
+static void prepare_samples(uint8_t code, const char *wrong)
+{
+    for (unsigned w = 0; w < WORDS; w++) {
+        uint8_t sent[LONGEST];
+        memcpy(sent, word[w], LONGEST);
+        if (strcmp(wrong, "random") != 0)
+            pandoricchia_encode(code, information[w], info_octets[code], sent, word_octets[code]);
+        for (unsigned bit = 0; bit < 8 * word_octets[code]; bit++) {
+            unsigned octet = word[w][bit / 8], mask = 0x80u >> bit % 8;
+            float size = (float)((octet ^ sent[bit / 8]) & mask ? 1 + draw() % 60 : 100 + draw() % 200) / 100;
+            samples[w][bit] = octet & mask ? -size : size;
+        }
+    }
 }
 
 static void prepare(uint8_t code, const char *wrong)
@@ -114,6 +132,10 @@ static unsigned long ask(unsigned who, char call, uint8_t code, unsigned w)
         return who == 0   ? pandoricchia_open(code, x, l).octets
                : who == 1 ? judge_open(code, x, l).octets
                           : fast_open(code, x, l).octets;
+    case 'a':
+        return who == 0   ? pandoricchia_correct_samples(code, samples[w], 8 * l, 65535, out, l).flips
+               : who == 1 ? judge_correct_samples(code, samples[w], 8 * l, 65535, out, l).flips
+                          : fast_correct_samples(code, samples[w], 8 * l, 65535, out, l).flips;
     case 'c':
         return who == 0   ? pandoricchia_correct(code, x, l, 65535, out, l).flips
                : who == 1 ? judge_correct(code, x, l, 65535, out, l).flips
@@ -212,9 +234,10 @@ int main(int argc, char **argv)
 {
     if (argc < 5)
         return 2;
-    char call = argv[2][0] == 'c' && argv[2][1] == 'h' ? 'h' : argv[2][0];
+    char call = strcmp(argv[2], "check") == 0 ? 'h' : strcmp(argv[2], "samples") == 0 ? 'a' : argv[2][0];
     uint8_t code = (uint8_t)atoi(argv[3]);
     prepare(code, argv[4]);
+    prepare_samples(code, argv[4]);
     if (strcmp(argv[1], "time") == 0) {
         print_times(call, code);
         return flips == 0xFFFFFFFF;

@@ -33,6 +33,7 @@ static const size_t informations[6] = {0,
 static _Alignas(64) uint8_t information[PANDORICCHIA_MOST_INFORMATION_OCTETS + 16];
 static _Alignas(64) uint8_t word[PANDORICCHIA_MOST_WORD_OCTETS + 16];
 static _Alignas(64) uint8_t out[PANDORICCHIA_MOST_WORD_OCTETS + 16];
+static _Alignas(64) float samples[8 * PANDORICCHIA_MOST_WORD_OCTETS + 16];
 
 static void fill(uint8_t code, size_t at)
 {
@@ -40,6 +41,13 @@ static void fill(uint8_t code, size_t at)
         information[at + i] = (uint8_t)(37 * i + 11 * code);
     if (code == 4)
         information[at + informations[4] - 1] &= 0xC0;
+}
+
+/* A sample for each bit of octets. */
+static void sample(const uint8_t *octets, size_t len, float *into)
+{
+    for (size_t bit = 0; bit < 8 * len; bit++)
+        into[bit] = octets[bit / 8] >> (7 - bit % 8) & 1 ? -1 : 1;
 }
 
 static void test_lengths(void)
@@ -54,12 +62,12 @@ static void test_lengths(void)
     }
 }
 
-/* Every number to the last has a text, but for those that no call gives. */
+/* Every number to the last has a text. */
 static void test_texts(void)
 {
     const char *none = pandoricchia_text(255);
     for (unsigned number = 0; number <= 255; number++) {
-        int given = number <= PANDORICCHIA_BLOCK_COUNT && number != 16;
+        int given = number <= PANDORICCHIA_BLOCK_COUNT;
         expect((strcmp(pandoricchia_text((uint8_t)number), none) != 0) == given, "a text for each number and for no other", number);
     }
 }
@@ -80,6 +88,9 @@ static void test_null(void)
         expect(opened.number == (code == 4 ? 1 : input) && opened.octets == 0, "open, NULL", code);
         expect(pandoricchia_correct(c, NULL, 0, 9, NULL, 0).number == input, "correct, both NULL", code);
         expect(pandoricchia_correct(c, word, long_word, 9, NULL, 0).number == output, "correct, output NULL", code);
+        expect(pandoricchia_correct_samples(c, NULL, 0, 9, NULL, 0).number == (code == 5 ? 1 : input), "correct_samples, both NULL", code);
+        expect(pandoricchia_correct_samples(c, samples, 8 * long_word, 9, NULL, 0).number == (code == 5 ? 1 : output),
+               "correct_samples, output NULL", code);
         expect(pandoricchia_list(c, NULL, 0, 9, NULL, 0).number == input, "list, both NULL", code);
         expect(pandoricchia_list(c, word, long_word, 0, NULL, 0).number != 10, "list, table NULL", code);
         expect(pandoricchia_step(c, NULL, 0, NULL, 0).number == (code == 5 ? 1 : input), "step, both NULL", code);
@@ -138,6 +149,11 @@ static void test_addresses(void)
             pandoricchia_corrected mended = pandoricchia_correct(code, word + (15 - at), n, 1, out + at, n);
             expect(mended.flips == 1 && mended.unlike == 1, "correct", code);
             expect(memcmp(out + at, first, n) == 0, "correct's octets", code);
+            memset(out, 0, sizeof out);
+            sample(word + (15 - at), n, samples + at);
+            mended = pandoricchia_correct_samples(code, samples + at, 8 * n, 1, out + at, n);
+            expect(mended.number == (code == 5 ? 1 : 0) && mended.flips == (code == 5 ? 0 : 1), "correct_samples", code);
+            expect(code == 5 || memcmp(out + at, first, n) == 0, "correct_samples' octets", code);
             pandoricchia_fliprecord flips[2] = {{9, 9, 9}, {9, 9, 9}};
             expect(pandoricchia_list(code, word + (15 - at), n, 9, flips, 2).flips == 1, "list", code);
             expect(flips[0].bit == (code == 5 ? 45 : 27) && flips[0].left == 0 && flips[1].bit == 9, "list's records", code);
@@ -179,7 +195,8 @@ static void test_stack(void)
     whole.place = 4;
     whole.limit = 1000;
     whole.edition = 5;
-    static const char *names[] = {"encode", "check", "open", "quick", "correct", "step", "list", "take", "taker_for", "nearest"};
+    static const char *names[] = {"encode", "check", "open", "quick", "correct", "step", "list", "take", "taker_for", "nearest",
+                                  "correct_samples"};
     for (unsigned call = 0; call < sizeof names / sizeof names[0]; call++) {
         size_t most = 0;
         for (uint8_t code = 1; code <= 5; code++) {
@@ -188,6 +205,7 @@ static void test_stack(void)
             pandoricchia_encode(code, information, informations[code], word, n);
             for (size_t i = 0; i < 4 && call > 3; i++)
                 word[2 * i] ^= 0x21;
+            sample(word, n, samples);
             paint();
             if (call == 0)
                 pandoricchia_encode(code, information, informations[code], word, n);
@@ -209,8 +227,10 @@ static void test_stack(void)
                 pandoricchia_take(whole, word, n);
             else if (call == 8)
                 pandoricchia_taker_for(code, 1000);
-            else
+            else if (call == 9)
                 pandoricchia_nearest(word, words[1], 3, out, words[1]);
+            else
+                pandoricchia_correct_samples(code, samples, 8 * n, 1000, out, n);
             size_t taken = painted_over();
             most = taken > most ? taken : most;
         }

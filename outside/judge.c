@@ -573,3 +573,8 @@ void judge_checks(uint8_t code, const uint8_t *word, unsigned char *broken)
     lift(c, word, c->bits, x);
     check_all(c, x, broken);
 }
+
+int judge_excess(uint8_t code, const unsigned char *broken, uint32_t bit)
+{
+    return excess_of(code_of(code), broken, bit);
+}

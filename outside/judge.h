@@ -67,9 +67,10 @@ struct judge_listed judge_list(uint8_t code, const uint8_t *word, size_t len, ui
 
 struct judge_stepped judge_step(uint8_t code, const uint8_t *word, size_t len, uint8_t *out, size_t out_len);
 
-/* For tests: whether one check is broken; and of all of them, 1 for each that is. The code is 1 to 5 and the word has its
- * length. */
+/* For tests and other judges: whether one check is broken; of all of them, 1 for each that is; and by those, the excess of a
+ * bit. The code is 1 to 5 and the word has its length. */
 bool judge_broken(uint8_t code, const uint8_t *word, uint32_t check);
 void judge_checks(uint8_t code, const uint8_t *word, unsigned char *broken);
+int judge_excess(uint8_t code, const unsigned char *broken, uint32_t bit);
 
 #endif

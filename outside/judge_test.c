@@ -1,12 +1,15 @@
 /* Runs the judge on document 01's cases and on what the document promises of every word.
  *
  *     cc -std=c11 -Wall -Wextra -O2 -o target/judge_test outside/judge_test.c outside/judge.c outside/nearest_judge.c \
- *         outside/frames_judge.c && target/judge_test
+ *         outside/frames_judge.c outside/samples_judge.c && target/judge_test
  */
 #include "frames_judge.h"
 #include "judge.h"
 #include "nearest_judge.h"
+#include "samples_judge.h"
 
+#include <float.h>
+#include <math.h>
 #include <stdio.h>
 #include <stdlib.h>
 #include <string.h>
@@ -816,6 +819,178 @@ static void nearest_cases(void)
     end();
 }
 
+enum { MOST_BITS = 8 * MOST_OCTETS };
+
+/* Samples of a word, all of one size. */
+static void put_samples(uint8_t code, const uint8_t *word, float size, float *samples)
+{
+    for (unsigned bit = 0; bit < covered_bits[code]; bit++)
+        samples[bit] = bit_of(word, bit) ? -size : size;
+}
+
+static struct judge_corrected correct_samples(uint8_t code, const float *samples, uint16_t limit, uint8_t *out)
+{
+    return judge_correct_samples(code, samples, covered_bits[code], limit, out, word_octets[code]);
+}
+
+static void samples_refused(void)
+{
+    static float samples[MOST_BITS + 8];
+    uint8_t out[MOST_OCTETS + 1];
+
+    begin("samples: refused in this order, and nothing written");
+    memset(out, 0x5A, sizeof out);
+    samples[127] = NAN;
+    for (unsigned code = 0; code < 256; code++)
+        if (code < 1 || code > 4)
+            EXPECT(are(judge_correct_samples((uint8_t)code, samples, 8160, 9, out, 1020), 1, 0, 0, 0, 0, 0));
+    EXPECT(are(judge_correct_samples(1, samples, 16, 9, out, 16), 2, 0, 0, 0, 0, 0));
+    EXPECT(are(judge_correct_samples(1, samples, 129, 9, out, 17), 2, 0, 0, 0, 0, 0));
+    EXPECT(are(judge_correct_samples(1, samples, 128, 9, out, 17), 3, 0, 0, 0, 0, 0));
+    EXPECT(are(judge_correct_samples(1, samples, 128, 9, out, 0), 3, 0, 0, 0, 0, 0));
+    samples[0] = -1;
+    const float no_numbers[] = {NAN, -NAN, INFINITY, -INFINITY};
+    for (unsigned k = 0; k < 4; k++) {
+        samples[127] = no_numbers[k];
+        EXPECT(are(judge_correct_samples(1, samples, 128, 0, out, 16), 16, 0, 0, 0, 0, 0));
+    }
+    samples[127] = FLT_MAX;
+    EXPECT(are(judge_correct_samples(1, samples, 128, 0, out, 16), 6, 0, 5, 5, 0, 0));
+    EXPECT(all_are(out, 0x5A, sizeof out));
+    end();
+}
+
+/* The choice from the rule's words once more, by flips of the word: the greatest excess, then the smallest size, then the lowest. */
+static unsigned chosen(uint8_t code, uint8_t *word, const float *samples, int *greatest)
+{
+    int excess[MOST_BITS], before = (int)judge_check(code, word, word_octets[code]).broken;
+    *greatest = -9;
+    for (unsigned bit = 0; bit < covered_bits[code]; bit++) {
+        flip(word, bit);
+        excess[bit] = before - (int)judge_check(code, word, word_octets[code]).broken;
+        flip(word, bit);
+        *greatest = excess[bit] > *greatest ? excess[bit] : *greatest;
+    }
+    unsigned best = covered_bits[code];
+    for (unsigned bit = covered_bits[code]; bit-- > 0;)
+        if (excess[bit] == *greatest && (best == covered_bits[code] || fabsf(samples[bit]) <= fabsf(samples[best])))
+            best = bit;
+    return best;
+}
+
+static void samples_followed(uint8_t code, const float *samples)
+{
+    uint8_t word[MOST_OCTETS] = {0}, read[MOST_OCTETS], out[MOST_OCTETS];
+    struct judge_fliprecord list[MOST_OCTETS];
+    for (unsigned bit = 0; bit < covered_bits[code]; bit++)
+        if (samples[bit] < 0)
+            flip(word, bit);
+    memcpy(read, word, sizeof word);
+    struct judge_corrected a = judge_list_samples(code, samples, covered_bits[code], 65535, out, word_octets[code], list);
+    EXPECT(a.first == judge_check(code, read, word_octets[code]).broken && a.lowest == lowest_of(code, read));
+    for (uint32_t k = 0; k < a.flips; k++) {
+        int excess;
+        EXPECT(list[k].bit == chosen(code, word, samples, &excess) && list[k].excess == excess && excess > 0);
+        flip(word, list[k].bit);
+        EXPECT(list[k].left == judge_check(code, word, word_octets[code]).broken);
+    }
+    int excess;
+    chosen(code, word, samples, &excess);
+    EXPECT(a.last == judge_check(code, word, word_octets[code]).broken && (a.last > 0) == (a.number == 5));
+    EXPECT(a.number != 5 || excess <= 0);
+    EXPECT(a.unlike == differing(code, read, word));
+    EXPECT(a.number != 0 || memcmp(out, word, word_octets[code]) == 0);
+}
+
+static void samples_taken(void)
+{
+    static float samples[MOST_BITS];
+    uint8_t info[MOST_OCTETS], word[MOST_OCTETS] = {0}, wrong[MOST_OCTETS], out[MOST_OCTETS], other[MOST_OCTETS];
+
+    begin("samples: ties by the smallest size, then the lowest number");
+    /* Bits 80 and 109 wrong: of the same excess as bit 75, the lowest, from which on the run sticks. */
+    memset(word, 0, sizeof word);
+    flip(word, 80);
+    flip(word, 109);
+    put_samples(1, word, 1, samples);
+    EXPECT(are(correct_samples(1, samples, 9, out), 5, 2, 4, 2, 2, lowest_of(1, word)));
+    samples[109] = -0.5f;
+    EXPECT(are(correct_samples(1, samples, 9, out), 0, 2, 4, 0, 2, lowest_of(1, word)));
+    EXPECT(all_are(out, 0, 16));
+    samples[75] = 0.5f;
+    EXPECT(correct_samples(1, samples, 9, out).number == 5);
+    samples[75] = -0.0f;
+    EXPECT(correct_samples(1, samples, 9, out).number == 5);
+    samples[75] = 1;
+    samples[109] = -FLT_TRUE_MIN;
+    EXPECT(correct_samples(1, samples, 9, out).number == 0);
+    end();
+
+    begin("samples: both zeros read as 0");
+    for (unsigned bit = 0; bit < 128; bit++)
+        samples[bit] = bit % 2 ? -0.0f : 0;
+    EXPECT(are(correct_samples(1, samples, 9, out), 0, 0, 0, 0, 0, 64));
+    EXPECT(all_are(out, 0, 16));
+    samples[0] = -FLT_TRUE_MIN;
+    EXPECT(are(correct_samples(1, samples, 9, out), 0, 1, 5, 0, 1, 0));
+    EXPECT(all_are(out, 0, 16));
+    end();
+
+    begin("samples: equal sizes give correct's answer and word");
+    const float equal[] = {1, 0.1f, FLT_MAX, FLT_TRUE_MIN, FLT_MIN};
+    for (uint8_t code = 1; code <= 4; code++)
+        for (unsigned turn = code <= 3 ? 200 : 10; turn > 0; turn--) {
+            draw_codeword(code, info, word);
+            for (unsigned k = below(code <= 3 ? 12 : 41); k > 0; k--)
+                flip(word, below(covered_bits[code]));
+            uint16_t limit = (uint16_t)(turn % 2 ? 65535 : below(8));
+            put_samples(code, word, equal[turn % 5], samples);
+            memset(out, 0x5A, sizeof out);
+            memset(other, 0x5A, sizeof other);
+            struct judge_corrected a = correct(code, word, limit, out), b = correct_samples(code, samples, limit, other);
+            EXPECT(are(b, a.number, a.flips, a.first, a.last, a.unlike, a.lowest));
+            EXPECT(memcmp(out, other, sizeof out) == 0);
+        }
+    draw_codeword(4, info, word);
+    for (unsigned bit = 7154; bit < 7154 + 511; bit++)
+        flip(word, bit);
+    put_samples(4, word, 1, samples);
+    EXPECT(are(correct_samples(4, samples, 9, out), 8, 0, 0, 0, 0, 1022));
+    end();
+
+    begin("samples: codewords and one wrong bit, whatever the sizes");
+    for (uint8_t code = 1; code <= 4; code++)
+        for (unsigned turn = code <= 3 ? covered_bits[code] : 20; turn > 0; turn--) {
+            unsigned bit = code <= 3 ? turn - 1 : below(covered_bits[code]);
+            draw_codeword(code, info, word);
+            memcpy(wrong, word, sizeof word);
+            flip(wrong, bit);
+            put_samples(code, word, 1, samples);
+            for (unsigned n = 0; n < covered_bits[code]; n++)
+                samples[n] *= (float)(1 + below(1000));
+            EXPECT(are(correct_samples(code, samples, 0, out), 0, 0, 0, 0, 0, checks[code]));
+            EXPECT(memcmp(out, word, word_octets[code]) == 0);
+            samples[bit] *= -1000;
+            EXPECT(are(correct_samples(code, samples, 1, out), 0, 1, judge_check(code, wrong, word_octets[code]).broken, 0, 1,
+                       lowest_of(code, wrong)));
+            EXPECT(memcmp(out, word, word_octets[code]) == 0);
+        }
+    end();
+
+    begin("samples: every flip of a run");
+    for (uint8_t code = 1; code <= 3; code++)
+        for (unsigned turn = 0; turn < 40; turn++) {
+            draw_codeword(code, info, word);
+            for (unsigned k = below(16); k > 0; k--)
+                flip(word, below(covered_bits[code]));
+            put_samples(code, word, 1, samples);
+            for (unsigned n = 0; n < covered_bits[code]; n++)
+                samples[n] *= (float)(1 + below(turn % 2 ? 4 : 1000));
+            samples_followed(code, samples);
+        }
+    end();
+}
+
 /* A marked and randomised word at a place of a stream. */
 static void put_frame(uint8_t *at, const uint8_t *word)
 {
@@ -893,6 +1068,8 @@ int main(void)
     random_words();
     listed_words();
     nearest_cases();
+    samples_refused();
+    samples_taken();
     telemetry();
     printf("%lu passed, %lu failed\n", passed, failed);
     return failed == 0 ? EXIT_SUCCESS : EXIT_FAILURE;

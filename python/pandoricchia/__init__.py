@@ -22,6 +22,7 @@ from .calls import bch_check as bch_check
 from .calls import bch_encode as bch_encode
 from .calls import check as check
 from .calls import correct as correct
+from .calls import correct_samples as correct_samples
 from .calls import encode as encode
 from .calls import export_blocks as export_blocks
 from .calls import exported_octets as exported_octets

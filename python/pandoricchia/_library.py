@@ -103,7 +103,7 @@ class ImportedRecord(ctypes.Structure):
     _fields_ = [("number", c_uint8), ("block", c_uint32)]
 
 
-# Octets are an address and their number.
+# Octets are an address and their number; so are samples and records.
 _OCTETS: List[Any] = [c_void_p, c_size_t]
 
 #: What each call gives and takes, under its name without ``pandoricchia_``.
@@ -115,6 +115,7 @@ CALLS: Dict[str, Tuple[Any, List[Any]]] = {
     "quick": (AnsweredRecord, [c_uint8, *_OCTETS]),
     "open": (OpenedRecord, [c_uint8, *_OCTETS]),
     "correct": (CorrectedRecord, [c_uint8, *_OCTETS, c_uint16, *_OCTETS]),
+    "correct_samples": (CorrectedRecord, [c_uint8, *_OCTETS, c_uint16, *_OCTETS]),
     "list": (ListedRecord, [c_uint8, *_OCTETS, c_uint16, *_OCTETS]),
     "step": (SteppedRecord, [c_uint8, *_OCTETS, *_OCTETS]),
     "nearest": (ReachedRecord, [*_OCTETS, c_uint8, *_OCTETS]),

@@ -10,7 +10,7 @@ The library keeps no state, and a call lets other threads run.
 from __future__ import annotations
 
 import ctypes
-from ctypes import c_size_t, c_uint8, c_uint16
+from ctypes import c_float, c_size_t, c_uint8, c_uint16
 from typing import TYPE_CHECKING, Any, List, Sequence
 
 from ._library import LIBRARY, CorrectedRecord, FliprecordRecord, Lent, ReadingRecord, TakingRecord, fit
@@ -37,6 +37,9 @@ if TYPE_CHECKING:
     from typing_extensions import Buffer
 
 FlipTable = Sequence[Any]
+
+# The formats of C's float, in the machine's order of octets.
+_FLOATS = ("f", "@f", "=f", "<f")
 
 
 def word_octets(code: int) -> int:
@@ -87,6 +90,26 @@ def correct(code: int, word: Buffer, limit: int, out: Buffer) -> Corrected:
     with Lent(word) as source, Lent(out, writable=True) as written:
         source.apart(written)
         given = LIBRARY.pandoricchia_correct(code, source.address, source.octets, limit, written.address, written.octets)
+    return _corrected(given)
+
+
+def correct_samples(code: int, samples: Buffer, limit: int, out: Buffer) -> Corrected:
+    """``correct`` on the bits of a receiver's samples, and by their sizes; codes 1 to 4. 0 to 3, 5, 6, 8 or 16.
+
+    The samples are 32-bit floats, one for each bit: an ``array.array("f")``, a memoryview of format ``f`` or numpy's float32.
+    TypeError for any other format.
+    """
+    code, limit = fit("code", code, c_uint8), fit("limit", limit, c_uint16)
+    with memoryview(samples) as view:
+        if view.format not in _FLOATS:
+            raise TypeError(f"samples are 32-bit floats, of format 'f', not {view.format!r}")
+        with Lent(view) as source, Lent(out, writable=True) as written:
+            source.apart(written)
+            if source.octets and source.address % ctypes.alignment(c_float):
+                raise ValueError("the samples are not at an address that four divides")
+            given = LIBRARY.pandoricchia_correct_samples(
+                code, source.address, source.octets // ctypes.sizeof(c_float), limit, written.address, written.octets
+            )
     return _corrected(given)
 
 

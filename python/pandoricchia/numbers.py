@@ -24,6 +24,7 @@ class Number(enum.IntEnum):
     NO_BCH_WORD = 13
     LAST_TWO = 14
     OTHER_PARITY = 15
+    SAMPLE = 16
     NONE_NEAR = 17
     REACH = 18
     EDITION = 19
@@ -55,6 +56,7 @@ _TEXTS: Dict[int, str] = {
     Number.NO_BCH_WORD: "no codeword differs in at most one bit; detect-only: the word is none",
     Number.LAST_TWO: "one of the last two bits set",
     Number.OTHER_PARITY: "parity not the encoder's",
+    Number.SAMPLE: "a sample is infinite or not a number",
     Number.NONE_NEAR: "no codeword within the reach",
     Number.REACH: "reach above 3",
     Number.EDITION: "edition not known",

@@ -76,6 +76,13 @@ def correct(code: int, word: Buffer, limit: int) -> Tuple[bytearray, Corrected]:
     return out, _done("correct", result.number, result)
 
 
+def correct_samples(code: int, samples: Buffer, limit: int) -> Tuple[bytearray, Corrected]:
+    """The codeword at the end of the run by sample sizes, and the run's numbers."""
+    out = bytearray(calls.word_octets(code))
+    result = calls.correct_samples(code, samples, limit, out)
+    return out, _done("correct_samples", result.number, result)
+
+
 def list(code: int, word: Buffer, limit: int) -> Tuple[List[FlipRecord], Listed]:  # pylint: disable=redefined-builtin
     """The run's flips, and its numbers. Where it is refused by 5 to 8, the exception has the flips as ``records``."""
     checked = calls.check(code, word)

@@ -31,7 +31,7 @@ class Opened(NamedTuple):
 
 
 class Corrected(NamedTuple):
-    """``correct``: flips made, broken checks at the start and at the end, bits that differ, lowest broken check."""
+    """``correct`` and ``correct_samples``: flips made, broken checks at the start and at the end, bits that differ, lowest broken check."""
 
     number: Number
     flips: int

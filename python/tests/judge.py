@@ -1,6 +1,7 @@
 """The judge of outside/judge.c, built as a shared object that PANDORICCHIA_JUDGE names; and random words for both."""
 from __future__ import annotations
 
+import array
 import ctypes
 import os
 import pathlib
@@ -53,13 +54,16 @@ def plain(value: Any) -> Any:
 
 
 def ask(name: str, *arguments: Any) -> Any:
-    """The judge's answer. Octets go to it by ctypes's own ways, not by the package's: bytes are read, a bytearray is written."""
+    """The judge's answer. Octets go to it by ctypes's own ways, not by the package's: bytes and an array are read, a bytearray is
+    written."""
     handed: List[Any] = []
     for argument in arguments:
         if isinstance(argument, bytes):
             handed += [ctypes.cast(ctypes.c_char_p(argument), ctypes.c_void_p), len(argument)]
         elif isinstance(argument, bytearray):
             handed += [ctypes.addressof((ctypes.c_uint8 * len(argument)).from_buffer(argument)), len(argument)]
+        elif isinstance(argument, array.array):
+            handed += argument.buffer_info()
         else:
             handed.append(argument)
     return getattr(JUDGE, "judge_" + name)(*handed)
@@ -89,6 +93,12 @@ def spoiled(chance: random.Random, word: bytes, wrong: int) -> bytes:
     for bit in chance.sample(range(8 * len(octets)), wrong):
         octets[bit // 8] ^= 0x80 >> bit % 8
     return bytes(octets)
+
+
+def sampled(chance: random.Random, word: bytes, sizes: int) -> "array.array[float]":
+    """Samples of a word, each of one of so many sizes."""
+    bits = (octet >> place & 1 for octet in word for place in range(7, -1, -1))
+    return array.array("f", [(-1 if bit else 1) * chance.randint(1, sizes) / 8 for bit in bits])
 
 
 def received(chance: random.Random, code: int) -> bytes:

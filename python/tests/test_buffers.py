@@ -4,6 +4,7 @@ from __future__ import annotations
 import array
 import ctypes
 import mmap
+import random
 import sys
 import threading
 import unittest
@@ -11,6 +12,8 @@ from typing import Any
 
 import pandoricchia
 from pandoricchia._library import Lent
+
+from .judge import sampled
 
 try:
     import numpy
@@ -151,6 +154,36 @@ class Buffers(unittest.TestCase):
             with self.assertRaises(ValueError):
                 pandoricchia.list(1, RECEIVED, 10, table)
 
+    def test_samples(self) -> None:
+        floats = sampled(random.Random(2), RECEIVED, 1)
+        octets = floats.tobytes()
+        around = memoryview(bytearray(4) + octets + bytes(4))
+        for samples in (
+            floats,
+            memoryview(floats),
+            memoryview(octets).cast("f"),
+            memoryview(octets).cast("f", (8, 16)),
+            around[4:-4].cast("f"),
+            (ctypes.c_float * 128).from_buffer_copy(octets),
+        ):
+            with self.subTest(kind=type(samples)):
+                out = bytearray(16)
+                self.assertEqual(pandoricchia.correct_samples(1, samples, 10, out), (0, 1, 5, 0, 1, 3))
+                self.assertEqual(out, WORD)
+        out = bytearray(16)
+        for wrong in (octets, bytearray(512), array.array("d", floats), array.array("i", octets), memoryview(octets), None, [1.0] * 128):
+            with self.assertRaises(TypeError):
+                pandoricchia.correct_samples(1, wrong, 10, out)  # type: ignore[arg-type]
+        with self.assertRaises(ValueError):
+            pandoricchia.correct_samples(1, around[1:-7].cast("f"), 10, out)
+        with self.assertRaises(BufferError):
+            pandoricchia.correct_samples(1, memoryview(floats + floats)[::2], 10, out)
+        with self.assertRaises(ValueError):
+            pandoricchia.correct_samples(1, floats, 10, memoryview(floats).cast("B")[:16])
+        self.assertEqual(out, bytes(16))
+        self.assertEqual(pandoricchia.correct_samples(1, array.array("f"), 10, out).number, pandoricchia.Number.INPUT_LENGTH)
+        floats.append(0)
+
     def test_threads(self) -> None:
         words = [bytearray(16) for _ in range(4)]
 
@@ -177,6 +210,11 @@ class Buffers(unittest.TestCase):
             pandoricchia.check(1, many[:, 0])
         with self.assertRaises((BufferError, ValueError)):
             pandoricchia.encode(1, INFORMATION, many[0])
+        floats: Any = numpy.array(sampled(random.Random(2), RECEIVED, 1), dtype=numpy.float32)
+        self.assertEqual(pandoricchia.correct_samples(1, floats, 10, out[0]).flips, 1)
+        for other in (floats.astype(numpy.float64), floats.astype(">f4"), floats.astype(numpy.float16)):
+            with self.assertRaises(TypeError):
+                pandoricchia.correct_samples(1, other, 10, out[0])
         kind = numpy.dtype([("bit", "u4"), ("excess", "i1"), ("left", "u4")], align=True)
         table: Any = numpy.zeros(4, dtype=kind)
         self.assertEqual(pandoricchia.list(1, RECEIVED, 4, table).flips, 1)

@@ -1,12 +1,14 @@
 """Every call against the judge, on random inputs with right and wrong codes and lengths, and on the sample recordings."""
 from __future__ import annotations
 
+import array
+import math
 import random
 import unittest
 
 import pandoricchia
 
-from .judge import CODES, TOP, ask, both, information, plain, received, spoiled
+from .judge import CODES, TOP, ask, both, information, plain, received, sampled, spoiled
 
 MANY = {1: 300, 2: 200, 3: 120, 4: 20, 5: 20}
 
@@ -53,6 +55,33 @@ class Calls(unittest.TestCase):
                 records = pandoricchia.flip_records(table, places)
                 self.assertEqual(plain(tuple(records)), plain(tuple(pandoricchia.flip_records(theirs, places))))
 
+    def test_samples(self) -> None:
+        seen = set()
+        for code in (1, 2, 3, 4):
+            length = pandoricchia.word_octets(code)
+            for _ in range(MANY[code]):
+                word, limit = received(self.chance, code), self.chance.choice((0, 1, 3, 10, 65535))
+                samples = sampled(self.chance, word, self.chance.choice((1, 3, 1000)))
+                seen.add(both(self, "correct_samples", code, samples, limit, self.out(length)).number)
+                samples[self.chance.randrange(len(samples))] = self.chance.choice((math.inf, -math.inf, math.nan))
+                seen.add(both(self, "correct_samples", code, samples, limit, self.out(length)).number)
+                outs = self.out(length), bytearray(length)
+                equal = pandoricchia.correct_samples(code, sampled(self.chance, word, 1), limit, outs[0])
+                self.assertEqual(equal, pandoricchia.correct(code, word, limit, outs[1]))
+                self.assertTrue(equal.number or outs[0] == outs[1])
+        self.assertTrue(seen >= {0, 5, 6, 16}, seen)
+
+    def test_samples_of_the_auditor(self) -> None:
+        """The judge's numbers of both runs on the same bits, and the words: the one that was sent by the sizes alone."""
+        samples = array.array("f", map(float, (TOP / "samples/auditor_sizes.txt").read_text(encoding="ascii").split()))
+        log = (TOP / "samples/auditor_sizes.log").read_text(encoding="ascii").splitlines()
+        said = [[int(value) for value in line.split()[1:]] for line in log if line.startswith("correct")]
+        word, outs = (TOP / "samples/auditor.bin").read_bytes()[3 + 16:], (bytearray(16), bytearray(16))
+        given = pandoricchia.correct(1, word, 65535, outs[0]), pandoricchia.correct_samples(1, samples, 65535, outs[1])
+        self.assertEqual([list(plain(numbers))[:5] for numbers in given], said)
+        self.assertNotEqual(outs[0], bytes(16))
+        self.assertEqual(outs[1], bytes(16))
+
     def test_nearest(self) -> None:
         for _ in range(8):
             word = spoiled(self.chance, bytes(16), self.chance.choice((0, 1, 2, 3)))
@@ -72,6 +101,7 @@ class Calls(unittest.TestCase):
                     out = self.out(max(0, length + room))
                     both(self, "encode", code, info, out)
                     both(self, "correct", code, word, 5, out)
+                    both(self, "correct_samples", code, array.array("f", bytes(4 * max(0, 8 * length + more))), 5, out)
                     both(self, "step", code, word, out)
                 both(self, "check", code, word)
                 both(self, "quick", code, word)

@@ -34,7 +34,7 @@ class Header(unittest.TestCase):
 
     def test_numbers(self) -> None:
         found = {name: int(number) for name, number in re.findall(r"PANDORICCHIA_(\w+) = (\d+)", self.text)}
-        self.assertEqual(len(found), 23)
+        self.assertEqual(len(found), 24)
         self.assertEqual({number.name: number.value for number in pandoricchia.Number}, found)
 
     def test_texts(self) -> None:
@@ -42,7 +42,7 @@ class Header(unittest.TestCase):
         self.assertEqual({number.name: number.text for number in pandoricchia.Number}, found)
         self.assertEqual({number.name: pandoricchia.text(int(number)) for number in pandoricchia.Number}, found)
         default = re.findall(r'default:\s*return "([^"]*)";', self.text)
-        self.assertEqual([pandoricchia.text(16)], default)
+        self.assertEqual([pandoricchia.text(24)], default)
         self.assertEqual([pandoricchia.text(255)], default)
 
     def test_version(self) -> None:

@@ -1,6 +1,8 @@
 """The layer that makes outputs and raises: the same octets and numbers, and every refusal an exception."""
 from __future__ import annotations
 
+import array
+import math
 import pickle
 import random
 import unittest
@@ -8,7 +10,7 @@ import unittest
 import pandoricchia
 from pandoricchia import Number, Refused, raising
 
-from .judge import CODES, information, spoiled
+from .judge import CODES, information, sampled, spoiled
 
 
 class Raising(unittest.TestCase):
@@ -35,6 +37,7 @@ class Raising(unittest.TestCase):
                 self.assertEqual(raising.open(code, word), sent)
             if code != 5:
                 self.assertEqual(raising.step(code, heard)[0], word)
+                self.assertEqual(raising.correct_samples(code, sampled(chance, heard, 9), 10), (word, corrected))
         self.assertEqual(raising.import_blocks(raising.export_blocks(sent)), sent)
         self.assertEqual(raising.export_blocks(b""), b"")
         older = raising.bch_encode(b"seven..")
@@ -55,6 +58,8 @@ class Raising(unittest.TestCase):
         self.refused(2, "quick", 1, bytes(15))
         self.refused(9, "open", 1, bytes([128]) + bytes(15))
         self.refused(6, "correct", 1, bytes([128]) + bytes(15), 0)
+        self.refused(16, "correct_samples", 1, array.array("f", [math.nan] * 128), 0)
+        self.refused(1, "correct_samples", 5, array.array("f", bytes(4 * 8160)), 9)
         self.refused(1, "step", 5, bytes(1020))
         self.refused(17, "nearest", bytes([128]) + bytes(15), 0)
         self.refused(18, "nearest", bytes(16), 4)

@@ -26,7 +26,8 @@ module _ (d p rest : List ℕ) (to : ℕ) (inside : to ≤ length d) where
   unfolding wbit
   before-part n h =
       ap (λ k. digit 64 k (n % 64))
-      (List·getD-append (take to d) (p ++ rest) 0 (n / 64) (omega (arith, length-take-le to d inside)) ∙ getD-take to d (n / 64) 0 (omega arith))
+      (List·getD-append (take to d) (p ++ rest) 0 (n / 64) (omega (arith, length-take-le to d inside))
+      ∙ getD-take to d (n / 64) 0 (omega arith))
 
   in-part : (n : ℕ) → n < 64 * length p → wbit (take to d ++ (p ++ rest)) (64 * to + n) ≡ wbit p n
   unfolding wbit
@@ -34,7 +35,8 @@ module _ (d p rest : List ℕ) (to : ℕ) (inside : to ≤ length d) where
       let q : (64 * to + n) / 64 ≡ length (take to d) + n / 64 = omega (arith, length-take-le to d inside) in
       let r : (64 * to + n) % 64 ≡ n % 64 = omega arith in
       ap₂ (λ q r. digit 64 (getD (take to d ++ (p ++ rest)) q 0) r) q r
-      ∙ ap (λ k. digit 64 k (n % 64)) (getD-append-add (take to d) (p ++ rest) (n / 64) 0 ∙ List·getD-append p rest 0 (n / 64) (omega arith))
+      ∙ ap (λ k. digit 64 k (n % 64)) (getD-append-add (take to d) (p ++ rest) (n / 64) 0
+      ∙ List·getD-append p rest 0 (n / 64) (omega arith))
 
   pub placed : (s : Word) (start m : ℕ) → 2 * m ≤ 64 * length p → wbit p ≡ twice m (upTo m (from start s))
       → Placed s start m (wbit d) (64 * to) (wbit (take to d ++ (p ++ rest)))
@@ -44,7 +46,8 @@ module _ (d p rest : List ℕ) (to : ℕ) (inside : to ≤ length d) where
   }
 
 -- The first m bits of one number, twice over in two words from word `to` on.
-module _ (d : List ℕ) (v m to a b : ℕ) (small : m ≤ 64) (inside : to + 2 ≤ length d) (e : wbit (a ∷ b ∷ []) ≡ twice m (upTo m (digit 64 v))) where
+module _ (d : List ℕ) (v m to a b : ℕ) (small : m ≤ 64) (inside : to + 2 ≤ length d)
+    (e : wbit (a ∷ b ∷ []) ≡ twice m (upTo m (digit 64 v))) where
   abbrev two : Word
   two = wbit (a ∷ b ∷ [])
 
@@ -64,7 +67,8 @@ module _ (d : List ℕ) (v m to a b : ℕ) (small : m ≤ 64) (inside : to + 2 �
       filled-more d x (set d to a) (to + 1) one b (omega (arith, length-set d to a))
       (λ i hi. sym (in-two (64 * (to + 1) + i) (64 + i) (omega arith) ∙ word-at (a ∷ b ∷ []) (64 + i) 1 i hi (omega arith)))
 
-  pub placed-number : (s : Word) (start : ℕ) → 1 ≤ m → Holds v (from start s) → Placed s start m (wbit d) (64 * to) (wbit (set (set d to a) (to + 1) b))
+  pub placed-number : (s : Word) (start : ℕ) → 1 ≤ m → Holds v (from start s)
+      → Placed s start m (wbit d) (64 * to) (wbit (set (set d to a) (to + 1) b))
   placed-number s start some hv = record {
     before = λ n h.
         ap (λ (y : Word). y n) (filled .bits) ∙ joined-below (64 * (to + 1 + 1)) n x (wbit d) (omega arith)
@@ -75,7 +79,8 @@ module _ (d : List ℕ) (v m to a b : ℕ) (small : m ≤ 64) (inside : to + 2 �
   }
 
 -- A row more.
-pub twice-more : (sh : Shape) (s d d′ : Word) (r : ℕ) → 2 * sh .size ≤ 1024 → Twice sh r s d → Placed s (64 * (r * sh .words)) (sh .size) d (64 * (16 * r)) d′ → Twice sh (r + 1) s d′
+pub twice-more : (sh : Shape) (s d d′ : Word) (r : ℕ) → 2 * sh .size ≤ 1024 → Twice sh r s d
+    → Placed s (64 * (r * sh .words)) (sh .size) d (64 * (16 * r)) d′ → Twice sh (r + 1) s d′
 twice-more sh s d d′ r fits was new q n hq hn = go (ℕ-discrete q r)
   where
     go : Dec (q ≡ r) → d′ (1024 * q + n) ≡ s (64 * (q * sh .words) + n % sh .size)

@@ -27,12 +27,22 @@ module _ (s s′ m row : ℕ) (l : List ℕ) (n : ℕ) (same : s ≡ s′) where
   pub noted : s′ < m → Noted s m row l n (set l n (row + (m - s′))) (n + 1)
   noted h =
       let t = lt-ltb s m (omega arith) in
-      record { long = length-set l n (row + (m - s′)); many = ap (λ b. n + tally b) (sym t); new = ap (λ k. set l n (row + (m - k))) (sym same) ∙ ap (λ b. if b then set l n (row + (m - s)) else l) (sym t) }
+      record {
+        long = length-set l n (row + (m - s′));
+        many = ap (λ b. n + tally b) (sym t);
+        new =
+            ap (λ k. set l n (row + (m - k))) (sym same) ∙ ap (λ b. if b then set l n (row + (m - s)) else l) (sym t);
+      }
 
   pub unnoted : m ≤ s′ → Noted s m row l n l n
   unnoted h =
       let t = le-ltb s m (omega arith) in
-      record { long = refl; many = sym (add-zero n) ∙ ap (λ b. n + tally b) (sym t); new = ap (λ b. if b then set l n (row + (m - s)) else l) (sym t) }
+      record {
+        long = refl;
+        many = sym (add-zero n) ∙ ap (λ b. n + tally b) (sym t);
+        new =
+            ap (λ b. if b then set l n (row + (m - s)) else l) (sym t);
+      }
 
 pub noted-le : {s m row : ℕ} {l l′ : List ℕ} {n n′ : ℕ} → Noted s m row l n l′ n′ → n′ ≤ n + 1
 noted-le {s} {m} w = omega (arith, w .many, tally-le (ltb s m))
@@ -45,7 +55,8 @@ kept-count m s rest f = go (ltb s m)
     go false = omega arith
 
 moved : {l l′ : List ℕ} {first n n′ end : ℕ} {f : Word → ℕ} → n′ ≡ n → l′ ≡ l → Listed l first n end f → Listed l′ first n′ end f
-moved {l} {l′} {first} {n} {n′} {end} {f} e q w = subst (λ k. Listed k first n′ end f) (sym q) (subst (λ k. Listed l first k end f) (sym e) w)
+moved {l} {l′} {first} {n} {n′} {end} {f} e q w = subst (λ k. Listed k first n′ end f) (sym q)
+    (subst (λ k. Listed l first k end f) (sym e) w)
 
 -- A start more.
 module _ (l l′ : List ℕ) (first n n′ s m row end : ℕ) (f : Word → ℕ) where
@@ -67,7 +78,8 @@ module _ (l l′ : List ℕ) (first n n′ s m row end : ℕ) (f : Word → ℕ)
         near = λ e h. pick e h (ℕ-discrete e n);
         each = λ g.
             count-next n (λ e. g (getD (set l (first + n) v) (first + e) 0))
-            ∙ ap₂ _+_ (count-same n _ _ (λ e h. ap g (other e h)) ∙ was .each g) (ap (λ k. tally (g k)) here ∙ sym (add-zero (tally (g v))));
+            ∙ ap₂ _+_ (count-same n _ _ (λ e h. ap g (other e h)) ∙ was .each g) (ap (λ k. tally (g k)) here
+            ∙ sym (add-zero (tally (g v))));
       }
         where
           pick : (e : ℕ) → e < n + 1 → Dec (e ≡ n) → getD (set l (first + n) v) (first + e) 0 ≤ end
@@ -89,7 +101,8 @@ listed-none l first end h sh b = record { near = λ e h. absurd (omega arith); e
 
 -- The two places of a block make a row.
 module _ (h : List ℕ) (sh : Shape) (b r : ℕ) (l l′ l″ : List ℕ) (first n n′ n″ end : ℕ) where
-  listed-row : first + n + 1 < length l → 1024 * r + sh .size ≤ end → Noted (getD h (placeOf sh r b) (sh .size)) (sh .size) (1024 * r) l (first + n) l′ (first + n′)
+  listed-row : first + n + 1 < length l → 1024 * r + sh .size ≤ end → Noted (getD h (placeOf sh r b) (sh .size)) (sh .size) (1024 * r) l
+      (first + n) l′ (first + n′)
       → Noted (getD h (placeOf sh r b + 1) (sh .size)) (sh .size) (1024 * r) l′ (first + n′) l″ (first + n″)
       → Listed l first n end (asked h sh b r) → Listed l″ first n″ end (asked h sh b (r + 1))
   listed-row room fits one two was =
@@ -102,7 +115,13 @@ module _ (h : List ℕ) (sh : Shape) (b r : ℕ) (l l′ l″ : List ℕ) (first
         near = all .near;
         each = λ g.
             let ask : Word = λ k. g (1024 * r + (m - k)) in
-            omega (arith, all .each g, kept-count m s (kept m s′ []) ask, total-more r (λ q. countOf (shiftsOf sh h q b) (λ k. g (1024 * q + (m - k)))));
+            omega (
+              arith,
+              all .each g,
+              kept-count m s (kept m s′ []) ask,
+              total-more r
+                  (λ q. countOf (shiftsOf sh h q b) (λ k. g (1024 * q + (m - k)))),
+            );
       }
 
 noted-at : {s m row : ℕ} {l l′ : List ℕ} {n n′ k k′ : ℕ} → n ≡ k → n′ ≡ k′ → Noted s m row l n l′ n′ → Noted s m row l k l′ k′
@@ -112,8 +131,10 @@ pub noted-ge : {s m row : ℕ} {l l′ : List ℕ} {n n′ : ℕ} → Noted s m 
 noted-ge {s} {m} w = omega (arith, w .many, tally-le (ltb s m))
 
 -- The same by the places in the list.
-pub gathered-row : (h : List ℕ) (sh : Shape) (b r : ℕ) (l l′ l″ : List ℕ) (first n n′ n″ end : ℕ) → first ≤ n → n + 1 < length l → 1024 * r + sh .size ≤ end
-    → Noted (getD h (placeOf sh r b) (sh .size)) (sh .size) (1024 * r) l n l′ n′ → Noted (getD h (placeOf sh r b + 1) (sh .size)) (sh .size) (1024 * r) l′ n′ l″ n″
+pub gathered-row : (h : List ℕ) (sh : Shape) (b r : ℕ) (l l′ l″ : List ℕ) (first n n′ n″ end : ℕ) → first ≤ n → n + 1 < length l
+    → 1024 * r + sh .size ≤ end
+    → Noted (getD h (placeOf sh r b) (sh .size)) (sh .size) (1024 * r) l n l′ n′
+    → Noted (getD h (placeOf sh r b + 1) (sh .size)) (sh .size) (1024 * r) l′ n′ l″ n″
     → Listed l first (n - first) end (asked h sh b r) → Listed l″ first (n″ - first) end (asked h sh b (r + 1))
 gathered-row h sh b r l l′ l″ first n n′ n″ end from room fits one two =
     let p : n ≡ first + (n - first) = omega arith in
@@ -130,7 +151,8 @@ noted-before {s} {m} {row} {l} {l′} {n} w e h = ap (λ k. getD k e 0) (w .new)
     go false = refl
 
 -- What is listed stays listed where what follows it changes.
-pub listed-kept : {l l′ : List ℕ} {first n end : ℕ} {f : Word → ℕ} → ((e : ℕ) → e < first + n → getD l′ e 0 ≡ getD l e 0) → Listed l first n end f → Listed l′ first n end f
+pub listed-kept : {l l′ : List ℕ} {first n end : ℕ} {f : Word → ℕ} → ((e : ℕ) → e < first + n → getD l′ e 0 ≡ getD l e 0)
+    → Listed l first n end f → Listed l′ first n end f
 listed-kept {l} {l′} {first} {n} same w = record {
   near = λ e h. omega (arith, same (first + e) (omega arith), w .near e h);
   each = λ g. count-same n _ _ (λ e h. ap g (same (first + e) (omega arith))) ∙ w .each g;

@@ -37,7 +37,8 @@ sum-more n f = ap (λ k. sum k f) (add-one n)
 
 pub turned-more : (f : Word) (e : ℕ) (a b x y : Bool) → f e ≡ x ⊕ y → a ≡ b ⊕ sum e f → a ⊕ x ⊕ y ≡ b ⊕ sum (e + 1) f
 turned-more f e a b x y here was =
-    ⊕-assoc a x y ∙ ap (λ z. z ⊕ (x ⊕ y)) was ∙ ⊕-assoc b (sum e f) (x ⊕ y) ∙ ap (λ z. b ⊕ (sum e f ⊕ z)) (sym here) ∙ ap (λ z. b ⊕ z) (sym (sum-more e f))
+    ⊕-assoc a x y ∙ ap (λ z. z ⊕ (x ⊕ y)) was ∙ ⊕-assoc b (sum e f) (x ⊕ y) ∙ ap (λ z. b ⊕ (sum e f ⊕ z)) (sym here)
+    ∙ ap (λ z. b ⊕ z) (sym (sum-more e f))
 
 -- ---- a sum modulo 2 is whether a count is odd
 
@@ -118,10 +119,12 @@ module _ (M r i p : ℕ) (some : 1 ≤ M) (small : M ≤ 512) (hi : i < 2 * M) (
       is-high : M ≤ q → other M p ≡ p - M
       is-high l = ap (λ t. if t then p + M else p - M) (le-ltb q M l)
 
-      both : (s t : Bool) → (eqb (1024 * r + i) p ≡ s) → (eqb (1024 * r + i) (other M p) ≡ t) → eqb (1024 * r + i) p ⊕ eqb (1024 * r + i) (other M p) ≡ s ⊕ t
+      both : (s t : Bool) → (eqb (1024 * r + i) p ≡ s) → (eqb (1024 * r + i) (other M p) ≡ t)
+          → eqb (1024 * r + i) p ⊕ eqb (1024 * r + i) (other M p) ≡ s ⊕ t
       both s t a b = ap₂ _⊕_ a b
 
-      go : Dec (p / 1024 ≡ r) → Dec (q < M) → Dec (i < M) → eqb (1024 * r + i) p ⊕ eqb (1024 * r + i) (other M p) ≡ (eqb (p / 1024) r && eqb (q % M) (i % M))
+      go : Dec (p / 1024 ≡ r) → Dec (q < M) → Dec (i < M)
+          → eqb (1024 * r + i) p ⊕ eqb (1024 * r + i) (other M p) ≡ (eqb (p / 1024) r && eqb (q % M) (i % M))
       go (no u) (yes l) z =
           both false false (ne-eqb (1024 * r + i) p (λ e. u (omega arith)))
           (ap (eqb (1024 * r + i)) (is-low l) ∙ ne-eqb (1024 * r + i) (p + M) (λ e. u (omega arith)))
@@ -154,7 +157,8 @@ module _ (M r i p : ℕ) (some : 1 ≤ M) (small : M ≤ 512) (hi : i < 2 * M) (
 
 -- ---- a flip
 
-module _ (h : List ℕ) (sh : Shape) (b k : ℕ) (hk : k < sh .size) (small : sh .size ≤ 512) (starts : List ℕ) (n : ℕ) (are : Starts h sh b starts n) where
+module _ (h : List ℕ) (sh : Shape) (b k : ℕ) (hk : k < sh .size) (small : sh .size ≤ 512) (starts : List ℕ) (n : ℕ)
+    (are : Starts h sh b starts n) where
   abbrev M : ℕ
   M = sh .size
 
@@ -172,21 +176,28 @@ module _ (h : List ℕ) (sh : Shape) (b k : ℕ) (hk : k < sh .size) (small : sh
   unfolding total
   none-far =
       are .each far
-      ∙ total-none (sh .rows) _ (λ r. none-of (shiftsOf sh h r b) _ (λ s. le-ltb (2 * M) (suc ((1024 * r + (M - s) + k) % 1024)) (omega (arith, in-row r s))))
+      ∙ total-none (sh .rows) _ (λ r. none-of (shiftsOf sh h r b) _
+      (λ s. le-ltb (2 * M) (suc ((1024 * r + (M - s) + k) % 1024)) (omega (arith, in-row r s))))
 
   pub start-near : (e : ℕ) → e < n → (getD starts (8 * b + e) 0 + k < 4096) × ((getD starts (8 * b + e) 0 + k) % 1024 < 2 * M)
   start-near e he =
-      let p = getD starts (8 * b + e) 0 in
-      (omega (arith, are .near e he), ltb-false (2 * M) (suc ((p + k) % 1024)) (none-counted n (λ e. far (getD starts (8 * b + e) 0)) none-far e he))
+      let p = getD starts (8 * b + e) 0 in (
+        omega (arith, are .near e he),
+        ltb-false (2 * M) (suc ((p + k) % 1024))
+            (none-counted n (λ e. far (getD starts (8 * b + e) 0)) none-far e he),
+      )
 
-  module _ (c : Code) (lent : Lent c h sh) (hb : b < sh .blocks) (fits : M ≤ 64 * sh .words) (x d d′ : Word) (two : Twice sh (sh .rows) (laid c sh x) d)
-      (turned : (p : ℕ) → d′ p ≡ d p ⊕ sum n (λ e. eqb p (getD starts (8 * b + e) 0 + k) ⊕ eqb p (other M (getD starts (8 * b + e) 0 + k)))) where
+  module _ (c : Code) (lent : Lent c h sh) (hb : b < sh .blocks) (fits : M ≤ 64 * sh .words) (x d d′ : Word)
+      (two : Twice sh (sh .rows) (laid c sh x) d)
+      (turned : (p : ℕ) → d′ p ≡ d p ⊕ sum n
+      (λ e. eqb p (getD starts (8 * b + e) 0 + k) ⊕ eqb p (other M (getD starts (8 * b + e) 0 + k)))) where
     pub flipped-twice : Twice sh (sh .rows) (laid c sh (flipped x (b * M + k))) d′
     flipped-twice r i hr hi =
         turned (1024 * r + i)
         ∙ ap₂ _⊕_ (two r i hr hi ∙ laid-at c sh x r (i % M) hr low fits)
         (sum-same n _ _ (λ e he. places M r i (getD starts (8 * b + e) 0 + k) (omega arith) small hi (start-near e he .1))
-        ∙ sum-odd n (λ e. there (getD starts (8 * b + e) 0)) ∙ ap odd (are .each there ∙ total-one (sh .rows) _ r hr elsewhere ∙ same-of (shiftsOf sh h r b) _ _ here)
+        ∙ sum-odd n (λ e. there (getD starts (8 * b + e) 0)) ∙ ap odd (are .each there ∙ total-one (sh .rows) _ r hr elsewhere
+        ∙ same-of (shiftsOf sh h r b) _ _ here)
         ∙ sym (over-odd (shiftsOf sh h r b) (λ s. eqb (i % M) ((k + (M - s)) % M))))
         ∙ sym (lent .flip-by x b k r (i % M) hb hk hr low) ∙ sym (laid-at c sh (flipped x (b * M + k)) r (i % M) hr low fits)
       where
@@ -202,11 +213,13 @@ module _ (h : List ℕ) (sh : Shape) (b k : ℕ) (hk : k < sh .size) (small : sh
             ∙ eqb-iff ((k + (M - s)) % M) (i % M) (i % M) ((k + (M - s)) % M) sym sym
 
         elsewhere : (q : ℕ) → (q ≡ r → ⊥) → countOf (shiftsOf sh h q b) (λ s. there (1024 * q + (M - s))) ≡ 0
-        elsewhere q u = none-of (shiftsOf sh h q b) _ (λ s. ap (λ t. t && eqb ((1024 * q + (M - s) + k) % 1024 % M) (i % M)) (ne-eqb ((1024 * q + (M - s) + k) / 1024) r (λ e. u (sym (row-of q s) ∙ e))))
+        elsewhere q u = none-of (shiftsOf sh h q b) _ (λ s. ap (λ t. t && eqb ((1024 * q + (M - s) + k) % 1024 % M) (i % M))
+            (ne-eqb ((1024 * q + (M - s) + k) / 1024) r (λ e. u (sym (row-of q s) ∙ e))))
 
 -- ---- the bounds
 
-module _ (c : Code) (h : List ℕ) (sh : Shape) (lent : Lent c h sh) (from : ℕ) (starts counts : List ℕ) (g : Gathered h sh starts counts (sh .blocks)) where
+module _ (c : Code) (h : List ℕ) (sh : Shape) (lent : Lent c h sh) (from : ℕ) (starts counts : List ℕ)
+    (g : Gathered h sh starts counts (sh .blocks)) where
   -- No bit has a greater score than one of its block's degree with no met check.
   score-le : (x : Word) (b k : ℕ) → b < sh .blocks → k < sh .size → score c x (b * sh .size + k) ≤ 8 + getD counts b 0
   unfolding score
@@ -218,7 +231,8 @@ module _ (c : Code) (h : List ℕ) (sh : Shape) (lent : Lent c h sh) (from : ℕ
   begun-under x met none b k hb hk u = omega (arith, none b, score-le x b k hb hk)
 
   -- A flip of a bit that has so many met checks raises the bounds by so many.
-  pub raised-under : (x : Word) (n : ℕ) (met met′ : List ℕ) → n < bits c → sh .blocks ≤ 16 → ((b : ℕ) → b < sh .blocks → getD met b 0 ≤ getD counts b 0)
+  pub raised-under : (x : Word) (n : ℕ) (met met′ : List ℕ) → n < bits c → sh .blocks ≤ 16
+      → ((b : ℕ) → b < sh .blocks → getD met b 0 ≤ getD counts b 0)
       → ((b : ℕ) → b < 16 → getD met′ b 0 ≡ getD met b 0 - metOf c x n)
       → Under (score c x) sh from counts met → Under (score c (flipped x n)) sh from counts met′
   unfolding score
@@ -239,7 +253,8 @@ module _ (c : Code) (h : List ℕ) (sh : Shape) (lent : Lent c h sh) (from : ℕ
 -- ---- the state
 
 -- What is gathered is ready, with met checks that are few.
-pub ready : {h : List ℕ} {sh : Shape} {starts counts met : List ℕ} → Fit h sh → Gathered h sh starts counts (sh .blocks) → length starts ≡ 128 → length counts ≡ 16 → length met ≡ 16
+pub ready : {h : List ℕ} {sh : Shape} {starts counts met : List ℕ} → Fit h sh → Gathered h sh starts counts (sh .blocks)
+    → length starts ≡ 128 → length counts ≡ 16 → length met ≡ 16
     → ((b : ℕ) → b < sh .blocks → getD met b 0 ≤ getD counts b 0) → Ready sh starts counts met
 ready {h} {sh} {starts} {counts} fit g a b c few = record {
   some = fit .some;
@@ -257,7 +272,8 @@ ready {h} {sh} {starts} {counts} fit g a b c few = record {
 }
 
 -- Met checks that have become fewer are still few.
-pub ready-fewer : {sh : Shape} {starts counts met met′ : List ℕ} (by : ℕ) → Ready sh starts counts met → length met′ ≡ 16 → ((b : ℕ) → b < 16 → getD met′ b 0 ≡ getD met b 0 - by) → Ready sh starts counts met′
+pub ready-fewer : {sh : Shape} {starts counts met met′ : List ℕ} (by : ℕ) → Ready sh starts counts met → length met′ ≡ 16
+    → ((b : ℕ) → b < 16 → getD met′ b 0 ≡ getD met b 0 - by) → Ready sh starts counts met′
 ready-fewer by r long fewer = record {
   some = r .some;
   held = r .held;
@@ -274,9 +290,12 @@ ready-fewer by r long fewer = record {
 }
 
 -- A flip keeps the state.
-pub kept-flip : (sh : Shape) (starts counts met met′ : List ℕ) (d d′ : List ℕ) (bit : ℕ) → Ready sh starts counts met → bit < sh .blocks * sh .size
+pub kept-flip : (sh : Shape) (starts counts met met′ : List ℕ) (d d′ : List ℕ) (bit : ℕ) → Ready sh starts counts met
+    → bit < sh .blocks * sh .size
     → ((b : ℕ) → b < 16 → getD met′ b 0 ≡ getD met b 0 - getD met (bit / sh .size) 0)
-    → ((p : ℕ) → wbit d′ p ≡ wbit d p ⊕ sum (getD counts (bit / sh .size) 0) (λ e. eqb p (getD starts (8 * (bit / sh .size) + e) 0 + bit % sh .size) ⊕ eqb p (other (sh .size) (getD starts (8 * (bit / sh .size) + e) 0 + bit % sh .size))))
+    → ((p : ℕ) → wbit d′ p ≡ wbit d p ⊕ sum (getD counts (bit / sh .size) 0)
+    (λ e. eqb p (getD starts (8 * (bit / sh .size) + e) 0 + bit % sh .size) ⊕ eqb p
+    (other (sh .size) (getD starts (8 * (bit / sh .size) + e) 0 + bit % sh .size))))
     → (c : Code) (h : List ℕ) (from : ℕ) (x : Word) → Lent c h sh → Gathered h sh starts counts (sh .blocks) → Kept c sh from x d counts met
     → metOf c x bit ≡ getD met (bit / sh .size) 0 → Kept c sh from (flipped x bit) d′ counts met′
 kept-flip sh starts counts met met′ d d′ bit r hbit raised turned c h from x lent g was is =
@@ -289,7 +308,9 @@ kept-flip sh starts counts met met′ d d′ bit r hbit raised turned c h from x
     let e : b * M + k ≡ bit = div-add-mod' bit M in
     record {
       twice = subst (λ n. Twice sh (sh .rows) (laid c sh (flipped x n)) (wbit d′)) e
-          (flipped-twice h sh b k hk (omega (arith, r .held, r .words)) starts (getD counts b 0) (g b hb .1) c lent hb (r .held) x (wbit d) (wbit d′) (was .twice) turned);
-      under = raised-under c h sh lent from starts counts g x bit met met′ (subst (λ n. bit < n) (sym (lent .bits-are)) hbit) (r .blocks) (r .few)
+          (flipped-twice h sh b k hk (omega (arith, r .held, r .words)) starts (getD counts b 0) (g b hb .1) c lent hb (r .held) x (wbit d)
+          (wbit d′) (was .twice) turned);
+      under = raised-under c h sh lent from starts counts g x bit met met′ (subst (λ n. bit < n) (sym (lent .bits-are)) hbit) (r .blocks)
+          (r .few)
           (λ j hj. raised j hj ∙ ap (λ n. getD met j 0 - n) (sym is)) (was .under);
     }

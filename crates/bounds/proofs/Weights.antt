@@ -44,7 +44,8 @@ one-more : (e H : ℕ) (x : Bool) → H ≤ e → ((leb e (H + 1) && x) || leb e
 one-more e H true h = go (decLe e H) (decLe e (H + 1))
   where
     go : Dec (e ≤ H) → Dec (e ≤ H + 1) → ((leb e (H + 1) && true) || leb e H) ≡ leb (e + 1) (H + 1 + 1)
-    go (yes l) q = ap₂ (λ s t. (s && true) || t) (le-leb e (H + 1) (omega arith)) (le-leb e H l) ∙ sym (le-leb (e + 1) (H + 1 + 1) (omega arith))
+    go (yes l) q = ap₂ (λ s t. (s && true) || t) (le-leb e (H + 1) (omega arith)) (le-leb e H l)
+        ∙ sym (le-leb (e + 1) (H + 1 + 1) (omega arith))
     go (no u) (yes l) =
         ap₂ (λ s t. (s && true) || t) (le-leb e (H + 1) l) (lt-leb e H (lt-of-not-le u)) ∙ sym (le-leb (e + 1) (H + 1 + 1) (omega arith))
     go (no u) (no w) =
@@ -114,9 +115,11 @@ hits-rest d starts first e n k h =
     let u : n ≡ e + (n - e) = omega arith in
     omega (arith, ap (λ j. count j f) u, count-add e (n - e) f, count-le (n - e) (λ i. f (e + i)))
 
-pub too-few : (d : Word) (starts : List ℕ) (first e n k met : ℕ) → e ≤ n → leb e (hits d starts first e k + met) ≡ false → false ≡ leb n (hits d starts first n k + met)
+pub too-few : (d : Word) (starts : List ℕ) (first e n k met : ℕ) → e ≤ n → leb e (hits d starts first e k + met) ≡ false
+    → false ≡ leb n (hits d starts first n k + met)
 too-few d starts first e n k met h q =
-    sym (lt-leb n (hits d starts first n k + met) (omega (arith, leb-false e (hits d starts first e k + met) q, hits-rest d starts first e n k h)))
+    sym (lt-leb n (hits d starts first n k + met)
+    (omega (arith, leb-false e (hits d starts first e k + met) q, hits-rest d starts first e n k h)))
 
 -- ---- at least so many broken: a count that begins below 8 by so many has passed 7
 
@@ -132,12 +135,15 @@ once false p v total a e = omega arith
 
 -- One start more.
 module _ (d : Word) (starts : List ℕ) (first e at i x : ℕ) (sees : digit 64 x i ≡ d (getD starts (first + e) 0 + at + i)) where
-  pub many-more : (need v v′ over more : ℕ) → 1 ≤ need → need ≤ 8 → e < 8 → v + 8 * tally (digit 64 over i) ≡ 8 - need + hits d starts first e (at + i)
-      → v′ + 8 * tally (digit 64 more i) ≡ v + tally (digit 64 x i) → v′ + 8 * tally (digit 64 (bitOr over more) i) ≡ 8 - need + hits d starts first (e + 1) (at + i)
+  pub many-more : (need v v′ over more : ℕ) → 1 ≤ need → need ≤ 8 → e < 8
+      → v + 8 * tally (digit 64 over i) ≡ 8 - need + hits d starts first e (at + i)
+      → v′ + 8 * tally (digit 64 more i) ≡ v + tally (digit 64 x i)
+      → v′ + 8 * tally (digit 64 (bitOr over more) i) ≡ 8 - need + hits d starts first (e + 1) (at + i)
   many-more need v v′ over more some most few was adds =
       ap (λ b. v′ + 8 * tally b) (digit-or 64 over more i)
       ∙ once (digit 64 over i) (digit 64 more i) v′ (8 - need + hits d starts first (e + 1) (at + i))
-      (omega (arith, count-le (e + 1) (λ j. d (getD starts (first + j) 0 + (at + i))))) (omega (arith, hit-next d starts first e at i x sees))
+      (omega (arith, count-le (e + 1) (λ j. d (getD starts (first + j) 0 + (at + i)))))
+      (omega (arith, hit-next d starts first e at i x sees))
 
 -- ---- what stands between two bits
 
@@ -162,12 +168,14 @@ not-before k m = go (decLt k m)
 
 -- ---- a list that is written number by number
 
-pub set-more : (l : List ℕ) (f : ℕ → ℕ) (b v : ℕ) → b < length l → v ≡ f b → ((i : ℕ) → i < b → getD l i 0 ≡ f i) → (i : ℕ) → i < b + 1 → getD (set l b v) i 0 ≡ f i
+pub set-more : (l : List ℕ) (f : ℕ → ℕ) (b v : ℕ) → b < length l → v ≡ f b → ((i : ℕ) → i < b → getD l i 0 ≡ f i) → (i : ℕ) → i < b + 1
+    → getD (set l b v) i 0 ≡ f i
 set-more l f b v room e was i h = go (ℕ-discrete i b)
   where
     go : Dec (i ≡ b) → getD (set l b v) i 0 ≡ f i
     go (yes q) = ap (λ k. getD (set l b v) k 0) q ∙ getD-set-same l b v 0 room ∙ e ∙ ap f (sym q)
     go (no d) = getD-set-other l b i v 0 d ∙ was i (omega arith)
 
-pub set-rest : (l l₀ : List ℕ) (b v : ℕ) → ((i : ℕ) → b ≤ i → getD l i 0 ≡ getD l₀ i 0) → (i : ℕ) → b + 1 ≤ i → getD (set l b v) i 0 ≡ getD l₀ i 0
+pub set-rest : (l l₀ : List ℕ) (b v : ℕ) → ((i : ℕ) → b ≤ i → getD l i 0 ≡ getD l₀ i 0) → (i : ℕ) → b + 1 ≤ i
+    → getD (set l b v) i 0 ≡ getD l₀ i 0
 set-rest l l₀ b v was i h = getD-set-other l b i v 0 (λ q. omega arith) ∙ was i (omega arith)

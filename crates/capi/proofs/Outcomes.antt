@@ -37,6 +37,9 @@ use Rattle.capi.proofs.pandoricchia_nearest.Reads as nearest-reads
 use Rattle.capi.proofs.pandoricchia_open as open-call
 use Rattle.capi.proofs.pandoricchia_open.Kinds as open-kinds
 use Rattle.capi.proofs.pandoricchia_open.Reads as open-reads
+use Rattle.capi.proofs.pandoricchia_correct_samples as correct-samples
+use Rattle.capi.proofs.pandoricchia_correct_samples.Kinds as correct-samples-kinds
+use Rattle.capi.proofs.pandoricchia_correct_samples.Reads as correct-samples-reads
 use Rattle.capi.proofs.pandoricchia_correct as correct
 use Rattle.capi.proofs.pandoricchia_correct.Kinds as correct-kinds
 use Rattle.capi.proofs.pandoricchia_correct.Reads as correct-reads
@@ -90,6 +93,16 @@ pub correct-outcome : (κs : Lfts 2) (a : ArgsD correct.signature κs) (r₁ r�
     (s₁ s₂ : AtExit (endedOf 2 correct-kinds.ps correct-kinds.r) κs)
     → correct-reads.Post κs a r₁ s₁ → correct-reads.Post κs a r₂ s₂ → (r₁ ≡ r₂) × (now (s₁ .1 .1 .1 .0) ≡ now (s₂ .1 .1 .1 .0))
 correct-outcome κs a r₁ r₂ s₁ s₂ p q = (
+  ap (λ x. record { number = x .number; flips = x .flips; first = x .first; last = x .last; unlike = x .unlike; lowest = x .lowest }) (p
+      ∙ sym q),
+  ap (λ x. x .out) (p ∙ sym q),
+)
+
+pub correct-samples-outcome : (κs : Lfts 2) (a : ArgsD correct-samples.signature κs) (r₁ r₂ : ResD correct-samples.signature κs)
+    (s₁ s₂ : AtExit (endedOf 2 correct-samples-kinds.ps correct-samples-kinds.r) κs)
+    → correct-samples-reads.Post κs a r₁ s₁ → correct-samples-reads.Post κs a r₂ s₂
+    → (r₁ ≡ r₂) × (now (s₁ .1 .1 .1 .0) ≡ now (s₂ .1 .1 .1 .0))
+correct-samples-outcome κs a r₁ r₂ s₁ s₂ p q = (
   ap (λ x. record { number = x .number; flips = x .flips; first = x .first; last = x .last; unlike = x .unlike; lowest = x .lowest }) (p
       ∙ sym q),
   ap (λ x. x .out) (p ∙ sym q),

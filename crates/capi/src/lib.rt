@@ -4,6 +4,7 @@ ghost use lib.ListN.{length};
 ghost use Rattle.answers.specs.Calls.{wordOctetsAnswer, informationOctetsAnswer, encodeAnswer, checkAnswer, openAnswer, correctAnswer, stepAnswer};
 ghost use Rattle.answers.specs.Lists.{listAnswer};
 ghost use Rattle.lists.specs.Answers.{asEntries, asListed};
+ghost use Rattle.samples.specs.Answers.{samplesAnswer};
 ghost use Rattle.codes.specs.Answers.{asEncoded, asChecked, asCorrected, asStepped};
 ghost use Rattle.units.specs.Units.{unitOctets, writeAnswer, readerAnswer, readAnswer};
 ghost use Rattle.units.specs.Answers.{asReading, asHanded};
@@ -107,6 +108,19 @@ pub extern "C" fn pandoricchia_correct(
     ensures { λ r. ⌜ asCorrected r (now (out .exit)) ≡ correctAnswer code (now (word .entry)) limit (now (out .entry)) ⌝ }
 {
     codes::correct(code, word, limit, out)
+}
+
+// The same on samples, one for each bit, whose sizes decide between bits of equal excess.
+#[no_mangle]
+pub extern "C" fn pandoricchia_correct_samples(
+    code: u8,
+    samples: &[f32],
+    limit: u16,
+    out: &mut [u8],
+) -> Corrected
+    ensures { λ r. ⌜ asCorrected r (now (out .exit)) ≡ samplesAnswer code (now (samples .entry)) limit (now (out .entry)) ⌝ }
+{
+    samples::correct_samples(code, samples, limit, out)
 }
 
 // The run's list, a record for each flip, into the caller's table.

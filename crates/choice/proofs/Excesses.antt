@@ -60,7 +60,8 @@ module _ {c : Code} {h : List ℕ} {sh : Shape} (lent : Lent c h sh) (x : Word) 
   unfolding score
   score-excess n l =
       excess-is c x n
-      ∙ same-difference (brokenOf c x n) (metOf c x n) (2 * brokenOf c x n + 8 - degreeOf c n) 8 (omega (arith, degree-le n l, broken-met c x n))
+      ∙ same-difference (brokenOf c x n) (metOf c x n) (2 * brokenOf c x n + 8 - degreeOf c n) 8
+      (omega (arith, degree-le n l, broken-met c x n))
 
   module _ {bit top : ℕ} (t : Top (score c x) (c .unsent) (bits c) bit top) where
     -- all bits from the first sent one on
@@ -79,7 +80,8 @@ module _ {c : Code} {h : List ℕ} {sh : Shape} (lent : Lent c h sh) (x : Word) 
 
     pub best-excess : excess c x bit ≡ subℕ top 8
     unfolding greatestSent
-    best-excess = ap (excess c x) (sym best-greatest) ∙ top-excess (excess c x) (score c x) 8 (c .unsent) (bits c - c .unsent) bit top raised ranged
+    best-excess = ap (excess c x) (sym best-greatest)
+        ∙ top-excess (excess c x) (score c x) 8 (c .unsent) (bits c - c .unsent) bit top raised ranged
 
     pub best-above : ltZ (pos 0) (excess c x bit) ≡ ltb 8 top
     best-above = top-above (excess c x) (score c x) 8 (c .unsent) (bits c - c .unsent) bit top raised ranged

@@ -24,7 +24,8 @@ use Rattle.choice.specs.Searching.{highest, beginIn, Lowered, Looked, Fo
 
 -- ---- the first bit of a block, word after word
 
-pub clear-word : (f : Word) (v k : ℕ) → Holds v (bitsFrom (64 * k) f) → ((i : ℕ) → digit 64 v i ≡ false) → ((i : ℕ) → i < 64 * k → f i ≡ false) → (i : ℕ) → i < 64 * (k + 1) → f i ≡ false
+pub clear-word : (f : Word) (v k : ℕ) → Holds v (bitsFrom (64 * k) f) → ((i : ℕ) → digit 64 v i ≡ false)
+    → ((i : ℕ) → i < 64 * k → f i ≡ false) → (i : ℕ) → i < 64 * (k + 1) → f i ≡ false
 clear-word f v k holds none was i h = go (decLt i (64 * k))
   where
     go : Dec (i < 64 * k) → f i ≡ false
@@ -34,7 +35,8 @@ clear-word f v k holds none was i h = go (decLt i (64 * k))
         let e : 64 * k + j ≡ i = omega (arith, lt-of-not-le u) in
         ap f (sym e) ∙ sym (holds j (omega (arith, lt-of-not-le u))) ∙ none j
 
-pub first-bit : (f : Word) (v k m at : ℕ) → Holds v (bitsFrom (64 * k) f) → First 64 v at → 64 * k + at < m → ((i : ℕ) → i < 64 * k → f i ≡ false) → 64 * k + at ≡ least m f
+pub first-bit : (f : Word) (v k m at : ℕ) → Holds v (bitsFrom (64 * k) f) → First 64 v at → 64 * k + at < m
+    → ((i : ℕ) → i < 64 * k → f i ≡ false) → 64 * k + at ≡ least m f
 first-bit f v k m at holds first under was =
     sym (least-found m f (64 * k + at) under (sym (holds at (first .inside)) ∙ first .here) (λ i h. go i h (decLt i (64 * k))))
   where
@@ -52,7 +54,8 @@ light-under d starts first n met begin m k e = go (ltb k m) refl
   where
     go : (t : Bool) → ltb k m ≡ t → k < m
     go true q = ltb-true k m q
-    go false q = absurd-false (leb begin k) (leb n (hits d starts first n k + met)) (ap (λ t. (leb begin k && t) && leb n (hits d starts first n k + met)) (sym q) ∙ e)
+    go false q = absurd-false (leb begin k) (leb n (hits d starts first n k + met))
+        (ap (λ t. (leb begin k && t) && leb n (hits d starts first n k + met)) (sym q) ∙ e)
       where
         absurd-false : (a b : Bool) → ((a && false) && b) ≡ true → k < m
         absurd-false true b p = absurd (true≢false (sym p))
@@ -68,13 +71,15 @@ begin-leb zero from m k l =
     let e : k ≡ 0 * m + k = omega arith in
     ap (leb from) e
 begin-leb (suc b) from m k l =
-    ap (λ n. leb n k) (begin-later (suc b) from (omega arith)) ∙ le-leb 0 k zero-le ∙ sym (le-leb from (suc b * m + k) (omega (arith, suc-mul b m)))
+    ap (λ n. leb n k) (begin-later (suc b) from (omega arith)) ∙ le-leb 0 k zero-le
+    ∙ sym (le-leb from (suc b * m + k) (omega (arith, suc-mul b m)))
 
 begin-under : (b from m : ℕ) → from < m → beginIn b from < m
 begin-under zero from m l = l
 begin-under (suc b) from m l = omega (arith, begin-later (suc b) from (omega arith))
 
-module _ (sh : Shape) (from : ℕ) (d : Word) (starts counts met : List ℕ) (b top : ℕ) (r : Ready sh starts counts met) (hf : from < sh .size) (hb : b < sh .blocks)
+module _ (sh : Shape) (from : ℕ) (d : Word) (starts counts met : List ℕ) (b top : ℕ) (r : Ready sh starts counts met)
+    (hf : from < sh .size) (hb : b < sh .blocks)
     (le : bound counts met b ≤ top) where
   abbrev N : ℕ
   N = getD counts b 0
@@ -90,7 +95,8 @@ module _ (sh : Shape) (from : ℕ) (d : Word) (starts counts met : List ℕ) (b 
 
   counts-as : (k : ℕ) → k < sh .size → from ≤ b * sh .size + k → L k ≡ leb N (H k + m)
   counts-as k hk l =
-      ap₂ (λ s t. (s && t) && leb N (H k + m)) (begin-leb b from (sh .size) k hf ∙ le-leb from (b * sh .size + k) l) (lt-ltb k (sh .size) hk)
+      ap₂ (λ s t. (s && t) && leb N (H k + m)) (begin-leb b from (sh .size) k hf ∙ le-leb from (b * sh .size + k) l)
+      (lt-ltb k (sh .size) hk)
 
   too-heavy : (k : ℕ) → k < sh .size → from ≤ b * sh .size + k → L k ≡ false → H k + m < N
   too-heavy k hk l e = leb-false N (H k + m) (sym (counts-as k hk l) ∙ e)
@@ -99,7 +105,8 @@ module _ (sh : Shape) (from : ℕ) (d : Word) (starts counts met : List ℕ) (b 
   light-sent k e =
       leb-true from (b * sh .size + k)
       (sym (begin-leb b from (sh .size) k hf)
-      ∙ and-eq-true-iff (leb (beginIn b from) k) (ltb k (sh .size)) .0 (and-eq-true-iff (leb (beginIn b from) k && ltb k (sh .size)) (leb N (H k + m)) .0 e .0) .0)
+      ∙ and-eq-true-iff (leb (beginIn b from) k) (ltb k (sh .size)) .0
+      (and-eq-true-iff (leb (beginIn b from) k && ltb k (sh .size)) (leb N (H k + m)) .0 e .0) .0)
 
   light-few : (k : ℕ) → L k ≡ true → N ≤ H k + m
   light-few k e = leb-true N (H k + m) (and-eq-true-iff (leb (beginIn b from) k && ltb k (sh .size)) (leb N (H k + m)) .0 e .1)
@@ -132,7 +139,14 @@ module _ (sh : Shape) (from : ℕ) (d : Word) (starts counts met : List ℕ) (b 
       sent = λ l. light-sent k lit;
       score = λ l g s u. omega (arith, s b k hb hk, u b k hb hk (light-sent k lit), light-few k lit, r .low b hb, r .few b hb);
       first = λ l g s j hj sent.
-          omega (arith, s b j hb (omega arith), r .low b hb, r .few b hb, too-heavy j (omega arith) sent (least-below (sh .size) L j (omega arith)));
+          omega (
+            arith,
+            s b j hb (omega arith),
+            r .low b hb,
+            r .few b hb,
+            too-heavy j (omega arith) sent
+                (least-below (sh .size) L j (omega arith)),
+          );
     }
       where
         lit : L k ≡ true
@@ -173,7 +187,11 @@ module _ (sh : Shape) (from : ℕ) (d : Word) (starts counts met : List ℕ) (b 
         below : m < N
         below =
             let i = beginIn b from in
-            omega (arith, heavy i (begin-under b from (sh .size) hf) (leb-true from (b * sh .size + i) (sym (begin-leb b from (sh .size) i hf) ∙ le-leb i i (le-refl i))))
+            omega (
+              arith,
+              heavy i (begin-under b from (sh .size) hf)
+                  (leb-true from (b * sh .size + i) (sym (begin-leb b from (sh .size) i hf) ∙ le-leb i i (le-refl i))),
+            )
 
         now-is : getD (set met b (m + 1)) b 0 ≡ m + 1
         now-is = getD-set-same met b (m + 1) 0 (omega (arith, r .met-long, r .blocks))
@@ -185,7 +203,8 @@ module _ (sh : Shape) (from : ℕ) (d : Word) (starts counts met : List ℕ) (b 
         few j hj (yes q) = subst (λ i. getD (set met b (m + 1)) i 0 ≤ getD counts i 0) (sym q) (omega (arith, now-is, below))
         few j hj (no q) = omega (arith, getD-set-other met b j (m + 1) 0 q, r .few j hj)
 
-        under : (g : ℕ → ℕ) → Scored g sh d starts counts → Under g sh from counts met → (j i : ℕ) → j < sh .blocks → i < sh .size → from ≤ j * sh .size + i → Dec (j ≡ b)
+        under : (g : ℕ → ℕ) → Scored g sh d starts counts → Under g sh from counts met → (j i : ℕ) → j < sh .blocks → i < sh .size
+            → from ≤ j * sh .size + i → Dec (j ≡ b)
             → g (j * sh .size + i) ≤ bound counts (set met b (m + 1)) j
         under g s u j i hj hi sent (yes q) =
             subst (λ n. from ≤ n * sh .size + i → g (n * sh .size + i) ≤ bound counts (set met b (m + 1)) n) (sym q)
@@ -194,7 +213,9 @@ module _ (sh : Shape) (from : ℕ) (d : Word) (starts counts met : List ℕ) (b 
 
 -- ---- the greatest bound
 
-pub highest-more : (counts met : List ℕ) (b v : ℕ) → v ≡ (if ltb (highest counts met b) (bound counts met b) then bound counts met b else highest counts met b) → v ≡ highest counts met (b + 1)
+pub highest-more : (counts met : List ℕ) (b v : ℕ)
+    → v ≡ (if ltb (highest counts met b) (bound counts met b) then bound counts met b else highest counts met b)
+    → v ≡ highest counts met (b + 1)
 unfolding highest
 highest-more counts met b v e = e ∙ ap (highest counts met) (sym (add-one b))
 
@@ -205,43 +226,50 @@ highest-none counts met = refl
 pub highest-above : (counts met : List ℕ) (blocks b : ℕ) → b < blocks → bound counts met b ≤ highest counts met blocks
 unfolding highest
 highest-above counts met zero b h = absurd (omega arith)
-highest-above counts met (suc n) b h = go (λ l. highest-above counts met n b l) (ℕ-discrete b n) (decLt (highest counts met n) (bound counts met n))
+highest-above counts met (suc n) b h = go (λ l. highest-above counts met n b l) (ℕ-discrete b n)
+    (decLt (highest counts met n) (bound counts met n))
   where
     go : (b < n → bound counts met b ≤ highest counts met n) → Dec (b ≡ n) → Dec (highest counts met n < bound counts met n)
         → bound counts met b ≤ (if ltb (highest counts met n) (bound counts met n) then bound counts met n else highest counts met n)
     go ih q (yes l) =
-        subst (λ s. bound counts met b ≤ (if s then bound counts met n else highest counts met n)) (sym (lt-ltb (highest counts met n) (bound counts met n) l)) (of q)
+        subst (λ s. bound counts met b ≤ (if s then bound counts met n else highest counts met n))
+        (sym (lt-ltb (highest counts met n) (bound counts met n) l)) (of q)
       where
         of : Dec (b ≡ n) → bound counts met b ≤ bound counts met n
         of (yes e) = omega (arith, ap (bound counts met) e)
         of (no u) = omega (arith, ih (omega arith))
     go ih q (no w) =
         let l : bound counts met n ≤ highest counts met n = omega (arith, lt-of-not-le w) in
-        subst (λ s. bound counts met b ≤ (if s then bound counts met n else highest counts met n)) (sym (le-ltb (highest counts met n) (bound counts met n) l)) (of q)
+        subst (λ s. bound counts met b ≤ (if s then bound counts met n else highest counts met n))
+        (sym (le-ltb (highest counts met n) (bound counts met n) l)) (of q)
       where
         of : Dec (b ≡ n) → bound counts met b ≤ highest counts met n
         of (yes e) = omega (arith, ap (bound counts met) e, lt-of-not-le w)
         of (no u) = ih (omega arith)
 
 -- Where every bound is less than a number, so is the greatest.
-highest-under : (counts met : List ℕ) (blocks top : ℕ) → 1 ≤ top → ((b : ℕ) → b < blocks → bound counts met b < top) → highest counts met blocks < top
+highest-under : (counts met : List ℕ) (blocks top : ℕ) → 1 ≤ top → ((b : ℕ) → b < blocks → bound counts met b < top)
+    → highest counts met blocks < top
 unfolding highest
 highest-under counts met zero top s h = s
-highest-under counts met (suc n) top s h = go (ltb (highest counts met n) (bound counts met n)) (highest-under counts met n top s (λ b l. h b (le-step l)))
+highest-under counts met (suc n) top s h = go (ltb (highest counts met n) (bound counts met n))
+    (highest-under counts met n top s (λ b l. h b (le-step l)))
   where
     go : (t : Bool) → highest counts met n < top → (if t then bound counts met n else highest counts met n) < top
     go true ih = h n (lt-suc-self n)
     go false ih = ih
 
 -- A search that finds nothing leaves less.
-pub highest-less : (counts met met′ : List ℕ) (blocks top : ℕ) → 1 ≤ blocks → top ≡ highest counts met blocks → ((b : ℕ) → b < blocks → bound counts met′ b < top)
+pub highest-less : (counts met met′ : List ℕ) (blocks top : ℕ) → 1 ≤ blocks → top ≡ highest counts met blocks
+    → ((b : ℕ) → b < blocks → bound counts met′ b < top)
     → highest counts met′ blocks < highest counts met blocks
 highest-less counts met met′ blocks top some e less =
     subst (λ t. highest counts met′ blocks < t) e (highest-under counts met′ blocks top (omega (arith, less 0 some)) less)
 
 -- ---- block after block
 
-module _ (sh : Shape) (from : ℕ) (d : Word) (starts counts met₀ met met′ : List ℕ) (b top k : ℕ) (was : Lowered sh from d starts counts met₀ met)
+module _ (sh : Shape) (from : ℕ) (d : Word) (starts counts met₀ met met′ : List ℕ) (b top k : ℕ)
+    (was : Lowered sh from d starts counts met₀ met)
     (le : (j : ℕ) → j < sh .blocks → bound counts met j ≤ top) (lt : (j : ℕ) → j < b → bound counts met j < top) (hb : b < sh .blocks)
     (l : Looked sh from d starts counts b top k met met′) where
   pub lowered-more : Lowered sh from d starts counts met₀ met′
@@ -283,22 +311,40 @@ module _ (sh : Shape) (from : ℕ) (d : Word) (starts counts met₀ met met′ :
       low : (i : ℕ) → i % sh .size < sh .size
       low i = mod-lt i (omega arith)
 
-      most : (g : ℕ → ℕ) → Scored g sh d starts counts → Under g sh from counts met₀ → (i : ℕ) → from ≤ i → i < sh .blocks * sh .size → g i ≤ top
+      most : (g : ℕ → ℕ) → Scored g sh d starts counts → Under g sh from counts met₀ → (i : ℕ) → from ≤ i → i < sh .blocks * sh .size
+          → g i ≤ top
       most g s u i a z =
           let j = i / sh .size in
           let hj : j < sh .blocks = div-lt-iff-lt-mul {k = sh .size} (omega arith) .1 z in
-          omega (arith, ap g (split i), lowered-more .under g s u j (i % sh .size) hj (low i) (subst (λ n. from ≤ n) (sym (split i)) a), still-le j hj)
+          omega (
+            arith,
+            ap g (split i),
+            lowered-more .under g s u j (i % sh .size) hj (low i) (subst (λ n. from ≤ n) (sym (split i)) a),
+            still-le j hj,
+          )
 
-      first : (g : ℕ → ℕ) → Scored g sh d starts counts → Under g sh from counts met₀ → (i : ℕ) → from ≤ i → i < b * sh .size + k → g i < top
+      first : (g : ℕ → ℕ) → Scored g sh d starts counts → Under g sh from counts met₀ → (i : ℕ) → from ≤ i → i < b * sh .size + k
+          → g i < top
       first g s u i a z = go (decLt (i / sh .size) b)
         where
           go : Dec (i / sh .size < b) → g i < top
           go (yes h) =
               let j = i / sh .size in
-              omega (arith, ap g (split i), lowered-more .under g s u j (i % sh .size) (omega arith) (low i) (subst (λ n. from ≤ n) (sym (split i)) a), still-lt j h)
+              omega (
+                arith,
+                ap g (split i),
+                lowered-more .under g s u j (i % sh .size) (omega arith) (low i)
+                    (subst (λ n. from ≤ n) (sym (split i)) a),
+                still-lt j h,
+              )
           go (no v) =
               let i′ = i - b * sh .size in
-              let h : b * sh .size ≤ i = omega (arith, split i, mul-le-mul-right {m = b} {n = i / sh .size} (sh .size) (omega (arith, lt-of-not-le v))) in
+              let h : b * sh .size ≤ i = omega (
+                arith,
+                split i,
+                mul-le-mul-right {m = b} {n = i / sh .size} (sh .size)
+                    (omega (arith, lt-of-not-le v)),
+              ) in
               let e : b * sh .size + i′ ≡ i = omega arith in
               subst (λ n. g n < top) e (l .first hk g s i′ (omega arith) (omega arith))
 

@@ -32,7 +32,8 @@ pub record Looked (sh : Shape) (from : ℕ) (d : Word) (starts counts : List ℕ
   pub here : k < sh .size → bound counts met′ b ≡ top
   pub sent : k < sh .size → from ≤ b * sh .size + k
   pub score : k < sh .size → (g : ℕ → ℕ) → Scored g sh d starts counts → Under g sh from counts met → g (b * sh .size + k) ≡ top
-  pub first : k < sh .size → (g : ℕ → ℕ) → Scored g sh d starts counts → (j : ℕ) → j < k → from ≤ b * sh .size + j → g (b * sh .size + j) < top
+  pub first : k < sh .size → (g : ℕ → ℕ) → Scored g sh d starts counts → (j : ℕ) → j < k → from ≤ b * sh .size + j
+      → g (b * sh .size + j) < top
 
 -- Bit r is the first of the greatest score, which is the bound of its block.
 pub record Found (sh : Shape) (from : ℕ) (d : Word) (starts counts met : List ℕ) (top r : ℕ) (met′ : List ℕ) : Type 0 where

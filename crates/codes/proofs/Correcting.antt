@@ -39,7 +39,8 @@ numbers-same {a} {a′} {b} {b′} {c} {c′} {d} {d′} {e} {e′} {f} {f′} {
     ∙ ap₂ (λ x y. numbers a′ b′ c′ d′ x y o) t u ∙ ap (numbers a′ b′ c′ d′ e′ f′) v
 
 -- the word at the end of a run
-pub ends-at : (c : Code) → c .unsent < bits c → (received end : Word) (limit flips : ℕ) → end ≡ run (byExcess c) limit (lifted c received) .word
+pub ends-at : (c : Code) → c .unsent < bits c → (received end : Word) (limit flips : ℕ)
+    → end ≡ run (byExcess c) limit (lifted c received) .word
     → flips ≡ length (run (byExcess c) limit (lifted c received) .flips) → EndsAt c received end flips
 ends-at c some received end limit flips e f =
     let x = lifted c received in
@@ -57,9 +58,16 @@ module _ (n : ℕ) (word t : List ℕ) (y s : Word) (sh : Shape) (m : Measured n
 
   -- ---- correct
 
-  module _ (first : ℕ) (counted : (c : Code) (h : List ℕ) (sh : Shape) (x : Word) → Fit h sh → Lent c h sh → s ≡ laid c sh x → first ≡ broken c x) where
+  module _ (first : ℕ) (counted : (c : Code) (h : List ℕ) (sh : Shape) (x : Word) → Fit h sh → Lent c h sh → s ≡ laid c sh x
+      → first ≡ broken c x) where
     pub begins : (from : ℕ) → code n .unsent ≡ from → Begins (code n) t sh from first y s
-    begins from e = record { lent = m .lends .lent; unsent = e; held = m .held; broken = counted (code n) t sh y (m .lends .fit) (m .lends .lent) (m .held) }
+    begins from e = record {
+      lent = m .lends .lent;
+      unsent = e;
+      held = m .held;
+      broken = counted (code n) t sh y (m .lends .fit)
+          (m .lends .lent) (m .held);
+    }
 
     pub beginning : (from : ℕ) → code n .unsent ≡ from → Beginning t sh from first y s
     beginning from e = record { code = code n; begins = begins from e }

@@ -53,7 +53,8 @@ module _ (top : ℕ) (small : top ≤ 15) where
   pub excess-kept : toZ w8 (ofZ w8 (toZ w8 top -ℤ pos 8)) ≡ subℕ top 8
   excess-kept = toZ-ofZ w8 (toZ w8 top -ℤ pos 8) excess-fits ∙ less
 
-module _ {c : Code} {h : List ℕ} {sh : Shape} (lent : Lent c h sh) (x : Word) {from bit top : ℕ} (t : Top (score c x) from (bits c) bit top) where
+module _ {c : Code} {h : List ℕ} {sh : Shape} (lent : Lent c h sh) (x : Word) {from bit top : ℕ}
+    (t : Top (score c x) from (bits c) bit top) where
   pub top-lt : bit < sh .blocks * sh .size
   top-lt = subst (λ z. bit < z) (lent .bits-are) (t .under)
 
@@ -63,14 +64,17 @@ module _ {c : Code} {h : List ℕ} {sh : Shape} (lent : Lent c h sh) (x : Word) 
   top-small = omega (arith, t .is, broken-met c x bit, degree-le lent x bit (t .under))
 
   pub next-stuck : c .unsent ≡ from → (broken c x ≡ 0 → ⊥) → top ≤ 8 → byExcess c x ≡ stuck bit (subℕ top 8)
-  next-stuck u d l = best-next lent x (top-ends (sym u) refl t) d ∙ ap (λ b. if b then flip bit (subℕ top 8) else stuck bit (subℕ top 8)) (le-ltb 8 top l)
+  next-stuck u d l = best-next lent x (top-ends (sym u) refl t) d ∙ ap (λ b. if b then flip bit (subℕ top 8) else stuck bit (subℕ top 8))
+      (le-ltb 8 top l)
 
   pub next-flip : c .unsent ≡ from → (broken c x ≡ 0 → ⊥) → 8 < top → byExcess c x ≡ flip bit (subℕ top 8)
-  next-flip u d l = best-next lent x (top-ends (sym u) refl t) d ∙ ap (λ b. if b then flip bit (subℕ top 8) else stuck bit (subℕ top 8)) (lt-ltb 8 top l)
+  next-flip u d l = best-next lent x (top-ends (sym u) refl t) d ∙ ap (λ b. if b then flip bit (subℕ top 8) else stuck bit (subℕ top 8))
+      (lt-ltb 8 top l)
 
 -- ---- a bit that was chosen
 
-module _ (c : Code) (h : List ℕ) (sh : Shape) (lent : Lent c h sh) (fit : Fit h sh) (starts counts : List ℕ) (g : Gathered h sh starts counts (sh .blocks)) (from : ℕ) (y : Word)
+module _ (c : Code) (h : List ℕ) (sh : Shape) (lent : Lent c h sh) (fit : Fit h sh) (starts counts : List ℕ)
+    (g : Gathered h sh starts counts (sh .blocks)) (from : ℕ) (y : Word)
     (d met met′ : List ℕ) (top bit : ℕ) (was : Kept c sh from y d counts met) (low : Lowered sh from (wbit d) starts counts met met′)
     (found : Found sh from (wbit d) starts counts met top bit met′) where
   scores : Scored (score c y) sh (wbit d) starts counts
@@ -90,25 +94,38 @@ module _ (c : Code) (h : List ℕ) (sh : Shape) (lent : Lent c h sh) (fit : Fit 
       let b = bit / M in
       let hb : b < sh .blocks = div-lt-iff-lt-mul (fit .some) .1 (found .inside) in
       let degree = degree-is h sh c lent b hb starts (getD counts b 0) (g b hb .1) (bit % M) (mod-lt bit (fit .some)) in
-      omega (arith, chosen-top .is, found .here, broken-met c y bit, ap (degreeOf c) (div-add-mod' bit M), degree, low .ready .few b hb, g b hb .0)
+      omega (
+        arith,
+        chosen-top .is,
+        found .here,
+        broken-met c y bit,
+        ap (degreeOf c) (div-add-mod' bit M),
+        degree,
+        low .ready .few b hb,
+        g b hb .0,
+      )
 
   -- A flip mends as many checks as its excess.
   pub chosen-left : 8 < top → broken c (flipped y bit) + (top - 8) ≡ broken c y
   unfolding score
   chosen-left l = omega (arith, chosen-top .is, broken-met c y bit, broken-flip c y bit (chosen-top .under))
 
-pub carried-more : {c : Code} {sh : Shape} {from left : ℕ} {z y : Word} {d counts met : List ℕ} → y ≡ z → Kept c sh from z d counts met → left ≡ broken c z → Carried c sh from left y d counts met
-carried-more {c} {sh} {from} {left} {z} {y} {d} {counts} {met} e kept is = subst (λ w. Carried c sh from left w d counts met) (sym e) (record { kept = kept; left-is = is })
+pub carried-more : {c : Code} {sh : Shape} {from left : ℕ} {z y : Word} {d counts met : List ℕ} → y ≡ z → Kept c sh from z d counts met
+    → left ≡ broken c z → Carried c sh from left y d counts met
+carried-more {c} {sh} {from} {left} {z} {y} {d} {counts} {met} e kept is = subst (λ w. Carried c sh from left w d counts met) (sym e)
+    (record { kept = kept; left-is = is })
 
 -- What is kept of a word at the start: no met check is counted on.
-pub begun-kept : (c : Code) (h : List ℕ) (sh : Shape) (lent : Lent c h sh) (starts counts : List ℕ) → Gathered h sh starts counts (sh .blocks) → (from : ℕ) (x s : Word) (d : List ℕ)
+pub begun-kept : (c : Code) (h : List ℕ) (sh : Shape) (lent : Lent c h sh) (starts counts : List ℕ)
+    → Gathered h sh starts counts (sh .blocks) → (from : ℕ) (x s : Word) (d : List ℕ)
     → s ≡ laid c sh x → Twice sh (sh .rows) s (wbit d) → Kept c sh from x d counts (replicate 16 0)
 begun-kept c h sh lent starts counts g from x s d e two = record {
   twice = subst (λ z. Twice sh (sh .rows) z (wbit d)) e two;
   under = begun-under c h sh lent from starts counts g x (replicate 16 0) (zeros-at 16);
 }
 
-pub begun-ready : {h : List ℕ} {sh : Shape} {starts counts : List ℕ} → Fit h sh → Gathered h sh starts counts (sh .blocks) → length starts ≡ 128 → length counts ≡ 16 → Ready sh starts counts (replicate 16 0)
+pub begun-ready : {h : List ℕ} {sh : Shape} {starts counts : List ℕ} → Fit h sh → Gathered h sh starts counts (sh .blocks)
+    → length starts ≡ 128 → length counts ≡ 16 → Ready sh starts counts (replicate 16 0)
 begun-ready fit g a b = ready fit g a b refl (λ i hi. omega (arith, zeros-at 16 i))
 
 -- ---- the run, flip by flip
@@ -141,7 +158,8 @@ module _ (way : Way) (c : Code) (sh : Shape) (limit : ℕ) (x : Word) where
     pub ends-stuck : (n : ℕ) (ex : ℤ) → way y ≡ stuck n ex → RunsTo way c sh limit x (record { number = 5; flips = flips }) y s
     ends-stuck n ex e = ends 5 (run-stuck way (limit - flips) y n ex e)
 
-    pub ends-limit : (n : ℕ) (ex : ℤ) → way y ≡ flip n ex → limit ≤ flips → RunsTo way c sh limit x (record { number = 6; flips = flips }) y s
+    pub ends-limit : (n : ℕ) (ex : ℤ) → way y ≡ flip n ex → limit ≤ flips
+        → RunsTo way c sh limit x (record { number = 6; flips = flips }) y s
     ends-limit n ex e l =
         let z : limit - flips ≡ 0 = omega arith in
         ends 6 (ap (λ k. run way k y) z ∙ run-limit way y n ex e)
@@ -165,5 +183,6 @@ module _ (way : Way) (c : Code) (sh : Shape) (limit : ℕ) (x : Word) where
         turns = ap (λ k. run way k y) left ∙ run-flip way (limit - (flips + 1)) y n ex e
 
 -- The same run by another record of it.
-pub runs-as : {way : Way} {c : Code} {sh : Shape} {limit : ℕ} {x y s : Word} (r r′ : Ran) → r′ .number ≡ r .number → r′ .flips ≡ r .flips → RunsTo way c sh limit x r y s → RunsTo way c sh limit x r′ y s
+pub runs-as : {way : Way} {c : Code} {sh : Shape} {limit : ℕ} {x y s : Word} (r r′ : Ran) → r′ .number ≡ r .number → r′ .flips ≡ r .flips
+    → RunsTo way c sh limit x r y s → RunsTo way c sh limit x r′ y s
 runs-as r r′ p q to = record { number = p ∙ to .number; flips = q ∙ to .flips; word = to .word; held = to .held }

@@ -21,7 +21,8 @@ pub record Holding (h : List ℕ) (sh : Shape) (s : Word) : Type 0 where
   pub lent : Lent code h sh
   pub held : s ≡ laid code sh word
 
--- The run of the code c begins with the word y, whose syndrome is s; `first` of its checks are broken, and bits before bit `from` are not sent.
+-- The run of the code c begins with the word y, whose syndrome is s; `first` of its checks are broken, and bits before bit `from` are not
+-- sent.
 pub record Begins (c : Code) (h : List ℕ) (sh : Shape) (from first : ℕ) (y s : Word) : Type 0 where
   pub lent : Lent c h sh
   pub unsent : c .unsent ≡ from

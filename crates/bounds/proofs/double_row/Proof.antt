@@ -66,7 +66,14 @@ returns-2 c =
     let a = c .before .before .before .before .before .before .before .before .before .before .before .before .before .args in
     let row = c .before .before .before .before .before .before .before .row .ensures in
     let twofold = c .before .before .double .ensures in
-    placed (a .d .now) _ _ (a .to) (omega arith) (wbit (a .s .now)) (64 * a .at) (a .m) (omega (arith, c .before .d2 .given, length-take (a .to + 2 * a .words - a .to) (drop (a .to) (a .d .now)), length-drop (a .to) (a .d .now))) (twofold ∙ ap (twice (a .m)) row)
+    placed (a .d .now) _ _ (a .to) (omega arith) (wbit (a .s .now)) (64 * a .at) (a .m)
+    (omega (
+      arith,
+      c .before .d2 .given,
+      length-take (a .to + 2 * a .words - a .to) (drop (a .to) (a .d .now)),
+      length-drop (a .to)
+          (a .d .now),
+    )) (twofold ∙ ap (twice (a .m)) row)
 
 pub double-row-spec : {M : Type 1} → statement M
 double-row-spec =

@@ -21,7 +21,11 @@ loop-holds : tie.Need-loop-holds Inv-loop μ-loop
 loop-holds c = (omega arith, omega arith, omega arith, λ q n hq. absurd (omega arith))
 
 mul-double-row : tie.Need-mul-double-row Inv-loop μ-loop
-mul-double-row c = omega (arith, within (c .before .before .loop .r) (c .before .before .before .before .before .before .args .sh .rows) (c .before .before .before .before .before .before .args .sh .words) (omega arith))
+mul-double-row c = omega (
+  arith,
+  within (c .before .before .loop .r) (c .before .before .before .before .before .before .args .sh .rows)
+      (c .before .before .before .before .before .before .args .sh .words) (omega arith),
+)
 
 mul-double-row-2 : tie.Need-mul-double-row-2 Inv-loop μ-loop
 mul-double-row-2 c = omega arith
@@ -48,7 +52,8 @@ loop-again c =
       omega arith,
       omega arith,
       omega arith,
-      twice-more (a .sh) (wbit (a .s .now)) (wbit (l .d)) _ (l .r) (omega arith) (l .inv .3) (c .before .before .before .before .double-row .ensures),
+      twice-more (a .sh) (wbit (a .s .now)) (wbit (l .d)) _ (l .r) (omega arith) (l .inv .3)
+          (c .before .before .before .before .double-row .ensures),
     )
 
 same-length : tie.Need-same-length Inv-loop μ-loop

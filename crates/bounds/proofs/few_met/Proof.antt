@@ -1,4 +1,5 @@
--- `bounds::few_met` meets its contract: after e turns, those of which at most so many of the first e checks are met, and those of which none is. Assumes nothing.
+-- `bounds::few_met` meets its contract: after e turns, those of which at most so many of the first e checks are met, and those of which
+-- none is. Assumes nothing.
 use mathlib.Core.Path.{_≡_, sym, ap, _∙_}
 use mathlib.Core.Bool.{_&&_}
 use Prim.Native.Nat.{ℕ, _+_, _-_, _%_, _≤_, _<_, zero-le}
@@ -32,7 +33,8 @@ loop-holds c =
     let h : ℕ → ℕ = λ i. hits (wbit (a .d .now)) (a .starts .now) (a .first) 0 (a .at + i) in (
       omega arith,
       λ i hi. ones-at 64 i hi ∙ sym (le-leb 0 (h i + a .met) zero-le),
-      λ i hi. c .spread .ensures i hi ∙ sym (and-true (eqb (a .met % 2) 1)) ∙ ap (λ t. eqb (a .met % 2) 1 && t) (sym (le-leb 0 (h i) zero-le)),
+      λ i hi. c .spread .ensures i hi ∙ sym (and-true (eqb (a .met % 2) 1))
+          ∙ ap (λ t. eqb (a .met % 2) 1 && t) (sym (le-leb 0 (h i) zero-le)),
     )
 
 add-window : tie.Need-add-window Inv-loop μ-loop

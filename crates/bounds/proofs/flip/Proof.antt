@@ -69,12 +69,14 @@ same-length-2 c = search needs
 
 returns : tie.Need-returns
 returns c =
-    let s = c .before .before .before .before .before .before .before .before .before .before .before .before .before .before .before .before in
+    let s = c .before .before .before .before .before .before .before .before .before .before .before .before .before .before .before
+    .before in
     let a = s .args in
     let r = c .before .before .raise in
     let t = c .before .before .before .before .before .before .before .turn-checks in (
       ready-fewer (getD (a .met .now) (a .bit / a .sh .size) 0) (s .pre .0) (search needs) (r .ensures),
-      kept-flip (a .sh) (a .starts .now) (a .counts .now) (a .met .now) _ (a .d .now) _ (a .bit) (s .pre .0) (s .pre .2) (r .ensures) (t .ensures),
+      kept-flip (a .sh) (a .starts .now) (a .counts .now) (a .met .now) _ (a .d .now) _ (a .bit) (s .pre .0) (s .pre .2) (r .ensures)
+          (t .ensures),
     )
 
 pub flip-spec : {M : Type 1} → statement M

@@ -11,7 +11,8 @@ use Rattle.bounds.proofs.gather.Tie as tie
 
 abbrev Inv-loop : tie.InvT-loop
 Inv-loop h sh b starts₀ m n₀ r₀ starts n r =
-    (r ≤ sh .rows) × (8 * b ≤ n) × (n ≤ 8 * b + 2 * r) × (length starts ≡ 128) × Listed starts (8 * b) (n - 8 * b) (3072 + sh .size) (asked h sh b r)
+    (r ≤ sh .rows) × (8 * b ≤ n) × (n ≤ 8 * b + 2 * r) × (length starts ≡ 128)
+    × Listed starts (8 * b) (n - 8 * b) (3072 + sh .size) (asked h sh b r)
     × ((e : ℕ) → e < 8 * b → getD starts e 0 ≡ getD starts₀ e 0)
 
 abbrev μ-loop : tie.MeasureT-loop
@@ -29,7 +30,8 @@ loop-holds c =
       omega arith,
       omega arith,
       s .pre .2,
-      subst (λ k. Listed (a .starts .now) (8 * a .b) k (3072 + a .sh .size) (asked (a .h .now) (a .sh) (a .b) 0)) none (listed-none (a .starts .now) (8 * a .b) (3072 + a .sh .size) (a .h .now) (a .sh) (a .b)),
+      subst (λ k. Listed (a .starts .now) (8 * a .b) k (3072 + a .sh .size) (asked (a .h .now) (a .sh) (a .b) 0)) none
+          (listed-none (a .starts .now) (8 * a .b) (3072 + a .sh .size) (a .h .now) (a .sh) (a .b)),
       λ e h. refl,
     )
 
@@ -63,7 +65,8 @@ note-requires c κs =
 add-note : tie.Need-add-note Inv-loop μ-loop
 add-note c =
     let s = c .before .before .before .before .before .before .before .before .before .before in
-    let inside = within (c .before .before .before .before .before .before .before .loop .r) (s .args .sh .rows) (s .args .sh .blocks) (omega arith) in
+    let inside = within (c .before .before .before .before .before .before .before .loop .r) (s .args .sh .rows) (s .args .sh .blocks)
+    (omega arith) in
     omega arith
 
 mul-note-2 : tie.Need-mul-note-2 Inv-loop μ-loop
@@ -72,8 +75,18 @@ mul-note-2 c = omega arith
 note-requires-2 : tie.Need-note-requires-2 Inv-loop μ-loop
 note-requires-2 c κs =
     let s = c .before .before .before .before .before .before .before .before .before .before .before in
-    let inside = within (c .before .before .before .before .before .before .before .before .loop .r) (s .args .sh .rows) (s .args .sh .blocks) (omega arith) in
-    (omega arith, omega (arith, noted-le (c .before .before .before .note .ensures), c .before .before .before .note .ensures .long, s .pre .0 .blocks, s .pre .0 .rows), omega (arith, s .pre .0 .rows, s .pre .0 .held, s .pre .0 .words))
+    let inside = within (c .before .before .before .before .before .before .before .before .loop .r) (s .args .sh .rows)
+    (s .args .sh .blocks) (omega arith) in (
+      omega arith,
+      omega (
+        arith,
+        noted-le (c .before .before .before .note .ensures),
+        c .before .before .before .note .ensures .long,
+        s .pre .0 .blocks,
+        s .pre .0 .rows,
+      ),
+      omega (arith, s .pre .0 .rows, s .pre .0 .held, s .pre .0 .words),
+    )
 
 add-r : tie.Need-add-r Inv-loop μ-loop
 add-r c = omega arith
@@ -95,7 +108,8 @@ loop-again c =
       two .ensures .long ∙ one .ensures .long ∙ l .inv .3,
       gathered-row (a .h .now) (a .sh) (a .b) (l .r) (l .starts) _ _ (8 * a .b) (l .n) (one .result) (two .result) (3072 + a .sh .size)
           (l .inv .1) (omega (arith, s .pre .0 .blocks)) (omega arith) (one .ensures) (two .ensures) (l .inv .4),
-      λ e h. noted-before (two .ensures) e (omega (arith, noted-ge (one .ensures))) ∙ noted-before (one .ensures) e (omega arith) ∙ l .inv .5 e h,
+      λ e h. noted-before (two .ensures) e (omega (arith, noted-ge (one .ensures))) ∙ noted-before (one .ensures) e (omega arith)
+          ∙ l .inv .5 e h,
     )
 
 mul-result : tie.Need-mul-result Inv-loop μ-loop
@@ -114,7 +128,8 @@ returns c =
     let l = c .before .before .loop in
     let all : l .r ≡ a .sh .rows = omega arith in (
       omega (arith, s .pre .0 .rows),
-      subst (λ k. Listed (l .starts) (8 * a .b) (l .n - 8 * a .b) (3072 + a .sh .size) (asked (a .h .now) (a .sh) (a .b) k)) all (l .inv .4),
+      subst (λ k. Listed (l .starts) (8 * a .b) (l .n - 8 * a .b) (3072 + a .sh .size) (asked (a .h .now) (a .sh) (a .b) k)) all
+          (l .inv .4),
       l .inv .5,
     )
 

@@ -10,7 +10,8 @@ use Rattle.bounds.proofs.gather_all.Statement.{statement}
 use Rattle.bounds.proofs.gather_all.Tie as tie
 
 abbrev Inv-loop : tie.InvT-loop
-Inv-loop h sh starts₀ counts₀ b₀ starts counts b = (b ≤ sh .blocks) × (length starts ≡ 128) × (length counts ≡ 16) × Gathered h sh starts counts b
+Inv-loop h sh starts₀ counts₀ b₀ starts counts b = (b ≤ sh .blocks) × (length starts ≡ 128) × (length counts ≡ 16)
+    × Gathered h sh starts counts b
 
 abbrev μ-loop : tie.MeasureT-loop
 μ-loop h sh starts₀ counts₀ b₀ starts counts b = sh .blocks - b
@@ -19,7 +20,11 @@ loop-holds : tie.Need-loop-holds Inv-loop μ-loop
 loop-holds c = (omega arith, omega arith, omega arith, λ b h. absurd (omega arith))
 
 gather-requires : tie.Need-gather-requires Inv-loop μ-loop
-gather-requires c κs = (c .before .before .before .before .before .before .before .pre .0, omega arith, c .before .before .before .loop .inv .1)
+gather-requires c κs = (
+  c .before .before .before .before .before .before .before .pre .0,
+  omega arith,
+  c .before .before .before .loop .inv .1,
+)
 
 cast-counts : tie.Need-cast-counts Inv-loop μ-loop
 cast-counts c = omega (arith, c .before .before .gather .ensures .0)
@@ -45,7 +50,8 @@ loop-again c =
       omega arith,
       search needs,
       length-set (l .counts) (l .b) (g .result) ∙ l .inv .2,
-      gathered-more (a .h .now) (a .sh) (l .starts) _ (l .counts) (l .b) (g .result) (omega (arith, s .pre .0 .blocks, l .inv .2)) (g .ensures .0) (g .ensures .1) (g .ensures .2) (l .inv .3),
+      gathered-more (a .h .now) (a .sh) (l .starts) _ (l .counts) (l .b) (g .result) (omega (arith, s .pre .0 .blocks, l .inv .2))
+          (g .ensures .0) (g .ensures .1) (g .ensures .2) (l .inv .3),
     )
 
 same-length : tie.Need-same-length Inv-loop μ-loop

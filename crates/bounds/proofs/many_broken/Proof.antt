@@ -28,7 +28,17 @@ all-requires : tie.Need-all-requires Inv-loop μ-loop
 all-requires c κs = omega arith
 
 loop-holds : tie.Need-loop-holds Inv-loop μ-loop
-loop-holds c = (omega arith, λ i hi. omega (arith, c .all .ensures i hi, ap tally (digit-zero 64 i), count-start (λ e. wbit (c .before .before .before .args .d .now) (lib.ListN.getD (c .before .before .before .args .starts .now) (c .before .before .before .args .first + e) 0 + (c .before .before .before .args .at + i)))))
+loop-holds c = (
+  omega arith,
+  λ i hi. omega (
+    arith,
+    c .all .ensures i hi,
+    ap tally (digit-zero 64 i),
+    count-start
+        (λ e. wbit (c .before .before .before .args .d .now) (lib.ListN.getD (c .before .before .before .args .starts .now)
+        (c .before .before .before .args .first + e) 0 + (c .before .before .before .args .at + i))),
+  ),
+)
 
 add-window : tie.Need-add-window Inv-loop μ-loop
 add-window c = omega arith
@@ -72,7 +82,8 @@ loop-again c =
     let a = s .args in (
       omega arith,
       λ i hi. many-more (wbit (a .d .now)) (a .starts .now) (a .first) (l .e) (a .at) i (w .window .result) (w .window .ensures i hi)
-          (a .need) (value (l .counts) i) (value (more .add .result .planes) i) (l .over) (more .add .result .over) (s .pre .0) (s .pre .1) (omega arith) (l .inv .1 i hi) (more .add .ensures i hi),
+          (a .need) (value (l .counts) i) (value (more .add .result .planes) i) (l .over) (more .add .result .over) (s .pre .0) (s .pre .1)
+          (omega arith) (l .inv .1 i hi) (more .add .ensures i hi),
     )
 
 returns : tie.Need-returns Inv-loop μ-loop
@@ -81,7 +92,8 @@ returns c i hi =
     let a = s .args in
     let l = c .before .loop in
     let all : l .e ≡ a .n = omega arith in
-    over-is (digit 64 (l .over) i) (value (l .counts) i) (a .need) (hits (wbit (a .d .now)) (a .starts .now) (a .first) (l .e) (a .at + i)) (s .pre .1) (value-le (l .counts) i) (l .inv .1 i hi)
+    over-is (digit 64 (l .over) i) (value (l .counts) i) (a .need) (hits (wbit (a .d .now)) (a .starts .now) (a .first) (l .e) (a .at + i))
+    (s .pre .1) (value-le (l .counts) i) (l .inv .1 i hi)
     ∙ ap (λ n. leb (a .need) (hits (wbit (a .d .now)) (a .starts .now) (a .first) n (a .at + i))) all
 
 pub many-broken-spec : {M : Type 1} → statement M

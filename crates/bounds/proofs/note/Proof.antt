@@ -40,12 +40,14 @@ same-length c = search needs
 returns : tie.Need-returns
 returns c =
     let a = c .before .before .args in
-    noted (getD (a .h .now) (a .at) (a .m)) (getD (a .h .now) (a .at) 0) (a .m) (a .row) (a .starts .now) (a .n) (read-any (a .h .now) (a .at) (a .m) 0 (omega arith)) (omega arith)
+    noted (getD (a .h .now) (a .at) (a .m)) (getD (a .h .now) (a .at) 0) (a .m) (a .row) (a .starts .now) (a .n)
+    (read-any (a .h .now) (a .at) (a .m) 0 (omega arith)) (omega arith)
 
 returns-2 : tie.Need-returns-2
 returns-2 c =
     let a = c .before .before .args in
-    unnoted (getD (a .h .now) (a .at) (a .m)) (getD (a .h .now) (a .at) 0) (a .m) (a .row) (a .starts .now) (a .n) (read-any (a .h .now) (a .at) (a .m) 0 (omega arith)) (omega arith)
+    unnoted (getD (a .h .now) (a .at) (a .m)) (getD (a .h .now) (a .at) 0) (a .m) (a .row) (a .starts .now) (a .n)
+    (read-any (a .h .now) (a .at) (a .m) 0 (omega arith)) (omega arith)
 
 pub note-spec : {M : Type 1} → statement M
 note-spec =

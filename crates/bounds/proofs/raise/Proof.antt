@@ -39,7 +39,8 @@ loop-again c =
     let a = c .before .before .before .before .before .args in (
       omega arith,
       length-set (l .met) (l .b) (c .fewer .result) ∙ l .inv .1,
-      set-more (l .met) (λ i. getD (a .met .now) i 0 - a .by) (l .b) (c .fewer .result) (omega arith) (c .fewer .ensures ∙ ap (λ k. k - a .by) (l .inv .3 (l .b) (omega arith))) (l .inv .2),
+      set-more (l .met) (λ i. getD (a .met .now) i 0 - a .by) (l .b) (c .fewer .result) (omega arith) (c .fewer .ensures
+          ∙ ap (λ k. k - a .by) (l .inv .3 (l .b) (omega arith))) (l .inv .2),
       set-rest (l .met) (a .met .now) (l .b) (c .fewer .result) (l .inv .3),
     )
 

@@ -1,4 +1,5 @@
--- `bounds::row` meets its contract: after k turns the first k words are those of the row, and what is past bit m is cleared at the end. Assumes nothing.
+-- `bounds::row` meets its contract: after k turns the first k words are those of the row, and what is past bit m is cleared at the end.
+-- Assumes nothing.
 use mathlib.Core.Path.{ap, _∙_}
 use Prim.Native.Nat.{_+_, _-_, _*_, _≤_}
 use native.Mathlib.Omega.{arith}

@@ -15,7 +15,8 @@ use Rattle.bounds.proofs.turn_checks.Tie as tie
 abbrev Inv-loop : tie.InvT-loop
 Inv-loop d₀ starts first n k m e₀ d e =
     (e ≤ n) × (length d ≡ 65)
-    × ((p : ℕ) → wbit d p ≡ wbit d₀ p ⊕ sum e (λ j. eqb p (getD starts (first + j) 0 + k) ⊕ eqb p (other m (getD starts (first + j) 0 + k))))
+    × ((p : ℕ) → wbit d p ≡ wbit d₀ p ⊕ sum e
+    (λ j. eqb p (getD starts (first + j) 0 + k) ⊕ eqb p (other m (getD starts (first + j) 0 + k))))
 
 abbrev μ-loop : tie.MeasureT-loop
 μ-loop d₀ starts first n k m e₀ d e = n - e
@@ -63,7 +64,8 @@ loop-again c =
       omega arith,
       search needs,
       λ p. ap (λ x. x p) (c .before .before .turn-check .ensures)
-          ∙ turned-more (λ j. eqb p (at j) ⊕ eqb p (other (a .m) (at j))) (l .e) (wbit (l .d) p) (wbit (a .d .now) p) (eqb p (at (l .e))) (eqb p (other (a .m) (at (l .e)))) refl (l .inv .2 p),
+          ∙ turned-more (λ j. eqb p (at j) ⊕ eqb p (other (a .m) (at j))) (l .e) (wbit (l .d) p) (wbit (a .d .now) p) (eqb p (at (l .e)))
+          (eqb p (other (a .m) (at (l .e)))) refl (l .inv .2 p),
     )
 
 same-length : tie.Need-same-length Inv-loop μ-loop
@@ -74,7 +76,8 @@ returns c p =
     let a = c .before .before .before .before .args in
     let l = c .before .loop in
     let all : l .e ≡ a .n = omega arith in
-    l .inv .2 p ∙ ap (λ n. wbit (a .d .now) p ⊕ sum n (λ j. eqb p (getD (a .starts .now) (a .first + j) 0 + a .k) ⊕ eqb p (other (a .m) (getD (a .starts .now) (a .first + j) 0 + a .k)))) all
+    l .inv .2 p ∙ ap (λ n. wbit (a .d .now) p ⊕ sum n (λ j. eqb p (getD (a .starts .now) (a .first + j) 0 + a .k) ⊕ eqb p
+    (other (a .m) (getD (a .starts .now) (a .first + j) 0 + a .k)))) all
 
 pub turn-checks-spec : {M : Type 1} → statement M
 turn-checks-spec =

@@ -28,15 +28,24 @@ loop-holds c = record { ready = c .before .before .before .before .before .pre .
 
 greatest-requires : tie.Need-greatest-requires Inv-loop μ-loop
 greatest-requires c κs =
-    let ready = c .before .loop .inv .ready in
-    (omega (arith, ready .counts-long, ready .blocks), omega (arith, ready .met-long, ready .blocks), λ b h. (ready .low b h, ready .few b h))
+    let ready = c .before .loop .inv .ready in (
+      omega (arith, ready .counts-long, ready .blocks),
+      omega (arith, ready .met-long, ready .blocks),
+      λ b h.
+          (ready .low b h, ready .few b h),
+    )
 
 first-at-requires : tie.Need-first-at-requires Inv-loop μ-loop
 first-at-requires c κs =
     let s = c .before .before .before .before .before .before .before .before .before in
     let a = s .args in
-    let l = c .before .before .before .loop in
-    (l .inv .ready, s .pre .1, s .pre .3, λ b h. subst (λ t. bound (a .counts .now) (l .met) b ≤ t) (sym (c .before .greatest .ensures)) (highest-above (a .counts .now) (l .met) (a .sh .blocks) b h))
+    let l = c .before .before .before .loop in (
+      l .inv .ready,
+      s .pre .1,
+      s .pre .3,
+      λ b h. subst (λ t. bound (a .counts .now) (l .met) b ≤ t) (sym (c .before .greatest .ensures))
+          (highest-above (a .counts .now) (l .met) (a .sh .blocks) b h),
+    )
 
 cast-t15 : tie.Need-cast-t15 Inv-loop μ-loop
 cast-t15 c = search needs
@@ -56,10 +65,12 @@ loop-less c =
     let a = s .args in
     let l = c .before .before .before .before .before .before .before .loop in
     let f = c .before .before .before .first-at in
-    highest-less (a .counts .now) (l .met) _ (a .sh .blocks) (c .before .before .before .before .before .greatest .result) (s .pre .2) (c .before .before .before .before .before .greatest .ensures) (f .ensures .none (c .if1 .left))
+    highest-less (a .counts .now) (l .met) _ (a .sh .blocks) (c .before .before .before .before .before .greatest .result) (s .pre .2)
+    (c .before .before .before .before .before .greatest .ensures) (f .ensures .none (c .if1 .left))
 
 loop-again : tie.Need-loop-again Inv-loop μ-loop
-loop-again c = lowered-twice (c .before .before .before .before .before .before .before .loop .inv) (c .before .before .before .first-at .ensures .lowered)
+loop-again c = lowered-twice (c .before .before .before .before .before .before .before .loop .inv)
+    (c .before .before .before .first-at .ensures .lowered)
 
 pub choose-spec : {M : Type 1} → statement M
 choose-spec =

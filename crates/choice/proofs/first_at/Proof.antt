@@ -34,14 +34,28 @@ mul-result c =
     let s = c .before .before .before .before .before .before .before .before .before .before .before .before .before .before in
     let b = c .before .before .before .before .before .before .before .before .before .loop .b in
     let ready = s .pre .0 in
-    omega (arith, ready .held, ready .words, ready .blocks, mul-le-mul-right {m = b} {n = 16} (s .args .sh .size) (omega (arith, ready .blocks)))
+    omega (
+      arith,
+      ready .held,
+      ready .words,
+      ready .blocks,
+      mul-le-mul-right {m = b} {n = 16} (s .args .sh .size)
+          (omega (arith, ready .blocks)),
+    )
 
 add-result : tie.Need-add-result Inv-loop μ-loop
 add-result c =
     let s = c .before .before .before .before .before .before .before .before .before .before .before .before .before .before in
     let b = c .before .before .before .before .before .before .before .before .before .loop .b in
     let ready = s .pre .0 in
-    omega (arith, ready .held, ready .words, ready .blocks, mul-le-mul-right {m = b} {n = 16} (s .args .sh .size) (omega (arith, ready .blocks)))
+    omega (
+      arith,
+      ready .held,
+      ready .words,
+      ready .blocks,
+      mul-le-mul-right {m = b} {n = 16} (s .args .sh .size)
+          (omega (arith, ready .blocks)),
+    )
 
 same-length : tie.Need-same-length Inv-loop μ-loop
 same-length c = search needs
@@ -52,12 +66,18 @@ returns c =
     let a = s .args in
     let l = c .before .before .before .before .before .before .before .before .before .loop in
     let k = c .before .before .before .before .before .look in
-    let more = lowered-more (a .sh) (a .from) (wbit (a .d .now)) (a .starts .now) (a .counts .now) (a .met .now) (l .met) _ (l .b) (a .top) (k .result) (l .inv .1) (l .inv .2) (l .inv .3) (omega arith) (k .ensures) in
-    let here = found-here (a .sh) (a .from) (wbit (a .d .now)) (a .starts .now) (a .counts .now) (a .met .now) (l .met) _ (l .b) (a .top) (k .result) (l .inv .1) (l .inv .2) (l .inv .3) (omega arith) (k .ensures) (c .before .if2 .taken) in
+    let more = lowered-more (a .sh) (a .from) (wbit (a .d .now)) (a .starts .now) (a .counts .now) (a .met .now) (l .met) _ (l .b) (a .top)
+    (k .result) (l .inv .1) (l .inv .2) (l .inv .3) (omega arith) (k .ensures) in
+    let here = found-here (a .sh) (a .from) (wbit (a .d .now)) (a .starts .now) (a .counts .now) (a .met .now) (l .met) _ (l .b) (a .top)
+    (k .result) (l .inv .1) (l .inv .2) (l .inv .3) (omega arith) (k .ensures) (c .before .if2 .taken) in
     record { lowered = more; found = λ h. here; none = λ h. absurd (omega (arith, here .inside)) }
 
 add-b : tie.Need-add-b Inv-loop μ-loop
-add-b c = omega (arith, c .before .before .before .before .before .before .before .before .before .before .before .before .before .pre .0 .blocks)
+add-b c = omega (
+  arith,
+  c .before .before .before .before .before .before .before .before .before .before .before .before .before .pre .0
+      .blocks,
+)
 
 loop-less : tie.Need-loop-less Inv-loop μ-loop
 loop-less c = omega arith
@@ -69,9 +89,12 @@ loop-again c =
     let l = c .before .before .before .before .before .before .before .before .loop in
     let k = c .before .before .before .before .look in (
       omega arith,
-      lowered-more (a .sh) (a .from) (wbit (a .d .now)) (a .starts .now) (a .counts .now) (a .met .now) (l .met) _ (l .b) (a .top) (k .result) (l .inv .1) (l .inv .2) (l .inv .3) (omega arith) (k .ensures),
-      still-le (a .sh) (a .from) (wbit (a .d .now)) (a .starts .now) (a .counts .now) (a .met .now) (l .met) _ (l .b) (a .top) (k .result) (l .inv .1) (l .inv .2) (l .inv .3) (omega arith) (k .ensures),
-      lt-more (a .sh) (a .from) (wbit (a .d .now)) (a .starts .now) (a .counts .now) (a .met .now) (l .met) _ (l .b) (a .top) (k .result) (l .inv .1) (l .inv .2) (l .inv .3) (omega arith) (k .ensures) (c .if2 .left),
+      lowered-more (a .sh) (a .from) (wbit (a .d .now)) (a .starts .now) (a .counts .now) (a .met .now) (l .met) _ (l .b) (a .top)
+          (k .result) (l .inv .1) (l .inv .2) (l .inv .3) (omega arith) (k .ensures),
+      still-le (a .sh) (a .from) (wbit (a .d .now)) (a .starts .now) (a .counts .now) (a .met .now) (l .met) _ (l .b) (a .top) (k .result)
+          (l .inv .1) (l .inv .2) (l .inv .3) (omega arith) (k .ensures),
+      lt-more (a .sh) (a .from) (wbit (a .d .now)) (a .starts .now) (a .counts .now) (a .met .now) (l .met) _ (l .b) (a .top) (k .result)
+          (l .inv .1) (l .inv .2) (l .inv .3) (omega arith) (k .ensures) (c .if2 .left),
     )
 
 mul-result-2 : tie.Need-mul-result-2 Inv-loop μ-loop

@@ -17,7 +17,8 @@ use Rattle.choice.proofs.first_in_block.Statement.{statement}
 use Rattle.choice.proofs.first_in_block.Tie as tie
 
 abbrev Inv-loop : tie.InvT-loop
-Inv-loop d starts b n met begin sh k₀ k = (k ≤ sh .words) × ((i : ℕ) → i < 64 * k → light (wbit d) starts (8 * b) n met begin (sh .size) i ≡ false)
+Inv-loop d starts b n met begin sh k₀ k = (k ≤ sh .words)
+    × ((i : ℕ) → i < 64 * k → light (wbit d) starts (8 * b) n met begin (sh .size) i ≡ false)
 
 abbrev μ-loop : tie.MeasureT-loop
 μ-loop d starts b n met begin sh k₀ k = sh .words - k
@@ -70,7 +71,8 @@ loop-again c =
     let l = w .before .before .before .loop in
     let a = w .before .before .before .before .before .before .args in (
       omega arith,
-      clear-word (light (wbit (a .d .now)) (a .starts .now) (8 * a .b) (a .n) (a .met) (a .begin) (a .sh .size)) (w .weigh .result) (l .k) (w .weigh .ensures)
+      clear-word (light (wbit (a .d .now)) (a .starts .now) (8 * a .b) (a .n) (a .met) (a .begin) (a .sh .size)) (w .weigh .result) (l .k)
+          (w .weigh .ensures)
           (λ i. ap (λ v. digit 64 v i) (c .if2 .left) ∙ digit-zero 64 i) (l .inv .1),
     )
 
@@ -79,7 +81,8 @@ returns-2 c =
     let s = c .before .before .before .before .before in
     let a = s .args in
     let l = c .before .before .loop in
-    sym (least-none (a .sh .size) (light (wbit (a .d .now)) (a .starts .now) (8 * a .b) (a .n) (a .met) (a .begin) (a .sh .size)) (λ i h. l .inv .1 i (omega arith)))
+    sym (least-none (a .sh .size) (light (wbit (a .d .now)) (a .starts .now) (8 * a .b) (a .n) (a .met) (a .begin) (a .sh .size))
+    (λ i h. l .inv .1 i (omega arith)))
 
 pub first-in-block-spec : {M : Type 1} → statement M
 first-in-block-spec =

@@ -15,7 +15,8 @@ returns : tie.Need-returns
 returns c =
     let a = c .before .before .before .before .args in
     c .first-in-block .ensures
-    ∙ ap (λ m. least (a .sh .size) (light (wbit (a .d .now)) (a .starts .now) (8 * a .b) (a .n) m (a .begin) (a .sh .size))) (sym (c .before .if1 .taken))
+    ∙ ap (λ m. least (a .sh .size) (light (wbit (a .d .now)) (a .starts .now) (8 * a .b) (a .n) m (a .begin) (a .sh .size)))
+    (sym (c .before .if1 .taken))
 
 first-in-block-requires-2 : tie.Need-first-in-block-requires-2
 first-in-block-requires-2 c κs = search needs

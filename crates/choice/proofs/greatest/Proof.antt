@@ -36,8 +36,11 @@ loop-less c = omega arith
 loop-again : tie.Need-loop-again Inv-loop μ-loop
 loop-again c =
     let l = c .before .before .before .loop in
-    let a = c .before .before .before .before .before .before .args in
-    (omega arith, highest-more (a .counts .now) (a .met .now) (l .b) (c .higher .result) (c .higher .ensures ∙ ap₂ (λ (x y : ℕ). if ltb x y then y else x) (l .inv .1) (c .before .bound-of .ensures)))
+    let a = c .before .before .before .before .before .before .args in (
+      omega arith,
+      highest-more (a .counts .now) (a .met .now) (l .b) (c .higher .result) (c .higher .ensures
+          ∙ ap₂ (λ (x y : ℕ). if ltb x y then y else x) (l .inv .1) (c .before .bound-of .ensures)),
+    )
 
 returns : tie.Need-returns Inv-loop μ-loop
 returns c =

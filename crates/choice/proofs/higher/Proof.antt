@@ -6,10 +6,12 @@ use Rattle.choice.proofs.higher.Statement.{statement}
 use Rattle.choice.proofs.higher.Tie as tie
 
 returns : tie.Need-returns
-returns c = ap (λ t. if t then c .before .args .b else c .before .args .a) (sym (lt-ltb (c .before .args .a) (c .before .args .b) (c .if1 .taken)))
+returns c = ap (λ t. if t then c .before .args .b else c .before .args .a)
+    (sym (lt-ltb (c .before .args .a) (c .before .args .b) (c .if1 .taken)))
 
 returns-2 : tie.Need-returns-2
-returns-2 c = ap (λ t. if t then c .before .args .b else c .before .args .a) (sym (le-ltb (c .before .args .a) (c .before .args .b) (c .if1 .left)))
+returns-2 c = ap (λ t. if t then c .before .args .b else c .before .args .a)
+    (sym (le-ltb (c .before .args .a) (c .before .args .b) (c .if1 .left)))
 
 pub higher-spec : {M : Type 1} → statement M
 higher-spec = tie.close (tie.spec returns returns-2)

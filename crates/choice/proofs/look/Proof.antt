@@ -14,8 +14,13 @@ use Rattle.choice.proofs.look.Tie as tie
 bound-of-requires : tie.Need-bound-of-requires
 bound-of-requires c κs =
     let s = c .before .before .before .before .before in
-    let r = s .pre .0 in
-    (omega (arith, r .counts-long, r .blocks), omega (arith, r .met-long, r .blocks), r .low (s .args .b) (s .pre .3), r .few (s .args .b) (s .pre .3))
+    let r = s .pre .0 in (
+      omega (arith, r .counts-long, r .blocks),
+      omega (arith, r .met-long, r .blocks),
+      r .low (s .args .b) (s .pre .3),
+      r .few (s .args .b)
+          (s .pre .3),
+    )
 
 same-length : tie.Need-same-length
 same-length c = search needs
@@ -24,7 +29,8 @@ returns : tie.Need-returns
 returns c =
     let s = c .before .before .before .before .before .before .before in
     let a = s .args in
-    looked-past (a .sh) (a .from) (wbit (a .d .now)) (a .starts .now) (a .counts .now) (a .met .now) (a .b) (a .top) (s .pre .0) (s .pre .2) (s .pre .3) (s .pre .4)
+    looked-past (a .sh) (a .from) (wbit (a .d .now)) (a .starts .now) (a .counts .now) (a .met .now) (a .b) (a .top) (s .pre .0)
+    (s .pre .2) (s .pre .3) (s .pre .4)
     (λ e. c .if1 .taken (c .before .bound-of .ensures ∙ e))
 
 shared-slice-read-n : tie.Need-shared-slice-read-n
@@ -54,8 +60,18 @@ first-light-requires : tie.Need-first-light-requires
 first-light-requires c κs =
     let s = c .before .before .before .before .before .before .before .before .before .before in
     let r = s .pre .0 in
-    let b = s .args .b in
-    (r .some, r .held, r .close, r .words, omega (arith, r .blocks, s .pre .3), r .low b (s .pre .3), r .few b (s .pre .3), s .pre .1, r .starts-long, λ e h. r .near b e (s .pre .3) h)
+    let b = s .args .b in (
+      r .some,
+      r .held,
+      r .close,
+      r .words,
+      omega (arith, r .blocks, s .pre .3),
+      r .low b (s .pre .3),
+      r .few b (s .pre .3),
+      s .pre .1,
+      r .starts-long,
+      λ e h. r .near b e (s .pre .3) h,
+    )
 
 same-length-2 : tie.Need-same-length-2
 same-length-2 c = search needs
@@ -66,9 +82,12 @@ returns-2 c =
     let a = s .args in
     let f = c .before .before in
     let m = f .before .before .before .before in
-    looked-found (a .sh) (a .from) (wbit (a .d .now)) (a .starts .now) (a .counts .now) (a .met .now) (a .b) (a .top) (s .pre .0) (s .pre .2) (s .pre .3) (s .pre .4)
+    looked-found (a .sh) (a .from) (wbit (a .d .now)) (a .starts .now) (a .counts .now) (a .met .now) (a .b) (a .top) (s .pre .0)
+    (s .pre .2) (s .pre .3) (s .pre .4)
     (f .first-light .result) (sym (m .before .bound-of .ensures) ∙ m .if1 .left)
-    (f .first-light .ensures ∙ ap (λ n. least (a .sh .size) (light (wbit (a .d .now)) (a .starts .now) (8 * a .b) (getD (a .counts .now) (a .b) 0) (getD (a .met .now) (a .b) 0) n (a .sh .size))) (f .before .begin-in .ensures))
+    (f .first-light .ensures ∙ ap (λ n. least (a .sh .size)
+    (light (wbit (a .d .now)) (a .starts .now) (8 * a .b) (getD (a .counts .now) (a .b) 0) (getD (a .met .now) (a .b) 0) n (a .sh .size)))
+    (f .before .begin-in .ensures))
     (c .if2 .taken)
 
 slice-read-met : tie.Need-slice-read-met
@@ -95,9 +114,12 @@ returns-3 c =
     let a = s .args in
     let f = c .before .before .before in
     let m = f .before .before .before .before in
-    looked-missed (a .sh) (a .from) (wbit (a .d .now)) (a .starts .now) (a .counts .now) (a .met .now) (a .b) (a .top) (s .pre .0) (s .pre .2) (s .pre .3) (s .pre .4)
+    looked-missed (a .sh) (a .from) (wbit (a .d .now)) (a .starts .now) (a .counts .now) (a .met .now) (a .b) (a .top) (s .pre .0)
+    (s .pre .2) (s .pre .3) (s .pre .4)
     (f .first-light .result) (sym (m .before .bound-of .ensures) ∙ m .if1 .left)
-    (f .first-light .ensures ∙ ap (λ n. least (a .sh .size) (light (wbit (a .d .now)) (a .starts .now) (8 * a .b) (getD (a .counts .now) (a .b) 0) (getD (a .met .now) (a .b) 0) n (a .sh .size))) (f .before .begin-in .ensures))
+    (f .first-light .ensures ∙ ap (λ n. least (a .sh .size)
+    (light (wbit (a .d .now)) (a .starts .now) (8 * a .b) (getD (a .counts .now) (a .b) 0) (getD (a .met .now) (a .b) 0) n (a .sh .size)))
+    (f .before .begin-in .ensures))
     (c .before .if2 .left)
 
 pub look-spec : {M : Type 1} → statement M

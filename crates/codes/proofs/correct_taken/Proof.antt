@@ -9,7 +9,8 @@ use Rattle.vectors.proofs.Filling.{zero-words}
 use Rattle.rules.proofs.Numbers.{published}
 use Rattle.offer.proofs.Offers.{small, is-offered}
 use Rattle.codes.proofs.Admitted.{shaped, word-long, unsent-is, bits-are, fitting}
-use Rattle.codes.proofs.Correcting.{begins, beginning, ran-number, ran-word, ran-met, ran-unsent, ran-ends, corrected-is, wrote-word, wrote-none}
+use Rattle.codes.proofs.Correcting.{begins, beginning, ran-number, ran-word, ran-met, ran-unsent, ran-ends, corrected-is, wrote-word}
+use Rattle.codes.proofs.Correcting.{wrote-none}
 use borrow.Author.Needs.{needs}
 use Rattle.codes.proofs.correct_taken.Statement.{statement}
 use Rattle.codes.proofs.correct_taken.Tie as tie
@@ -66,7 +67,8 @@ run-requires c κs =
       search needs,
       shaped k (m .measure .ensures .0) .0,
       shaped k (m .measure .ensures .0) .1,
-      beginning (k .number) (a .args .word .now) _ _ _ _ e (b .broken .result) (b .broken .ensures) (a .args .o .unsent) (sym (unsent-is (k .number) (k .is) (k .offers))),
+      beginning (k .number) (a .args .word .now) _ _ _ _ e (b .broken .result) (b .broken .ensures) (a .args .o .unsent)
+          (sym (unsent-is (k .number) (k .is) (k .offers))),
     )
 
 slice-aggregate-unlike-after : tie.Need-slice-aggregate-unlike-after
@@ -79,15 +81,25 @@ slice-aggregate-judge : tie.Need-slice-aggregate-judge
 slice-aggregate-judge c = search needs
 
 judge-requires : tie.Need-judge-requires
-judge-requires c κs = (c .before .before .before .before .before .before .before .before .before .before .before .before .before .before .before .before .before .before .before .before .before .before .pre .0, search needs)
+judge-requires c κs = (
+  c .before .before .before .before .before .before .before .before .before .before .before .before .before .before
+      .before .before .before .before .before .before .before .before .pre .0,
+  search needs,
+)
 
 slice-aggregate-write : tie.Need-slice-aggregate-write
 slice-aggregate-write c = search needs
 
 write-requires : tie.Need-write-requires
 write-requires c κs =
-    let a = c .before .before .before .before .before .before .before .before .before .before .before .before .before .before .before .before .before .before .before .before .before .before .before .before .before .before in
-    (search needs, small (a .pre .0) .unsent, omega (arith, a .pre .2, small (a .pre .0) .word), λ h. small (a .pre .0) .plain (omega (arith, h, a .pre .2)))
+    let a = c .before .before .before .before .before .before .before .before .before .before .before .before .before .before .before
+    .before .before .before .before .before .before .before .before .before .before .before in (
+      search needs,
+      small (a .pre .0) .unsent,
+      omega (arith, a .pre .2, small (a .pre .0) .word),
+      λ h. small (a .pre .0) .plain
+          (omega (arith, h, a .pre .2)),
+    )
 
 same-length : tie.Need-same-length
 same-length c = search needs
@@ -104,13 +116,16 @@ returns c =
     λ n off is.
     let word = a .args .word .now in
     let e = m .measure .ensures .1 n off is in
-    let ends = g .run .ensures (code n) (begins n word _ _ _ _ e (b .broken .result) (b .broken .ensures) (a .args .o .unsent) (sym (unsent-is n is off))) in
+    let ends = g .run .ensures (code n) (begins n word _ _ _ _ e (b .broken .result) (b .broken .ensures) (a .args .o .unsent)
+    (sym (unsent-is n is off))) in
     let to = ends .0 in
     let ran = g .run .result .ran in
-    corrected-is n word _ _ _ _ e (a .args .limit) ran _ _ to (b .broken .result) (g .run .result .last) (j .judge .result) (u .unlike-after .result) (w .lowest .result)
+    corrected-is n word _ _ _ _ e (a .args .limit) ran _ _ to (b .broken .result) (g .run .result .last) (j .judge .result)
+    (u .unlike-after .result) (w .lowest .result)
     (b .broken .ensures) (ends .1) (w .lowest .ensures)
     (j .judge .ensures n off is (run (byExcess (code n)) (a .args .limit) (lifted (code n) (bit word)))
-    (ran-number n word _ _ _ _ e (a .args .limit) ran _ _ to) (ran-word n word _ _ _ _ e (a .args .limit) ran _ _ to) (ran-met n word _ _ _ _ e (a .args .limit) ran _ _ to (published n (is-offered n off) .some))
+    (ran-number n word _ _ _ _ e (a .args .limit) ran _ _ to) (ran-word n word _ _ _ _ e (a .args .limit) ran _ _ to)
+    (ran-met n word _ _ _ _ e (a .args .limit) ran _ _ to (published n (is-offered n off) .some))
     (ran-unsent n word _ _ _ _ e (a .args .limit) ran _ _ to (published n (is-offered n off) .some)))
     (u .unlike-after .ensures n off is (ran-ends n word _ _ _ _ e (a .args .limit) ran _ _ to (published n (is-offered n off) .some)))
     (a .args .out .now) _ (wrote-word _ _ _ _ (c .before .before .before .before .before .before .if1 .taken)
@@ -128,13 +143,16 @@ returns-2 c =
     λ n off is.
     let word = a .args .word .now in
     let e = m .measure .ensures .1 n off is in
-    let ends = g .run .ensures (code n) (begins n word _ _ _ _ e (b .broken .result) (b .broken .ensures) (a .args .o .unsent) (sym (unsent-is n is off))) in
+    let ends = g .run .ensures (code n) (begins n word _ _ _ _ e (b .broken .result) (b .broken .ensures) (a .args .o .unsent)
+    (sym (unsent-is n is off))) in
     let to = ends .0 in
     let ran = g .run .result .ran in
-    corrected-is n word _ _ _ _ e (a .args .limit) ran _ _ to (b .broken .result) (g .run .result .last) (j .judge .result) (u .unlike-after .result) (w .lowest .result)
+    corrected-is n word _ _ _ _ e (a .args .limit) ran _ _ to (b .broken .result) (g .run .result .last) (j .judge .result)
+    (u .unlike-after .result) (w .lowest .result)
     (b .broken .ensures) (ends .1) (w .lowest .ensures)
     (j .judge .ensures n off is (run (byExcess (code n)) (a .args .limit) (lifted (code n) (bit word)))
-    (ran-number n word _ _ _ _ e (a .args .limit) ran _ _ to) (ran-word n word _ _ _ _ e (a .args .limit) ran _ _ to) (ran-met n word _ _ _ _ e (a .args .limit) ran _ _ to (published n (is-offered n off) .some))
+    (ran-number n word _ _ _ _ e (a .args .limit) ran _ _ to) (ran-word n word _ _ _ _ e (a .args .limit) ran _ _ to)
+    (ran-met n word _ _ _ _ e (a .args .limit) ran _ _ to (published n (is-offered n off) .some))
     (ran-unsent n word _ _ _ _ e (a .args .limit) ran _ _ to (published n (is-offered n off) .some)))
     (u .unlike-after .ensures n off is (ran-ends n word _ _ _ _ e (a .args .limit) ran _ _ to (published n (is-offered n off) .some)))
     (a .args .out .now) _ (wrote-none _ _ _ (c .if1 .left))

@@ -21,7 +21,14 @@ returns : tie.Need-returns
 unfolding value
 returns c i hi =
     let v = c .before .before .before .args .v in
-    omega (arith, three-bits v (c .before .before .before .pre), ap tally (c .before .before .spread .ensures i hi), ap tally (c .before .spread2 .ensures i hi), ap tally (c .spread3 .ensures i hi))
+    omega (
+      arith,
+      three-bits v (c .before .before .before .pre),
+      ap tally (c .before .before .spread .ensures i hi),
+      ap tally
+          (c .before .spread2 .ensures i hi),
+      ap tally (c .spread3 .ensures i hi),
+    )
 
 pub all-spec : {M : Type 1} → statement M
 all-spec = tie.close (tie.spec spread-requires spread-requires-2 spread-requires-3 returns)

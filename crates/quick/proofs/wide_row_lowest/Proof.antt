@@ -44,7 +44,8 @@ returns c code x lent two =
     let begins = b .last .1 .1 .1 .0 in
     c .groups-lowest .ensures
     ∙ least-same (sh .size) (behind begins (wbit (s .args .d .now))) (from (s .args .r * sh .size) (check code x))
-    (behind-check sh (s .args .h .now) (s .args .r) (s .pre .0) (s .pre .1) (s .pre .3) code x (s .args .d .now) begins lent two (b .ensures)
+    (behind-check sh (s .args .h .now) (s .args .r) (s .pre .0) (s .pre .1) (s .pre .3) code x (s .args .d .now) begins lent two
+    (b .ensures)
     (omega (arith, long, s .pre .2)))
 
 pub wide-row-lowest-spec : {M : Type 1} → statement M

@@ -12,7 +12,8 @@ use Rattle.vectors.specs.Vectors.{wbit}
 use Rattle.layout.specs.Lent.{Lent, laid}
 use Rattle.bounds.specs.Keeping.{Ready}
 use Rattle.runs.specs.Turns.{Going, Carried}
-use Rattle.runs.proofs.Turning.{going-start, ends-quiet, ends-stuck, ends-limit, goes-on, next-stuck, next-flip, chosen-top, chosen-kept, chosen-met, chosen-left, carried-more, runs-as}
+use Rattle.runs.proofs.Turning.{going-start, ends-quiet, ends-stuck, ends-limit, goes-on, next-stuck, next-flip, chosen-top}
+use Rattle.runs.proofs.Turning.{chosen-kept, chosen-met, chosen-left, carried-more, runs-as}
 use Rattle.runs.proofs.go_on.Statement.{statement}
 use Rattle.runs.proofs.go_on.Tie as tie
 
@@ -32,8 +33,18 @@ abbrev μ-loop : tie.MeasureT-loop
 loop-holds : tie.Need-loop-holds Inv-loop μ-loop
 loop-holds c =
     let s = c .before .before .before .before .before .before in
-    let a = s .args in
-    (s .pre .3, s .pre .4, omega arith, s .pre .2, λ k lent u w. (going-start (byExcess k) k (a .sh) (a .limit) (wbit (a .y .now)) (laid k (a .sh) (wbit (a .y .now))) refl, w), search needs)
+    let a = s .args in (
+      s .pre .3,
+      s .pre .4,
+      omega arith,
+      s .pre .2,
+      λ k lent u w. (
+        going-start (byExcess k) k (a .sh) (a .limit) (wbit (a .y .now))
+            (laid k (a .sh) (wbit (a .y .now))) refl,
+        w,
+      ),
+      search needs,
+    )
 
 choose-requires : tie.Need-choose-requires Inv-loop μ-loop
 choose-requires c κs =
@@ -55,14 +66,19 @@ same-length-3 c = search needs
 
 returns : tie.Need-returns Inv-loop μ-loop
 returns c k lent u w =
-    let s = c .before .before .before .before .before .before .before .before .before .before .before .before .before .before .before .before in
+    let s = c .before .before .before .before .before .before .before .before .before .before .before .before .before .before .before
+    .before in
     let a = s .args in
     let l = c .before .before .before .before .before .before .before .before .before .loop in
     let f = c .before .before .before .before .before .choose in
     let i = l .inv .4 k lent u w in
-    let top = chosen-top k (a .h .now) (a .sh) lent (s .pre .0) (a .starts .now) (a .counts .now) (s .pre .1) (a .from) (wbit (l .y)) (l .d) (l .met) _ (f .result .score) (f .result .bit) (i .1 .kept) (f .ensures .0) (f .ensures .1) in
-    let next = next-stuck lent (wbit (l .y)) top u (λ e. omega (arith, i .1 .left-is, e, c .before .before .before .before .before .before .before .before .loop-test .taken)) (c .before .if1 .taken) in (
-      runs-as _ _ (c .at-end .ensures .0) (c .at-end .ensures .1) (ends-stuck (byExcess k) k (a .sh) (a .limit) (wbit (a .y .now)) (l .flips) (wbit (l .y)) _ (i .0) _ _ next),
+    let top = chosen-top k (a .h .now) (a .sh) lent (s .pre .0) (a .starts .now) (a .counts .now) (s .pre .1) (a .from) (wbit (l .y))
+    (l .d) (l .met) _ (f .result .score) (f .result .bit) (i .1 .kept) (f .ensures .0) (f .ensures .1) in
+    let next = next-stuck lent (wbit (l .y)) top u
+    (λ e. omega (arith, i .1 .left-is, e, c .before .before .before .before .before .before .before .before .loop-test .taken))
+    (c .before .if1 .taken) in (
+      runs-as _ _ (c .at-end .ensures .0) (c .at-end .ensures .1) (ends-stuck (byExcess k) k (a .sh) (a .limit) (wbit (a .y .now))
+          (l .flips) (wbit (l .y)) _ (i .0) _ _ next),
       c .at-end .ensures .2 ∙ i .1 .left-is,
     )
 
@@ -80,54 +96,83 @@ same-length-6 c = search needs
 
 returns-2 : tie.Need-returns-2 Inv-loop μ-loop
 returns-2 c k lent u w =
-    let s = c .before .before .before .before .before .before .before .before .before .before .before .before .before .before .before .before .before in
+    let s = c .before .before .before .before .before .before .before .before .before .before .before .before .before .before .before
+    .before .before in
     let a = s .args in
     let l = c .before .before .before .before .before .before .before .before .before .before .loop in
     let f = c .before .before .before .before .before .before .choose in
     let i = l .inv .4 k lent u w in
-    let top = chosen-top k (a .h .now) (a .sh) lent (s .pre .0) (a .starts .now) (a .counts .now) (s .pre .1) (a .from) (wbit (l .y)) (l .d) (l .met) _ (f .result .score) (f .result .bit) (i .1 .kept) (f .ensures .0) (f .ensures .1) in
-    let next = next-flip lent (wbit (l .y)) top u (λ e. omega (arith, i .1 .left-is, e, c .before .before .before .before .before .before .before .before .before .loop-test .taken)) (c .before .before .if1 .left) in (
-      runs-as _ _ (c .at-end2 .ensures .0) (c .at-end2 .ensures .1) (ends-limit (byExcess k) k (a .sh) (a .limit) (wbit (a .y .now)) (l .flips) (wbit (l .y)) _ (i .0) _ _ next (c .before .if2 .taken)),
+    let top = chosen-top k (a .h .now) (a .sh) lent (s .pre .0) (a .starts .now) (a .counts .now) (s .pre .1) (a .from) (wbit (l .y))
+    (l .d) (l .met) _ (f .result .score) (f .result .bit) (i .1 .kept) (f .ensures .0) (f .ensures .1) in
+    let next = next-flip lent (wbit (l .y)) top u
+    (λ e. omega (arith, i .1 .left-is, e, c .before .before .before .before .before .before .before .before .before .loop-test .taken))
+    (c .before .before .if1 .left) in (
+      runs-as _ _ (c .at-end2 .ensures .0) (c .at-end2 .ensures .1) (ends-limit (byExcess k) k (a .sh) (a .limit) (wbit (a .y .now))
+          (l .flips) (wbit (l .y)) _ (i .0) _ _ next (c .before .if2 .taken)),
       c .at-end2 .ensures .2 ∙ i .1 .left-is,
     )
 
 turn-over-requires : tie.Need-turn-over-requires Inv-loop μ-loop
 turn-over-requires c κs =
-    let s = c .before .before .before .before .before .before .before .before .before .before .before .before .before .before .before .before .before in
+    let s = c .before .before .before .before .before .before .before .before .before .before .before .before .before .before .before
+    .before .before in
     let l = c .before .before .before .before .before .before .before .before .before .before .loop in
     omega (arith, l .inv .0, s .pre .0 .bits, c .before .before .before .before .before .before .choose .ensures .1 .inside)
 
 flip-requires : tie.Need-flip-requires Inv-loop μ-loop
 flip-requires c κs =
-    let l = c .before .before .before .before .before .before .before .before .before .before .before .before .before .before .before .loop in
+    let l = c .before .before .before .before .before .before .before .before .before .before .before .before .before .before .before
+    .loop in
     let f = c .before .before .before .before .before .before .before .before .before .before .before .choose in
     (f .ensures .0 .ready, l .inv .1, f .ensures .1 .inside)
 
 sub-left : tie.Need-sub-left Inv-loop μ-loop
-sub-left c = omega (arith, c .before .before .before .before .before .before .before .before .before .before .before .before .before .if1 .left)
+sub-left c = omega (
+  arith,
+  c .before .before .before .before .before .before .before .before .before .before .before .before .before .if1
+      .left,
+)
 
 sub-left-2 : tie.Need-sub-left-2 Inv-loop μ-loop
 sub-left-2 c =
-    let s = c .before .before .before .before .before .before .before .before .before .before .before .before .before .before .before .before .before .before .before .before .before .before .before .before .before .before .before .before in
+    let s = c .before .before .before .before .before .before .before .before .before .before .before .before .before .before .before
+    .before .before .before .before .before .before .before .before .before .before .before .before .before in
     let a = s .args in
-    let l = c .before .before .before .before .before .before .before .before .before .before .before .before .before .before .before .before .before .before .before .before .before .loop in
-    let f = c .before .before .before .before .before .before .before .before .before .before .before .before .before .before .before .before .before .choose in
+    let l = c .before .before .before .before .before .before .before .before .before .before .before .before .before .before .before
+    .before .before .before .before .before .before .loop in
+    let f = c .before .before .before .before .before .before .before .before .before .before .before .before .before .before .before
+    .before .before .choose in
     let w = s .pre .7 in
     let i = l .inv .4 (w .code) (w .lent) (w .unsent) (w .carried) in
-    omega (arith, i .1 .left-is, chosen-left (w .code) (a .h .now) (a .sh) (w .lent) (s .pre .0) (a .starts .now) (a .counts .now) (s .pre .1) (a .from) (wbit (l .y)) (l .d) (l .met) _ (f .result .score) (f .result .bit) (i .1 .kept) (f .ensures .0) (f .ensures .1) (c .before .before .before .before .before .before .before .before .before .before .before .before .before .if1 .left))
+    omega (
+      arith,
+      i .1 .left-is,
+      chosen-left (w .code) (a .h .now) (a .sh) (w .lent) (s .pre .0) (a .starts .now) (a .counts .now)
+          (s .pre .1) (a .from) (wbit (l .y)) (l .d) (l .met) _ (f .result .score) (f .result .bit) (i .1 .kept) (f .ensures .0)
+          (f .ensures .1) (c .before .before .before .before .before .before .before .before .before .before .before .before .before .if1
+          .left),
+    )
 
 add-flips : tie.Need-add-flips Inv-loop μ-loop
-add-flips c = omega (arith, c .before .before .before .before .before .before .before .before .before .before .before .before .before .before .before .before .before .before .before .before .before .loop .inv .5, c .before .before .before .before .before .before .before .before .before .before .before .before .if2 .left)
+add-flips c = omega (
+  arith,
+  c .before .before .before .before .before .before .before .before .before .before .before .before .before
+      .before .before .before .before .before .before .before .before .loop .inv .5,
+  c .before .before .before .before .before .before .before .before .before .before .before .before .if2 .left,
+)
 
 loop-less : tie.Need-loop-less Inv-loop μ-loop
 loop-less c = omega (arith, c .before .before .before .before .before .before .before .before .before .before .before .before .if2 .left)
 
 loop-again : tie.Need-loop-again Inv-loop μ-loop
 loop-again c =
-    let s = c .before .before .before .before .before .before .before .before .before .before .before .before .before .before .before .before .before .before .before .before .before .before .before .before .before .before .before .before in
+    let s = c .before .before .before .before .before .before .before .before .before .before .before .before .before .before .before
+    .before .before .before .before .before .before .before .before .before .before .before .before .before in
     let a = s .args in
-    let l = c .before .before .before .before .before .before .before .before .before .before .before .before .before .before .before .before .before .before .before .before .before .loop in
-    let f = c .before .before .before .before .before .before .before .before .before .before .before .before .before .before .before .before .before .choose in
+    let l = c .before .before .before .before .before .before .before .before .before .before .before .before .before .before .before
+    .before .before .before .before .before .before .loop in
+    let f = c .before .before .before .before .before .before .before .before .before .before .before .before .before .before .before
+    .before .before .choose in
     let b = c .before .before .before .before .before .flip in
     let some = c .before .before .before .before .before .before .before .before .before .before .before .before .before .if1 .left in (
       omega (arith, c .before .before .before .before .before .before .before .before .before .y .given, l .inv .0),
@@ -136,15 +181,29 @@ loop-again c =
       b .ensures .0,
       λ k lent u w.
           let i = l .inv .4 k lent u w in
-          let top = chosen-top k (a .h .now) (a .sh) lent (s .pre .0) (a .starts .now) (a .counts .now) (s .pre .1) (a .from) (wbit (l .y)) (l .d) (l .met) _ (f .result .score) (f .result .bit) (i .1 .kept) (f .ensures .0) (f .ensures .1) in
-          let kept = chosen-kept k (a .h .now) (a .sh) lent (s .pre .0) (a .starts .now) (a .counts .now) (s .pre .1) (a .from) (wbit (l .y)) (l .d) (l .met) _ (f .result .score) (f .result .bit) (i .1 .kept) (f .ensures .0) (f .ensures .1) in
-          let met = chosen-met k (a .h .now) (a .sh) lent (s .pre .0) (a .starts .now) (a .counts .now) (s .pre .1) (a .from) (wbit (l .y)) (l .d) (l .met) _ (f .result .score) (f .result .bit) (i .1 .kept) (f .ensures .0) (f .ensures .1) in
-          let left = chosen-left k (a .h .now) (a .sh) lent (s .pre .0) (a .starts .now) (a .counts .now) (s .pre .1) (a .from) (wbit (l .y)) (l .d) (l .met) _ (f .result .score) (f .result .bit) (i .1 .kept) (f .ensures .0) (f .ensures .1) some in
-          let next = next-flip lent (wbit (l .y)) top u (λ e. omega (arith, i .1 .left-is, e, c .before .before .before .before .before .before .before .before .before .before .before .before .before .before .before .before .before .before .before .before .loop-test .taken)) some in
+          let top = chosen-top k (a .h .now) (a .sh) lent (s .pre .0) (a .starts .now) (a .counts .now) (s .pre .1) (a .from) (wbit (l .y))
+          (l .d) (l .met) _ (f .result .score) (f .result .bit) (i .1 .kept) (f .ensures .0) (f .ensures .1) in
+          let kept = chosen-kept k (a .h .now) (a .sh) lent (s .pre .0) (a .starts .now) (a .counts .now) (s .pre .1) (a .from)
+          (wbit (l .y)) (l .d) (l .met) _ (f .result .score) (f .result .bit) (i .1 .kept) (f .ensures .0) (f .ensures .1) in
+          let met = chosen-met k (a .h .now) (a .sh) lent (s .pre .0) (a .starts .now) (a .counts .now) (s .pre .1) (a .from) (wbit (l .y))
+          (l .d) (l .met) _ (f .result .score) (f .result .bit) (i .1 .kept) (f .ensures .0) (f .ensures .1) in
+          let left = chosen-left k (a .h .now) (a .sh) lent (s .pre .0) (a .starts .now) (a .counts .now) (s .pre .1) (a .from)
+          (wbit (l .y)) (l .d) (l .met) _ (f .result .score) (f .result .bit) (i .1 .kept) (f .ensures .0) (f .ensures .1) some in
+          let next = next-flip lent (wbit (l .y)) top u
+          (λ e. omega (
+            arith,
+            i .1 .left-is,
+            e,
+            c .before .before .before .before .before .before .before .before .before .before .before .before .before .before .before
+                .before .before .before .before .before .loop-test .taken,
+          )) some in
           let here = c .before .before .before .before .before .before .before .before .before .before .turn-over .ensures in (
             subst (λ z. Going (byExcess k) k (a .sh) (a .limit) (wbit (a .y .now)) (l .flips + 1) z (laid k (a .sh) z)) (sym here)
-                (goes-on (byExcess k) k (a .sh) (a .limit) (wbit (a .y .now)) (l .flips) (wbit (l .y)) _ (i .0) _ _ next (c .before .before .before .before .before .before .before .before .before .before .before .before .if2 .left) _ _ refl refl),
-            carried-more here (b .ensures .1 k (a .h .now) (a .from) (wbit (l .y)) lent (s .pre .1) kept met) (omega (arith, left, i .1 .left-is)),
+                (goes-on (byExcess k) k (a .sh) (a .limit) (wbit (a .y .now)) (l .flips) (wbit (l .y)) _ (i .0) _ _ next
+                (c .before .before .before .before .before .before .before .before .before .before .before .before .if2 .left) _ _ refl
+                refl),
+            carried-more here (b .ensures .1 k (a .h .now) (a .from) (wbit (l .y)) lent (s .pre .1) kept met)
+                (omega (arith, left, i .1 .left-is)),
           ),
       l .inv .5,
     )
@@ -168,7 +227,8 @@ returns-3 c k lent u w =
     let l = c .before .before .loop in
     let i = l .inv .4 k lent u w in
     let none : broken k (wbit (l .y)) ≡ 0 = omega (arith, i .1 .left-is, c .before .loop-test .left) in (
-      runs-as _ _ (c .at-end3 .ensures .0) (c .at-end3 .ensures .1) (ends-quiet (byExcess k) k (a .sh) (a .limit) (wbit (a .y .now)) (l .flips) (wbit (l .y)) _ (i .0) (quiet-next k (wbit (l .y)) none)),
+      runs-as _ _ (c .at-end3 .ensures .0) (c .at-end3 .ensures .1) (ends-quiet (byExcess k) k (a .sh) (a .limit) (wbit (a .y .now))
+          (l .flips) (wbit (l .y)) _ (i .0) (quiet-next k (wbit (l .y)) none)),
       c .at-end3 .ensures .2 ∙ sym none,
     )
 

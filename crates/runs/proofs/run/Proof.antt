@@ -19,7 +19,8 @@ returns c k b =
     let y = wbit (a .y .now) in
     let none : broken k y ≡ 0 = sym (b .broken) ∙ c .before .if1 .taken in (
       runs-as _ _ (c .at-end .ensures .0) (c .at-end .ensures .1)
-          (ends-quiet (byExcess k) k (a .sh) (a .limit) y 0 y (laid k (a .sh) y) (going-start (byExcess k) k (a .sh) (a .limit) y (laid k (a .sh) y) refl) (quiet-next k y none)),
+          (ends-quiet (byExcess k) k (a .sh) (a .limit) y 0 y (laid k (a .sh) y)
+          (going-start (byExcess k) k (a .sh) (a .limit) y (laid k (a .sh) y) refl) (quiet-next k y none)),
       c .at-end .ensures .2 ∙ sym none,
     )
 
@@ -49,7 +50,8 @@ slice-aggregate-go-on-4 c = search needs
 
 go-on-requires : tie.Need-go-on-requires
 go-on-requires c κs =
-    let s = c .before .before .before .before .before .before .before .before .before .before .before .before .before .before .before .before in
+    let s = c .before .before .before .before .before .before .before .before .before .before .before .before .before .before .before
+    .before in
     let a = s .args in
     let b = c .before .before .before .before .before .before .before .before .begin in
     let w = s .pre .5 in
@@ -65,7 +67,11 @@ go-on-requires c κs =
         code = w .code;
         lent = k .lent;
         unsent = k .unsent;
-        carried = record { kept = begun-kept (w .code) (a .h .now) (a .sh) (k .lent) _ _ (b .ensures .1) (a .from) (wbit (a .y .now)) _ _ (k .held) (b .ensures .0); left-is = k .broken };
+        carried = record {
+          kept = begun-kept (w .code) (a .h .now) (a .sh) (k .lent) _ _ (b .ensures .1) (a .from) (wbit (a .y .now)) _ _
+              (k .held) (b .ensures .0);
+          left-is = k .broken;
+        };
       },
     )
 
@@ -74,11 +80,16 @@ same-length c = search needs
 
 returns-2 : tie.Need-returns-2
 returns-2 c k e =
-    let s = c .before .before .before .before .before .before .before .before .before .before .before .before .before .before .before .before .before .before .before .before .before in
+    let s = c .before .before .before .before .before .before .before .before .before .before .before .before .before .before .before
+    .before .before .before .before .before .before in
     let a = s .args in
     let b = c .before .before .before .before .before .before .before .before .before .before .before .before .before .begin in
     c .before .before .before .before .go-on .ensures k (e .lent) (e .unsent)
-    (record { kept = begun-kept k (a .h .now) (a .sh) (e .lent) _ _ (b .ensures .1) (a .from) (wbit (a .y .now)) _ _ (e .held) (b .ensures .0); left-is = e .broken })
+    (record {
+      kept = begun-kept k (a .h .now) (a .sh) (e .lent) _ _ (b .ensures .1) (a .from) (wbit (a .y .now)) _ _ (e .held)
+          (b .ensures .0);
+      left-is = e .broken;
+    })
 
 pub run-spec : {M : Type 1} → statement M
 run-spec =

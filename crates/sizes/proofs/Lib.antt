@@ -1,0 +1,5 @@
+pub mod Smallest
+pub mod Choosing
+pub mod Orders
+pub mod Reading
+pub mod Masks

@@ -1,0 +1,23 @@
+-- `sizes::mark`: the power of 2, or none. Assumes nothing.
+use mathlib.Core.Path.{ap, sym, _∙_}
+use Prim.Native.Nat.{_^_}
+use Rattle.bits.specs.Bits.{if_then_else_}
+use borrow.Author.Needs.{needs}
+use Rattle.sizes.proofs.Reading.{raised}
+use Rattle.sizes.proofs.mark.Statement.{statement}
+use Rattle.sizes.proofs.mark.Tie as tie
+
+cast-result : tie.Need-cast-result
+cast-result c = search needs
+
+shl-result : tie.Need-shl-result
+shl-result c = search needs
+
+returns : tie.Need-returns
+returns c = raised (c .before .args .place) (c .before .pre) ∙ sym (ap (λ b. if b then 2 ^ (c .before .args .place) else 0) (c .if1 .taken))
+
+returns-2 : tie.Need-returns-2
+returns-2 c = sym (ap (λ b. if b then 2 ^ (c .before .args .place) else 0) (c .if1 .left))
+
+pub mark-spec : {M : Type 1} → statement M
+mark-spec = tie.close (tie.spec cast-result shl-result returns returns-2)

@@ -1,0 +1,5 @@
+pub mod Levels
+pub mod Blocks
+pub mod Sized
+pub mod Unlikes
+pub mod Turns
