@@ -10,6 +10,8 @@ from pandoricchia.command.entry import run
 
 TOP = pathlib.Path(__file__).resolve().parents[2]
 SAMPLES = TOP / "samples"
+# The logs of recordings and streams; a run that is drawn for the auditor has another.
+LOGS = [log for log in sorted(SAMPLES.glob("*.log")) if any(log.with_suffix(end).exists() for end in (".bin", ".stream"))]
 
 
 class Ran(NamedTuple):

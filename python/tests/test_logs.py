@@ -6,7 +6,7 @@ import unittest
 
 from pandoricchia import numbers
 
-from .command import SAMPLES, command
+from .command import LOGS, command
 
 HEAD = b"word answer flips first last unlike\n"
 
@@ -14,7 +14,7 @@ HEAD = b"word answer flips first last unlike\n"
 class Summaries(unittest.TestCase):
     def test_samples(self) -> None:
         """Every sample's log, counted once more."""
-        for log in sorted(SAMPLES.glob("*.log")):
+        for log in LOGS:
             columns, *lines = [line.split() for line in log.read_text(encoding="ascii").splitlines()]
             words = [dict(zip(columns[1:], map(int, line[1:]))) for line in lines]
             answers = collections.Counter(word["answer"] for word in words)

@@ -8,7 +8,7 @@ import shutil
 import tempfile
 import unittest
 
-from .command import SAMPLES, TOP, command
+from .command import LOGS, SAMPLES, TOP, command
 from .pages import Page, browser, shown
 
 WHY = TOP / "crates/why/stdout"
@@ -20,7 +20,7 @@ class Reports(unittest.TestCase):
         self.addCleanup(shutil.rmtree, self.place, ignore_errors=True)
 
     def test_samples(self) -> None:
-        for log in sorted(SAMPLES.glob("*.log")):
+        for log in LOGS:
             ran = command("report", log)
             self.assertEqual((ran.status, ran.said), (command("summary", log).status, ""), log.name)
             page = Page(self, ran.out)
