@@ -48,8 +48,8 @@ extern "C" {
 #define PANDORICCHIA_MOST_WORD_OCTETS 1022
 #define PANDORICCHIA_MOST_INFORMATION_OCTETS 895
 
-/* Measured by outside/boundary.c, not proved: take takes some 8,000 octets, list 4,700, correct 2,800, encode 2,600, step 2,500,
- * check and open 2,200. */
+/* Measured by outside/boundary.c, not proved: take takes some 7,100 octets, list 5,100, quick 3,800, correct and correct_samples
+ * 3,000, step 2,800, encode 2,200, check and open 2,100. */
 #define PANDORICCHIA_STACK_OCTETS 8192
 #define PANDORICCHIA_LIST_STACK_OCTETS 8192
 #define PANDORICCHIA_TAKE_STACK_OCTETS 16384
