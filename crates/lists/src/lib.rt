@@ -101,7 +101,7 @@ fn ended(
     let unlike = codes::unlike_after(o, word, y, count);
     let judged = judging::judge(o, y, number);
     Listing {
-        goes: false,
+        goes: false, // no record is written past the list
         place: flips,
         record: record,
         answer: Listed {
