@@ -14,9 +14,10 @@ pub fn take(octets: &[u8], unsent: usize, y: &mut [u64])
     requires { ⌜ (length (now octets) ≤ 1022) × (unsent ≤ 18) × (length (now y) ≡ wordRoom) × (wbit (now y) ≡ (λ n. false)) ⌝ }
     ensures { λ _. ⌜ ((c : Code) → unsent ≡ c .unsent → wbit (now (y .exit)) ≡ lifted c (bit (now (octets .entry)))) ⌝ }
 {
-    vectors::load(octets, y);
     if unsent > 0 {
-        vectors::lift(y, unsent);
+        vectors::load_later(octets, unsent, y);
+    } else {
+        vectors::load(octets, y);
     }
 }
 
@@ -27,7 +28,7 @@ pub fn write(y: &mut [u64], unsent: usize, bits: usize, out: &mut [u8])
     ensures { λ _. ⌜ ((c : Code) → unsent ≡ c .unsent → bits ≡ bitsOf c → length (now (out .entry)) ≡ c .wordOctets → now (out .exit) ≡ written c (wbit (now (y .entry)))) ⌝ }
 {
     if bits < 8 * out.len() + unsent {
-        vectors::trim(y, bits);
+        vectors::trim_word(y, bits);
         vectors::store(y, unsent, out);
     } else {
         vectors::store(y, 0, out);
