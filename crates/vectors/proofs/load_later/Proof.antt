@@ -64,7 +64,7 @@ returns c =
     let one = word-stored ws k (later u x) y (w .ensures .1) r (omega arith)
     (later-holds (w .result) (l .result) k u r x (s .pre .0) (s .pre .1) (w .ensures .0) (l .ensures) (c .before .funnel .ensures)) in
     let none : Holds 0 (from (64 * (k + 1)) x) =
-        λ i hi. no-group o (8 * (k + 1)) (omega arith) i hi ∙ ap x (omega arith) in
+    λ i hi. no-group o (8 * (k + 1)) (omega arith) i hi ∙ ap x (omega arith) in
     word-stored (set ws k r) (k + 1) (later u x) y one (c .funnel2 .result) (omega (arith, length-set ws k r))
     (later-holds (l .result) 0 (k + 1) u (c .funnel2 .result) x (s .pre .0) (s .pre .1) (later-next (l .result) k x (l .ensures)) none
     (c .funnel2 .ensures))
