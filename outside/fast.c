@@ -90,14 +90,31 @@ LEAF void store(const uint64_t *y, unsigned from, uint8_t *out, size_t len)
         out[i] = (uint8_t)(last >> (56 - 8 * (i % 8)));
 }
 
+/* The octets behind 18 zeros, moved as they are loaded. */
+LEAF void load_later(const uint8_t *octets, size_t len, uint64_t *y)
+{
+    uint64_t before = 0, last = 0;
+    size_t k = 0;
+    for (; k < len / 8; k++) {
+        uint64_t v;
+        memcpy(&v, octets + 8 * k, 8);
+        v = __builtin_bswap64(v);
+        y[k] = funnel(before, v, 64 - 18);
+        before = v;
+    }
+    for (size_t i = 8 * k; i < len; i++)
+        last |= (uint64_t)octets[i] << (56 - 8 * (i % 8));
+    y[k] = funnel(before, last, 64 - 18);
+    y[k + 1] = last << (64 - 18);
+    y[k + 2] = 0;
+}
+
 LEAF void take(uint8_t code, const uint8_t *octets, size_t len, uint64_t *y)
 {
-    load(octets, len, y);
     if (code == 5)
-        for (size_t k = len / 8 + 1; k > 0; k--)
-            y[k] = funnel(y[k - 1], y[k], 64 - 18);
-    if (code == 5)
-        y[0] >>= 18;
+        load_later(octets, len, y);
+    else
+        load(octets, len, y);
 }
 
 LEAF void give(uint8_t code, uint64_t *y, uint8_t *out, size_t len)

@@ -62,8 +62,8 @@ fn refused_check(number: u8) -> Checked
     }
 }
 
-// What a correct refused by 1 to 3 gives besides its number.
-fn refused_correct(number: u8) -> Corrected
+// What correct gives besides its number where it is refused by 1 to 3, and on samples also by 16.
+pub fn refused_correct(number: u8) -> Corrected
     ensures { λ r. ⌜ ((out : List ℕ) → asCorrected r out ≡ refusedCorrect out number) ⌝ }
 {
     Corrected {

@@ -112,6 +112,8 @@ pub record Fixed (n : ℕ) : Type 0 where
   pub fits : offerOf n .bits - offerOf n .unsent ≤ 8 * offerOf n .word
   -- where nothing is sent after the parity, every bit is sent
   pub plain : 8 * offerOf n .word + offerOf n .unsent ≤ offerOf n .bits → offerOf n .unsent ≡ 0
+  -- what is sent after the parity stands in one word of 64 bits with its end
+  pub ends : 8 * offerOf n .word + offerOf n .unsent ≤ 64 * (offerOf n .bits / 64 + 1)
   pub full : offerOf n .word < 8 * ((offerOf n .bits - offerOf n .unsent) / 64) + 8
   pub blocks : 1 ≤ offerOf n .shape .blocks
   pub asked : offerOf n .asked ≡ not (telecommanded n)
@@ -138,6 +140,7 @@ fixed-five =
       fits = lit≤ tt;
       full = lit< tt;
       plain = λ h. refl;
+      ends = lit≤ tt;
       blocks = lit≤ tt;
       asked = refl;
     })
@@ -159,6 +162,7 @@ fixed-five =
       fits = lit≤ tt;
       full = lit< tt;
       plain = λ h. refl;
+      ends = lit≤ tt;
       blocks = lit≤ tt;
       asked = refl;
     })
@@ -180,6 +184,7 @@ fixed-five =
       fits = lit≤ tt;
       full = lit< tt;
       plain = λ h. refl;
+      ends = lit≤ tt;
       blocks = lit≤ tt;
       asked = refl;
     })
@@ -201,6 +206,7 @@ fixed-five =
       fits = lit≤ tt;
       full = lit< tt;
       plain = λ h. refl;
+      ends = lit≤ tt;
       blocks = lit≤ tt;
       asked = refl;
     })
@@ -222,6 +228,7 @@ fixed-five =
       fits = lit≤ tt;
       full = lit< tt;
       plain = λ h. absurd (omega (arith, h));
+      ends = lit≤ tt;
       blocks = lit≤ tt;
       asked = refl;
     })
@@ -243,6 +250,7 @@ pub record Small (o : Offer) : Type 0 where
   pub sends : o .unsent < o .bits
   pub fits : o .bits - o .unsent ≤ 8 * o .word
   pub plain : 8 * o .word + o .unsent ≤ o .bits → o .unsent ≡ 0
+  pub ends : 8 * o .word + o .unsent ≤ 64 * (o .bits / 64 + 1)
   pub full : o .word < 8 * ((o .bits - o .unsent) / 64) + 8
   pub blocks : 1 ≤ o .shape .blocks
 
@@ -263,6 +271,7 @@ small {o} k =
       fits = f .fits;
       full = f .full;
       plain = f .plain;
+      ends = f .ends;
       blocks = f .blocks;
     })
 

@@ -1,7 +1,7 @@
 -- Words handed in and out, by what a code leaves unsent.
 use mathlib.Core.Path.{_≡_, refl, sym, ap, ap₂, _∙_, subst, fun-ext}
 use mathlib.Core.Bool.{Bool, true, false, not, _&&_}
-use Prim.Native.Nat.{ℕ, _+_, _-_, _*_, _≤_, _<_}
+use Prim.Native.Nat.{ℕ, _+_, _-_, _*_, _/_, _≤_, _<_}
 use native.Mathlib.Nat.{add-comm, lt-of-not-le}
 use native.Mathlib.Decide.{decLt}
 use native.Mathlib.Omega.{arith}
@@ -11,7 +11,8 @@ use Rattle.bits.specs.Bits.{Word, octets}
 use Rattle.rules.specs.Codes.{Code, bits}
 use Rattle.rules.specs.Encoding.{lifted, sent, written}
 use Rattle.bits.proofs.Octets.{octets-same}
-use Rattle.vectors.specs.Vectors.{upTo, from, later}
+use Rattle.vectors.specs.Vectors.{upTo, from, later, joined}
+use Rattle.vectors.proofs.Cells.{joined-below}
 
 -- ---- octets in
 
@@ -41,11 +42,14 @@ module _ (c : Code) (u m : ℕ) (e : u ≡ c .unsent) (f : m ≡ bits c) (x : Wo
   place : (i : ℕ) → u + i ≡ i + c .unsent
   place i = omega arith
 
-  -- where more octets are sent than there are bits: the rest is 0
-  pub written-trimmed : (long : ℕ) → long ≡ c .wordOctets → octets long (from u (upTo m x)) ≡ written c x
+  -- where more octets are sent than there are bits: the rest is 0, as far as the word of the last bit goes
+  pub written-trimmed : (long : ℕ) → long ≡ c .wordOctets → 8 * long + u ≤ 64 * (m / 64 + 1)
+      → octets long (from u (joined (64 * (m / 64 + 1)) (upTo m x) x)) ≡ written c x
   unfolding sent
-  written-trimmed long g =
-      ap (λ z. octets z (from u (upTo m x))) g
+  written-trimmed long g h =
+      octets-same long (from u (joined (64 * (m / 64 + 1)) (upTo m x) x)) (from u (upTo m x))
+      (λ i l. joined-below (64 * (m / 64 + 1)) (u + i) (upTo m x) x (omega arith))
+      ∙ ap (λ z. octets z (from u (upTo m x))) g
       ∙ ap (octets (c .wordOctets)) (fun-ext (λ i. ap₂ _&&_ (shifted i) (ap x (place i))))
 
   -- where they are as many as the octets

@@ -1,11 +1,9 @@
 // Correct on samples: the run on the bits read from them, which chooses by their sizes.
 ghost use mathlib.Core.Path.{_≡_};
 ghost use mathlib.Core.Bool.{true};
-ghost use mathlib.Core.List.{List};
 ghost use Prim.Native.Nat.{ℕ};
 ghost use lib.ListN.{length};
 ghost use Rattle.rules.specs.Codes.{offered};
-ghost use Rattle.answers.specs.Calls.{refusedCorrect};
 ghost use Rattle.vectors.specs.Vectors.{wbit};
 ghost use Rattle.offer.specs.Offers.{offerOf, Known};
 ghost use Rattle.codes.specs.Answers.{asCorrected};
@@ -16,20 +14,6 @@ use layout::SYNDROME;
 use layout::TABLE;
 use layout::WORD;
 use offer::Offer;
-
-// What a call that is refused by 1 to 3 or 16 gives besides its number.
-fn refused(number: u8) -> Corrected
-    ensures { λ r. ⌜ ((out : List ℕ) → asCorrected r out ≡ refusedCorrect out number) ⌝ }
-{
-    Corrected {
-        number: number,
-        flips: 0,
-        first: 0,
-        last: 0,
-        unlike: 0,
-        lowest: 0,
-    }
-}
 
 // The run on the bits y that were read from as many samples as the code has bits, into an output of the right length.
 fn correct_read(o: Offer, samples: &[f32], limit: u16, y: &mut [u64], out: &mut [u8]) -> Corrected
@@ -65,11 +49,11 @@ pub fn correct_samples(code: u8, samples: &[f32], limit: u16, out: &mut [u8]) ->
     let o = offer::of(code);
     let number = ladder::refusal(o.steps, samples.len(), o.bits, out.len(), o.word);
     if number != 0 {
-        return refused(number);
+        return codes::refused_correct(number);
     }
     let mut y = [0u64; WORD];
     if !sizes::read(samples, &mut y) {
-        return refused(16);
+        return codes::refused_correct(16);
     }
     correct_read(o, samples, limit, &mut y, out)
 }

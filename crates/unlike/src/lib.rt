@@ -44,7 +44,7 @@ pub fn unlike(octets: &[u8], y: &[u64], u: usize, n: usize) -> usize
     if t == 0 {
         return sum;
     }
-    let v = vectors::front(vectors::last(octets, 8 * k), t);
+    let v = vectors::front(vectors::last(octets), t);
     let w = vectors::front(vectors::window(y, u + 64 * k), t);
     sum + apart(v, w)
 }

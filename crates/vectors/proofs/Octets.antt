@@ -13,12 +13,12 @@ use lib.Pow.{pow-add, pow-mono}
 use lib.ListN.{getD, length}
 use Rattle.bits.specs.Bits.{Word, digit, bit, octets}
 use Rattle.bits.proofs.Octets.{length-octets, bit-octets, octets-lt, bit-past}
-use Rattle.vectors.specs.Vectors.{wbit, Holds, upTo, from, joined}
+use Rattle.vectors.specs.Vectors.{wbit, Holds, upTo, from, later, joined}
 use Rattle.bits.proofs.Orders.{le-or-lt}
 use Rattle.vectors.proofs.Places.{or-none, place, place-or, place-above, place-front, place-behind, place-zero, place-cut, place-up}
 use Rattle.vectors.proofs.Places.{place-down, place-below}
 use Rattle.vectors.proofs.Cells.{cell-at, same-cells, joined-below, joined-above, joined-end}
-use Rattle.vectors.proofs.Spans.{upTo-below, upTo-above}
+use Rattle.vectors.proofs.Spans.{upTo-below, upTo-above, later-back}
 
 -- A list of octets is known by its length and its bits.
 pub octets-of : (o : List ℕ) (n : ℕ) (x : Word) → length o ≡ n → ((i : ℕ) → getD o i 0 < 2 ^ 8) → bit o ≡ upTo (8 * n) x → o ≡ octets n x
@@ -105,6 +105,13 @@ no-group o at h i hi = place-zero (64 - suc i) ∙ sym (bit-past o (8 * at + i) 
 -- Octets in front of zeros.
 pub zeros-behind : (o ws : List ℕ) (k : ℕ) → wbit ws ≡ (λ n. false) → length o ≤ 8 * k → joined (64 * k) (bit o) (wbit ws) ≡ bit o
 zeros-behind o ws k zeros h = joined-end (64 * k) (bit o) (wbit ws) (λ n l. ap (λ (y : Word). y n) zeros ∙ sym (bit-past o n (omega arith)))
+
+-- And u places later.
+pub later-behind : (o ws : List ℕ) (k u : ℕ) → wbit ws ≡ (λ n. false) → 8 * length o + u ≤ 64 * k
+    → joined (64 * k) (later u (bit o)) (wbit ws) ≡ later u (bit o)
+later-behind o ws k u zeros h =
+    joined-end (64 * k) (later u (bit o)) (wbit ws)
+    (λ n l. ap (λ (y : Word). y n) zeros ∙ sym (later-back u n (bit o) (omega arith) ∙ bit-past o (n - u) (omega arith)))
 
 -- ---- octets of a number put into a list
 

@@ -57,16 +57,15 @@ pub fn eight(octets: &[u8], at: usize) -> u64
     (gathered(octets, at, 4) << 32) | gathered(octets, at + 4, 4)
 }
 
-// The last octets, fewer than eight, from octet at on, and zeros behind them.
-pub fn last(octets: &[u8], at: usize) -> u64
-    requires { ⌜ (at ≤ length (now octets)) × (length (now octets) < at + 8) ⌝ }
-    ensures { λ r. ⌜ Holds r (from (8 * at) (bit (now (octets .entry)))) ⌝ }
+// The octets behind the words that they fill whole, fewer than eight, and zeros behind them.
+pub fn last(octets: &[u8]) -> u64
+    ensures { λ r. ⌜ Holds r (from (64 * (length (now (octets .entry)) / 8)) (bit (now (octets .entry)))) ⌝ }
 {
-    let n = octets.len() - at;
+    let n = octets.len() % 8;
     if n == 0 {
         return 0;
     }
-    gathered(octets, at, n) << (64 - 8 * n)
+    gathered(octets, octets.len() - n, n) << (64 - 8 * n)
 }
 
 // The words that the octets fill whole.
@@ -90,8 +89,39 @@ pub fn load(octets: &[u8], ws: &mut [u64])
     load_whole(octets, ws);
     let k = octets.len() / 8;
     if k < ws.len() {
-        ws[k] = last(octets, 8 * k);
+        ws[k] = last(octets);
     }
+}
+
+// The words that the octets fill whole, all bits u places later, and the last of them as it was.
+fn load_whole_later(octets: &[u8], u: usize, ws: &mut [u64]) -> u64
+    requires { ⌜ (0 < u) × (u < 64) × (length (now octets) ≤ 8 * length (now ws)) ⌝ }
+    ensures { λ r. ⌜ Holds r (from (64 * (length (now (octets .entry)) / 8)) (later 64 (bit (now (octets .entry)))))
+        × (wbit (now (ws .exit))
+        ≡ joined (64 * (length (now (octets .entry)) / 8)) (later u (bit (now (octets .entry)))) (wbit (now (ws .entry)))) ⌝ }
+{
+    let whole = octets.len() / 8;
+    let mut before: u64 = 0;
+    let mut k = 0;
+    while k < whole {
+        let v = eight(octets, 8 * k);
+        ws[k] = funnel(before, v, 64 - u);
+        before = v;
+        k += 1;
+    }
+    before
+}
+
+// The octets, put u bits behind the front of a vector of zeros: moved as they are loaded, since a sweep of its own takes longer.
+pub fn load_later(octets: &[u8], u: usize, ws: &mut [u64])
+    requires { ⌜ (0 < u) × (u < 64) × (length (now octets) / 8 + 1 < length (now ws)) × (wbit (now ws) ≡ (λ n. false)) ⌝ }
+    ensures { λ r. ⌜ wbit (now (ws .exit)) ≡ later u (bit (now (octets .entry))) ⌝ }
+{
+    let before = load_whole_later(octets, u, ws);
+    let k = octets.len() / 8;
+    let v = last(octets);
+    ws[k] = funnel(before, v, 64 - u);
+    ws[k + 1] = funnel(v, 0, 64 - u);
 }
 
 // The first t bits of v.
@@ -116,6 +146,16 @@ pub fn trim(ws: &mut [u64], n: usize)
         t = 0;
         k += 1;
     }
+}
+
+// Clears the bits from bit n on of the word that has it.
+pub fn trim_word(ws: &mut [u64], n: usize)
+    requires { ⌜ n / 64 < length (now ws) ⌝ }
+    ensures { λ r. ⌜ wbit (now (ws .exit))
+        ≡ joined (64 * (n / 64 + 1)) (upTo n (wbit (now (ws .entry)))) (wbit (now (ws .entry))) ⌝ }
+{
+    let k = n / 64;
+    ws[k] = front(ws[k], n % 64);
 }
 
 // The m bits from bit p on.
@@ -286,23 +326,6 @@ pub fn clear(ws: &mut [u64])
     while k < ws.len() {
         ws[k] = 0;
         k += 1;
-    }
-}
-
-// All bits u places later, of which the last u are 0; zeros in front.
-pub fn lift(ws: &mut [u64], u: usize)
-    requires { ⌜ (u < 64) × ((n : ℕ) → 64 * length (now ws) ≤ n + u → wbit (now ws) n ≡ false) ⌝ }
-    ensures { λ r. ⌜ wbit (now (ws .exit)) ≡ later u (wbit (now (ws .entry))) ⌝ }
-{
-    if u > 0 {
-        let mut before: u64 = 0;
-        let mut k = 0;
-        while k < ws.len() {
-            let v = ws[k];
-            ws[k] = funnel(before, v, 64 - u);
-            before = v;
-            k += 1;
-        }
     }
 }
 

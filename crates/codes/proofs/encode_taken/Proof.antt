@@ -36,7 +36,8 @@ write-requires c κs =
     let t = e .before .before .before in
     let a = t .before .before .before .before in
     let k = small (a .pre .0) in
-    (search needs, k .unsent, omega (arith, a .pre .2, k .word), λ h. k .plain (omega (arith, h, a .pre .2)))
+    let l = a .pre .2 in
+    (search needs, k .unsent, omega (arith, l, k .word), λ h. k .plain (omega (arith, h, l)), omega (arith, l, k .ends))
 
 same-length : tie.Need-same-length
 same-length c = search needs

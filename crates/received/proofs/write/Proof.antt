@@ -16,8 +16,8 @@ mul-if1 c = search needs
 add-if1 : tie.Need-add-if1
 add-if1 c = search needs
 
-trim-requires : tie.Need-trim-requires
-trim-requires c κs = search needs
+trim-word-requires : tie.Need-trim-word-requires
+trim-word-requires c κs = search needs
 
 store-requires : tie.Need-store-requires
 store-requires c κs = search needs
@@ -38,8 +38,8 @@ returns c =
     let a = t .before .before .before .before .before in
     λ k e f g.
     d .store .ensures
-    ∙ ap (λ w. octets (length (a .args .out .now)) (from (a .args .unsent) w)) (t .trim .ensures)
-    ∙ written-trimmed k (a .args .unsent) (a .args .bits) e f (wbit (a .args .y .now)) (length (a .args .out .now)) g
+    ∙ ap (λ w. octets (length (a .args .out .now)) (from (a .args .unsent) w)) (t .trim-word .ensures)
+    ∙ written-trimmed k (a .args .unsent) (a .args .bits) e f (wbit (a .args .y .now)) (length (a .args .out .now)) g (a .pre .4)
 
 same-length-3 : tie.Need-same-length-3
 same-length-3 c = search needs
@@ -63,7 +63,7 @@ write-spec =
     (tie.spec
     mul-if1
     add-if1
-    trim-requires
+    trim-word-requires
     store-requires
     store-requires-2
     same-length

@@ -84,7 +84,8 @@ write-requires : tie.Need-write-requires
 write-requires c κs =
     let k = c .before .before .before .before .before .before .before .before .before .before .before .before .before .before .before
     .before .before .before .before .before .before .before .before .before .before .before .pre in
-    (search needs, small (k .0) .unsent, omega (arith, k .4, small (k .0) .word), λ h. small (k .0) .plain (omega (arith, h, k .4)))
+    let s = small (k .0) in
+    (search needs, s .unsent, omega (arith, k .4, s .word), λ h. s .plain (omega (arith, h, k .4)), omega (arith, k .4, s .ends))
 
 same-length : tie.Need-same-length
 same-length c = search needs

@@ -18,14 +18,14 @@ of-requires c κs = search needs
 refusal-requires : tie.Need-refusal-requires
 refusal-requires c κs = search needs
 
-refused-requires : tie.Need-refused-requires
-refused-requires c κs = search needs
+refused-correct-requires : tie.Need-refused-correct-requires
+refused-correct-requires c κs = search needs
 
 returns : tie.Need-returns
 returns c =
     let f = c .before .before in
     let a = c .before .before .before .before .before .before .args in
-    c .refused .ensures (a .out .now)
+    c .refused-correct .ensures (a .out .now)
     ∙ sym (samples-refused (a .code) (a .samples .now) (a .limit) (a .out .now) _
     (samples-refusal (a .code) (f .before .of .ensures) _ _ (f .refusal .ensures)) (c .before .if1 .taken))
 
@@ -42,8 +42,8 @@ read-requires c κs =
     let z = zero-words 130 in
     (omega (arith, t .input-is, small (t .known) .bits), z)
 
-refused-requires-2 : tie.Need-refused-requires-2
-refused-requires-2 c κs = search needs
+refused-correct-requires-2 : tie.Need-refused-correct-requires-2
+refused-correct-requires-2 c κs = search needs
 
 returns-2 : tie.Need-returns-2
 returns-2 c =
@@ -53,7 +53,7 @@ returns-2 c =
     let is = f .before .of .ensures in
     let t = taken n is (f .before .of .result .steps) (steps-offered n is) _ _ _ _ (f .refusal .ensures)
     (c .before .before .before .before .before .if1 .left) in
-    c .refused2 .ensures (a .out .now)
+    c .refused-correct2 .ensures (a .out .now)
     ∙ sym (samples-sixteen n (a .samples .now) (a .limit) (a .out .now) (as-truth (steps-by n is (t .chosen))) (t .input-is
     ∙ bits-are n is (t .offers)) (word-long n is (t .offers) (t .output-is))
     (sym (c .before .before .before .read .ensures .1) ∙ not-true (c .before .before .before .read .result) (c .before .if2 .taken)))
@@ -96,11 +96,11 @@ correct-samples-spec =
     (tie.spec
     of-requires
     refusal-requires
-    refused-requires
+    refused-correct-requires
     returns
     slice-aggregate-read
     read-requires
-    refused-requires-2
+    refused-correct-requires-2
     returns-2
     slice-aggregate-correct-read
     correct-read-requires

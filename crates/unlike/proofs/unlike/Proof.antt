@@ -4,9 +4,10 @@ use mathlib.Core.Bool.{_&&_}
 use Prim.Native.Nat.{ℕ, _+_, _*_, _/_, _%_, _≤_, _<_}
 use native.Mathlib.Omega.{arith}
 use lib.Dec.{ltb}
+use lib.ListN.{length}
 use Rattle.bits.specs.Bits.{Word, bit, count, _⊕_}
 use Rattle.vectors.specs.Vectors.{wbit}
-use Rattle.unlike.proofs.Differing.{apart-rest, from-more, place}
+use Rattle.unlike.proofs.Differing.{apart-rest, place}
 use borrow.Author.Needs.{needs}
 use Rattle.unlike.proofs.unlike.Statement.{statement}
 use Rattle.unlike.proofs.unlike.Tie as tie
@@ -21,11 +22,8 @@ returns c =
     let w = c .before .apart-whole .ensures in
     (w .0 ∙ ap (λ (k : ℕ). count k (λ i. bit (a .octets .now) i ⊕ wbit (a .y .now) (a .u + i))) e, omega (arith, w .1))
 
-mul-last : tie.Need-mul-last
-mul-last c = search needs
-
 last-requires : tie.Need-last-requires
-last-requires c κs = (omega arith, omega arith)
+last-requires c κs = search needs
 
 front-requires : tie.Need-front-requires
 front-requires c κs = search needs
@@ -58,9 +56,10 @@ returns-2 c =
     let x : Word = bit (a .octets .now) in
     let y : Word = λ i. wbit (a .y .now) (a .u + i) in
     let e : 64 * k + t ≡ a .n = omega arith in
+    let whole : length (a .octets .now) / 8 ≡ k = omega arith in
     let m = apart-rest x y k t (omega arith) _ _ _
     (λ i l. c .before .before .before .front .ensures i l
-    ∙ ap (λ b. ltb i t && b) (from-more x k _ (c .before .before .before .before .last .ensures) i l))
+    ∙ ap (λ b. ltb i t && b) (c .before .before .before .before .last .ensures i l ∙ ap (λ (m : ℕ). x (64 * m + i)) whole))
     (λ i l. c .before .front2 .ensures i l ∙ ap (λ b. ltb i t && b) (c .before .before .window .ensures i l
     ∙ ap (wbit (a .y .now)) (place (a .u) k i))) (c .apart .ensures .0) in (
       ap (λ (s : ℕ). s + c .apart .result) (w .0) ∙ sym m
@@ -74,7 +73,6 @@ unlike-spec =
     (tie.spec
     apart-whole-requires
     returns
-    mul-last
     last-requires
     front-requires
     mul-window

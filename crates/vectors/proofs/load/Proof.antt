@@ -1,5 +1,5 @@
 -- `vectors::load` meets its contract: the words that the octets fill, then the one with the last of them. Assumes nothing.
-use mathlib.Core.Path.{ap, _∙_}
+use mathlib.Core.Path.{_∙_}
 use Prim.Native.Nat.{_+_, _/_}
 use native.Mathlib.Omega.{arith}
 use lib.ListN.{length}
@@ -13,9 +13,6 @@ use Rattle.vectors.proofs.load.Tie as tie
 
 load-whole-requires : tie.Need-load-whole-requires
 load-whole-requires c κs = search needs
-
-mul-last : tie.Need-mul-last
-mul-last c = search needs
 
 last-requires : tie.Need-last-requires
 last-requires c κs = search needs
@@ -36,8 +33,7 @@ returns c =
     let x = bit (a .octets .now) in
     let k = length (a .octets .now) / 8 in
     let w = c .before .before .before .before .load-whole in
-    word-stored (w .last .1 .0) k x (wbit (a .ws .now)) (w .ensures) (c .last .result) (omega arith) (λ i hi. c .last .ensures i hi
-    ∙ ap x (omega arith))
+    word-stored (w .last .1 .0) k x (wbit (a .ws .now)) (w .ensures) (c .last .result) (omega arith) (c .last .ensures)
     ∙ zeros-behind (a .octets .now) (a .ws .now) (k + 1) (s .pre .1) (omega arith)
 
 same-length-2 : tie.Need-same-length-2
@@ -54,7 +50,6 @@ load-spec =
     tie.close
     (tie.spec
     load-whole-requires
-    mul-last
     last-requires
     mul-ws
     slice-write-ws
