@@ -52,6 +52,37 @@ class Page(HTMLParser):
         return [str(title.text) for chart in self.charts for title in list(chart.iter("{http://www.w3.org/2000/svg}title"))[1:]]
 
 
+Box = Tuple[float, float, float, float]
+_SVG = "{http://www.w3.org/2000/svg}"
+
+
+def labels(chart: ElementTree.Element) -> List[Tuple[str, Box]]:
+    """What a chart says from left to right, and about where: left, top, right, bottom."""
+    found = []
+    for text in chart.iter(_SVG + "text"):
+        if "transform" not in text.attrib:
+            x, y, size = (float(text.attrib[name]) for name in ("x", "y", "font-size"))
+            said = str(text.text)
+            wide = 0.55 * size * len(said)
+            left = x - wide * {"start": 0, "middle": 0.5, "end": 1}[text.attrib["text-anchor"]]
+            found.append((said, (left, y - 0.75 * size, left + wide, y)))
+    return found
+
+
+def dots(chart: ElementTree.Element) -> List[Box]:
+    """A chart's dots."""
+    found = []
+    for dot in chart.iter(_SVG + "circle"):
+        x, y, radius = (float(dot.attrib[name]) for name in ("cx", "cy", "r"))
+        found.append((x - radius, y - radius, x + radius, y + radius))
+    return found
+
+
+def overlap(one: Box, other: Box) -> bool:
+    """Whether two boxes have a point in common."""
+    return one[0] < other[2] and other[0] < one[2] and one[1] < other[3] and other[1] < one[3]
+
+
 def browser() -> Optional[str]:
     """A browser that can do without a screen."""
     for name in ("chromium", "chromium-browser", "google-chrome", "chrome"):

@@ -69,7 +69,7 @@ Words that need a look: 1 refused; 1 with more than 2 bits changed; 1 with a bit
             (b"", "no log of words"),
             (b"\x01\0\x05" + bytes(16), "no log of words"),
             (b"word answer broken lowest\n0 0 0 64\n", "its first line has not the columns"),
-            (b"\xff\xfe", "no log of words"),
+            (b"\xff\xfe", "no log of words; correct and why print one of a recording"),
             (HEAD + b"0 0 0\n", "line 2 is no line of a log"),
             (HEAD + b"0 0 0 0 0 0\n1 0 0 0 0 x\n", "line 3 is no line of a log"),
             (HEAD + b"0 0 0 0 0 0\n\n", "line 3 is no line of a log"),

@@ -9,7 +9,7 @@ import tempfile
 import unittest
 
 from .command import LOGS, SAMPLES, TOP, command
-from .pages import Page, browser, shown
+from .pages import Page, browser, dots, labels, overlap, shown
 
 WHY = TOP / "crates/why/stdout"
 
@@ -67,6 +67,21 @@ class Reports(unittest.TestCase):
         for said in dots:
             first, flips = (int(number.replace(",", "")) for number in re.findall(r"([\d,]+) (?:broken|flip)", said))
             self.assertLessEqual(flips, first, said)
+
+    def test_room(self) -> None:
+        """No label of a chart lies over another, and no dot over a number of an axis, however many words it stands for."""
+        head, line = "word answer flips first last unlike\n", "{0} 0 {1} {2} 0 {1}\n"
+        logs = [log.read_text(encoding="ascii") for log in LOGS] + [WHY.read_text(encoding="ascii")]
+        for flips, many in ((1, 100), (14, 200), (14, 1500), (40, 3), (60, 3)):
+            logs.append(head + "".join(line.format(k, k % flips, 4 * (k % flips)) for k in range(flips * many)))
+        for log in logs:
+            for chart in Page(self, command("report", "--worst", 30, given=log.encode()).out).charts:
+                said = labels(chart)
+                for k, (text, box) in enumerate(said):
+                    for other, place in said[:k]:
+                        self.assertFalse(overlap(box, place), (text, other))
+                if "against flips" in said[0][0]:
+                    self.assertFalse(any(overlap(box, dot) for text, box in said if text.isdigit() for dot in dots(chart)))
 
     def test_browser(self) -> None:
         if not browser():

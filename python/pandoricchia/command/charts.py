@@ -13,6 +13,9 @@ INK, LIGHT, PALE, RED, AMBER, GREY = "#16365c", "#8fb0d3", "#d5dbe1", "#c0392b",
 #: Inside and edge of a dot, for words that were refused and taken.
 TAKEN = {False: ("#f3c6c0", RED), True: (LIGHT, INK)}
 
+#: Radii of dots whose area is a count.
+SMALLEST, GREATEST = 3.5, 11.0
+
 WIDE = 900
 
 
@@ -103,13 +106,13 @@ class Field:
         """How high a number stands."""
         return self.top + self.high - self.high * value / self.most
 
-    def side(self, most: float, name: str, after: str = "") -> None:
-        """The axis at the left, with lines across."""
+    def side(self, most: float, name: str, after: str = "", gap: float = 10) -> None:
+        """The axis at the left, with lines across; its numbers stand so far from it."""
         marks = ticks(most)
         self.most = marks[-1]
         for mark in marks:
             self.picture.line(f"M{self.left} {self.y(mark):.1f}H{self.left + self.wide}", PALE if mark else "#444")
-            self.picture.text(self.left - 10, self.y(mark) + 4, f"{mark:,}{after}", 12, "end")
+            self.picture.text(self.left - gap, self.y(mark) + 4, f"{mark:,}{after}", 12, "end")
         self.picture.upright(18, self.top + self.high / 2, name)
 
     def foot(self, name: str) -> None:
@@ -152,10 +155,11 @@ def columns(series: Sequence[Tuple[str, str, Mapping[int, int]]], title: str, ac
         for value, count in counts.items():
             binned[-1][value // bin_width] += count
     field = Field(picture, 50, 240)
-    field.side(max((max(counts.values(), default=0) for counts in binned), default=1) or 1, "words")
+    greatest = max((max(counts.values(), default=0) for counts in binned), default=1) or 1
+    field.side(greatest, "words")
     field.across = bins
     room = 0.8 / len(series)
-    small = bins * len(series) > 26
+    small = field.wide * room / bins < 8 * len(f"{greatest:,}")
     for s, (name, colour, _) in enumerate(series):
         for value, count in sorted(binned[s].items()):
             x, wide = field.x(value + 0.1 + s * room), field.wide * room / bins
@@ -187,7 +191,7 @@ def starts(counts: Mapping[Tuple[int, int, bool], int], halved: bool, title: str
     broken = max((first for first, _, _ in counts), default=0)
     flips = max((flips for _, flips, _ in counts), default=0)
     field = Field(picture, 50, 300)
-    field.side(max(flips, 1), "flips")
+    field.side(max(flips, 1), "flips", gap=GREATEST + 4)
     marks = ticks(max(broken, 1), 12)
     field.across = marks[-1]
     for mark in marks:
@@ -198,7 +202,7 @@ def starts(counts: Mapping[Tuple[int, int, bool], int], halved: bool, title: str
     cells = counts if len(counts) <= 2000 else _together(counts, field.across / 90, field.most / 45)
     most = max(cells.values(), default=1)
     for (x, y, taken), count in sorted(cells.items(), key=lambda cell: -cell[1]):
-        radius = 3.5 + 10.5 * (count / max(most, 25)) ** 0.5
+        radius = SMALLEST + (GREATEST - SMALLEST) * (count / max(most, 25)) ** 0.5
         said = f"{count:,} {'taken' if taken else 'refused'}: {plural(x, 'broken check')}, {plural(y, 'flip')}"
         picture.dot(field.x(x), field.y(y), radius, *TAKEN[taken], said, 0.75)
     field.foot("broken checks at the start")

@@ -15,7 +15,7 @@ h1 { font-size: 1.7rem; color: #16365c; margin-bottom: 0.2rem; }
 h2 { font-size: 1.25rem; color: #16365c; margin-top: 2.2rem; border-bottom: 1px solid #d5dbe1; padding-bottom: 0.2rem; }
 h3 { font-size: 1.05rem; margin-top: 1.6rem; }
 svg { width: 100%; height: auto; display: block; margin: 0.8rem 0; }
-table { border-collapse: collapse; margin: 0.8rem 0; font-size: 0.9rem; }
+table { border-collapse: collapse; margin: 0.8rem 0; font-size: 0.9rem; display: block; overflow-x: auto; }
 th, td { padding: 0.2rem 0.8rem; text-align: right; border-bottom: 1px solid #d5dbe1; vertical-align: top; }
 th { color: #16365c; font-weight: 600; }
 .words { text-align: left; }

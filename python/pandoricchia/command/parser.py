@@ -120,15 +120,15 @@ def _worst(parser: argparse.ArgumentParser, default: int) -> None:
 
 
 BARE = "the input is words of this code, 1 to 5, without the three octets of a recording"
-OWN_LIMIT = "the most flips of a word, 0 to 65535; else the recording's own, and with --code 65535, which is none"
+OWN_LIMIT = "the most flips of a word, 0 to 65535; else the recording's own, and with --code 65535, which no run reaches"
 
 
 def _words(verbs: Verbs) -> None:
     encode = verbs.add(
         "encode", words.encode, "write the words of information",
         "The input is information, as many octets a word as the code has. What is written is a recording: one octet code, two octets"
-        " limit, then the words. At the first word that is refused nothing is left in the output and the status is 1: a short last"
-        " one without --fill, or under code 4 one whose six last bits are not 0.",
+        " limit, then the words. The first word that is refused ends it, with status 1: a short last one without --fill, or under code 4"
+        " one whose six last bits are not 0. An output file stays as it was then; on standard output words before it may stand already.",
         "pandoricchia encode --code 1 --fill notes.txt --output sent.bin",
     )
     _input(encode, "the information")
@@ -156,11 +156,13 @@ def _words(verbs: Verbs) -> None:
     _jobs(spoil)
 
     for name, run, gives, more in (
-        ("check", words.check, "count the broken checks of words", "broken is how many, lowest the first of them, or the number of checks"),
-        ("quick", words.quick, "say of words whether no check is broken", "yes is 1 or 0, evaluated how many checks were read to know"),
+        ("check", words.check, "count the broken checks of words",
+         "how many checks are broken, and the lowest of them, or the number of checks where none is"),
+        ("quick", words.quick, "say of words whether no check is broken",
+         "1 where no check is broken and else 0, and how many checks were read to know"),
     ):
         check = verbs.add(
-            name, run, gives, f"{RECORDING} {LOG} {more[0].upper()}{more[1:]}. The status is 1 if a check of any word is broken.",
+            name, run, gives, f"{RECORDING} {LOG} Its columns are index, answer, {more}. The status is 1 if a check of any word is broken.",
             f"pandoricchia {name} heard.bin",
         )
         _input(check, "the recording")
@@ -237,7 +239,7 @@ def _links(verbs: Verbs) -> None:
     _input(read, "the unit")
     _output(read, "where the information goes, else nowhere")
     _code(read, "the code, 1 or 3", (1, 3), True)
-    _limit(read, "the most flips of a codeblock, 0 to 65535, which is none and stands unless said")
+    _limit(read, "the most flips of a codeblock, 0 to 65535 (65535 unless said, which no run reaches)")
 
     frames = verbs.add(
         "frames", links.frames, "take marked words of code 5 out of a stream, and print what frames prints",
@@ -248,7 +250,7 @@ def _links(verbs: Verbs) -> None:
     )
     _input(frames, "the stream")
     _output(frames, "where a recording of the taken words goes, else nowhere")
-    _limit(frames, "the most flips of a word, 0 to 65535, which is none and stands unless said")
+    _limit(frames, "the most flips of a word, 0 to 65535 (65535 unless said, which no run reaches)")
     frames.add_argument(
         "-e", "--edition", type=_number(0, 255), default=0, metavar="ISSUE",
         help="the issue of CCSDS 131.0-B, which fixes the randomiser: 1 to 5, or 0 where none is stated (0 unless said)",
@@ -273,7 +275,7 @@ def _links(verbs: Verbs) -> None:
     bch = verbs.group("bch", "the older BCH (63,56) words: 7 octets of information, 8 of a word")
     encode = bch.add(
         "encode", links.bch_encode, "write the BCH words of information",
-        "The input is information, 7 octets a word. A short last one is refused, and nothing is left in the output then.",
+        "The input is information, 7 octets a word. A short last one is refused, and an output file stays as it was then.",
         "pandoricchia bch encode commands.bin --output commands.bch",
     )
     _input(encode, "the information")
@@ -325,8 +327,8 @@ def _pictures(verbs: Verbs) -> None:
     )
     _output(tried, "where the page with the charts goes, else nowhere")
     _code(tried, "this code alone, 1 to 5; all unless said")
-    _limit(tried, "the most flips of a word, 0 to 65535, which is none and stands unless said")
-    many = f"up to so many wrong bits (for codes 1 to 5 {', '.join(map(str, campaign.MOST.values()))} unless said)"
+    _limit(tried, "the most flips of a word, 0 to 65535 (65535 unless said, which no run reaches)")
+    many = f"up to so many wrong bits (unless said {', '.join(map(str, campaign.MOST.values()))} for codes 1 to 5)"
     tried.add_argument("-w", "--wrong", type=_number(0, 8176), metavar="BITS", help=many)
     many = "words for each number of wrong bits (100 unless said)"
     tried.add_argument("-n", "--words", type=_number(1, 10**9), default=100, metavar="N", help=many)

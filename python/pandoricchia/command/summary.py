@@ -14,6 +14,10 @@ from .progress import Progress
 LINE = 4096
 
 
+def _no_log(source: Source) -> Failed:
+    return Failed(f"{source.name}: no log of words; correct and why print one of a recording")
+
+
 def lines_of(source: Source, bar: Progress, start: bytes = b"") -> Iterator[str]:
     """The lines of a text input, each with its end, of which ``start`` is read already."""
     rest = start
@@ -22,7 +26,7 @@ def lines_of(source: Source, bar: Progress, start: bytes = b"") -> Iterator[str]
         whole = (rest + part).split(b"\n")
         rest = whole.pop()
         if len(rest) > LINE:
-            raise Failed(f"{source.name}: no log of words")
+            raise _no_log(source)
         try:
             for line in whole:
                 yield line.decode("ascii") + "\n"
@@ -31,7 +35,7 @@ def lines_of(source: Source, bar: Progress, start: bytes = b"") -> Iterator[str]
                     yield rest.decode("ascii")
                 return
         except UnicodeDecodeError:
-            raise Failed(f"{source.name}: no log of words") from None
+            raise _no_log(source) from None
         bar.at(source.place)
 
 
