@@ -162,19 +162,26 @@ LEAF void add_turned(const uint64_t *d, unsigned s, uint64_t *sum, unsigned word
         sum[k] ^= funnel(d[s / 64 + k], d[s / 64 + k + 1], s % 64);
 }
 
+/* Adds a block to the rows, turned by its shifts. */
+LEAF void add_block(const uint64_t *v, const uint16_t *h, struct shape sh, unsigned b, uint64_t *s)
+{
+    uint64_t d[17];
+    twice(v, sh, d);
+    for (unsigned r = 0; r < sh.rows; r++)
+        for (unsigned e = 0; e < 2; e++) {
+            unsigned shift = h[2 * (r * sh.blocks + b) + e];
+            if (shift < sh.size)
+                add_turned(d, shift, s + r * sh.words, sh.words);
+        }
+}
+
 static void syndrome(const uint64_t *y, const uint16_t *h, struct shape sh, uint64_t *s)
 {
     memset(s, 0, SYNDROME * sizeof *s);
     for (unsigned b = 0; b < sh.blocks; b++) {
-        uint64_t v[8], d[17];
+        uint64_t v[8];
         cut(y, b * sh.size, sh, v);
-        twice(v, sh, d);
-        for (unsigned r = 0; r < sh.rows; r++)
-            for (unsigned e = 0; e < 2; e++) {
-                unsigned shift = h[2 * (r * sh.blocks + b) + e];
-                if (shift < sh.size)
-                    add_turned(d, shift, s + r * sh.words, sh.words);
-            }
+        add_block(v, h, sh, b, s);
     }
     for (unsigned r = 0; r < sh.rows; r++)
         s[r * sh.words + sh.words - 1] = front(s[r * sh.words + sh.words - 1], sh.size);
@@ -332,18 +339,31 @@ static uint8_t run(uint64_t *y, const uint64_t *s, const uint16_t *h, struct sha
     return 0;
 }
 
-/* For each parity block of a near-Earth word, whether the ones of the blocks that it is counted with are odd in number: see the crate ownparity. */
+/* 1 if the ones of eight words are odd in number. */
+LEAF unsigned odd_part(const uint64_t *v)
+{
+    uint64_t fold = 0;
+    for (unsigned k = 0; k < 8; k++)
+        fold ^= v[k];
+    return ones(fold) & 1;
+}
+
+/* For each parity block of a near-Earth word, whether the ones of the blocks that it is counted with are odd in number, by a bit for each
+ * of the 16 blocks: see the crate ownparity. */
+LEAF unsigned together(unsigned odd)
+{
+    return (ones(odd & 0x06E6) & 1) | (ones(odd & 0x0D7D) & 1) << 1;
+}
+
 LEAF unsigned odd_together(const uint64_t *y)
 {
     unsigned odd = 0;
     for (unsigned b = 0; b < 16; b++) {
-        uint64_t fold = 0, v[8];
+        uint64_t v[8];
         cut(y, 511 * b, (struct shape){511, 8, 16, 2}, v);
-        for (unsigned k = 0; k < 8; k++)
-            fold ^= v[k];
-        odd = 2 * odd + (ones(fold) & 1);
+        odd = 2 * odd + odd_part(v);
     }
-    return (ones(odd & 0x06E6) & 1) | (ones(odd & 0x0D7D) & 1) << 1;
+    return together(odd);
 }
 
 static bool own_parity(const uint64_t *y)
@@ -368,19 +388,77 @@ LEAF void put(uint64_t v, uint64_t *y, unsigned p)
     y[p / 64 + 1] ^= v << 1 << (63 - p % 64);
 }
 
-/* Solves the checks of the information by steps, and puts the rows after it, parity block a from row (a + first) mod R. */
-LEAF void put_parity(uint64_t *y, const uint16_t *h, const uint16_t (*steps)[10], struct shape sh, unsigned first)
+/* The 64 bits from bit p of the octets on. */
+LEAF uint64_t octet_window(const uint8_t *octets, unsigned p)
 {
-    uint64_t s[SYNDROME];
-    syndrome(y, h, sh, s);
+    uint64_t v;
+    memcpy(&v, octets + p / 8, 8);
+    v = __builtin_bswap64(v);
+    return p % 8 == 0 ? v : v << p % 8 | octets[p / 8 + 8] >> (8 - p % 8);
+}
+
+/* The 511 bits from bit p of the octets on. The last word is read from one bit before, so that no octet past them is. */
+LEAF void cut_octets(const uint8_t *octets, unsigned p, uint64_t *v)
+{
+    for (unsigned k = 0; k < 7; k++)
+        v[k] = octet_window(octets, p + 64 * k);
+    v[7] = octet_window(octets, p + 447) << 1;
+}
+
+/* Block b of a near-Earth word's information. */
+LEAF void cut_block(const uint8_t *octets, unsigned unsent, unsigned b, struct shape sh, uint64_t *v)
+{
+    if (b > 0 || unsent == 0) {
+        cut_octets(octets, b * sh.size - unsent, v);
+        return;
+    }
+    cut_octets(octets, 0, v);
+    for (unsigned k = 7; k > 0; k--)
+        v[k] = funnel(v[k - 1], v[k], 64 - unsent);
+    v[0] >>= unsent;
+    v[7] = front(v[7], sh.size);
+}
+
+/* The checks that the information breaks; which parity blocks are inverted. */
+LEAF unsigned lay(const uint8_t *octets, size_t len, unsigned unsent, const uint16_t *h, struct shape sh, uint64_t *s)
+{
+    uint64_t y[7], v[8];
+    unsigned odd = 0;
+    memset(s, 0, SYNDROME * sizeof *s);
+    if (sh.words == 1)
+        load(octets, len, y);
+    for (unsigned b = 0; b < sh.blocks - sh.rows; b++) {
+        if (sh.words == 1)
+            cut(y, b * sh.size, sh, v);
+        else {
+            cut_block(octets, unsent, b, sh, v);
+            odd = 2 * odd + odd_part(v);
+        }
+        add_block(v, h, sh, b, s);
+    }
+    for (unsigned r = 0; r < sh.rows; r++)
+        s[r * sh.words + sh.words - 1] = front(s[r * sh.words + sh.words - 1], sh.size);
+    return sh.words == 1 ? 0 : together(4 * odd);
+}
+
+/* Solves the checks of the information by steps, and writes the rows behind it, parity block a from row (a + first) mod R. */
+LEAF void put_parity(const uint8_t *information, size_t information_len, unsigned unsent, uint8_t *word, size_t word_len, const uint16_t *h,
+                     const uint16_t (*steps)[10], struct shape sh, unsigned first)
+{
+    uint64_t s[SYNDROME], y[17] = {0};
+    unsigned inverted = lay(information, information_len, unsent, h, sh, s);
     for (unsigned k = 0; k < 15; k++)
         step(s, steps[k], sh);
-    unsigned inverted = sh.size == 511 ? odd_together(y) : 0;
+    unsigned sent = (sh.blocks - sh.rows) * sh.size - unsent, at = sent / 8;
+    if (at < information_len)
+        y[0] = (uint64_t)information[at] << 56;
     for (unsigned a = 0; a < sh.rows; a++) {
         uint64_t ones = -(uint64_t)(inverted >> a & 1), *row = s + (a + first) % sh.rows * sh.words;
         for (unsigned j = 0; j < sh.words; j++)
-            put(j + 1 < sh.words ? row[j] ^ ones : front(row[j] ^ ones, sh.size), y, (sh.blocks - sh.rows + a) * sh.size + 64 * j);
+            put(j + 1 < sh.words ? row[j] ^ ones : front(row[j] ^ ones, sh.size), y, sent % 8 + a * sh.size + 64 * j);
     }
+    memcpy(word, information, at);
+    store(y, 0, word + at, word_len - at);
 }
 
 static const unsigned word_octets[] = {0, 16, 32, 64, 1022, 1020};
@@ -417,13 +495,9 @@ uint8_t fast_encode(uint8_t code, const uint8_t *information, size_t information
         return 3;
     if (code == 4 && (information[894] & 0x3F) != 0)
         return 4;
-    uint64_t y[HELD];
-    take(code, information, information_len, y);
-    for (size_t k = information_len / 8 + 2; k < word_len / 8 + 3; k++)
-        y[k] = 0;
-#define PUT(h, steps, sh, lead) put_parity(y, h, steps, sh, lead)
+#define PUT(h, steps, sh, lead) \
+    put_parity(information, information_len, code == 5 ? 18 : 0, word, word_len, h, steps, sh, lead)
     FOR_CODE(code, PUT)
-    give(code, y, word, word_len);
     return 0;
 }
 

@@ -9,13 +9,13 @@ use native.Mathlib.Omega.{arith}
 use lib.Dec.{T, eqb}
 use lib.ListN.{length, getD}
 use borrow.Author.Tests.{eq-eqb, eqb-true, lt-ltb, le-ltb}
-use Rattle.bits.specs.Bits.{Word, digit, bit, octets, if_then_else_}
-use Rattle.rules.specs.Codes.{code, code1, code2, code3, code4, code5, bits, information, offered}
+use Rattle.bits.specs.Bits.{digit, bit}
+use Rattle.rules.specs.Codes.{code, code1, code2, code3, code4, code5, information, offered}
 use Rattle.rules.specs.Tables.{generator16, generator32, generator64, generator511}
-use Rattle.rules.specs.Encoding.{lifted, encoded, written}
+use Rattle.rules.specs.Encoding.{lifted}
 use Rattle.answers.specs.Calls.{sixSet}
 use Rattle.bits.proofs.Octets.{bit-past}
-use Rattle.rules.proofs.Codewords.{lifted-sent-bit, sent-same}
+use Rattle.rules.proofs.Codewords.{lifted-sent-bit}
 use Rattle.rules.proofs.Numbers.{five, published}
 use Rattle.vectors.specs.Vectors.{upTo}
 use Rattle.offer.specs.declared.Offer.{Offer}
@@ -101,8 +101,3 @@ module _ (n : ℕ) (off : offered n ≡ true) (info : List ℕ) (long : length i
           ap (lifted (code n) (bit info)) (sym e) ∙ lifted-sent-bit (code n) (bit info) (i - code n .unsent)
           ∙ past (i - code n .unsent) (omega (arith, lt-of-not-le g))
           ∙ sym (ap (λ b. b && lifted (code n) (bit info) i) (le-ltb i (information (code n)) (omega (arith, lt-of-not-le g))))
-
--- only the bits that the checks are over are written
-pub written-upTo : (n : ℕ) (x : Word) → written (code n) (upTo (bits (code n)) x) ≡ written (code n) x
-written-upTo n x = ap (octets (code n .wordOctets))
-    (sent-same (code n) (upTo (bits (code n)) x) x (λ i l. ap (λ b. b && x i) (lt-ltb i (bits (code n)) l)))

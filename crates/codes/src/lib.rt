@@ -2,12 +2,12 @@
 ghost use mathlib.Core.Path.{_≡_};
 ghost use mathlib.Core.Bool.{true, false};
 ghost use mathlib.Core.List.{List};
-ghost use Prim.Native.Nat.{ℕ, _≤_};
+ghost use Prim.Native.Nat.{ℕ};
 ghost use lib.ListN.{length};
 ghost use Rattle.bits.specs.Bits.{bit};
 ghost use Rattle.rules.specs.Codes.{code as codeOf, offered};
 ghost use Rattle.rules.specs.Checks.{lowest};
-ghost use Rattle.rules.specs.Encoding.{lifted, encoded, written};
+ghost use Rattle.rules.specs.Encoding.{lifted};
 ghost use Rattle.answers.specs.Calls.{differing, sixSet, fault, ranFrom, steppedFrom, refusedCheck, refusedCorrect, refusedStep, encodeAnswer, checkAnswer, openAnswer, correctAnswer, stepAnswer};
 ghost use Rattle.offer.specs.Offers.{offerOf, Known};
 ghost use Rattle.vectors.specs.Vectors.{wbit};
@@ -97,17 +97,6 @@ fn six_set(o: Offer, information: &[u8]) -> bool
     information[last] % o.multiple != 0
 }
 
-// The encoding of information of the right length, whose spare bits are 0, into a word of the right length.
-fn encode_taken(o: Offer, information: &[u8], word: &mut [u8])
-    requires { ⌜ Known o × (length (now information) ≡ o .information) × (length (now word) ≡ o .word) ⌝ }
-    ensures { λ _. ⌜ ((n : ℕ) → offered n ≡ true → o ≡ offerOf n → sixSet n (now (information .entry)) ≡ false → now (word .exit) ≡ written (codeOf n) (encoded (codeOf n) (lifted (codeOf n) (bit (now (information .entry)))))) ⌝ }
-{
-    let mut y = [0u64; WORD];
-    received::take(information, o.unsent, &mut y);
-    solver::encode(o, &mut y);
-    received::write(&mut y, o.unsent, o.bits, word);
-}
-
 // Information in, word out.
 pub fn encode(code: u8, information: &[u8], word: &mut [u8]) -> u8
     ensures { λ r. ⌜ asEncoded r (now (word .exit)) ≡ encodeAnswer code (now (information .entry)) (now (word .entry)) ⌝ }
@@ -126,7 +115,7 @@ pub fn encode(code: u8, information: &[u8], word: &mut [u8]) -> u8
     if six_set(o, information) {
         return 4;
     }
-    encode_taken(o, information, word);
+    solver::encode(o, information, word);
     0
 }
 
@@ -249,7 +238,7 @@ fn step_taken(o: Offer, word: &[u8], out: &mut [u8]) -> Stepped
     let next = runs::comes_next(&s, &t, sh, o.unsent);
     match next {
         Next::Quiet => {
-            copy(word, out);
+            received::copy(word, out);
             Stepped {
                 number: 0,
                 quiet: true,
@@ -281,16 +270,4 @@ pub fn step(code: u8, word: &[u8], out: &mut [u8]) -> Stepped
         return refused_step(number);
     }
     step_taken(o, word, out)
-}
-
-// The octets of a word into an output of the same length.
-fn copy(word: &[u8], out: &mut [u8])
-    requires { ⌜ length (now word) ≡ length (now out) ⌝ }
-    ensures { λ _. ⌜ now (out .exit) ≡ now (word .entry) ⌝ }
-{
-    let mut i: usize = 0;
-    while i < word.len() {
-        out[i] = word[i];
-        i += 1;
-    }
 }

@@ -65,11 +65,10 @@ fold-all ws n =
     ∙ ap (λ z. wbit ws (z + i)) (mul-comm 64 k))))
     ∙ sym (sum-blocks n 64 (wbit ws))
 
--- the sum of the words of m bits that were cut out
-pub fold-cut : (ws : List ℕ) (m r : ℕ) (x : Word) → wbit ws ≡ upTo m x → m ≤ length ws * 64
-    → sum 64 (digit 64 r) ≡ sum (length ws * 64) (wbit ws)
-    → tally (sum 64 (digit 64 r)) ≡ tally (sum m x)
-fold-cut ws m r x e h f = ap tally (f ∙ ap (sum (length ws * 64)) e) ∙ odd-upTo m (length ws * 64) x h
+-- the sum of m bits that were cut out
+pub cut-odd : (ws : List ℕ) (m : ℕ) (x : Word) → wbit ws ≡ upTo m x → m ≤ length ws * 64
+    → tally (sum (length ws * 64) (wbit ws)) ≡ tally (sum m x)
+cut-odd ws m x e h = ap (λ z. tally (sum (length ws * 64) z)) e ∙ odd-upTo m (length ws * 64) x h
 
 -- ---- a number made bit by bit, and the bits that it shares with another
 

@@ -3,7 +3,7 @@ ghost use mathlib.Core.Path.{_≡_};
 ghost use mathlib.Core.Bool.{true};
 ghost use Prim.Native.Nat.{ℕ, _+_, _*_, _/_, _^_, _<_, _≤_};
 ghost use lib.ListN.{length};
-ghost use Rattle.bits.specs.Bits.{digit, tally, number, sum};
+ghost use Rattle.bits.specs.Bits.{Word, digit, tally, number, sum};
 ghost use Rattle.rules.specs.Codes.{nearEarth};
 ghost use Rattle.rules.specs.Checks.{broken};
 ghost use Rattle.rules.specs.Encoding.{OwnParity};
@@ -38,14 +38,21 @@ fn folded(ws: &[u64]) -> u64
     v
 }
 
-// 1 if an odd number of the m bits from bit p on are set.
+// 1 if an odd number of bits are set.
+pub fn odd_of(ws: &[u64]) -> u64
+    ensures { λ r. ⌜ (r < 2) × (r ≡ tally (sum (length (now (ws .entry)) * 64) (wbit (now (ws .entry))))) ⌝ }
+{
+    odd_word(folded(ws))
+}
+
+// The same of the m bits from bit p on.
 fn odd(y: &[u64], p: usize, m: usize) -> u64
     requires { ⌜ (m ≤ 512) × (p / 64 + 8 < length (now y)) ⌝ }
     ensures { λ r. ⌜ (r < 2) × (r ≡ tally (sum m (from p (wbit (now (y .entry)))))) ⌝ }
 {
     let mut v = [0u64; BLOCK];
     vectors::cut(y, p, m, &mut v);
-    odd_word(folded(&v))
+    odd_of(&v)
 }
 
 // For each of the 16 blocks, whether an odd number of its bits are set.
@@ -68,11 +75,11 @@ pub struct Together {
     pub second: u64,
 }
 
-pub fn odd_together(y: &[u64]) -> Together
-    requires { ⌜ length (now y) ≡ wordRoom ⌝ }
-    ensures { λ r. ⌜ (r .first ≡ tally (oddTogether (wbit (now (y .entry))) 0)) × (r .second ≡ tally (oddTogether (wbit (now (y .entry))) 1)) ⌝ }
+// By a number that has a bit for each of the 16 blocks, set where an odd number of its bits are.
+pub fn odd_together(v: u64) -> Together
+    ensures { λ r. ⌜ ((x : Word) → v ≡ number 16 (oddBlock x)
+        → (r .first ≡ tally (oddTogether x 0)) × (r .second ≡ tally (oddTogether x 1))) ⌝ }
 {
-    let v = odd_blocks(y);
     Together {
         first: odd_word(FIRST & v),
         second: odd_word(SECOND & v),
@@ -82,10 +89,11 @@ pub fn odd_together(y: &[u64]) -> Together
 // Whether the parity of a word that meets every check is the encoder's.
 pub fn own_parity(y: &[u64]) -> bool
     requires { ⌜ length (now y) ≡ wordRoom ⌝ }
-    ensures { λ r. ⌜ ((wordOctets informationOctets unsent : ℕ) → broken (nearEarth wordOctets informationOctets unsent) (wbit (now (y .entry))) ≡ 0
+    ensures { λ r. ⌜ ((wordOctets informationOctets unsent : ℕ)
+        → broken (nearEarth wordOctets informationOctets unsent) (wbit (now (y .entry))) ≡ 0
         → (r ≡ true → OwnParity (nearEarth wordOctets informationOctets unsent) (wbit (now (y .entry))))
         × (OwnParity (nearEarth wordOctets informationOctets unsent) (wbit (now (y .entry))) → r ≡ true)) ⌝ }
 {
-    let odd = odd_together(y);
+    let odd = odd_together(odd_blocks(y));
     odd.first + odd.second == 0
 }

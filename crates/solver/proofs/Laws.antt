@@ -4,7 +4,7 @@ use mathlib.Core.Bool.{Bool, true, false, _&&_, and-false}
 use mathlib.Core.Logic.{⊎-elim}
 use mathlib.Core.List.{List, [], _∷_}
 use Prim.Native.Nat.{ℕ, zero, suc, _+_, _-_, _*_, _/_, _%_, _≤_, _<_}
-use native.Mathlib.Nat.{mul-comm, mod-lt, add-zero, add-mul, suc-mul, mul-le-mul-left, mul-le-mul-right}
+use native.Mathlib.Nat.{mul-comm, mod-lt, add-mul, suc-mul, mul-le-mul-left, mul-le-mul-right}
 use native.Mathlib.Numerals.{add-one}
 use native.Mathlib.Omega.{arith}
 use lib.Arith.{digits-div, digits-mod}
@@ -15,7 +15,7 @@ use borrow.Author.Tests.{lt-ltb, le-ltb, eq-eqb, ne-eqb}
 use Rattle.bits.specs.Bits.{Word, digit, tally, _⊕_, below, over, if_then_else_}
 use Rattle.bits.proofs.Sums.{⊕-false, ⊕-assoc, and-l, and-r, below-at}
 use Rattle.bits.proofs.Orders.{le-or-lt, eq-or-not}
-use Rattle.vectors.specs.Vectors.{wbit, Holds, upTo, from, twice, added}
+use Rattle.vectors.specs.Vectors.{wbit, Holds, upTo, from, joined, twice, added}
 use Rattle.vectors.proofs.Cells.{joined-below, joined-above, split, low, high}
 use Rattle.bits.proofs.Octets.{digit-zero}
 use lib.Bits.{bitXor}
@@ -27,7 +27,7 @@ use Rattle.syndromes.proofs.Rowwise.{rowed-inside, rowed-past, rowed-same}
 use Rattle.syndromes.proofs.Trimming.{within-rowed}
 use Rattle.layout.specs.declared.Shape.{Shape}
 use Rattle.steps.specs.Steps.{ended, shifts, target, source, rowsIn, stepped, walked}
-use Rattle.solver.specs.Rows.{held, Kept, twoRows, Fits, copies, behind, informed, completed}
+use Rattle.solver.specs.Rows.{held, Kept, twoRows, Fits, copies, behind}
 
 -- ---- the shifts of a step, one after the other
 
@@ -196,18 +196,15 @@ module _ (sh : Shape) (fit : Fits sh) where
   pub row-room : (r : ℕ) → r < sh .rows → r * sh .words + sh .words ≤ 16
   row-room r h = omega (arith, suc-mul r (sh .words), mul-le-mul-right {m = suc r} {n = sh .rows} (sh .words) h, fit .room)
 
-  -- a block within the word
-  pub block-room : (b : ℕ) → b < sh .blocks → b * sh .size + sh .size ≤ 8176
-  block-room b h = omega (arith, suc-mul b (sh .size), mul-le-mul-right {m = suc b} {n = sh .blocks} (sh .size) h, fit .bits)
+  -- a row within the tail
+  pub tail-room : (a : ℕ) → a < sh .rows → a * sh .size + sh .size ≤ 1022
+  tail-room a h = omega (arith, suc-mul a (sh .size), mul-le-mul-right {m = suc a} {n = sh .rows} (sh .size) h, fit .parity)
 
-  -- there is a word in a row and a bit in a block, so there are few of them
+  -- there is a word in a row, so there are few of them
   pub rows-few : sh .rows ≤ 16
   rows-few =
       let some : 1 ≤ sh .words = omega (arith, fit .some, fit .held-in) in
       omega (arith, mul-le-mul-left {m = 1} {n = sh .words} (sh .rows) some, fit .room)
-
-  pub blocks-few : sh .blocks ≤ 8176
-  blocks-few = omega (arith, mul-le-mul-left {m = 1} {n = sh .size} (sh .blocks) (fit .some), fit .bits)
 
   pub wide-some : 0 < wide sh
   wide-some = omega (arith, fit .some, fit .held-in)
@@ -376,72 +373,66 @@ module _ (v : ℕ) where
       zeros (suc (suc (suc zero))) l = refl
       zeros (suc (suc (suc (suc q)))) l = refl
 
--- ---- the rows behind the information
+-- ---- the rows one after the other, behind the first bits
 
-module _ (sh : Shape) (some : 1 ≤ sh .size) (fewer : sh .rows ≤ sh .blocks) (first : ℕ) (f : ℕ → Word) (x : Word) where
-  abbrev J : ℕ
-  J = sh .blocks - sh .rows
+module _ (sh : Shape) (some : 1 ≤ sh .size) (first : ℕ) (f : ℕ → Word) (at : ℕ) (x : Word) where
+  abbrev rows : Word
+  rows n = behind sh first f (n - at)
 
   abbrev whole : Word
-  whole = completed sh first f x
+  whole = joined at x rows
 
-  pub rows-start : upTo (informed sh) x ≡ upTo ((J + 0) * sh .size) whole
-  rows-start =
-      ap (λ z. upTo (z * sh .size) x) (sym (add-zero J))
-      ∙ fun-ext (λ n. ⊎-elim
-      (λ (h : (J + 0) * sh .size ≤ n). upTo-above ((J + 0) * sh .size) n x h ∙ sym (upTo-above ((J + 0) * sh .size) n whole h))
-      (λ (h : n < (J + 0) * sh .size).
-      upTo-below ((J + 0) * sh .size) n x h
-      ∙ sym (upTo-below ((J + 0) * sh .size) n whole h
-      ∙ joined-below (J * sh .size) n x (behind sh first f) (subst (λ z. n < z * sh .size) (add-zero J) h)))
-      (le-or-lt ((J + 0) * sh .size) n))
+  pub rows-start : upTo at x ≡ upTo (at + 0 * sh .size) whole
+  rows-start = fun-ext (λ n. ⊎-elim
+      (λ (h : at ≤ n). upTo-above at n x h ∙ sym (upTo-above (at + 0 * sh .size) n whole (omega arith)))
+      (λ (h : n < at).
+      upTo-below at n x h
+      ∙ sym (upTo-below (at + 0 * sh .size) n whole (omega arith) ∙ joined-below at n x rows h))
+      (le-or-lt at n))
 
-  pub rows-more : (a : ℕ) → added (upTo ((J + a) * sh .size) whole) ((J + a) * sh .size) ((J + a) * sh .size + sh .size)
-      (f ((a + first) % sh .rows)) ≡ upTo ((J + (a + 1)) * sh .size) whole
+  pub rows-more : (a : ℕ) → added (upTo (at + a * sh .size) whole) (at + a * sh .size) (at + a * sh .size + sh .size)
+      (f ((a + first) % sh .rows)) ≡ upTo (at + (a + 1) * sh .size) whole
   unfolding behind
-  rows-more a = fun-ext (λ n. ⊎-elim (from-at n) (front n) (le-or-lt at n))
+  rows-more a = fun-ext (λ n. ⊎-elim (from-start n) (front n) (le-or-lt start n))
     where
       M : ℕ
       M = sh .size
 
-      at : ℕ
-      at = (J + a) * M
+      start : ℕ
+      start = at + a * M
 
       end : ℕ
-      end = (J + (a + 1)) * M
+      end = at + (a + 1) * M
 
       y : Word
-      y = upTo at whole
+      y = upTo start whole
 
       row : Word
       row = f ((a + first) % sh .rows)
 
-      next : at + M ≡ end
-      next =
-          let e : suc (J + a) ≡ J + (a + 1) = omega arith in
-          sym (suc-mul (J + a) M) ∙ ap (λ z. z * M) e
+      next : start + M ≡ end
+      next = omega (arith, add-mul a 1 M)
 
-      front : (n : ℕ) → n < at → added y at (at + M) row n ≡ upTo end whole n
-      front n h = added-before y row at (at + M) n h ∙ upTo-below at n whole h ∙ sym (upTo-below end n whole (omega (arith, next)))
+      front : (n : ℕ) → n < start → added y start (start + M) row n ≡ upTo end whole n
+      front n h = added-before y row start (start + M) n h ∙ upTo-below start n whole h ∙ sym (upTo-below end n whole (omega (arith, next)))
 
-      here : (n : ℕ) → at ≤ n → n < at + M → row (n - at) ≡ whole n
+      here : (n : ℕ) → start ≤ n → n < start + M → row (n - start) ≡ whole n
       here n h l =
-          let place : n ≡ (J + a) * M + (n - at) = omega arith in
-          let inside : n - at < M = omega arith in
-          let same : J + a - J ≡ a = omega arith in
-          sym (joined-above (J * M) n x (behind sh first f) (omega (arith, add-mul J a M))
-          ∙ ap₂ (λ q i. f ((q - J + first) % sh .rows) i) (ap (λ z. z / M) place ∙ digits-div (J + a) inside) (ap (λ z. z % M) place
-          ∙ digits-mod (J + a) inside)
-          ∙ ap (λ z. f ((z + first) % sh .rows) (n - at)) same)
+          let place : n - at ≡ a * M + (n - start) = omega arith in
+          let inside : n - start < M = omega arith in
+          sym (joined-above at n x rows (omega arith)
+          ∙ ap₂ (λ q i. f ((q + first) % sh .rows) i) (ap (λ z. z / M) place ∙ digits-div a inside)
+          (ap (λ z. z % M) place ∙ digits-mod a inside))
 
-      from-at : (n : ℕ) → at ≤ n → added y at (at + M) row n ≡ upTo end whole n
-      from-at n h =
+      from-start : (n : ℕ) → start ≤ n → added y start (start + M) row n ≡ upTo end whole n
+      from-start n h =
           ⊎-elim
-          (λ (l : at + M ≤ n). added-after y row at (at + M) n h l ∙ upTo-above at n whole h
+          (λ (l : start + M ≤ n). added-after y row start (start + M) n h l ∙ upTo-above start n whole h
           ∙ sym (upTo-above end n whole (omega (arith, next))))
-          (λ (l : n < at + M). added-inside y row at (at + M) n h l ∙ ap₂ (λ p q. p ⊕ q) (upTo-above at n whole h) (here n h l)
+          (λ (l : n < start + M).
+          added-inside y row start (start + M) n h l ∙ ap₂ (λ p q. p ⊕ q) (upTo-above start n whole h) (here n h l)
           ∙ sym (upTo-below end n whole (omega (arith, next))))
-          (le-or-lt (at + M) n)
+          (le-or-lt (start + M) n)
 
 -- ---- rows inverted
 

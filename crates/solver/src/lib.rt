@@ -1,4 +1,5 @@
 // The parity of a word: the checks that its information breaks, solved by steps that add turned copies of one row to another.
+use layout::BLOCK;
 use layout::DOUBLED;
 use layout::SYNDROME;
 use layout::Shape;
@@ -7,21 +8,26 @@ use offer::Offer;
 use vectors::Pair;
 ghost use mathlib.Core.Path.{_≡_};
 ghost use mathlib.Core.Bool.{Bool, true, false};
-ghost use Prim.Native.Nat.{ℕ, _+_, _-_, _*_, _/_, _%_, _<_, _≤_};
+ghost use mathlib.Core.List.{_++_};
+ghost use Prim.Native.Nat.{ℕ, _+_, _-_, _*_, _/_, _%_, _^_, _<_, _≤_};
 ghost use lib.Dec.{T};
 ghost use lib.ListN.{length, getD};
-ghost use Rattle.bits.specs.Bits.{Word, tally, _⊕_};
-ghost use Rattle.rules.specs.Codes.{bits, information, offered};
+ghost use Rattle.bits.specs.Bits.{Word, bit, digit, octets, number, tally, _⊕_};
+ghost use Rattle.rules.specs.Codes.{information, offered};
 ghost use Rattle.rules.specs.Codes.{code as codeOf};
-ghost use Rattle.rules.specs.Encoding.{encoded};
-ghost use Rattle.vectors.specs.Vectors.{wbit, both, Holds, upTo, from, added};
-ghost use Rattle.layout.specs.Lent.{laid};
-ghost use Rattle.syndromes.specs.Rows.{wide};
+ghost use Rattle.vectors.specs.Vectors.{wbit, both, Holds, upTo, from, later, added};
+ghost use Rattle.layout.specs.Lent.{Fit, laid};
+ghost use Rattle.layout.specs.Rooms.{doubledRoom, syndromeRoom, tableRoom};
+ghost use Rattle.syndromes.specs.Rows.{rowed, wide, summed};
 ghost use Rattle.offer.specs.Offers.{offerOf, Known};
-ghost use Rattle.ownparity.specs.Odd.{oddTogether};
-ghost use Rattle.steps.specs.Steps.{target, source, rowsIn, stepped, walked};
-ghost use Rattle.solver.specs.Rows.{held, Kept, twoRows, Fits, copies, stepsOf, Within, informed, completed};
-ghost use Rattle.layout.specs.Rooms.{doubledRoom, syndromeRoom, wordRoom};
+ghost use Rattle.tables.specs.Flat.{Lends};
+ghost use Rattle.ownparity.specs.Odd.{oddBlock, oddTogether};
+ghost use Rattle.steps.specs.Steps.{target, rowsIn, stepped, walked};
+ghost use Rattle.solver.specs.Rows.{held, Kept, twoRows, Fits, copies, stepsOf, Within, Shaped, wideShape, narrowShape};
+ghost use Rattle.solver.specs.Rows.{tailRoom, completed, Informs, wordOf};
+
+// How many words hold what is sent from the last octet of the information on: 1,029 bits at most, and one to read past them.
+const TAIL: usize = 18;
 
 // A number that is no shift of any table: it ends the shifts of a step.
 const END: u16 = 65535;
@@ -118,8 +124,10 @@ fn turns(d: Pair, step: &[u16], size: usize) -> u64
 
 // A step where one word holds a row.
 fn step_narrow(step: &[u16], sh: Shape, s: &mut [u64])
-    requires { ⌜ Fits sh × (sh .words ≡ 1) × (length (now step) ≡ 10) × T (rowsIn (sh .rows) (now step)) × (length (now s) ≡ syndromeRoom) ⌝ }
-    ensures { λ _. ⌜ ((f : ℕ → Word) → wbit (now (s .entry)) ≡ held sh f → wbit (now (s .exit)) ≡ held sh (stepped (sh .size) (now (step .entry)) f)) ⌝ }
+    requires { ⌜ Fits sh × (sh .words ≡ 1) × (length (now step) ≡ 10) × T (rowsIn (sh .rows) (now step))
+        × (length (now s) ≡ syndromeRoom) ⌝ }
+    ensures { λ _. ⌜ ((f : ℕ → Word) → wbit (now (s .entry)) ≡ held sh f
+        → wbit (now (s .exit)) ≡ held sh (stepped (sh .size) (now (step .entry)) f)) ⌝ }
 {
     let d = vectors::double_word(s[step[1] as usize], sh.size);
     vectors::add_word(
@@ -131,8 +139,10 @@ fn step_narrow(step: &[u16], sh: Shape, s: &mut [u64])
 
 // Adds a doubled row to the row of a step, turned by each of its shifts.
 fn add_turns(d: &[u64], step: &[u16], sh: Shape, s: &mut [u64])
-    requires { ⌜ Fits sh × (length (now d) ≡ doubledRoom) × (length (now step) ≡ 10) × T (rowsIn (sh .rows) (now step)) × (length (now s) ≡ syndromeRoom) ⌝ }
-    ensures { λ _. ⌜ wbit (now (s .exit)) ≡ added (wbit (now (s .entry))) (wide sh * target (now (step .entry))) (wide sh * (target (now (step .entry)) + 1)) (copies (sh .size) (now (step .entry)) (wbit (now (d .entry)))) ⌝ }
+    requires { ⌜ Fits sh × (length (now d) ≡ doubledRoom) × (length (now step) ≡ 10) × T (rowsIn (sh .rows) (now step))
+        × (length (now s) ≡ syndromeRoom) ⌝ }
+    ensures { λ _. ⌜ wbit (now (s .exit)) ≡ added (wbit (now (s .entry))) (wide sh * target (now (step .entry)))
+        (wide sh * (target (now (step .entry)) + 1)) (copies (sh .size) (now (step .entry)) (wbit (now (d .entry)))) ⌝ }
 {
     let at = step[0] as usize * sh.words;
     let mut k: usize = 2;
@@ -144,8 +154,10 @@ fn add_turns(d: &[u64], step: &[u16], sh: Shape, s: &mut [u64])
 
 // A step where more words hold a row; d has room for a doubled one.
 fn step_wide(step: &[u16], sh: Shape, d: &mut [u64], s: &mut [u64])
-    requires { ⌜ Fits sh × (length (now d) ≡ doubledRoom) × (length (now step) ≡ 10) × T (rowsIn (sh .rows) (now step)) × (length (now s) ≡ syndromeRoom) × Kept sh (wbit (now s)) ⌝ }
-    ensures { λ _. ⌜ ((f : ℕ → Word) → wbit (now (s .entry)) ≡ held sh f → wbit (now (s .exit)) ≡ held sh (stepped (sh .size) (now (step .entry)) f)) ⌝ }
+    requires { ⌜ Fits sh × (length (now d) ≡ doubledRoom) × (length (now step) ≡ 10) × T (rowsIn (sh .rows) (now step))
+        × (length (now s) ≡ syndromeRoom) × Kept sh (wbit (now s)) ⌝ }
+    ensures { λ _. ⌜ ((f : ℕ → Word) → wbit (now (s .entry)) ≡ held sh f
+        → wbit (now (s .exit)) ≡ held sh (stepped (sh .size) (now (step .entry)) f)) ⌝ }
 {
     let at = step[1] as usize * sh.words;
     let end = at + sh.words;
@@ -170,8 +182,10 @@ fn narrow_steps(size: usize) -> [[u16; 10]; 15]
 
 // The steps, one after the other, where one word holds a row.
 fn walk_narrow(sh: Shape, s: &mut [u64])
-    requires { ⌜ Fits sh × (sh .words ≡ 1) × Within (sh .rows) (stepsOf (sh .size)) × (length (now s) ≡ syndromeRoom) × ((sh .size ≡ 16 → ⊥) → (sh .size ≡ 32 → ⊥) → sh .size ≡ 64) ⌝ }
-    ensures { λ _. ⌜ ((f : ℕ → Word) → wbit (now (s .entry)) ≡ held sh f → wbit (now (s .exit)) ≡ held sh (walked (sh .size) (stepsOf (sh .size)) 15 f)) ⌝ }
+    requires { ⌜ Fits sh × (sh .words ≡ 1) × Within (sh .rows) (stepsOf (sh .size)) × (length (now s) ≡ syndromeRoom)
+        × ((sh .size ≡ 16 → ⊥) → (sh .size ≡ 32 → ⊥) → sh .size ≡ 64) ⌝ }
+    ensures { λ _. ⌜ ((f : ℕ → Word) → wbit (now (s .entry)) ≡ held sh f
+        → wbit (now (s .exit)) ≡ held sh (walked (sh .size) (stepsOf (sh .size)) 15 f)) ⌝ }
 {
     let steps = narrow_steps(sh.size);
     let mut k: usize = 0;
@@ -183,8 +197,10 @@ fn walk_narrow(sh: Shape, s: &mut [u64])
 
 // The same where more words hold it, for M = 511.
 fn walk_wide(sh: Shape, s: &mut [u64])
-    requires { ⌜ Fits sh × (sh .size ≡ 511) × Within (sh .rows) (stepsOf (sh .size)) × (length (now s) ≡ syndromeRoom) × Kept sh (wbit (now s)) ⌝ }
-    ensures { λ _. ⌜ ((f : ℕ → Word) → wbit (now (s .entry)) ≡ held sh f → wbit (now (s .exit)) ≡ held sh (walked (sh .size) (stepsOf (sh .size)) 15 f)) ⌝ }
+    requires { ⌜ Fits sh × (sh .size ≡ 511) × Within (sh .rows) (stepsOf (sh .size)) × (length (now s) ≡ syndromeRoom)
+        × Kept sh (wbit (now s)) ⌝ }
+    ensures { λ _. ⌜ ((f : ℕ → Word) → wbit (now (s .entry)) ≡ held sh f
+        → wbit (now (s .exit)) ≡ held sh (walked (sh .size) (stepsOf (sh .size)) 15 f)) ⌝ }
 {
     let steps = STEPS511;
     let mut d = [0u64; DOUBLED];
@@ -205,7 +221,8 @@ fn ones_if(odd: u64) -> u64
 // Adds a word of 64 equal bits to each word of row r, of 511 bits.
 fn invert_row(s: &mut [u64], r: usize, v: u64)
     requires { ⌜ (length (now s) ≡ syndromeRoom) × (r < 2) ⌝ }
-    ensures { λ _. ⌜ ((b : Bool) → Holds v (λ i. b) → wbit (now (s .exit)) ≡ added (wbit (now (s .entry))) (512 * r) (512 * (r + 1)) (upTo 511 (λ i. b))) ⌝ }
+    ensures { λ _. ⌜ ((b : Bool) → Holds v (λ i. b)
+        → wbit (now (s .exit)) ≡ added (wbit (now (s .entry))) (512 * r) (512 * (r + 1)) (upTo 511 (λ i. b))) ⌝ }
 {
     let mut k: usize = 8 * r;
     while k < 8 * r + 7 {
@@ -215,14 +232,15 @@ fn invert_row(s: &mut [u64], r: usize, v: u64)
     vectors::add_word(vectors::front(v, 63), s, k);
 }
 
-// Inverts the rows that end with every bit the other way.
-fn invert(y: &[u64], s: &mut [u64])
-    requires { ⌜ (length (now y) ≡ wordRoom) × (length (now s) ≡ syndromeRoom) ⌝ }
-    ensures { λ _. ⌜ ((f : ℕ → Word) → wbit (now (s .entry)) ≡ twoRows f → wbit (now (s .exit)) ≡ twoRows (λ r i. f r i ⊕ oddTogether (wbit (now (y .entry))) r)) ⌝ }
+// Inverts the rows that end with every bit the other way, by a number that has a bit for each block, set where its bits are odd in number.
+fn invert(odd: u64, s: &mut [u64])
+    requires { ⌜ length (now s) ≡ syndromeRoom ⌝ }
+    ensures { λ _. ⌜ ((x : Word) (f : ℕ → Word) → odd ≡ number 16 (oddBlock x) → wbit (now (s .entry)) ≡ twoRows f
+        → wbit (now (s .exit)) ≡ twoRows (λ r i. f r i ⊕ oddTogether x r)) ⌝ }
 {
-    let odd = ownparity::odd_together(y);
-    invert_row(s, 0, ones_if(odd.first));
-    invert_row(s, 1, ones_if(odd.second));
+    let together = ownparity::odd_together(odd);
+    invert_row(s, 0, ones_if(together.first));
+    invert_row(s, 1, ones_if(together.second));
 }
 
 // Adds the 64 bits of v to those of y from bit p on.
@@ -236,8 +254,9 @@ fn put_word(v: u64, y: &mut [u64], p: usize)
 
 // Adds row r of s to the bits of y from bit p on.
 fn put_row(s: &[u64], sh: Shape, r: usize, y: &mut [u64], p: usize)
-    requires { ⌜ Fits sh × (r < sh .rows) × (length (now s) ≡ syndromeRoom) × (length (now y) ≡ wordRoom) × (p + sh .size ≤ 8176) ⌝ }
-    ensures { λ _. ⌜ ((f : ℕ → Word) → wbit (now (s .entry)) ≡ held sh f → wbit (now (y .exit)) ≡ added (wbit (now (y .entry))) p (p + sh .size) (f r)) ⌝ }
+    requires { ⌜ Fits sh × (r < sh .rows) × (length (now s) ≡ syndromeRoom) × (length (now y) ≡ tailRoom) × (p + sh .size ≤ 1029) ⌝ }
+    ensures { λ _. ⌜ ((f : ℕ → Word) → wbit (now (s .entry)) ≡ held sh f
+        → wbit (now (y .exit)) ≡ added (wbit (now (y .entry))) p (p + sh .size) (f r)) ⌝ }
 {
     let mut j: usize = 0;
     while j < sh.words {
@@ -246,55 +265,197 @@ fn put_row(s: &[u64], sh: Shape, r: usize, y: &mut [u64], p: usize)
     }
 }
 
-// Puts the rows behind the information blocks, as parity block a the row (a + first) mod R.
-fn put_rows(s: &[u64], sh: Shape, first: usize, y: &mut [u64])
-    requires { ⌜ Fits sh × (first ≤ 1) × (length (now s) ≡ syndromeRoom) × (length (now y) ≡ wordRoom) ⌝ }
-    ensures { λ _. ⌜ ((f : ℕ → Word) (x : Word) → wbit (now (s .entry)) ≡ held sh f → wbit (now (y .entry)) ≡ upTo (informed sh) x → wbit (now (y .exit)) ≡ upTo (sh .blocks * sh .size) (completed sh first f x)) ⌝ }
+// Puts the rows behind the first bits of y, as parity block a the row (a + first) mod R.
+fn put_rows(s: &[u64], sh: Shape, first: usize, y: &mut [u64], at: usize)
+    requires { ⌜ Fits sh × (first ≤ 1) × (length (now s) ≡ syndromeRoom) × (length (now y) ≡ tailRoom) × (at ≤ 7) ⌝ }
+    ensures { λ _. ⌜ ((f : ℕ → Word) (x : Word) → wbit (now (s .entry)) ≡ held sh f → wbit (now (y .entry)) ≡ upTo at x
+        → wbit (now (y .exit)) ≡ completed sh first f at x) ⌝ }
 {
-    let inform = sh.blocks - sh.rows;
     let mut a: usize = 0;
     while a < sh.rows {
-        put_row(s, sh, (a + first) % sh.rows, y, (inform + a) * sh.size);
+        put_row(s, sh, (a + first) % sh.rows, y, at + a * sh.size);
         a += 1;
     }
 }
 
-// The checks that the bits of y break, into s, which is handed over as zeros. The table has its room here alone.
-fn lay_checks(o: Offer, y: &[u64], s: &mut [u64])
-    requires { ⌜ Known o × (length (now y) ≡ wordRoom) × (length (now s) ≡ syndromeRoom) × (wbit (now s) ≡ (λ n. false)) ⌝ }
-    ensures { λ _. ⌜ ((n : ℕ) → offered n ≡ true → o ≡ offerOf n → wbit (now (s .exit)) ≡ laid (codeOf n) (o .shape) (wbit (now (y .entry)))) ⌝ }
+// Octet at, and zeros behind it; zeros alone past the last octet.
+fn spare(octets: &[u8], at: usize) -> u64
+    ensures { λ r. ⌜ Holds r (upTo 8 (digit 8 (getD (now (octets .entry)) at 0))) ⌝ }
 {
-    let of = o.shape;
-    let mut t = [0u16; TABLE];
-    measured::checks(of.size, y, &mut t, s);
+    if at < octets.len() {
+        return received::leading(octets[at]);
+    }
+    0
 }
 
-// Puts the parity after the information bits that y holds. Each shape stands in numbers, so that a compiler sees them in the walk.
-pub fn encode(o: Offer, y: &mut [u64])
-    requires { ⌜ Known o × (length (now y) ≡ wordRoom) ⌝ }
-    ensures { λ _. ⌜ ((n : ℕ) → offered n ≡ true → o ≡ offerOf n → wbit (now (y .entry)) ≡ upTo (information (codeOf n)) (wbit (now (y .entry))) → wbit (now (y .exit)) ≡ upTo (bits (codeOf n)) (encoded (codeOf n) (wbit (now (y .entry))))) ⌝ }
+// What is sent from octet n / 8 on, where n bits of the information are: the last of them, and the rows. y is handed over as zeros.
+fn lay_tail(information: &[u8], n: usize, s: &[u64], sh: Shape, first: usize, y: &mut [u64])
+    requires { ⌜ Fits sh × (first ≤ 1) × (length (now s) ≡ syndromeRoom) × (length (now y) ≡ tailRoom) × (wbit (now y) ≡ (λ i. false)) ⌝ }
+    ensures { λ _. ⌜ ((f : ℕ → Word) → wbit (now (s .entry)) ≡ held sh f
+        → bit (now (information .entry)) ≡ upTo n (bit (now (information .entry)))
+        → wbit (now (y .exit)) ≡ completed sh first f (n % 8) (from (8 * (n / 8)) (bit (now (information .entry))))) ⌝ }
 {
+    y[0] = spare(information, n / 8);
+    put_rows(s, sh, first, y, n % 8);
+}
+
+// Writes octets, and behind them those of y.
+fn write_both(front: &[u8], y: &[u64], word: &mut [u8])
+    requires { ⌜ (length (now front) ≤ length (now word)) × (length (now word) ≤ length (now front) + 128) × (length (now y) ≡ tailRoom) ⌝ }
+    ensures { λ _. ⌜ now (word .exit) ≡ now (front .entry) ++ octets (length (now (word .entry)) - length (now (front .entry)))
+        (from 0 (wbit (now (y .entry)))) ⌝ }
+{
+    let at = front.len();
+    received::copy(front, &mut word[..at]);
+    vectors::store(y, 0, &mut word[at..]);
+}
+
+// Writes the word: the octets that n bits of the information fill, and behind them what is laid from there on.
+fn write(information: &[u8], n: usize, s: &[u64], sh: Shape, first: usize, word: &mut [u8])
+    requires { ⌜ Fits sh × (first ≤ 1) × (length (now s) ≡ syndromeRoom) × (n / 8 ≤ length (now information))
+        × (n / 8 ≤ length (now word)) × (length (now word) ≤ n / 8 + 128) ⌝ }
+    ensures { λ _. ⌜ ((f : ℕ → Word) → wbit (now (s .entry)) ≡ held sh f
+        → bit (now (information .entry)) ≡ upTo n (bit (now (information .entry)))
+        → now (word .exit) ≡ octets (length (now (word .entry))) (completed sh first f n (bit (now (information .entry))))) ⌝ }
+{
+    let mut y = [0u64; TAIL];
+    lay_tail(information, n, s, sh, first, &mut y);
+    let at = n / 8;
+    write_both(&information[..at], &y, word);
+}
+
+// Adds the information blocks to the rows, each cut straight from the octets. The number has a bit for each block, set where its bits
+// are odd in number.
+fn add_wide(octets: &[u8], unsent: usize, h: &[u16], sh: Shape, s: &mut [u64]) -> u64
+    requires { ⌜ Fit (now h) sh × (sh .size ≡ 511) × (sh .words ≡ 8) × (sh .blocks ≡ 16) × (7154 ≤ 8 * length (now octets) + unsent)
+        × (length (now octets) ≤ 1022) × (unsent ≤ 18) × (length (now s) ≡ syndromeRoom) × (wbit (now s) ≡ (λ i. false)) ⌝ }
+    ensures odd { λ r. ⌜ (r < 2 ^ 14) × (r ≡ number 14 (oddBlock (later unsent (bit (now (octets .entry)))))) ⌝ }
+    ensures rows { λ r. ⌜ wbit (now (s .exit)) ≡ rowed (wide sh) (sh .rows)
+        (summed sh (now (h .entry)) (later unsent (bit (now (octets .entry)))) 14) ⌝ }
+{
+    let mut part = [0u64; BLOCK];
+    let mut d = [0u64; DOUBLED];
+    let mut odd: u64 = 0;
+    let mut b: usize = 0;
+    while b < 14 {
+        received::cut_block(octets, unsent, b, &mut part);
+        odd = 2 * odd + ownparity::odd_of(&part);
+        vectors::double(&part, sh.size, &mut d);
+        syndromes::add_block(&d, h, sh, b, s);
+        b += 1;
+    }
+    odd
+}
+
+// The checks that the information breaks while the parity is 0, into s, which is handed over as zeros; and the number for all 16 blocks.
+fn lay_wide(octets: &[u8], unsent: usize, sh: Shape, s: &mut [u64]) -> u64
+    requires { ⌜ Shaped sh × (sh ≡ wideShape) × (7154 ≤ 8 * length (now octets) + unsent) × (length (now octets) ≤ 1022)
+        × (unsent ≤ 18) × (length (now s) ≡ syndromeRoom) × (wbit (now s) ≡ (λ i. false)) ⌝ }
+    ensures kept { λ r. ⌜ Kept sh (wbit (now (s .exit))) ⌝ }
+    ensures checks { λ r. ⌜ ((n : ℕ) (x : Word) → offered n ≡ true → sh ≡ offerOf n .shape → x ≡ later unsent (bit (now (octets .entry)))
+        → x ≡ upTo (information (codeOf n)) x → (r ≡ number 16 (oddBlock x)) × (wbit (now (s .exit)) ≡ laid (codeOf n) sh x)) ⌝ }
+{
+    let mut t = [0u16; TABLE];
+    tables::lend511(&mut t);
+    let odd = add_wide(octets, unsent, &t, sh, s);
+    syndromes::trim_rows(s, sh);
+    4 * odd
+}
+
+// Adds the information blocks to the rows, where one word holds a block.
+fn add_narrow(octets: &[u8], h: &[u16], sh: Shape, s: &mut [u64])
+    requires { ⌜ Fit (now h) sh × (sh .words ≡ 1) × (sh .blocks ≡ 8) × (length (now octets) ≤ 32) × (length (now s) ≡ syndromeRoom)
+        × (wbit (now s) ≡ (λ i. false)) ⌝ }
+    ensures { λ _. ⌜ wbit (now (s .exit)) ≡ rowed (wide sh) (sh .rows) (summed sh (now (h .entry)) (bit (now (octets .entry))) 4) ⌝ }
+{
+    let mut y = [0u64; 5];
+    vectors::load(octets, &mut y);
+    let mut b: usize = 0;
+    while b < 4 {
+        let v = vectors::front(vectors::window(&y, b * sh.size), sh.size);
+        syndromes::add_narrow_block(vectors::double_word(v, sh.size), h, sh, b, s);
+        b += 1;
+    }
+}
+
+// The parity table for M, where one word holds a row.
+fn lend_narrow(size: usize, t: &mut [u16])
+    requires { ⌜ ((size ≡ 16 → ⊥) → (size ≡ 32 → ⊥) → size ≡ 64) × (length (now t) ≡ tableRoom) ⌝ }
+    ensures { λ _. ⌜ ((n : ℕ) → offered n ≡ true → size ≡ offerOf n .shape .size → Lends n (now (t .exit)) (offerOf n .shape)) ⌝ }
+{
+    if size == 16 {
+        tables::lend16(t);
+        return;
+    }
+    if size == 32 {
+        tables::lend32(t);
+        return;
+    }
+    tables::lend64(t);
+}
+
+// The checks that the information breaks while the parity is 0, into s, which is handed over as zeros, where one word holds a row.
+fn lay_narrow(octets: &[u8], sh: Shape, s: &mut [u64])
+    requires { ⌜ Shaped sh × (sh ≡ narrowShape (sh .size)) × ((sh .size ≡ 16 → ⊥) → (sh .size ≡ 32 → ⊥) → sh .size ≡ 64)
+        × (length (now octets) ≤ 32) × (length (now s) ≡ syndromeRoom) × (wbit (now s) ≡ (λ i. false)) ⌝ }
+    ensures { λ _. ⌜ ((n : ℕ) → offered n ≡ true → sh ≡ offerOf n .shape
+        → bit (now (octets .entry)) ≡ upTo (information (codeOf n)) (bit (now (octets .entry)))
+        → wbit (now (s .exit)) ≡ laid (codeOf n) sh (bit (now (octets .entry)))) ⌝ }
+{
+    let mut t = [0u16; TABLE];
+    lend_narrow(sh.size, &mut t);
+    add_narrow(octets, &t, sh, s);
+    syndromes::trim_rows(s, sh);
+}
+
+// The word of a near-Earth code. The shape stands in numbers, so that a compiler sees them in the walk.
+fn encode_wide(o: Offer, information: &[u8], word: &mut [u8])
+    requires { ⌜ Known o × (o .shape .size ≡ 511) × (length (now information) ≡ o .information) × (length (now word) ≡ o .word) ⌝ }
+    ensures { λ _. ⌜ ((n : ℕ) → offered n ≡ true → o ≡ offerOf n → Informs n (now (information .entry))
+        → now (word .exit) ≡ wordOf n (now (information .entry))) ⌝ }
+{
+    let sh = Shape {
+        size: 511,
+        words: 8,
+        blocks: 16,
+        rows: 2,
+    };
     let mut s = [0u64; SYNDROME];
-    lay_checks(o, y, &mut s);
+    let odd = lay_wide(information, o.unsent, sh, &mut s);
+    walk_wide(sh, &mut s);
+    invert(odd, &mut s);
+    write(information, 7154 - o.unsent, &s, sh, 0, word);
+}
+
+// The word of a telecommand code.
+fn encode_narrow(o: Offer, information: &[u8], word: &mut [u8])
+    requires { ⌜ Known o × (o .shape .size ≡ 511 → ⊥) × (length (now information) ≡ o .information) × (length (now word) ≡ o .word) ⌝ }
+    ensures { λ _. ⌜ ((n : ℕ) → offered n ≡ true → o ≡ offerOf n → Informs n (now (information .entry))
+        → now (word .exit) ≡ wordOf n (now (information .entry))) ⌝ }
+{
+    let of = o.shape;
+    let sh = Shape {
+        size: of.size,
+        words: 1,
+        blocks: 8,
+        rows: 4,
+    };
+    let mut s = [0u64; SYNDROME];
+    lay_narrow(information, sh, &mut s);
+    walk_narrow(sh, &mut s);
+    write(information, 4 * of.size, &s, sh, 1, word);
+}
+
+// The word of information of the right length whose spare bits are 0, into an output of the right length.
+pub fn encode(o: Offer, information: &[u8], word: &mut [u8])
+    requires { ⌜ Known o × (length (now information) ≡ o .information) × (length (now word) ≡ o .word) ⌝ }
+    ensures { λ _. ⌜ ((n : ℕ) → offered n ≡ true → o ≡ offerOf n → Informs n (now (information .entry))
+        → now (word .exit) ≡ wordOf n (now (information .entry))) ⌝ }
+{
     let of = o.shape;
     if of.size == 511 {
-        let sh = Shape {
-            size: 511,
-            words: 8,
-            blocks: 16,
-            rows: 2,
-        };
-        walk_wide(sh, &mut s);
-        invert(y, &mut s);
-        put_rows(&s, sh, 0, y);
+        encode_wide(o, information, word);
     } else {
-        let sh = Shape {
-            size: of.size,
-            words: 1,
-            blocks: 8,
-            rows: 4,
-        };
-        walk_narrow(sh, &mut s);
-        put_rows(&s, sh, 1, y);
+        encode_narrow(o, information, word);
     }
 }

@@ -56,9 +56,10 @@ fn add_row(d: &[u64], h: &[u16], sh: Shape, b: usize, acc: &mut [u64], r: usize)
 }
 
 // Adds block b, doubled, to every row.
-fn add_block(d: &[u64], h: &[u16], sh: Shape, b: usize, acc: &mut [u64])
+pub fn add_block(d: &[u64], h: &[u16], sh: Shape, b: usize, acc: &mut [u64])
     requires { ⌜ Fit (now h) sh × (2 * sh .words ≤ length (now d)) × (b < sh .blocks) × (length (now acc) ≡ syndromeRoom) ⌝ }
-    ensures { λ q. ⌜ wbit (now (acc .exit)) ≡ plus (wbit (now (acc .entry))) (rowed (wide sh) (sh .rows) (spread sh (now (h .entry)) b (turned (wbit (now (d .entry)))))) ⌝ }
+    ensures { λ q. ⌜ wbit (now (acc .exit)) ≡ plus (wbit (now (acc .entry)))
+        (rowed (wide sh) (sh .rows) (spread sh (now (h .entry)) b (turned (wbit (now (d .entry)))))) ⌝ }
 {
     let mut r = 0;
     while r < sh.rows {
@@ -102,9 +103,10 @@ fn add_narrow_row(d: Pair, h: &[u16], sh: Shape, b: usize, acc: &mut [u64], r: u
 }
 
 // Adds it to every row.
-fn add_narrow_block(d: Pair, h: &[u16], sh: Shape, b: usize, acc: &mut [u64])
+pub fn add_narrow_block(d: Pair, h: &[u16], sh: Shape, b: usize, acc: &mut [u64])
     requires { ⌜ Fit (now h) sh × (sh .words ≡ 1) × (b < sh .blocks) × (length (now acc) ≡ syndromeRoom) ⌝ }
-    ensures { λ q. ⌜ wbit (now (acc .exit)) ≡ plus (wbit (now (acc .entry))) (rowed (wide sh) (sh .rows) (spread sh (now (h .entry)) b (turned (both d)))) ⌝ }
+    ensures { λ q. ⌜ wbit (now (acc .exit)) ≡ plus (wbit (now (acc .entry)))
+        (rowed (wide sh) (sh .rows) (spread sh (now (h .entry)) b (turned (both d)))) ⌝ }
 {
     let mut r = 0;
     while r < sh.rows {

@@ -371,3 +371,16 @@ later-next v k x h i hi =
 
 pub later-first : (x : Word) → Holds 0 (from (64 * 0) (later 64 x))
 later-first x i hi = place-zero (64 - suc i) ∙ sym (later-front 64 (64 * 0 + i) x (omega arith))
+
+pub later-past : (ws : List ℕ) (u : ℕ) → ((n : ℕ) → 64 * length ws ≤ n + u → wbit ws n ≡ false) → (n : ℕ) → 64 * length ws ≤ n
+    → later u (wbit ws) n ≡ false
+later-past ws u none n h =
+    ⊎-elim (λ (l : u ≤ n). later-back u n (wbit ws) l ∙ none (n - u) (omega arith)) (λ (l : n < u). later-front u n (wbit ws) l)
+    (le-or-lt u n)
+
+pub later-none : (u : ℕ) (x : Word) → u ≡ 0 → x ≡ later u x
+later-none u x e =
+    fun-ext
+    (λ n.
+    let d : n ≡ n - u = omega arith in
+    ap x d ∙ sym (later-back u n x (omega arith)))

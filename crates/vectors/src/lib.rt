@@ -329,6 +329,23 @@ pub fn clear(ws: &mut [u64])
     }
 }
 
+// All bits u places later, of which the last u are 0; zeros in front.
+pub fn lift(ws: &mut [u64], u: usize)
+    requires { ⌜ (u < 64) × ((n : ℕ) → 64 * length (now ws) ≤ n + u → wbit (now ws) n ≡ false) ⌝ }
+    ensures { λ r. ⌜ wbit (now (ws .exit)) ≡ later u (wbit (now (ws .entry))) ⌝ }
+{
+    if u > 0 {
+        let mut before: u64 = 0;
+        let mut k = 0;
+        while k < ws.len() {
+            let v = ws[k];
+            ws[k] = funnel(before, v, 64 - u);
+            before = v;
+            k += 1;
+        }
+    }
+}
+
 // Writes the first n octets of v from octet at on.
 fn put(v: u64, n: usize, out: &mut [u8], at: usize)
     requires { ⌜ (n ≤ 8) × (at + n ≤ length (now out)) ⌝ }

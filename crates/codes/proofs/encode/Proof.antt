@@ -4,6 +4,7 @@ use lib.ListN.{length}
 use Rattle.answers.proofs.Answers.{encode-taken, encode-four, encode-refused}
 use Rattle.offer.proofs.Offers.{is-offered}
 use Rattle.codes.proofs.Admitted.{offered-by, encode-refusal, taken, word-long, information-long}
+use Rattle.codes.proofs.Encoding.{information-only}
 use borrow.Author.Needs.{needs}
 use Rattle.codes.proofs.encode.Statement.{statement}
 use Rattle.codes.proofs.encode.Tie as tie
@@ -46,8 +47,8 @@ returns-2 c =
     (information-long n is (t .offers) (t .input-is)) (word-long n is (t .offers) (t .output-is))
     (sym (s .six-set .ensures n (t .offers) is) ∙ c .if2 .taken))
 
-encode-taken-requires : tie.Need-encode-taken-requires
-encode-taken-requires c κs =
+encode-requires : tie.Need-encode-requires
+encode-requires c κs =
     let s = c .before .before in
     let i = s .before in
     let f = i .before in
@@ -72,11 +73,12 @@ returns-3 c =
     let is = f .before .of .ensures in
     let t = taken n is (f .before .of .result .offered) (offered-by n is) (length (a .args .information .now)) _
     (length (a .args .word .now)) (f .before .of .result .word) (f .refusal .ensures) (i .if1 .left) in
-    ap (λ z. record { number = 0; out = z }) (k .encode-taken .ensures n (t .offers) is (sym (s .six-set .ensures n (t .offers) is)
-    ∙ k .before .before .if2 .left))
-    ∙ sym (encode-taken n (a .args .information .now) (a .args .word .now) (is-offered n (t .offers))
-    (information-long n is (t .offers) (t .input-is)) (word-long n is (t .offers) (t .output-is))
-    (sym (s .six-set .ensures n (t .offers) is) ∙ k .before .before .if2 .left))
+    let six = sym (s .six-set .ensures n (t .offers) is) ∙ k .before .before .if2 .left in
+    let long = information-long n is (t .offers) (t .input-is) in
+    ap (λ z. record { number = 0; out = z }) (k .encode .ensures n (t .offers) is
+    (information-only n (t .offers) (a .args .information .now) long six))
+    ∙ sym (encode-taken n (a .args .information .now) (a .args .word .now) (is-offered n (t .offers)) long
+    (word-long n is (t .offers) (t .output-is)) six)
 
 pub encode-spec : {M : Type 1} → statement M
 encode-spec =
@@ -87,6 +89,6 @@ encode-spec =
     returns
     six-set-requires
     returns-2
-    encode-taken-requires
+    encode-requires
     same-length
     returns-3)

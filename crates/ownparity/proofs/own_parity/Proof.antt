@@ -12,31 +12,29 @@ use Rattle.ownparity.proofs.Near.{own-even, even-own}
 use Rattle.ownparity.proofs.own_parity.Statement.{statement}
 use Rattle.ownparity.proofs.own_parity.Tie as tie
 
+odd-blocks-requires : tie.Need-odd-blocks-requires
+odd-blocks-requires c κs = search needs
+
 odd-together-requires : tie.Need-odd-together-requires
 odd-together-requires c κs = search needs
 
 add-result : tie.Need-add-result
 add-result c =
-    let x = wbit (c .before .before .before .args .y .now) in
-    omega (
-      arith,
-      c .before .odd-together .ensures .0,
-      c .before .odd-together .ensures .1,
-      tally-le (oddTogether x 0),
-      tally-le
-          (oddTogether x 1),
-    )
+    let x = wbit (c .before .before .before .before .args .y .now) in
+    let odd = c .before .odd-together .ensures x (c .before .before .odd-blocks .ensures) in
+    omega (arith, odd .0, odd .1, tally-le (oddTogether x 0), tally-le (oddTogether x 1))
 
 returns : tie.Need-returns
 returns c =
-    let x = wbit (c .before .before .before .args .y .now) in
+    let x = wbit (c .before .before .before .before .args .y .now) in
     let odd = c .before .odd-together in
+    let are = odd .ensures x (c .before .before .odd-blocks .ensures) in
     let answer : eqb (odd .result .first + odd .result .second) 0 ≡ evenTogether x =
-    ap₂ (λ (m n : ℕ). eqb (m + n) 0) (odd .ensures .0) (odd .ensures .1) ∙ neither (oddTogether x 0) (oddTogether x 1) in
+    ap₂ (λ (m n : ℕ). eqb (m + n) 0) (are .0) (are .1) ∙ neither (oddTogether x 0) (oddTogether x 1) in
     λ wordOctets informationOctets unsent met. (
       λ t. even-own wordOctets informationOctets unsent x met (sym answer ∙ t),
       λ own. answer ∙ own-even wordOctets informationOctets unsent x own,
     )
 
 pub own-parity-spec : {M : Type 1} → statement M
-own-parity-spec = tie.close (tie.spec odd-together-requires add-result returns)
+own-parity-spec = tie.close (tie.spec odd-blocks-requires odd-together-requires add-result returns)

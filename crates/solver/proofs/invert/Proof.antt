@@ -3,7 +3,7 @@ use mathlib.Core.Path.{ap, _∙_}
 use Prim.Native.Nat.{_+_, _*_}
 use borrow.Author.Needs.{needs}
 use Rattle.bits.specs.Bits.{Word}
-use Rattle.vectors.specs.Vectors.{wbit, upTo, added}
+use Rattle.vectors.specs.Vectors.{upTo, added}
 use Rattle.ownparity.specs.Odd.{oddTogether}
 use Rattle.solver.proofs.Laws.{two-inverted}
 use Rattle.solver.proofs.invert.Statement.{statement}
@@ -28,10 +28,9 @@ same-length : tie.Need-same-length
 same-length c = search needs
 
 returns : tie.Need-returns
-returns c = λ f e.
-    let s = c .before .before .before .before .before .before .before .before .before .before .before .before .before in
-    let q = oddTogether (wbit (s .args .y .now)) in
-    let odd = c .before .before .before .before .before .before .before .before .before .before .odd-together .ensures in
+returns c = λ x f is e.
+    let q = oddTogether x in
+    let odd = c .before .before .before .before .before .before .before .before .before .before .odd-together .ensures x is in
     c .before .before .invert-row2 .ensures (q 1) (c .before .before .before .ones-if2 .ensures (q 1) (odd .1))
     ∙ ap (λ (z : Word). added z (512 * 1) (512 * (1 + 1)) (upTo 511 (λ i. q 1)))
     (c .before .before .before .before .before .before .before .invert-row .ensures (q 0)

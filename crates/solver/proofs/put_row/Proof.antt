@@ -1,4 +1,4 @@
--- `solver::put_row` meets its contract: after j turns the first j words of the row are added.  Assumes nothing.
+-- `solver::put_row` meets its contract: after j turns the first j words of the row are added. Assumes nothing.
 use mathlib.Core.Path.{_≡_, sym, ap, ap₂, _∙_}
 use Prim.Native.Nat.{ℕ, _+_, _-_, _*_, _≤_}
 use native.Mathlib.Omega.{arith}
@@ -13,7 +13,7 @@ use Rattle.solver.proofs.put_row.Statement.{statement}
 use Rattle.solver.proofs.put_row.Tie as tie
 
 abbrev Inv-loop : tie.InvT-loop
-Inv-loop s sh r y₀ p j₀ y j = (j ≤ sh .words) × (length y ≡ 130) × (wbit y ≡ added (wbit y₀) p (p + 64 * j) (from (wide sh * r) (wbit s)))
+Inv-loop s sh r y₀ p j₀ y j = (j ≤ sh .words) × (length y ≡ 18) × (wbit y ≡ added (wbit y₀) p (p + 64 * j) (from (wide sh * r) (wbit s)))
 
 abbrev μ-loop : tie.MeasureT-loop
 μ-loop s sh r y₀ p j₀ y j = sh .words - j

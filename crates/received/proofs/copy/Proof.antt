@@ -1,4 +1,4 @@
--- `codes::copy`: what is copied so far agrees. Assumes nothing.
+-- `received::copy`: what is copied so far agrees. Assumes nothing.
 use mathlib.Core.Path.{_≡_, refl, ap, sym, _∙_}
 use mathlib.Core.List.{List, _∷_, [], _++_}
 use Prim.Native.Nat.{ℕ, _≤_, _<_, _-_}
@@ -6,14 +6,14 @@ use native.Mathlib.Omega.{arith}
 use native.Mathlib.Numerals.{add-one}
 use lib.ListN.{length, take, getD, length-set}
 use lib.Seq.{take-suc-set, take-suc, take-length}
-use Rattle.codes.proofs.copy.Statement.{statement}
-use Rattle.codes.proofs.copy.Tie as tie
+use Rattle.received.proofs.copy.Statement.{statement}
+use Rattle.received.proofs.copy.Tie as tie
 
 abbrev Inv-loop : tie.InvT-loop
-Inv-loop word out₀ i₀ out i = (i ≤ length word) × (length out ≡ length out₀) × (take i out ≡ take i word)
+Inv-loop octets out₀ i₀ out i = (i ≤ length octets) × (length out ≡ length out₀) × (take i out ≡ take i octets)
 
 abbrev μ-loop : tie.MeasureT-loop
-μ-loop word out₀ i₀ out i = length word - i
+μ-loop octets out₀ i₀ out i = length octets - i
 
 loop-holds : tie.Need-loop-holds Inv-loop μ-loop
 loop-holds c = (omega arith, refl, refl)
@@ -33,7 +33,7 @@ loop-less c = omega arith
 loop-again : tie.Need-loop-again Inv-loop μ-loop
 loop-again c =
     let h = c .before .before .loop in
-    let s = c .before .before .before .args .word .now in
+    let s = c .before .before .before .args .octets .now in
     let b : h .i < length (h .out) = omega arith in
     let b2 : h .i < length s = omega arith in (
       omega arith,
@@ -51,7 +51,7 @@ same-length c = omega arith
 returns : tie.Need-returns Inv-loop μ-loop
 returns c =
     let h = c .before .loop in
-    let s = c .before .before .args .word .now in
+    let s = c .before .before .args .octets .now in
     let e : h .i ≡ length s = omega arith in
     let e2 : length (h .out) ≡ length s = omega arith in
     sym (take-length (h .out)) ∙ ap (λ (n : ℕ). take n (h .out)) (e2 ∙ sym e) ∙ h .inv .2 ∙ ap (λ (n : ℕ). take n s) e ∙ take-length s

@@ -1,0 +1,118 @@
+-- `solver::encode_wide` meets its contract: the checks of the information, the walk, the inversions, and the word written. Assumes nothing.
+use mathlib.Core.Path.{_≡_, refl, sym, ap, ap₂, _∙_}
+use Prim.Native.Nat.{ℕ, _-_}
+use native.Mathlib.Omega.{arith}
+use lib.Dec.{lit≤}
+use borrow.Author.Needs.{needs}
+use Rattle.bits.specs.Bits.{Word, bit, octets, _⊕_}
+use Rattle.rules.specs.Codes.{code, information}
+use Rattle.rules.specs.Encoding.{lifted}
+use Rattle.vectors.proofs.Filling.{zero-words}
+use Rattle.offer.proofs.Offers.{small, fixed}
+use Rattle.ownparity.specs.Odd.{oddTogether}
+use Rattle.steps.specs.Steps.{checkRows}
+use Rattle.received.proofs.Handed.{taken-later}
+use Rattle.solver.specs.Rows.{wideShape, informed, completed}
+use Rattle.solver.proofs.Ready.{wide-is, ready-as, endRows, all-sent, start-held, short-of, short-sent}
+use Rattle.solver.proofs.encode_wide.Statement.{statement}
+use Rattle.solver.proofs.encode_wide.Tie as tie
+
+slice-aggregate-lay-wide : tie.Need-slice-aggregate-lay-wide
+slice-aggregate-lay-wide c = search needs
+
+lay-wide-requires : tie.Need-lay-wide-requires
+lay-wide-requires c κs =
+    let s = c .before .before .before in
+    let k = s .pre .0 in
+    let same = wide-is (k .number) (k .offers) (k .is) (s .pre .1) in
+    let ok = ready-as (k .number) (k .offers) (k .is) same in
+    let few = small k in (
+      record { number = k .number; offers = k .offers; is = sym same ∙ ap (λ z. z .shape) (k .is) },
+      refl,
+      omega (arith, ok .enough, s .pre .2, ap (λ z. z .information) (k .is), ap (λ z. z .unsent) (k .is)),
+      omega (arith, s .pre .2, few .information, few .word),
+      few .unsent,
+      refl,
+      zero-words 16,
+    )
+
+slice-aggregate-walk-wide : tie.Need-slice-aggregate-walk-wide
+slice-aggregate-walk-wide c = search needs
+
+walk-wide-requires : tie.Need-walk-wide-requires
+walk-wide-requires c κs =
+    let s = c .before .before .before .before .before .before in
+    let k = s .pre .0 in
+    let lay = c .before .before .lay-wide in
+    let ok = ready-as (k .number) (k .offers) (k .is) (wide-is (k .number) (k .offers) (k .is) (s .pre .1)) in
+    (ok .fits, refl, ok .inside, lay .kept .1 .1 .1 .0, lay .ensures .0)
+
+slice-aggregate-invert : tie.Need-slice-aggregate-invert
+slice-aggregate-invert c = search needs
+
+invert-requires : tie.Need-invert-requires
+invert-requires c κs = search needs
+
+sub-write : tie.Need-sub-write
+sub-write c = omega (arith, small (c .before .before .before .before .before .before .before .before .before .before .before .before .pre .0) .unsent)
+
+slice-aggregate-write : tie.Need-slice-aggregate-write
+slice-aggregate-write c = search needs
+
+write-requires : tie.Need-write-requires
+write-requires c κs =
+    let s = c .before .before .before .before .before .before .before .before .before .before .before .before .before .before in
+    let k = s .pre .0 in
+    let ok = ready-as (k .number) (k .offers) (k .is) (wide-is (k .number) (k .offers) (k .is) (s .pre .1)) in
+    let inside = ap (λ z. z .information) (k .is) in
+    let word = ap (λ z. z .word) (k .is) in
+    let unsent = ap (λ z. z .unsent) (k .is) in (
+      ok .fits,
+      lit≤ tt,
+      c .before .before .before .before .invert .kept .1 .0 ∙ c .before .before .before .before .before .before .before .walk-wide .kept .1 .0 ∙ c .before .before .before .before .before .before .before .before .before .before .lay-wide .kept .1 .1 .1 .0,
+      omega (arith, ok .enough, s .pre .2, inside, unsent),
+      omega (arith, ok .front, s .pre .3, word, unsent),
+      omega (arith, ok .behind-front, s .pre .3, word, unsent),
+    )
+
+same-length : tie.Need-same-length
+same-length c = search needs
+
+returns : tie.Need-returns
+returns c = λ n off is short.
+    let s = c .before .before .before .before .before .before .before .before .before .before .before .before .before .before .before .before .before in
+    let o = s .args .o in
+    let info = s .args .information .now in
+    let lay = c .before .before .before .before .before .before .before .before .before .before .before .before .before .lay-wide in
+    let sh = wideShape in
+    let same = wide-is n off is (s .pre .1) in
+    let ok = ready-as n off is same in
+    let own = fixed n off in
+    let unsent : o .unsent ≡ code n .unsent = ap (λ z. z .unsent) is ∙ own .unsent in
+    let long = s .pre .3 ∙ ap (λ z. z .word) is ∙ own .word in
+    let x : Word = lifted (code n) (bit info) in
+    let laid = lay .ensures .1 n x off (sym same ∙ ap (λ z. z .shape) is) (sym (taken-later (code n) (o .unsent) unsent (bit info))) short in
+    let f : ℕ → Word = endRows n (sh .size) x in
+    let g : ℕ → Word = λ r i. f r i ⊕ oddTogether x r in
+    let turned = c .before .before .before .before .before .before .before .invert .ensures x f (laid .0)
+    (c .before .before .before .before .before .before .before .before .before .before .walk-wide .ensures (checkRows (code n) x) (laid .1 ∙ start-held n refl ok x)) in
+    let sends : 7154 - o .unsent ≡ informed sh - code n .unsent = omega (arith, unsent) in
+    c .before .before .write .ensures g turned (short-sent n (bit info) (7154 - o .unsent) (omega (arith, unsent, own .low, ok .informs)) short)
+    ∙ ap₂ (λ (l m : ℕ). octets l (completed sh 0 g m (bit info))) long sends
+    ∙ all-sent n sh ok (omega (arith, own .low)) 0 g (bit info) (ok .near-rows refl x (short-of (information (code n)) x short))
+
+pub encode-wide-spec : {M : Type 1} → statement M
+encode-wide-spec =
+    tie.close
+    (tie.spec
+    slice-aggregate-lay-wide
+    lay-wide-requires
+    slice-aggregate-walk-wide
+    walk-wide-requires
+    slice-aggregate-invert
+    invert-requires
+    sub-write
+    slice-aggregate-write
+    write-requires
+    same-length
+    returns)
