@@ -10,7 +10,7 @@ ghost use Rattle.rules.specs.Codes.{Code};
 ghost use Rattle.vectors.specs.Vectors.{wbit, Holds, upTo};
 ghost use Rattle.planes.specs.Ranges.{Top};
 ghost use Rattle.layout.specs.Lent.{Fit, Lent, laid, score, entries, shiftsOf, total};
-ghost use Rattle.layout.specs.Rooms.{blocksRoom, syndromeRoom};
+ghost use Rattle.layout.specs.Rooms.{blocksRoom, syndromeRoom, wordRoom};
 ghost use Rattle.narrow.specs.Weighing.{around, Rows, Weighs, broke, sent, Peaked, Weighed, Greatest, Chosen};
 use choice::Best;
 use layout::BLOCKS;
@@ -258,12 +258,14 @@ fn turn_row(row: u64, each: u64, h: &[u16], at: usize, k: usize, m: usize) -> u6
     turn_place(v, each, h[at + 1] as usize, k, m)
 }
 
-// Turns the checks of a bit over.
-pub fn flip(rows: &mut [u64], h: &[u16], sh: Shape, bit: usize)
-    requires { ⌜ Fit (now h) sh × (sh .words ≡ 1) × (length (now rows) ≡ 4) × (bit < sh .blocks * sh .size) ⌝ }
-    ensures { λ _. ⌜ ((c : Code) (x : Word) → Lent c (now (h .entry)) sh → Rows c sh x (now (rows .entry))
+// Turns a bit of a word over, and its checks with it.
+pub fn flip(y: &mut [u64], rows: &mut [u64], h: &[u16], sh: Shape, bit: usize)
+    requires { ⌜ Fit (now h) sh × (sh .words ≡ 1) × (length (now y) ≡ wordRoom) × (length (now rows) ≡ 4) × (bit < sh .blocks * sh .size) ⌝ }
+    ensures word { λ _. ⌜ wbit (now (y .exit)) ≡ flipped (wbit (now (y .entry))) bit ⌝ }
+    ensures checks { λ _. ⌜ ((c : Code) (x : Word) → Lent c (now (h .entry)) sh → Rows c sh x (now (rows .entry))
         → Rows c sh (flipped x bit) (now (rows .exit))) ⌝ }
 {
+    vectors::turn_over(y, bit);
     let each = repeated(1u64 << 63, sh.size);
     let b = bit / sh.size;
     let k = bit % sh.size;
