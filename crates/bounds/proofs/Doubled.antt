@@ -1,15 +1,17 @@
 -- The rows of the syndrome, each twice over at a place of its own.
 -- Assumes nothing.
-use mathlib.Core.Path.{_≡_, sym, ap, ap₂, _∙_}
-use mathlib.Core.List.{List, _++_}
-use Prim.Native.Nat.{ℕ, _+_, _*_, _/_, _%_, _≤_, _<_}
+use mathlib.Core.Path.{_≡_, refl, sym, ap, ap₂, _∙_}
+use mathlib.Core.List.{List, [], _∷_, _++_}
+use Prim.Native.Nat.{ℕ, _+_, _-_, _*_, _/_, _%_, _≤_, _<_}
 use native.Mathlib.Nat.{mod-lt}
 use native.Mathlib.Decide.{ℕ-discrete}
 use native.Mathlib.Omega.{arith}
-use lib.ListN.{getD, length, take, List·getD-append}
+use lib.ListN.{getD, length, take, set, length-set, List·getD-append}
 use lib.Seq.{length-take-le, getD-append-add, getD-take}
 use Rattle.bits.specs.Bits.{Word, digit}
-use Rattle.vectors.specs.Vectors.{wbit, upTo, from, twice}
+use Rattle.vectors.specs.Vectors.{wbit, Holds, upTo, from, joined, twice}
+use Rattle.vectors.proofs.Cells.{joined-below, joined-above}
+use Rattle.vectors.proofs.Filling.{Filled, filled-from, filled-more, word-at}
 use Rattle.vectors.proofs.Spans.{upTo-below, twice-mod}
 use Rattle.layout.specs.declared.Shape.{Shape}
 use Rattle.bounds.specs.Reading.{Twice, Placed}
@@ -41,6 +43,39 @@ module _ (d p rest : List ℕ) (to : ℕ) (inside : to ≤ length d) where
   placed s start m fits e = record {
     before = before-part;
     here = λ n h. in-part n (omega arith) ∙ ap (λ x. x n) e ∙ front-mod m (from start s) n h;
+  }
+
+-- The first m bits of one number, twice over in two words from word `to` on.
+module _ (d : List ℕ) (v m to a b : ℕ) (small : m ≤ 64) (inside : to + 2 ≤ length d)
+    (e : wbit (a ∷ b ∷ []) ≡ twice m (upTo m (digit 64 v))) where
+  abbrev two : Word
+  two = wbit (a ∷ b ∷ [])
+
+  abbrev x : Word
+  x = joined (64 * to) (wbit d) (λ n. two (n - 64 * to))
+
+  in-two : (n k : ℕ) → n ≡ 64 * to + k → x n ≡ two k
+  in-two n k l =
+      let back : n - 64 * to ≡ k = omega arith in
+      joined-above (64 * to) n (wbit d) (λ i. two (i - 64 * to)) (omega arith) ∙ ap two back
+
+  filled : Filled d x (set (set d to a) (to + 1) b) (to + 1 + 1)
+  filled =
+      let start = filled-from d x to (λ n h. sym (joined-below (64 * to) n (wbit d) (λ i. two (i - 64 * to)) h)) in
+      let one = filled-more d x d to start a (omega arith)
+      (λ i hi. sym (in-two (64 * to + i) i refl ∙ word-at (a ∷ b ∷ []) i 0 i hi (omega arith))) in
+      filled-more d x (set d to a) (to + 1) one b (omega (arith, length-set d to a))
+      (λ i hi. sym (in-two (64 * (to + 1) + i) (64 + i) (omega arith) ∙ word-at (a ∷ b ∷ []) (64 + i) 1 i hi (omega arith)))
+
+  pub placed-number : (s : Word) (start : ℕ) → 1 ≤ m → Holds v (from start s)
+      → Placed s start m (wbit d) (64 * to) (wbit (set (set d to a) (to + 1) b))
+  placed-number s start some hv = record {
+    before = λ n h.
+        ap (λ (y : Word). y n) (filled .bits) ∙ joined-below (64 * (to + 1 + 1)) n x (wbit d) (omega arith)
+        ∙ joined-below (64 * to) n (wbit d) (λ i. two (i - 64 * to)) h;
+    here = λ n h.
+        ap (λ (y : Word). y (64 * to + n)) (filled .bits) ∙ joined-below (64 * (to + 1 + 1)) (64 * to + n) x (wbit d) (omega arith)
+        ∙ in-two (64 * to + n) n refl ∙ ap (λ (y : Word). y n) e ∙ front-mod m (digit 64 v) n h ∙ hv (n % m) (omega (arith, mod-lt n some));
   }
 
 -- A row more.

@@ -19,6 +19,7 @@ use planes::add;
 use planes::all;
 use planes::spread;
 use vectors::double;
+use vectors::double_word;
 use vectors::front;
 use vectors::trim;
 use vectors::turn_over;
@@ -80,11 +81,25 @@ fn row(s: &[u64], at: usize, words: usize, m: usize, v: &mut [u64])
     trim(v, m);
 }
 
+// The first m bits of v, twice over from word `to` of d on.
+fn double_narrow_row(v: u64, m: usize, d: &mut [u64], to: usize)
+    requires { ⌜ (1 ≤ m) × (m ≤ 64) × (to + 2 ≤ length (now d)) × (length (now d) < 2 ^ 32) ⌝ }
+    ensures { λ r. ⌜ ((s : Word) → (start : ℕ) → Holds v (from start s) → Placed s start m (wbit (now (d .entry))) (64 * to) (wbit (now (d .exit)))) ⌝ }
+{
+    let p = double_word(front(v, m), m);
+    d[to] = p.first;
+    d[to + 1] = p.second;
+}
+
 // The m bits of a row that begins with word `at`, twice over from word `to` of d on.
 fn double_row(s: &[u64], at: usize, words: usize, m: usize, v: &mut [u64], d: &mut [u64], to: usize)
     requires { ⌜ (at + words ≤ length (now s)) × (words ≤ length (now v)) × (1 ≤ m) × (m ≤ 64 * words) × (to + 2 * words ≤ length (now d)) × (length (now d) < 2 ^ 32) ⌝ }
     ensures { λ r. ⌜ Placed (wbit (now (s .entry))) (64 * at) m (wbit (now (d .entry))) (64 * to) (wbit (now (d .exit))) ⌝ }
 {
+    if words == 1 {
+        double_narrow_row(s[at], m, d, to);
+        return;
+    }
     row(s, at, words, m, v);
     let end = to + 2 * words;
     double(v, m, &mut d[to..end]);

@@ -5,7 +5,7 @@ use mathlib.Core.Logic.{⊎-elim}
 use mathlib.Core.List.{List}
 use Prim.Native.Nat.{ℕ, zero, suc, _+_, _-_, _*_, _/_, _%_, _^_, _≤_, _<_, zero-le}
 use native.Mathlib.Nat.{mod-lt, div-add-mod', div-lt-iff-lt-mul, mul-le-mul-right, lt-of-not-le}
-use native.Mathlib.Decide.{ℕ-discrete, decLt, decLe}
+use native.Mathlib.Decide.{ℕ-discrete, decLe}
 use native.Mathlib.Omega.{arith}
 use borrow.Author.Tests.{le-ltb, lt-ltb, ltb-true, le-leb, leb-true, eq-eqb, ne-eqb, eqb-true}
 use lib.Arith.{digits-lt}
@@ -13,10 +13,10 @@ use lib.Count.{leadingZeros}
 use lib.Dec.{eqb, leb, ltb, lit<}
 use lib.ListN.{getD, length, set}
 use lib.Seq.{getD-set-same, getD-set-other}
-use Rattle.bits.specs.Bits.{Word, digit, flipped, over, if_then_else_, _⊕_}
+use Rattle.bits.specs.Bits.{Word, flipped, over, if_then_else_, _⊕_}
 use Rattle.bits.proofs.Orders.{le-or-lt}
 use Rattle.rules.specs.Codes.{Code}
-use Rattle.rules.specs.Checks.{check, brokenOf, degreeOf}
+use Rattle.rules.specs.Checks.{check}
 use Rattle.planes.specs.Ranges.{Top}
 use Rattle.vectors.specs.Vectors.{wbit, Holds, upTo}
 use Rattle.vectors.proofs.Filling.{word-holds}
@@ -27,9 +27,7 @@ use Rattle.layout.specs.declared.Shape.{Shape}
 use Rattle.layout.specs.Lent.{Fit, Lent, laid, score, total, shiftsOf, placeOf}
 use Rattle.layout.proofs.Laying.{laid-at}
 use Rattle.bounds.proofs.Entries.{within}
-use Rattle.bounds.proofs.Weights.{not-before}
-use Rattle.choice.specs.declared.Best.{Best}
-use Rattle.narrow.specs.Weighing.{around, Rows, broke, sent, Peaked, Weighed, Greatest, Chosen}
+use Rattle.narrow.specs.Weighing.{around, broke, sent, Peaked, Weighed, Greatest, Chosen}
 
 -- ---- rows
 
@@ -79,7 +77,8 @@ first-of-row m some (suc i) hi =
 module _ (c : Code) (h : List ℕ) (sh : Shape) (lent : Lent c h sh) (fit : Fit h sh) (x : Word) where
   pub row-flipped : (b k r v v′ : ℕ) → b < sh .blocks → k < sh .size → r < sh .rows
       → Holds v (around (sh .size) (λ i. check c x (r * sh .size + i)))
-      → ((f : Word) → Holds v f → Holds v′ (λ i. f i ⊕ over (shiftsOf sh h r b) (λ s. eqb (i % sh .size) ((k + (sh .size - s)) % sh .size))))
+      → ((f : Word) → Holds v f → Holds v′ (λ i. f i ⊕ over (shiftsOf sh h r b) (λ s. eqb (i % sh .size) ((k + (sh .size - s)) % sh
+      .size))))
       → Holds v′ (around (sh .size) (λ i. check c (flipped x (b * sh .size + k)) (r * sh .size + i)))
   row-flipped b k r v v′ hb hk hr is turned i hi =
       turned (around (sh .size) (λ j. check c x (r * sh .size + j))) is i hi

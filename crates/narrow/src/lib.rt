@@ -217,7 +217,8 @@ pub fn greatest(scores: &[u32], blocks: usize) -> Peak
 // The first bit of this block that is set in its mask.
 pub fn first_bit(masks: &[u64], block: usize, m: usize) -> usize
     requires { ⌜ (block < 16) × (length (now masks) ≡ blocksRoom) × (m ≤ 64) ⌝ }
-    ensures { λ r. ⌜ (getD (now (masks .entry)) block 0 < 2 ^ 64) × (r ≡ block * m + leadingZeros 64 (getD (now (masks .entry)) block 0)) ⌝ }
+    ensures { λ r. ⌜ (getD (now (masks .entry)) block 0 < 2 ^ 64)
+        × (r ≡ block * m + leadingZeros 64 (getD (now (masks .entry)) block 0)) ⌝ }
 {
     block * m + u64::leading_zeros(masks[block]) as usize
 }
@@ -237,7 +238,8 @@ pub fn choose(rows: &[u64], h: &[u16], sh: Shape, from: usize) -> Best
     }
 }
 
-// Turns the check of a row over that covers bit k by the shift e; a number that is m or more is no shift. `each` has the first bit of every m set.
+// Turns the check of a row over that covers bit k by the shift e; a number that is m or more is no shift. `each` has the first bit of
+// every m set.
 fn turn_place(row: u64, each: u64, e: usize, k: usize, m: usize) -> u64
     requires { ⌜ (1 ≤ m) × (m ≤ 64) × (64 % m ≡ 0) × (k < m) × Holds each (around m (eqb 0)) ⌝ }
     ensures { λ r. ⌜ ((f : Word) → Holds row f → Holds r (λ i. f i ⊕ (ltb e m && eqb (i % m) ((k + (m - e)) % m)))) ⌝ }
@@ -260,7 +262,8 @@ fn turn_row(row: u64, each: u64, h: &[u16], at: usize, k: usize, m: usize) -> u6
 
 // Turns a bit of a word over, and its checks with it.
 pub fn flip(y: &mut [u64], rows: &mut [u64], h: &[u16], sh: Shape, bit: usize)
-    requires { ⌜ Fit (now h) sh × (sh .words ≡ 1) × (length (now y) ≡ wordRoom) × (length (now rows) ≡ 4) × (bit < sh .blocks * sh .size) ⌝ }
+    requires { ⌜ Fit (now h) sh × (sh .words ≡ 1) × (length (now y) ≡ wordRoom) × (length (now rows) ≡ 4)
+        × (bit < sh .blocks * sh .size) ⌝ }
     ensures word { λ _. ⌜ wbit (now (y .exit)) ≡ flipped (wbit (now (y .entry))) bit ⌝ }
     ensures checks { λ _. ⌜ ((c : Code) (x : Word) → Lent c (now (h .entry)) sh → Rows c sh x (now (rows .entry))
         → Rows c sh (flipped x bit) (now (rows .exit))) ⌝ }

@@ -10,7 +10,8 @@ ghost use Rattle.vectors.specs.Vectors.{wbit};
 ghost use Rattle.layout.specs.Lent.{Fit, Lent, laid};
 ghost use Rattle.bounds.specs.Reading.{Gathered};
 ghost use Rattle.bounds.specs.Keeping.{Ready};
-ghost use Rattle.runs.specs.Turns.{Holding, Begins, Beginning, Carried, Continuing, CarriedNarrow, ContinuingNarrow, Within, comesNext, RunsTo};
+ghost use Rattle.runs.specs.Turns.{Holding, Begins, Beginning, Carried, Continuing, CarriedNarrow, ContinuingNarrow};
+ghost use Rattle.runs.specs.Turns.{Within, comesNext, RunsTo};
 ghost use Rattle.layout.specs.Rooms.{rowsRoom, syndromeRoom, wordRoom};
 use layout::BLOCKS;
 use layout::ROWS;
@@ -115,8 +116,13 @@ fn go_on(
     limit: u16,
     first: u32,
 ) -> Ended
-    requires { ⌜ Fit (now h) sh × Gathered (now h) sh (now starts) (now counts) (sh .blocks) × Ready sh (now starts) (now counts) (now met) × (length (now y) ≡ wordRoom) × (length (now d) ≡ rowsRoom) × (1 ≤ sh .blocks) × (from < sh .size) × Continuing (now h) sh from first (wbit (now y)) (now d) (now counts) (now met) ⌝ }
-    ensures { λ r. ⌜ ((c : Code) → Lent c (now (h .entry)) sh → c .unsent ≡ from → Carried c sh from first (wbit (now (y .entry))) (now (d .entry)) (now (counts .entry)) (now (met .entry)) → RunsTo (byExcess c) c sh limit (wbit (now (y .entry))) (r .ran) (wbit (now (y .exit))) (laid c sh (wbit (now (y .exit)))) × (r .last ≡ broken c (wbit (now (y .exit))))) ⌝ }
+    requires { ⌜ Fit (now h) sh × Gathered (now h) sh (now starts) (now counts) (sh .blocks)
+        × Ready sh (now starts) (now counts) (now met) × (length (now y) ≡ wordRoom) × (length (now d) ≡ rowsRoom) × (1 ≤ sh .blocks)
+        × (from < sh .size) × Continuing (now h) sh from first (wbit (now y)) (now d) (now counts) (now met) ⌝ }
+    ensures { λ r. ⌜ ((c : Code) → Lent c (now (h .entry)) sh → c .unsent ≡ from
+        → Carried c sh from first (wbit (now (y .entry))) (now (d .entry)) (now (counts .entry)) (now (met .entry))
+        → RunsTo (byExcess c) c sh limit (wbit (now (y .entry))) (r .ran) (wbit (now (y .exit))) (laid c sh (wbit (now (y .exit))))
+        × (r .last ≡ broken c (wbit (now (y .exit))))) ⌝ }
 {
     let most = limit as u32;
     let mut flips: u32 = 0;
@@ -127,7 +133,7 @@ fn go_on(
             return at_end(5, flips, left);
         }
         if flips >= most {
-            return at_end(6, flips, left);
+            return at_end(6, flips, left); // no flip more
         }
         vectors::turn_over(y, best.bit);
         bounds::flip(d, starts, counts, met, sh, best.bit);
@@ -155,19 +161,19 @@ fn go_on_narrow(
         → RunsTo (byExcess c) c sh limit (wbit (now (y .entry))) (r .ran) (wbit (now (y .exit))) (laid c sh (wbit (now (y .exit))))
         × (r .last ≡ broken c (wbit (now (y .exit))))) ⌝ }
 {
-    let most = limit as u32;
+    let end = limit as u32;
     let mut flips: u32 = 0;
     let mut left = first;
     while left > 0 {
-        let best = narrow::choose(rows, h, sh, from);
-        if best.score <= 8 {
+        let chosen = narrow::choose(rows, h, sh, from);
+        if chosen.score <= 8 {
             return at_end(5, flips, left);
         }
-        if flips >= most {
+        if flips >= end {
             return at_end(6, flips, left);
         }
-        narrow::flip(y, rows, h, sh, best.bit);
-        left -= best.score - 8;
+        narrow::flip(y, rows, h, sh, chosen.bit);
+        left -= chosen.score - 8;
         flips += 1;
     }
     at_end(0, flips, 0)

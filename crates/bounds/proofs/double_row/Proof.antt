@@ -1,14 +1,32 @@
--- `bounds::double_row` meets its contract: a part of d is the row twice over. Assumes nothing.
+-- `bounds::double_row` meets its contract: the row is one word, or a part of d is the row twice over. Assumes nothing.
 use mathlib.Core.Path.{ap, _∙_}
 use Prim.Native.Nat.{_+_, _-_, _*_}
 use native.Mathlib.Omega.{arith}
 use borrow.Author.Needs.{needs}
 use lib.ListN.{drop, length-take, length-drop}
 use Rattle.vectors.specs.Vectors.{wbit, from, twice}
+use Rattle.vectors.proofs.Filling.{word-holds}
 use Rattle.vectors.proofs.Spans.{upTo-again}
 use Rattle.bounds.proofs.Doubled.{placed}
 use Rattle.bounds.proofs.double_row.Statement.{statement}
 use Rattle.bounds.proofs.double_row.Tie as tie
+
+mul-double-narrow-row : tie.Need-mul-double-narrow-row
+mul-double-narrow-row c = search needs
+
+shared-slice-read-double-narrow-row : tie.Need-shared-slice-read-double-narrow-row
+shared-slice-read-double-narrow-row c = search needs
+
+double-narrow-row-requires : tie.Need-double-narrow-row-requires
+double-narrow-row-requires c κs = search needs
+
+same-length : tie.Need-same-length
+same-length c = search needs
+
+returns : tie.Need-returns
+returns c =
+    let a = c .before .before .before .before .before .before .before .before .before .args in
+    c .before .before .double-narrow-row .ensures (wbit (a .s .now)) (64 * a .at) (word-holds (a .s .now) (a .at))
 
 row-requires : tie.Need-row-requires
 row-requires c κs = search needs
@@ -33,25 +51,25 @@ part-double-end c = search needs
 
 double-requires : tie.Need-double-requires
 double-requires c κs =
-    let a = c .before .before .before .before .before .before .before .before .before .args in
+    let a = c .before .before .before .before .before .before .before .before .before .before .args in
     let clean = upTo-again (a .m) (from (64 * a .at) (wbit (a .s .now))) _ (c .before .before .before .before .row .ensures) in
     (clean, omega arith, omega arith, simp (length-take, length-drop) (omega arith), simp (length-take, length-drop) (omega arith))
-
-same-length : tie.Need-same-length
-same-length c = search needs
 
 same-length-2 : tie.Need-same-length-2
 same-length-2 c = search needs
 
-returns : tie.Need-returns
-returns c =
-    let a = c .before .before .before .before .before .before .before .before .before .before .before .before .args in
+same-length-3 : tie.Need-same-length-3
+same-length-3 c = search needs
+
+returns-2 : tie.Need-returns-2
+returns-2 c =
+    let a = c .before .before .before .before .before .before .before .before .before .before .before .before .before .args in
     let row = c .before .before .before .before .before .before .before .row .ensures in
     let twofold = c .before .before .double .ensures in
     placed (a .d .now) _ _ (a .to) (omega arith) (wbit (a .s .now)) (64 * a .at) (a .m)
     (omega (
       arith,
-      c .before .d .given,
+      c .before .d2 .given,
       length-take (a .to + 2 * a .words - a .to) (drop (a .to) (a .d .now)),
       length-drop (a .to)
           (a .d .now),
@@ -61,6 +79,11 @@ pub double-row-spec : {M : Type 1} → statement M
 double-row-spec =
     tie.close
     (tie.spec
+    mul-double-narrow-row
+    shared-slice-read-double-narrow-row
+    double-narrow-row-requires
+    same-length
+    returns
     row-requires
     mul-end
     add-end
@@ -69,6 +92,6 @@ double-row-spec =
     part-double-start
     part-double-end
     double-requires
-    same-length
     same-length-2
-    returns)
+    same-length-3
+    returns-2)

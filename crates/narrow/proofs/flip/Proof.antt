@@ -1,6 +1,6 @@
 -- `narrow::flip`: after r turns the checks of the first r rows are turned over. Assumes nothing.
-use mathlib.Core.Path.{_≡_, refl, sym, ap, _∙_, subst}
-use Prim.Native.Nat.{ℕ, _+_, _-_, _*_, _/_, _%_, _≤_, _<_}
+use mathlib.Core.Path.{_≡_, refl, sym, _∙_, subst}
+use Prim.Native.Nat.{ℕ, _+_, _-_, _/_, _%_, _≤_, _<_}
 use native.Mathlib.Nat.{mod-lt, div-add-mod', div-lt-iff-lt-mul}
 use native.Mathlib.Omega.{arith}
 use borrow.Author.Needs.{needs}
@@ -41,7 +41,13 @@ rem-k : tie.Need-rem-k Inv-loop μ-loop
 rem-k c = omega (arith, c .before .before .before .before .before .before .before .before .before .before .pre .0 .some)
 
 loop-holds : tie.Need-loop-holds Inv-loop μ-loop
-loop-holds c = (omega arith, c .before .before .before .before .before .before .before .before .before .before .pre .3, λ q l. refl, λ q l. absurd (omega arith))
+loop-holds c = (
+  omega arith,
+  c .before .before .before .before .before .before .before .before .before .before .pre .3,
+  λ q l. refl,
+  λ q
+      l. absurd (omega arith),
+)
 
 mul-turn-row : tie.Need-mul-turn-row Inv-loop μ-loop
 mul-turn-row c = omega arith
@@ -105,7 +111,8 @@ loop-less c = omega arith
 
 loop-again : tie.Need-loop-again Inv-loop μ-loop
 loop-again c =
-    let a = c .before .before .before .before .before .before .before .before .before .before .before .before .before .before .before .args in
+    let a = c .before .before .before .before .before .before .before .before .before .before .before .before .before .before .before
+    .args in
     let l = c .before .before .before .before .loop in
     let v = c .turn-row .result in
     let was = a .rows .now in (
@@ -124,7 +131,12 @@ same-length : tie.Need-same-length Inv-loop μ-loop
 same-length c = search needs
 
 same-length-2 : tie.Need-same-length-2 Inv-loop μ-loop
-same-length-2 c = omega (arith, c .before .loop .inv .1, c .before .before .before .before .before .before .before .before .before .before .before .before .pre .3)
+same-length-2 c = omega (
+  arith,
+  c .before .loop .inv .1,
+  c .before .before .before .before .before .before .before .before .before .before
+      .before .before .pre .3,
+)
 
 returns : tie.Need-returns Inv-loop μ-loop
 returns c =
@@ -138,7 +150,8 @@ returns c =
           subst (λ n. Rows k (a .sh) (flipped x n) (l .rows)) (div-add-mod' (a .bit) M)
           (λ q hq.
           row-flipped k (a .h .now) (a .sh) lent (s .pre .0) x (a .bit / M) (a .bit % M) q (getD (a .rows .now) q 0) (getD (l .rows) q 0)
-          inside (mod-lt (a .bit) (s .pre .0 .some)) (omega (arith, s .pre .0 .narrow (s .pre .1) .0)) (is q hq) (l .inv .3 q (omega arith))),
+          inside (mod-lt (a .bit) (s .pre .0 .some)) (omega (arith, s .pre .0 .narrow (s .pre .1) .0)) (is q hq) (l .inv .3 q (omega
+          arith))),
     )
 
 pub flip-spec : {M : Type 1} → statement M

@@ -1,6 +1,6 @@
 -- `narrow::repeated`: in each turn the row stands twice as often. Assumes nothing.
 use mathlib.Core.Path.{_≡_, _∙_}
-use Prim.Native.Nat.{ℕ, _+_, _-_, _/_, _%_, _^_, _≤_, _<_}
+use Prim.Native.Nat.{_-_, _/_, _%_, _^_, _≤_, _<_}
 use native.Mathlib.Nat.{mod-self, div-le-self, lt-of-le-of-lt}
 use native.Mathlib.Omega.{arith}
 use borrow.Author.Needs.{needs}

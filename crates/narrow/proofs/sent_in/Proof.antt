@@ -1,10 +1,10 @@
 -- `narrow::sent_in`: the first m bits, less those before bit `from` in block 0. Assumes nothing.
 use mathlib.Core.Path.{_≡_, refl, sym, ap, ap₂, _∙_}
 use mathlib.Core.Bool.{Bool, true, false, not, _&&_}
-use Prim.Native.Nat.{ℕ, _<_, zero-le}
+use Prim.Native.Nat.{zero-le}
 use borrow.Author.Needs.{needs}
 use borrow.Author.Tests.{le-leb, eq-eqb, ne-eqb}
-use lib.Dec.{leb, ltb, eqb}
+use lib.Dec.{leb, ltb}
 use Rattle.bits.specs.Bits.{_⊕_, digit, if_then_else_}
 use Rattle.planes.proofs.Digits.{ones-at}
 use Rattle.vectors.proofs.Places.{digit-xor}

@@ -1,6 +1,6 @@
 -- `narrow::weigh_all`: after b turns the first b blocks are weighed. Assumes nothing.
-use mathlib.Core.Path.{_≡_, sym, ap, _∙_, subst}
-use Prim.Native.Nat.{ℕ, _+_, _-_, _*_, _≤_, _<_}
+use mathlib.Core.Path.{_≡_, sym, ap, _∙_}
+use Prim.Native.Nat.{_+_, _-_, _*_, _≤_, _<_}
 use native.Mathlib.Omega.{arith}
 use borrow.Author.Needs.{needs}
 use lib.ListN.{length, length-set}
@@ -81,7 +81,12 @@ loop-again c =
       λ k x lent is.
           let all : w .result .checks ≡ total (a .sh .rows) (λ q. length (shiftsOf (a .sh) (a .h .now) q (l .b))) =
           w .ensures .0 ∙ ap (λ n. total n (λ q. length (shiftsOf (a .sh) (a .h .now) q (l .b)))) (sym four) in
-          weighed-more k (a .sh) (a .from) x (l .scores) (l .masks) (l .b) (r .score) (r .mask) (omega (arith, l .inv .1, s .pre .0 .blocks))
+          weighed-more k (a .sh) (a .from) x (l .scores) (l .masks) (l .b) (r .score) (r .mask) (omega (
+            arith,
+            l .inv .1,
+            s .pre .0
+                .blocks,
+          ))
           (omega (arith, l .inv .2, s .pre .0 .blocks)) (l .inv .3 k x lent is)
           (c .highest .ensures (omega (arith, all, lent .few (l .b) hb)) (sent (a .sh .size) (a .from) (l .b))
           (broke k (a .h .now) (a .sh) (l .b) x 4) (λ i. score k x (l .b * a .sh .size + i))

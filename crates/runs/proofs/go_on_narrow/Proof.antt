@@ -101,20 +101,28 @@ flip-requires c κs =
     let s = c .before .before .before .before .before .before .before .before .before .before .before .before in
     let l = c .before .before .before .before .before .before .before .before .loop in
     let w = s .pre .6 in
-    let i = l .inv .3 (w .code) (w .lent) (w .unsent) (w .carried) in
-    (s .pre .0, s .pre .1, l .inv .0, l .inv .1, c .before .before .before .before .before .choose .ensures (w .code) (wbit (l .y)) (w .lent) (i .1 .rows-are) .top (c .before .before .before .if1 .left) .under)
+    let i = l .inv .3 (w .code) (w .lent) (w .unsent) (w .carried) in (
+      s .pre .0,
+      s .pre .1,
+      l .inv .0,
+      l .inv .1,
+      c .before .before .before .before .before .choose .ensures (w .code) (wbit (l .y)) (w
+          .lent) (i .1 .rows-are) .top (c .before .before .before .if1 .left) .under,
+    )
 
 sub-left : tie.Need-sub-left Inv-loop μ-loop
 sub-left c = omega (arith, c .before .before .before .before .before .before .before .before .before .if1 .left)
 
 sub-left-2 : tie.Need-sub-left-2 Inv-loop μ-loop
 sub-left-2 c =
-    let s = c .before .before .before .before .before .before .before .before .before .before .before .before .before .before .before .before .before .before in
+    let s = c .before .before .before .before .before .before .before .before .before .before .before .before .before .before .before
+    .before .before .before in
     let l = c .before .before .before .before .before .before .before .before .before .before .before .before .before .before .loop in
     let w = s .pre .6 in
     let i = l .inv .3 (w .code) (w .lent) (w .unsent) (w .carried) in
     let high = c .before .before .before .before .before .before .before .before .before .if1 .left in
-    let best = c .before .before .before .before .before .before .before .before .before .before .before .choose .ensures (w .code) (wbit (l .y)) (w .lent) (i .1 .rows-are) in
+    let best = c .before .before .before .before .before .before .before .before .before .before .before .choose .ensures (w .code) (wbit
+    (l .y)) (w .lent) (i .1 .rows-are) in
     omega (
       arith,
       i .1 .left-is,
@@ -122,14 +130,20 @@ sub-left-2 c =
     )
 
 add-flips : tie.Need-add-flips Inv-loop μ-loop
-add-flips c = omega (arith, c .before .before .before .before .before .before .before .before .before .before .before .before .before .before .loop .inv .4, c .before .before .before .before .before .before .before .before .if2 .left)
+add-flips c = omega (
+  arith,
+  c .before .before .before .before .before .before .before .before .before .before .before .before .before
+      .before .loop .inv .4,
+  c .before .before .before .before .before .before .before .before .if2 .left,
+)
 
 loop-less : tie.Need-loop-less Inv-loop μ-loop
 loop-less c = omega (arith, c .before .before .before .before .before .before .before .before .if2 .left)
 
 loop-again : tie.Need-loop-again Inv-loop μ-loop
 loop-again c =
-    let s = c .before .before .before .before .before .before .before .before .before .before .before .before .before .before .before .before .before .before in
+    let s = c .before .before .before .before .before .before .before .before .before .before .before .before .before .before .before
+    .before .before .before in
     let a = s .args in
     let l = c .before .before .before .before .before .before .before .before .before .before .before .before .before .before .loop in
     let f = c .before .before .before .before .before .flip .ensures in
@@ -140,11 +154,19 @@ loop-again c =
       omega (arith, room),
       λ k lent u w.
           let i = l .inv .3 k lent u w in
-          let best = c .before .before .before .before .before .before .before .before .before .before .before .choose .ensures k (wbit (l .y)) lent (i .1 .rows-are) in
+          let best = c .before .before .before .before .before .before .before .before .before .before .before .choose .ensures k (wbit (l
+          .y)) lent (i .1 .rows-are) in
           let top = top-ends refl (sym (lent .bits-are)) (best .top high) in
-          let next = next-flip lent (wbit (l .y)) top u (λ e. omega (arith, i .1 .left-is, e, c .before .before .before .before .before .before .before .before .before .before .before .before .before .loop-test .taken)) high in (
+          let next = next-flip lent (wbit (l .y)) top u (λ e. omega (
+            arith,
+            i .1 .left-is,
+            e,
+            c .before .before .before .before .before
+                .before .before .before .before .before .before .before .before .loop-test .taken,
+          )) high in (
             subst (λ z. Going (byExcess k) k (a .sh) (a .limit) (wbit (a .y .now)) (l .flips + 1) z (laid k (a .sh) z)) (sym (f .0))
-                (goes-on (byExcess k) k (a .sh) (a .limit) (wbit (a .y .now)) (l .flips) (wbit (l .y)) _ (i .0) _ _ next room _ _ refl refl),
+                (goes-on (byExcess k) k (a .sh) (a .limit) (wbit (a .y .now)) (l .flips) (wbit (l .y)) _ (i .0) _ _ next room _ _ refl
+                refl),
             carried-narrow (f .0) (f .1 k (wbit (l .y)) lent (i .1 .rows-are))
                 (omega (arith, flip-left lent (wbit (l .y)) top high, i .1 .left-is)),
           ),

@@ -39,7 +39,8 @@ choose-requires c κs =
 
 cast-excess : tie.Need-cast-excess
 cast-excess c =
-    let s = c .before .before .before .before .before .before .before .before .before .before .before .before .before .before .before .before in
+    let s = c .before .before .before .before .before .before .before .before .before .before .before .before .before .before .before
+    .before in
     let a = s .args in
     let w = s .pre .4 in
     let b = c .before .before .before .before .before .before .before .before .before .before .begin in
@@ -51,7 +52,8 @@ cast-excess c =
 
 sub-excess : tie.Need-sub-excess
 sub-excess c =
-    let s = c .before .before .before .before .before .before .before .before .before .before .before .before .before .before .before .before in
+    let s = c .before .before .before .before .before .before .before .before .before .before .before .before .before .before .before
+    .before in
     let a = s .args in
     let w = s .pre .4 in
     let b = c .before .before .before .before .before .before .before .before .before .before .begin in
@@ -63,7 +65,8 @@ sub-excess c =
 
 returns : tie.Need-returns
 returns c =
-    let s = c .before .before .before .before .before .before .before .before .before .before .before .before .before .before .before .before .before .before in
+    let s = c .before .before .before .before .before .before .before .before .before .before .before .before .before .before .before
+    .before .before .before in
     let a = s .args in
     let w = s .pre .4 in
     let b = c .before .before .before .before .before .before .before .before .before .before .before .before .begin in
@@ -82,7 +85,8 @@ returns c =
 
 returns-2 : tie.Need-returns-2
 returns-2 c =
-    let s = c .before .before .before .before .before .before .before .before .before .before .before .before .before .before .before .before .before .before in
+    let s = c .before .before .before .before .before .before .before .before .before .before .before .before .before .before .before
+    .before .before .before in
     let a = s .args in
     let w = s .pre .4 in
     let b = c .before .before .before .before .before .before .before .before .before .before .before .before .begin in

@@ -42,7 +42,8 @@ returns c =
     let best = c .before .before .before .choose in
     let begun = c .before .before .before .before .before .before .begin .ensures in
     let high = c .before .if1 .taken in
-    let top = top-ends refl (sym (w .lent .bits-are)) (best .ensures (w .code) (w .word) (w .lent) (begun (w .code) (w .word) (w .held)) .top high) in (
+    let top = top-ends refl (sym (w .lent .bits-are)) (best .ensures (w .code) (w .word) (w .lent) (begun (w .code) (w .word) (w .held))
+    .top high) in (
       top-lt (w .lent) (w .word) top,
       λ k l u x e some.
           next-flip l x (top-ends refl (sym (l .bits-are)) (best .ensures k x l (begun k x e) .top high)) u some high

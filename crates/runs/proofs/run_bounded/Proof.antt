@@ -1,12 +1,8 @@
 -- `runs::run_bounded`: the state is made, and the run goes on from it. Assumes nothing.
-use mathlib.Core.Path.{_≡_, refl, sym, _∙_}
 use borrow.Author.Needs.{needs}
 use Rattle.rules.specs.Checks.{broken}
-use Rattle.rules.specs.Flipping.{byExcess}
-use Rattle.rules.proofs.Choosing.{quiet-next}
 use Rattle.vectors.specs.Vectors.{wbit}
-use Rattle.layout.specs.Lent.{laid}
-use Rattle.runs.proofs.Turning.{going-start, ends-quiet, begun-kept, begun-ready, runs-as}
+use Rattle.runs.proofs.Turning.{begun-kept, begun-ready}
 use Rattle.runs.proofs.run_bounded.Statement.{statement}
 use Rattle.runs.proofs.run_bounded.Tie as tie
 
@@ -65,7 +61,8 @@ same-length c = search needs
 
 returns : tie.Need-returns
 returns c k e =
-    let s = c .before .before .before .before .before .before .before .before .before .before .before .before .before .before .before .before .before .before .before .before in
+    let s = c .before .before .before .before .before .before .before .before .before .before .before .before .before .before .before
+    .before .before .before .before .before in
     let a = s .args in
     let b = c .before .before .before .before .before .before .before .before .before .before .before .before .before .begin in
     c .before .before .before .before .go-on .ensures k (e .lent) (e .unsent)

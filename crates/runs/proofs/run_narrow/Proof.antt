@@ -33,7 +33,11 @@ go-on-narrow-requires c κs =
         code = w .code;
         lent = k .lent;
         unsent = k .unsent;
-        carried = record { rows-are = c .before .before .before .begin .ensures (w .code) (wbit (a .y .now)) (k .held); left-is = k .broken };
+        carried = record {
+          rows-are = c .before .before .before .begin .ensures (w .code) (wbit (a .y .now)) (k .held);
+          left-is = k
+              .broken;
+        };
       },
     )
 
@@ -44,7 +48,11 @@ returns : tie.Need-returns
 returns c k e =
     let a = c .before .before .before .before .before .before .before .before .before .before .before .before .args in
     c .before .before .before .go-on-narrow .ensures k (e .lent) (e .unsent)
-    (record { rows-are = c .before .before .before .before .before .before .before .begin .ensures k (wbit (a .y .now)) (e .held); left-is = e .broken })
+    (record {
+      rows-are = c .before .before .before .before .before .before .before .begin .ensures k (wbit (a .y .now)) (e .held);
+      left-is
+          = e .broken;
+    })
 
 pub run-narrow-spec : {M : Type 1} → statement M
 run-narrow-spec =
