@@ -282,10 +282,71 @@ static struct best choose(struct kept *kept, struct shape sh, unsigned from)
     }
 }
 
+/* Where one word holds a row: the first m bits of v, over and over. */
+LEAF uint64_t repeated(uint64_t v, unsigned m)
+{
+    for (; m < 64; m *= 2)
+        v |= v >> m;
+    return v;
+}
+
+LEAF void begin_narrow(const uint64_t *s, struct shape sh, uint64_t *rows)
+{
+    for (unsigned r = 0; r < 4; r++)
+        rows[r] = repeated(s[r], sh.size);
+}
+
+/* The bit of the greatest excess above 0 from bit `from` on; a score of 8 says that there is none. Of each block those bits are
+ * found that have none, at most one and at most two of their checks met. */
+static struct best choose_narrow(const uint64_t *rows, const uint16_t *h, struct shape sh, unsigned from)
+{
+    struct best best = {8, 0};
+    for (unsigned b = 0; b < sh.blocks; b++) {
+        uint64_t none = front(~UINT64_C(0), sh.size) & (b == 0 ? ~UINT64_C(0) >> from : ~UINT64_C(0)), one = none, two = none;
+        unsigned n = 0;
+        for (unsigned r = 0; r < 4; r++)
+            for (unsigned e = 0; e < 2; e++) {
+                unsigned shift = h[2 * (r * sh.blocks + b) + e];
+                if (shift < sh.size) {
+                    uint64_t x = rows[r] >> shift | rows[r] << (64 - shift) % 64;
+                    two = (two & x) | one;
+                    one = (one & x) | none;
+                    none &= x;
+                    n++;
+                }
+            }
+        uint64_t mask = none != 0 ? none : one != 0 ? one : two;
+        unsigned score = none != 0 ? 8 + n : one != 0 ? 6 + n : two != 0 ? 4 + n : 0;
+        if (score > best.score)
+            best = (struct best){score, b * sh.size + (unsigned)__builtin_clzll(mask)};
+    }
+    return best;
+}
+
+LEAF void flip_narrow(uint64_t *y, uint64_t *rows, const uint16_t *h, struct shape sh, unsigned bit)
+{
+    unsigned b = bit / sh.size, k = bit % sh.size;
+    uint64_t each = repeated(UINT64_C(1) << 63, sh.size);
+    y[bit / 64] ^= UINT64_C(1) << (63 - bit % 64);
+    for (unsigned r = 0; r < 4; r++)
+        for (unsigned e = 0; e < 2; e++) {
+            unsigned shift = h[2 * (r * sh.blocks + b) + e], t = (64 + shift - k) % 64;
+            if (shift < sh.size)
+                rows[r] ^= each << t | each >> (64 - t) % 64;
+        }
+}
+
 /* The bit of greatest excess of a word of which nothing is kept. */
 static struct best choose_once(const uint64_t *s, const uint16_t *h, struct shape sh, unsigned from)
 {
     struct kept kept;
+    if (sh.words == 1) {
+        uint64_t rows[4];
+        begin_narrow(s, sh, rows);
+        struct best best = choose_narrow(rows, h, sh, from);
+        if (best.score > 8)
+            return best;
+    }
     begin(s, h, sh, &kept);
     return choose(&kept, sh, from);
 }
@@ -319,6 +380,23 @@ LEAF void flip(uint64_t *y, uint64_t *s, const uint16_t *h, struct shape sh, uns
 }
 
 /* The run; left has the broken checks at its start, and gets those at its end. */
+static uint8_t run_narrow(uint64_t *y, const uint64_t *s, const uint16_t *h, struct shape sh, unsigned from, uint16_t limit,
+                          uint32_t *flips, uint32_t *left)
+{
+    uint64_t rows[4];
+    begin_narrow(s, sh, rows);
+    for (; *left > 0; ++*flips) {
+        struct best best = choose_narrow(rows, h, sh, from);
+        if (best.score <= 8)
+            return 5;
+        if (*flips >= limit)
+            return 6;
+        flip_narrow(y, rows, h, sh, best.bit);
+        *left -= best.score - 8;
+    }
+    return 0;
+}
+
 static uint8_t run(uint64_t *y, const uint64_t *s, const uint16_t *h, struct shape sh, unsigned from, uint16_t limit,
                    uint32_t *flips, uint32_t *left)
 {
@@ -326,6 +404,8 @@ static uint8_t run(uint64_t *y, const uint64_t *s, const uint16_t *h, struct sha
     *flips = 0;
     if (*left == 0)
         return 0;
+    if (sh.words == 1)
+        return run_narrow(y, s, h, sh, from, limit, flips, left);
     begin(s, h, sh, &kept);
     for (; *left > 0; ++*flips) {
         struct best best = choose(&kept, sh, from);

@@ -73,7 +73,7 @@ over-low M (s ∷ S) f g t h =
 
 module _ (wordOctets informationOctets unsent m : ℕ) (H : List (List (List ℕ))) (gs : List (List ℕ)) (printed B words : ℕ) (h : List ℕ)
     (shape : T (shaped (suc m) B H)) (wide : length (getD H 0 []) ≡ B) (same : T (sameTable m words B H h))
-    (low : T (below B (λ b. leb (degree H b) 7))) where
+    (low : T (below B (λ b. leb (degree H b) 6))) where
   abbrev c : Code
   c = withTables wordOctets informationOctets unsent m H gs printed
 
@@ -158,5 +158,5 @@ module _ (wordOctets informationOctets unsent m : ℕ) (H : List (List (List ℕ
     flip-by = lent-flip;
     broken-by = lent-broken;
     degree-by = lent-degree;
-    few = λ b hb. le-trans (le-of-eq (sym (lent-total b hb))) (leb→le (degree H b) 7 (below-at B (λ b. leb (degree H b) 7) low b hb));
+    few = λ b hb. le-trans (le-of-eq (sym (lent-total b hb))) (leb→le (degree H b) 6 (below-at B (λ b. leb (degree H b) 6) low b hb));
   }

@@ -21,6 +21,8 @@ pub record Fit (h : List ℕ) (sh : Shape) : Type 0 where
   pub room : sh .rows * sh .words ≤ 16
   pub bits : sh .blocks * sh .size ≤ 8176
   pub flat : length h ≡ 2 * (sh .rows * sh .blocks)
+  -- blocks that one word holds fill it a whole number of times, and stand in four rows
+  pub narrow : sh .words ≡ 1 → (sh .rows ≡ 4) × (64 % sh .size ≡ 0)
 
 -- The shifts of a block: what its two places hold, where a number that is M or more is no entry.
 abbrev pub kept : ℕ → ℕ → List ℕ → List ℕ
@@ -53,13 +55,13 @@ pub record Lent (c : Code) (h : List ℕ) (sh : Shape) : Type 0 where
   pub flip-by : (x : Word) (b k r i : ℕ) → b < sh .blocks → k < sh .size → r < sh .rows → i < sh .size
       → check c (flipped x (b * sh .size + k)) (r * sh .size + i)
       ≡ check c x (r * sh .size + i) ⊕ over (shiftsOf sh h r b) (λ s. eqb i ((k + (sh .size - s)) % sh .size))
-  -- the broken checks of bit k of block b, and all its checks, which are at most 7
+  -- the broken checks of bit k of block b, and all its checks, which are at most 6
   pub broken-by : (x : Word) (b k : ℕ) → b < sh .blocks → k < sh .size
       → brokenOf c x (b * sh .size + k) ≡ total (sh .rows)
       (λ r. countOf (shiftsOf sh h r b) (λ s. check c x (r * sh .size + (k + (sh .size - s)) % sh .size)))
   pub degree-by : (b k : ℕ) → b < sh .blocks → k < sh .size
       → degreeOf c (b * sh .size + k) ≡ total (sh .rows) (λ r. length (shiftsOf sh h r b))
-  pub few : (b : ℕ) → b < sh .blocks → total (sh .rows) (λ r. length (shiftsOf sh h r b)) ≤ 7
+  pub few : (b : ℕ) → b < sh .blocks → total (sh .rows) (λ r. length (shiftsOf sh h r b)) ≤ 6
 
 -- A syndrome as it is held: row after row, each in whole 64-bit words, bit i of row r is check i of block row r; the rest is 0.
 unfoldable pub laid : Code → Shape → Word → Word

@@ -3,11 +3,11 @@ use mathlib.Core.Path.{_≡_, refl, sym, ap, _∙_, subst}
 use mathlib.Core.Bool.{Bool, true, false, cond}
 use mathlib.Core.List.{List}
 use Prim.Native.Nat.{ℕ, suc, _+_, _-_, _*_, _/_, _%_, _≤_, _<_}
-use native.Mathlib.Nat.{mod-lt, div-add-mod', div-lt-iff-lt-mul, zero-add, add-zero, lt-of-le-of-lt}
+use native.Mathlib.Nat.{mod-lt, div-add-mod', div-lt-iff-lt-mul, zero-add, add-zero, lt-of-le-of-lt, mul-le-mul-right}
 use native.Mathlib.Omega.{arith}
 use borrow.Author.Tests.{lt-ltb, le-ltb}
 use lib.IntN.{ℤ, pos, negsuc, subℕ, _-ℤ_}
-use lib.Signed.{mag}
+use lib.Signed.{mag, ltZ}
 use lib.Dec.{ltb, lit<}
 use mir.Syntax.{w8}
 use mir.Val.{SFits, toZ, ofZ}
@@ -17,9 +17,10 @@ use lib.ListN.{length, getD, replicate}
 use Rattle.bits.specs.Bits.{Word, flipped, if_then_else_}
 use Rattle.bits.proofs.Octets.{zeros-at}
 use Rattle.rules.specs.Codes.{Code, bits}
-use Rattle.rules.specs.Checks.{broken, metOf, degreeOf}
+use Rattle.rules.specs.Checks.{broken, excess, metOf, degreeOf}
 use Rattle.rules.specs.Flipping.{quiet, stuck, flip, Way, byExcess, ended, after, run}
 use Rattle.rules.proofs.Flips.{broken-met, broken-flip}
+use Rattle.rules.proofs.Choosing.{chosen, chosen-greatest, stuck-next}
 use Rattle.rules.proofs.Runs.{run-quiet, run-stuck, run-limit, run-flip}
 use Rattle.layout.specs.declared.Shape.{Shape}
 use Rattle.vectors.specs.Vectors.{wbit}
@@ -31,9 +32,11 @@ use Rattle.bounds.proofs.Flipped.{ready, begun-under}
 use Rattle.choice.specs.Searching.{Lowered, Found}
 use Rattle.planes.specs.Ranges.{Top}
 use Rattle.planes.proofs.Ranges.{top-ends}
-use Rattle.choice.proofs.Excesses.{best-next, degree-le}
+use Rattle.planes.proofs.Choice.{raised-above}
+use Rattle.choice.proofs.Excesses.{best-next, degree-le, score-excess}
 use Rattle.runs.specs.declared.Ran.{Ran}
-use Rattle.runs.specs.Turns.{RunsTo, Going, Carried}
+use Rattle.narrow.specs.Weighing.{Rows}
+use Rattle.runs.specs.Turns.{RunsTo, Going, Carried, CarriedNarrow}
 
 -- a score of at most 15, less 8, as a signed octet
 module _ (top : ℕ) (small : top ≤ 15) where
@@ -71,6 +74,27 @@ module _ {c : Code} {h : List ℕ} {sh : Shape} (lent : Lent c h sh) (x : Word) 
   next-flip u d l = best-next lent x (top-ends (sym u) refl t) d ∙ ap (λ b. if b then flip bit (subℕ top 8) else stuck bit (subℕ top 8))
       (lt-ltb 8 top l)
 
+  -- A flip mends as many checks as its excess.
+  pub flip-left : 8 < top → broken c (flipped x bit) + (top - 8) ≡ broken c x
+  unfolding score
+  flip-left l = omega (arith, t .is, broken-met c x bit, broken-flip c x bit (t .under))
+
+-- Some bit is sent.
+pub some-sent : {c : Code} {h : List ℕ} {sh : Shape} {from : ℕ} → Lent c h sh → 1 ≤ sh .blocks → from < sh .size → c .unsent ≡ from
+    → c .unsent < bits c
+some-sent {c} {h} {sh} lent some l u = omega (arith, lent .bits-are, mul-le-mul-right {m = 1} {n = sh .blocks} (sh .size) some)
+
+-- No bit that is sent has a score above 8.
+module _ {c : Code} {h : List ℕ} {sh : Shape} (lent : Lent c h sh) (x : Word) where
+  pub none-flip : c .unsent < bits c → (broken c x ≡ 0 → ⊥) → ((n : ℕ) → c .unsent ≤ n → n < bits c → score c x n ≤ 8)
+      → byExcess c x ≡ stuck (chosen c x) (excess c x (chosen c x))
+  none-flip some d low =
+      let g = chosen-greatest c some x in
+      let inside : chosen c x < bits c = omega (arith, g .under) in
+      stuck-next c x d
+      (ap (ltZ (pos 0)) (score-excess lent x (chosen c x) inside) ∙ raised-above (score c x (chosen c x)) 8
+      ∙ le-ltb 8 (score c x (chosen c x)) (low (chosen c x) (g .from) inside))
+
 -- ---- a bit that was chosen
 
 module _ (c : Code) (h : List ℕ) (sh : Shape) (lent : Lent c h sh) (fit : Fit h sh) (starts counts : List ℕ)
@@ -105,15 +129,18 @@ module _ (c : Code) (h : List ℕ) (sh : Shape) (lent : Lent c h sh) (fit : Fit 
         g b hb .0,
       )
 
-  -- A flip mends as many checks as its excess.
   pub chosen-left : 8 < top → broken c (flipped y bit) + (top - 8) ≡ broken c y
-  unfolding score
-  chosen-left l = omega (arith, chosen-top .is, broken-met c y bit, broken-flip c y bit (chosen-top .under))
+  chosen-left = flip-left lent y chosen-top
 
 pub carried-more : {c : Code} {sh : Shape} {from left : ℕ} {z y : Word} {d counts met : List ℕ} → y ≡ z → Kept c sh from z d counts met
     → left ≡ broken c z → Carried c sh from left y d counts met
 carried-more {c} {sh} {from} {left} {z} {y} {d} {counts} {met} e kept is = subst (λ w. Carried c sh from left w d counts met) (sym e)
     (record { kept = kept; left-is = is })
+
+pub carried-narrow : {c : Code} {sh : Shape} {left : ℕ} {z y : Word} {rows : List ℕ} → y ≡ z → Rows c sh z rows → left ≡ broken c z
+    → CarriedNarrow c sh left y rows
+carried-narrow {c} {sh} {left} {z} {y} {rows} e rows-are is = subst (λ w. CarriedNarrow c sh left w rows) (sym e)
+    (record { rows-are = rows-are; left-is = is })
 
 -- What is kept of a word at the start: no met check is counted on.
 pub begun-kept : (c : Code) (h : List ℕ) (sh : Shape) (lent : Lent c h sh) (starts counts : List ℕ)

@@ -10,6 +10,7 @@ use Rattle.layout.specs.declared.Shape.{Shape}
 use Rattle.rules.specs.Checks.{broken}
 use Rattle.layout.specs.Lent.{Lent, laid}
 use Rattle.bounds.specs.Keeping.{Kept}
+use Rattle.narrow.specs.Weighing.{Rows}
 use Rattle.runs.specs.declared.Next.{Next}
 use Rattle.runs.specs.declared.Next.the-variants.{Quiet, Stuck, Flip}
 use Rattle.runs.specs.declared.Ran.{Ran}
@@ -45,6 +46,17 @@ pub record Continuing (h : List ℕ) (sh : Shape) (from left : ℕ) (y : Word) (
   pub lent : Lent code h sh
   pub unsent : code .unsent ≡ from
   pub carried : Carried code sh from left y d counts met
+
+-- The same where one word holds a row, and the rows are kept.
+pub record CarriedNarrow (c : Code) (sh : Shape) (left : ℕ) (y : Word) (rows : List ℕ) : Type 0 where
+  pub rows-are : Rows c sh y rows
+  pub left-is : left ≡ broken c y
+
+pub record ContinuingNarrow (h : List ℕ) (sh : Shape) (from left : ℕ) (y : Word) (rows : List ℕ) : Type 0 where
+  pub code : Code
+  pub lent : Lent code h sh
+  pub unsent : code .unsent ≡ from
+  pub carried : CarriedNarrow code sh left y rows
 
 -- What comes next, as the definition has it.
 abbrev pub comesNext : Next → NextOf

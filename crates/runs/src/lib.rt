@@ -10,7 +10,8 @@ ghost use Rattle.vectors.specs.Vectors.{wbit};
 ghost use Rattle.layout.specs.Lent.{Fit, Lent, laid};
 ghost use Rattle.bounds.specs.Reading.{Gathered};
 ghost use Rattle.bounds.specs.Keeping.{Ready};
-ghost use Rattle.runs.specs.Turns.{Holding, Begins, Beginning, Carried, Continuing, Within, comesNext, RunsTo};
+ghost use Rattle.runs.specs.Turns.{Holding, Begins, Beginning, Carried, Continuing, CarriedNarrow, ContinuingNarrow};
+ghost use Rattle.runs.specs.Turns.{Within, comesNext, RunsTo};
 ghost use Rattle.layout.specs.Rooms.{rowsRoom, syndromeRoom, wordRoom};
 use layout::BLOCKS;
 use layout::ROWS;
@@ -35,14 +36,14 @@ pub struct Ended {
     pub last: u32,
 }
 
-// What comes next for the word whose syndrome is s; bits before bit `from` are not sent.
-pub fn comes_next(s: &[u64], h: &[u16], sh: Shape, from: usize) -> Next
-    requires { ⌜ Fit (now h) sh × (length (now s) ≡ syndromeRoom) × (1 ≤ sh .blocks) × (from < sh .size) × Holding (now h) sh (wbit (now s)) ⌝ }
-    ensures { λ r. ⌜ Within (sh .blocks * sh .size) r × ((c : Code) → Lent c (now (h .entry)) sh → c .unsent ≡ from → (x : Word) → wbit (now (s .entry)) ≡ laid c sh x → byExcess c x ≡ comesNext r) ⌝ }
+// What comes next for a word that has a broken check and the syndrome s, by the bounds of its blocks; bits before bit `from` are not sent.
+fn next_bounded(s: &[u64], h: &[u16], sh: Shape, from: usize) -> Next
+    requires { ⌜ Fit (now h) sh × (length (now s) ≡ syndromeRoom) × (1 ≤ sh .blocks) × (from < sh .size)
+        × Holding (now h) sh (wbit (now s)) ⌝ }
+    ensures { λ r. ⌜ Within (sh .blocks * sh .size) r
+        × ((c : Code) → Lent c (now (h .entry)) sh → c .unsent ≡ from → (x : Word) → wbit (now (s .entry)) ≡ laid c sh x
+        → (broken c x ≡ 0 → ⊥) → byExcess c x ≡ comesNext r) ⌝ }
 {
-    if syndromes::is_quiet(s) {
-        return Next::Quiet;
-    }
     let mut d = [0u64; ROWS];
     let mut starts = [0u16; STARTS];
     let mut counts = [0u8; BLOCKS];
@@ -54,6 +55,39 @@ pub fn comes_next(s: &[u64], h: &[u16], sh: Shape, from: usize) -> Next
         return Next::Stuck(best.bit, excess);
     }
     Next::Flip(best.bit, excess)
+}
+
+// The same where one word holds a block: a bit that is to be flipped shows at once.
+fn next_narrow(s: &[u64], h: &[u16], sh: Shape, from: usize) -> Next
+    requires { ⌜ Fit (now h) sh × (length (now s) ≡ syndromeRoom) × (1 ≤ sh .blocks) × (from < sh .size)
+        × Holding (now h) sh (wbit (now s)) × (sh .words ≡ 1) ⌝ }
+    ensures { λ r. ⌜ Within (sh .blocks * sh .size) r
+        × ((c : Code) → Lent c (now (h .entry)) sh → c .unsent ≡ from → (x : Word) → wbit (now (s .entry)) ≡ laid c sh x
+        → (broken c x ≡ 0 → ⊥) → byExcess c x ≡ comesNext r) ⌝ }
+{
+    let mut rows = [0u64; 4];
+    narrow::begin(s, sh, &mut rows);
+    let best = narrow::choose(&rows, h, sh, from);
+    if best.score > 8 {
+        return Next::Flip(best.bit, best.score as i8 - 8);
+    }
+    next_bounded(s, h, sh, from)
+}
+
+// What comes next for the word whose syndrome is s; bits before bit `from` are not sent.
+pub fn comes_next(s: &[u64], h: &[u16], sh: Shape, from: usize) -> Next
+    requires { ⌜ Fit (now h) sh × (length (now s) ≡ syndromeRoom) × (1 ≤ sh .blocks) × (from < sh .size)
+        × Holding (now h) sh (wbit (now s)) ⌝ }
+    ensures { λ r. ⌜ Within (sh .blocks * sh .size) r × ((c : Code) → Lent c (now (h .entry)) sh → c .unsent ≡ from → (x : Word)
+        → wbit (now (s .entry)) ≡ laid c sh x → byExcess c x ≡ comesNext r) ⌝ }
+{
+    if syndromes::is_quiet(s) {
+        return Next::Quiet;
+    }
+    if sh.words == 1 {
+        return next_narrow(s, h, sh, from);
+    }
+    next_bounded(s, h, sh, from)
 }
 
 // A run that ends.
@@ -82,8 +116,13 @@ fn go_on(
     limit: u16,
     first: u32,
 ) -> Ended
-    requires { ⌜ Fit (now h) sh × Gathered (now h) sh (now starts) (now counts) (sh .blocks) × Ready sh (now starts) (now counts) (now met) × (length (now y) ≡ wordRoom) × (length (now d) ≡ rowsRoom) × (1 ≤ sh .blocks) × (from < sh .size) × Continuing (now h) sh from first (wbit (now y)) (now d) (now counts) (now met) ⌝ }
-    ensures { λ r. ⌜ ((c : Code) → Lent c (now (h .entry)) sh → c .unsent ≡ from → Carried c sh from first (wbit (now (y .entry))) (now (d .entry)) (now (counts .entry)) (now (met .entry)) → RunsTo (byExcess c) c sh limit (wbit (now (y .entry))) (r .ran) (wbit (now (y .exit))) (laid c sh (wbit (now (y .exit)))) × (r .last ≡ broken c (wbit (now (y .exit))))) ⌝ }
+    requires { ⌜ Fit (now h) sh × Gathered (now h) sh (now starts) (now counts) (sh .blocks)
+        × Ready sh (now starts) (now counts) (now met) × (length (now y) ≡ wordRoom) × (length (now d) ≡ rowsRoom) × (1 ≤ sh .blocks)
+        × (from < sh .size) × Continuing (now h) sh from first (wbit (now y)) (now d) (now counts) (now met) ⌝ }
+    ensures { λ r. ⌜ ((c : Code) → Lent c (now (h .entry)) sh → c .unsent ≡ from
+        → Carried c sh from first (wbit (now (y .entry))) (now (d .entry)) (now (counts .entry)) (now (met .entry))
+        → RunsTo (byExcess c) c sh limit (wbit (now (y .entry))) (r .ran) (wbit (now (y .exit))) (laid c sh (wbit (now (y .exit))))
+        × (r .last ≡ broken c (wbit (now (y .exit))))) ⌝ }
 {
     let most = limit as u32;
     let mut flips: u32 = 0;
@@ -94,7 +133,7 @@ fn go_on(
             return at_end(5, flips, left);
         }
         if flips >= most {
-            return at_end(6, flips, left);
+            return at_end(6, flips, left); // no flip more
         }
         vectors::turn_over(y, best.bit);
         bounds::flip(d, starts, counts, met, sh, best.bit);
@@ -104,8 +143,44 @@ fn go_on(
     at_end(0, flips, 0)
 }
 
-// The run from the word y with the syndrome s, of which so many checks are broken, under a limit: flips until it ends.
-pub fn run(
+// The run from the word y, whose blocks one word holds each and whose rows are kept, under a limit: flips until it ends. So many checks are
+// broken.
+fn go_on_narrow(
+    y: &mut [u64],
+    rows: &mut [u64],
+    h: &[u16],
+    sh: Shape,
+    from: usize,
+    limit: u16,
+    first: u32,
+) -> Ended
+    requires { ⌜ Fit (now h) sh × (sh .words ≡ 1) × (length (now y) ≡ wordRoom) × (length (now rows) ≡ 4) × (1 ≤ sh .blocks)
+        × (from < sh .size) × ContinuingNarrow (now h) sh from first (wbit (now y)) (now rows) ⌝ }
+    ensures { λ r. ⌜ ((c : Code) → Lent c (now (h .entry)) sh → c .unsent ≡ from
+        → CarriedNarrow c sh first (wbit (now (y .entry))) (now (rows .entry))
+        → RunsTo (byExcess c) c sh limit (wbit (now (y .entry))) (r .ran) (wbit (now (y .exit))) (laid c sh (wbit (now (y .exit))))
+        × (r .last ≡ broken c (wbit (now (y .exit))))) ⌝ }
+{
+    let end = limit as u32;
+    let mut flips: u32 = 0;
+    let mut left = first;
+    while left > 0 {
+        let chosen = narrow::choose(rows, h, sh, from);
+        if chosen.score <= 8 {
+            return at_end(5, flips, left);
+        }
+        if flips >= end {
+            return at_end(6, flips, left);
+        }
+        narrow::flip(y, rows, h, sh, chosen.bit);
+        left -= chosen.score - 8;
+        flips += 1;
+    }
+    at_end(0, flips, 0)
+}
+
+// The run from the word y with the syndrome s, of which so many checks are broken, by the bounds of its blocks.
+fn run_bounded(
     y: &mut [u64],
     s: &[u64],
     h: &[u16],
@@ -114,12 +189,12 @@ pub fn run(
     limit: u16,
     first: u32,
 ) -> Ended
-    requires { ⌜ Fit (now h) sh × (length (now y) ≡ wordRoom) × (length (now s) ≡ syndromeRoom) × (1 ≤ sh .blocks) × (from < sh .size) × Beginning (now h) sh from first (wbit (now y)) (wbit (now s)) ⌝ }
-    ensures { λ r. ⌜ ((c : Code) → Begins c (now (h .entry)) sh from first (wbit (now (y .entry))) (wbit (now (s .entry))) → RunsTo (byExcess c) c sh limit (wbit (now (y .entry))) (r .ran) (wbit (now (y .exit))) (laid c sh (wbit (now (y .exit)))) × (r .last ≡ broken c (wbit (now (y .exit))))) ⌝ }
+    requires { ⌜ Fit (now h) sh × (length (now y) ≡ wordRoom) × (length (now s) ≡ syndromeRoom) × (1 ≤ sh .blocks) × (from < sh .size)
+        × Beginning (now h) sh from first (wbit (now y)) (wbit (now s)) ⌝ }
+    ensures { λ r. ⌜ ((c : Code) → Begins c (now (h .entry)) sh from first (wbit (now (y .entry))) (wbit (now (s .entry)))
+        → RunsTo (byExcess c) c sh limit (wbit (now (y .entry))) (r .ran) (wbit (now (y .exit))) (laid c sh (wbit (now (y .exit))))
+        × (r .last ≡ broken c (wbit (now (y .exit))))) ⌝ }
 {
-    if first == 0 {
-        return at_end(0, 0, 0);
-    }
     let mut d = [0u64; ROWS];
     let mut starts = [0u16; STARTS];
     let mut counts = [0u8; BLOCKS];
@@ -137,4 +212,50 @@ pub fn run(
         limit,
         first,
     )
+}
+
+// The same where one word holds a block.
+fn run_narrow(
+    y: &mut [u64],
+    s: &[u64],
+    h: &[u16],
+    sh: Shape,
+    from: usize,
+    limit: u16,
+    first: u32,
+) -> Ended
+    requires { ⌜ Fit (now h) sh × (length (now y) ≡ wordRoom) × (length (now s) ≡ syndromeRoom) × (1 ≤ sh .blocks) × (from < sh .size)
+        × Beginning (now h) sh from first (wbit (now y)) (wbit (now s)) × (sh .words ≡ 1) ⌝ }
+    ensures { λ r. ⌜ ((c : Code) → Begins c (now (h .entry)) sh from first (wbit (now (y .entry))) (wbit (now (s .entry)))
+        → RunsTo (byExcess c) c sh limit (wbit (now (y .entry))) (r .ran) (wbit (now (y .exit))) (laid c sh (wbit (now (y .exit))))
+        × (r .last ≡ broken c (wbit (now (y .exit))))) ⌝ }
+{
+    let mut rows = [0u64; 4];
+    narrow::begin(s, sh, &mut rows);
+    go_on_narrow(y, &mut rows, h, sh, from, limit, first)
+}
+
+// The run from the word y with the syndrome s, of which so many checks are broken, under a limit: flips until it ends.
+pub fn run(
+    y: &mut [u64],
+    s: &[u64],
+    h: &[u16],
+    sh: Shape,
+    from: usize,
+    limit: u16,
+    first: u32,
+) -> Ended
+    requires { ⌜ Fit (now h) sh × (length (now y) ≡ wordRoom) × (length (now s) ≡ syndromeRoom) × (1 ≤ sh .blocks) × (from < sh .size)
+        × Beginning (now h) sh from first (wbit (now y)) (wbit (now s)) ⌝ }
+    ensures { λ r. ⌜ ((c : Code) → Begins c (now (h .entry)) sh from first (wbit (now (y .entry))) (wbit (now (s .entry)))
+        → RunsTo (byExcess c) c sh limit (wbit (now (y .entry))) (r .ran) (wbit (now (y .exit))) (laid c sh (wbit (now (y .exit))))
+        × (r .last ≡ broken c (wbit (now (y .exit))))) ⌝ }
+{
+    if first == 0 {
+        return at_end(0, 0, 0);
+    }
+    if sh.words == 1 {
+        return run_narrow(y, s, h, sh, from, limit, first);
+    }
+    run_bounded(y, s, h, sh, from, limit, first)
 }

@@ -28,6 +28,7 @@ lends1 = record {
     room = lit≤ tt;
     bits = lit≤ tt;
     flat = refl;
+    narrow = λ e. (refl, refl);
   };
   lent = lent 16 8 0 15 parity16 generator16 16 8 1 (flat8 (pairs parity16)) tt refl tt tt;
 }
@@ -45,6 +46,7 @@ lends2 = record {
     room = lit≤ tt;
     bits = lit≤ tt;
     flat = refl;
+    narrow = λ e. (refl, refl);
   };
   lent = lent 32 16 0 31 parity32 generator32 32 8 1 (flat8 (pairs parity32)) tt refl tt tt;
 }
@@ -62,6 +64,7 @@ lends3 = record {
     room = lit≤ tt;
     bits = lit≤ tt;
     flat = refl;
+    narrow = λ e. (refl, refl);
   };
   lent = lent 64 32 0 63 parity64 generator64 64 8 1 (flat8 (pairs parity64)) tt refl tt tt;
 }
@@ -79,6 +82,7 @@ lends4 = record {
     room = lit≤ tt;
     bits = lit≤ tt;
     flat = refl;
+    narrow = λ e. absurd (omega (arith, e));
   };
   lent = lent 1022 895 0 510 parity511 generator511 512 16 8 (flat16 (pairs parity511)) tt refl tt tt;
 }

@@ -1,4 +1,4 @@
--- `runs::run`: a quiet word is left as it is; of any other the state is made, and the run goes on from it. Assumes nothing.
+-- `runs::run`: a quiet word is left as it is. Assumes nothing.
 use mathlib.Core.Path.{_≡_, refl, sym, _∙_}
 use borrow.Author.Needs.{needs}
 use Rattle.rules.specs.Checks.{broken}
@@ -6,7 +6,7 @@ use Rattle.rules.specs.Flipping.{byExcess}
 use Rattle.rules.proofs.Choosing.{quiet-next}
 use Rattle.vectors.specs.Vectors.{wbit}
 use Rattle.layout.specs.Lent.{laid}
-use Rattle.runs.proofs.Turning.{going-start, ends-quiet, begun-kept, begun-ready, runs-as}
+use Rattle.runs.proofs.Turning.{going-start, ends-quiet, runs-as}
 use Rattle.runs.proofs.run.Statement.{statement}
 use Rattle.runs.proofs.run.Tie as tie
 
@@ -24,72 +24,23 @@ returns c k b =
       c .at-end .ensures .2 ∙ sym none,
     )
 
-slice-aggregate-begin : tie.Need-slice-aggregate-begin
-slice-aggregate-begin c = search needs
-
-slice-aggregate-begin-2 : tie.Need-slice-aggregate-begin-2
-slice-aggregate-begin-2 c = search needs
-
-slice-aggregate-begin-3 : tie.Need-slice-aggregate-begin-3
-slice-aggregate-begin-3 c = search needs
-
-begin-requires : tie.Need-begin-requires
-begin-requires c κs = search needs
-
-slice-aggregate-go-on : tie.Need-slice-aggregate-go-on
-slice-aggregate-go-on c = search needs
-
-slice-aggregate-go-on-2 : tie.Need-slice-aggregate-go-on-2
-slice-aggregate-go-on-2 c = search needs
-
-slice-aggregate-go-on-3 : tie.Need-slice-aggregate-go-on-3
-slice-aggregate-go-on-3 c = search needs
-
-slice-aggregate-go-on-4 : tie.Need-slice-aggregate-go-on-4
-slice-aggregate-go-on-4 c = search needs
-
-go-on-requires : tie.Need-go-on-requires
-go-on-requires c κs =
-    let s = c .before .before .before .before .before .before .before .before .before .before .before .before .before .before .before
-    .before in
-    let a = s .args in
-    let b = c .before .before .before .before .before .before .before .before .begin in
-    let w = s .pre .5 in
-    let k = w .begins in (
-      s .pre .0,
-      b .ensures .1,
-      begun-ready (s .pre .0) (b .ensures .1) (search needs) (search needs),
-      s .pre .1,
-      search needs,
-      s .pre .3,
-      s .pre .4,
-      record {
-        code = w .code;
-        lent = k .lent;
-        unsent = k .unsent;
-        carried = record {
-          kept = begun-kept (w .code) (a .h .now) (a .sh) (k .lent) _ _ (b .ensures .1) (a .from) (wbit (a .y .now)) _ _
-              (k .held) (b .ensures .0);
-          left-is = k .broken;
-        };
-      },
-    )
+run-narrow-requires : tie.Need-run-narrow-requires
+run-narrow-requires c κs = search needs
 
 same-length : tie.Need-same-length
 same-length c = search needs
 
 returns-2 : tie.Need-returns-2
-returns-2 c k e =
-    let s = c .before .before .before .before .before .before .before .before .before .before .before .before .before .before .before
-    .before .before .before .before .before .before in
-    let a = s .args in
-    let b = c .before .before .before .before .before .before .before .before .before .before .before .before .before .begin in
-    c .before .before .before .before .go-on .ensures k (e .lent) (e .unsent)
-    (record {
-      kept = begun-kept k (a .h .now) (a .sh) (e .lent) _ _ (b .ensures .1) (a .from) (wbit (a .y .now)) _ _ (e .held)
-          (b .ensures .0);
-      left-is = e .broken;
-    })
+returns-2 c = search needs
+
+run-bounded-requires : tie.Need-run-bounded-requires
+run-bounded-requires c κs = search needs
+
+same-length-2 : tie.Need-same-length-2
+same-length-2 c = search needs
+
+returns-3 : tie.Need-returns-3
+returns-3 c = search needs
 
 pub run-spec : {M : Type 1} → statement M
 run-spec =
@@ -97,14 +48,9 @@ run-spec =
     (tie.spec
     at-end-requires
     returns
-    slice-aggregate-begin
-    slice-aggregate-begin-2
-    slice-aggregate-begin-3
-    begin-requires
-    slice-aggregate-go-on
-    slice-aggregate-go-on-2
-    slice-aggregate-go-on-3
-    slice-aggregate-go-on-4
-    go-on-requires
+    run-narrow-requires
     same-length
-    returns-2)
+    returns-2
+    run-bounded-requires
+    same-length-2
+    returns-3)

@@ -56,7 +56,7 @@ double-requires c κs =
     )
 
 add-block-requires : tie.Need-add-block-requires Inv-loop μ-loop
-add-block-requires c κs = search needs
+add-block-requires c κs = (search needs, search needs, search needs, search needs)
 
 add-b : tie.Need-add-b Inv-loop μ-loop
 add-b c = search needs

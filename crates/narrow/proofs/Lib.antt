@@ -1,0 +1,3 @@
+pub mod Around
+pub mod Levels
+pub mod Blocks

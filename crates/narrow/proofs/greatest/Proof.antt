@@ -1,0 +1,73 @@
+-- `narrow::greatest`: after b turns it is the greatest of the first b scores. Assumes nothing.
+use mathlib.Core.Path.{_≡_, subst}
+use mathlib.Core.Logic.{⊎-elim}
+use Prim.Native.Nat.{_-_, _≤_, _<_}
+use native.Mathlib.Omega.{arith}
+use lib.ListN.{getD}
+use Rattle.bits.proofs.Orders.{le-or-lt}
+use Rattle.narrow.specs.Weighing.{Greatest}
+use Rattle.narrow.proofs.Blocks.{greatest-none, greatest-more, greatest-kept}
+use Rattle.narrow.proofs.greatest.Statement.{statement}
+use Rattle.narrow.proofs.greatest.Tie as tie
+
+abbrev Inv-loop : tie.InvT-loop
+Inv-loop scores blocks p₀ b₀ p b = (b ≤ blocks) × Greatest scores b (p .score) (p .block)
+
+abbrev μ-loop : tie.MeasureT-loop
+μ-loop scores blocks p₀ b₀ p b = blocks - b
+
+loop-holds : tie.Need-loop-holds Inv-loop μ-loop
+loop-holds c = (omega arith, greatest-none (c .before .args .scores .now))
+
+mul-better : tie.Need-mul-better Inv-loop μ-loop
+mul-better c = omega arith
+
+shared-slice-read-better : tie.Need-shared-slice-read-better Inv-loop μ-loop
+shared-slice-read-better c = omega arith
+
+better-requires : tie.Need-better-requires Inv-loop μ-loop
+better-requires c κs = tt
+
+add-b : tie.Need-add-b Inv-loop μ-loop
+add-b c = omega arith
+
+loop-less : tie.Need-loop-less Inv-loop μ-loop
+loop-less c = omega arith
+
+loop-again : tie.Need-loop-again Inv-loop μ-loop
+loop-again c =
+    let a = c .before .before .before .before .before .args in
+    let l = c .before .before .before .loop in
+    let p = c .better .result in
+    let e = c .better .ensures in (
+      omega arith,
+      ⊎-elim
+          (λ (q : getD (a .scores .now) (l .b) 0 ≤ l .p .score).
+          greatest-kept (a .scores .now) (l .b) (l .p .score) (l .p .block) (p .score) (p .block) (l .inv .1) q (e .1 q .0) (e .1 q .1))
+          (λ (q : l .p .score < getD (a .scores .now) (l .b) 0).
+          greatest-more (a .scores .now) (l .b) (l .p .score) (l .p .block) (p .score) (p .block) (l .inv .1) (omega arith) q (e .0 q .0)
+          (e .0 q .1))
+          (le-or-lt (getD (a .scores .now) (l .b) 0) (l .p .score)),
+    )
+
+returns : tie.Need-returns Inv-loop μ-loop
+returns c =
+    let a = c .before .before .before .args in
+    let l = c .before .loop in
+    let all : l .b ≡ a .blocks = omega arith in
+    subst (λ b. Greatest (a .scores .now) b (l .p .score) (l .p .block)) all (l .inv .1)
+
+pub greatest-spec : {M : Type 1} → statement M
+greatest-spec =
+    tie.close
+    (tie.spec
+    Inv-loop
+    μ-loop
+    loop-holds
+    mul-better
+    shared-slice-read-better
+    better-requires
+    add-b
+    loop-less
+    loop-again
+    returns)

@@ -1,0 +1,280 @@
+// Codes whose blocks one word holds: the rows of the syndrome over and over in a word each, and the bits of greatest excess from them.
+ghost use mathlib.Core.Path.{_≡_};
+ghost use mathlib.Core.Bool.{true, _&&_};
+ghost use Prim.Native.Nat.{ℕ, _+_, _-_, _*_, _%_, _^_, _<_, _≤_};
+ghost use lib.Count.{leadingZeros};
+ghost use lib.Dec.{eqb, ltb};
+ghost use lib.ListN.{length, getD};
+ghost use Rattle.bits.specs.Bits.{Word, flipped, tally, over, countOf, _⊕_};
+ghost use Rattle.rules.specs.Codes.{Code};
+ghost use Rattle.vectors.specs.Vectors.{wbit, Holds, upTo};
+ghost use Rattle.planes.specs.Ranges.{Top};
+ghost use Rattle.layout.specs.Lent.{Fit, Lent, laid, score, entries, shiftsOf, total};
+ghost use Rattle.layout.specs.Rooms.{blocksRoom, syndromeRoom, wordRoom};
+ghost use Rattle.narrow.specs.Weighing.{around, Rows, Weighs, broke, sent, Peaked, Weighed, Greatest, Chosen};
+use choice::Best;
+use layout::BLOCKS;
+use layout::Shape;
+
+// Of the bits of a block, those that have none, at most one and at most two of some checks met; and how many checks these are.
+struct Weights {
+    none: u64,
+    one: u64,
+    two: u64,
+    checks: u32,
+}
+
+// A score, and the bits that have it.
+struct Level {
+    score: u32,
+    mask: u64,
+}
+
+// The greatest score, and the first block that has it.
+pub struct Peak {
+    pub score: u32,
+    pub block: usize,
+}
+
+// The first m bits of v over and over.
+fn repeated(v: u64, m: usize) -> u64
+    requires { ⌜ (1 ≤ m) × (m ≤ 64) ⌝ }
+    ensures { λ r. ⌜ ((f : Word) → Holds v (upTo m f) → Holds r (around m f)) ⌝ }
+{
+    let mut all = v;
+    let mut n = m;
+    while n < 64 {
+        all |= all >> n;
+        n *= 2;
+    }
+    all
+}
+
+// The rows of the syndrome s.
+pub fn begin(s: &[u64], sh: Shape, rows: &mut [u64])
+    requires { ⌜ (1 ≤ sh .size) × (sh .size ≤ 64) × (sh .words ≡ 1) × (sh .rows ≡ 4) × (length (now s) ≡ syndromeRoom)
+        × (length (now rows) ≡ 4) ⌝ }
+    ensures { λ _. ⌜ ((c : Code) (x : Word) → wbit (now (s .entry)) ≡ laid c sh x → Rows c sh x (now (rows .exit))) ⌝ }
+{
+    let mut r = 0;
+    while r < 4 {
+        rows[r] = repeated(s[r], sh.size);
+        r += 1;
+    }
+}
+
+// One check more of each bit: it is broken where x has a one.
+fn with_check(w: Weights, x: u64) -> Weights
+    requires { ⌜ w .checks < 8 ⌝ }
+    ensures { λ r. ⌜ (r .checks ≡ w .checks + 1) × ((counts f : Word) (hits : ℕ → ℕ) → Weighs counts hits w → Holds x f
+        → Weighs counts (λ k. hits k + tally (f k)) r) ⌝ }
+{
+    let two = (w.two & x) | w.one;
+    let one = (w.one & x) | w.none;
+    let none = w.none & x;
+    Weights {
+        none: none,
+        one: one,
+        two: two,
+        checks: w.checks + 1,
+    }
+}
+
+// The checks of one place of the table, in this row, if it has an entry.
+fn with_place(w: Weights, row: u64, e: usize, m: usize) -> Weights
+    requires { ⌜ (w .checks < 8) × (1 ≤ m) × (m ≤ 64) × (64 % m ≡ 0) ⌝ }
+    ensures { λ r. ⌜ (r .checks ≡ w .checks + tally (ltb e m)) × ((counts f : Word) (hits : ℕ → ℕ) → Weighs counts hits w
+        → Holds row (around m f) → Weighs counts (λ k. hits k + tally (ltb e m && f ((k + (m - e)) % m))) r) ⌝ }
+{
+    if e < m {
+        return with_check(w, vectors::funnel(row, row, (64 - e) % 64));
+    }
+    w
+}
+
+// The checks of the two places of a block in this row.
+fn with_row(w: Weights, row: u64, h: &[u16], at: usize, m: usize) -> Weights
+    requires { ⌜ (w .checks < 7) × (1 ≤ m) × (m ≤ 64) × (64 % m ≡ 0) × (at + 1 < length (now h)) ⌝ }
+    ensures { λ r. ⌜ (r .checks ≡ w .checks + length (entries m (now (h .entry)) at)) × (r .checks ≤ w .checks + 2)
+        × ((counts f : Word) (hits : ℕ → ℕ) → Weighs counts hits w → Holds row (around m f)
+        → Weighs counts (λ k. hits k + countOf (entries m (now (h .entry)) at) (λ s. f ((k + (m - s)) % m))) r) ⌝ }
+{
+    let v = with_place(w, row, h[at] as usize, m);
+    with_place(v, row, h[at + 1] as usize, m)
+}
+
+// The weights of those bits of block b that are in mask.
+fn weigh(rows: &[u64], h: &[u16], sh: Shape, b: usize, mask: u64) -> Weights
+    requires { ⌜ Fit (now h) sh × (sh .words ≡ 1) × (length (now rows) ≡ 4) × (b < sh .blocks) ⌝ }
+    ensures { λ r. ⌜ (r .checks ≡ total 4 (λ q. length (shiftsOf sh (now (h .entry)) q b))) × (r .checks ≤ 8)
+        × ((c : Code) (x counts : Word) → Rows c sh x (now (rows .entry)) → Holds mask counts
+        → Weighs counts (broke c (now (h .entry)) sh b x 4) r) ⌝ }
+{
+    let mut w = Weights {
+        none: mask,
+        one: mask,
+        two: mask,
+        checks: 0,
+    };
+    let mut r = 0;
+    while r < 4 {
+        w = with_row(w, rows[r], h, 2 * (r * sh.blocks + b), sh.size);
+        r += 1;
+    }
+    w
+}
+
+// The greatest score above 8 of the bits that were weighed, and the bits that have it.
+fn highest(w: Weights) -> Level
+    requires { ⌜ w .checks ≤ 8 ⌝ }
+    ensures { λ r. ⌜ (w .checks ≤ 6 → (counts : Word) (hits g : ℕ → ℕ) → Weighs counts hits w
+        → ((k : ℕ) → k < 64 → counts k ≡ true → g k + w .checks ≡ 2 * hits k + 8) → Peaked counts g (r .score) (r .mask)) ⌝ }
+{
+    if w.none != 0 {
+        return Level {
+            score: 8 + w.checks,
+            mask: w.none,
+        };
+    }
+    if w.one != 0 {
+        return Level {
+            score: 6 + w.checks,
+            mask: w.one,
+        };
+    }
+    if w.two != 0 {
+        return Level {
+            score: 4 + w.checks,
+            mask: w.two,
+        };
+    }
+    Level { score: 0, mask: 0 }
+}
+
+// The bits of block b that are sent.
+fn sent_in(b: usize, from: usize, m: usize) -> u64
+    requires { ⌜ (from < m) × (m ≤ 64) ⌝ }
+    ensures { λ r. ⌜ Holds r (sent m from b) ⌝ }
+{
+    let all = vectors::front(u64::MAX, m);
+    if b == 0 {
+        return all ^ vectors::front(all, from);
+    }
+    all
+}
+
+// For each block the greatest score above 8 of its bits, and the bits that have it; bits before bit `from` are not sent.
+pub fn weigh_all(
+    rows: &[u64],
+    h: &[u16],
+    sh: Shape,
+    from: usize,
+    scores: &mut [u32],
+    masks: &mut [u64],
+)
+    requires { ⌜ Fit (now h) sh × (sh .words ≡ 1) × (length (now rows) ≡ 4) × (from < sh .size)
+        × (length (now scores) ≡ blocksRoom) × (length (now masks) ≡ blocksRoom) ⌝ }
+    ensures { λ _. ⌜ ((c : Code) (x : Word) → Lent c (now (h .entry)) sh → Rows c sh x (now (rows .entry))
+        → Weighed c sh from x (now (scores .exit)) (now (masks .exit)) (sh .blocks)) ⌝ }
+{
+    let mut b = 0;
+    while b < sh.blocks {
+        let l = highest(weigh(rows, h, sh, b, sent_in(b, from, sh.size)));
+        scores[b] = l.score;
+        masks[b] = l.mask;
+        b += 1;
+    }
+}
+
+// A block, or a later one with this score, if that is greater.
+fn better(p: Peak, score: u32, b: usize) -> Peak
+    ensures { λ r. ⌜ (p .score < score → (r .score ≡ score) × (r .block ≡ b))
+        × (score ≤ p .score → (r .score ≡ p .score) × (r .block ≡ p .block)) ⌝ }
+{
+    if p.score < score {
+        return Peak {
+            score: score,
+            block: b,
+        };
+    }
+    p
+}
+
+// The greatest of the scores, and the first block that has it; 8 if none is greater.
+pub fn greatest(scores: &[u32], blocks: usize) -> Peak
+    requires { ⌜ (1 ≤ blocks) × (blocks ≤ length (now scores)) × (length (now scores) ≤ blocksRoom) ⌝ }
+    ensures { λ r. ⌜ Greatest (now (scores .entry)) blocks (r .score) (r .block) ⌝ }
+{
+    let mut p = Peak { score: 8, block: 0 };
+    let mut b = 0;
+    while b < blocks {
+        p = better(p, scores[b], b);
+        b += 1;
+    }
+    p
+}
+
+// The first bit of this block that is set in its mask.
+pub fn first_bit(masks: &[u64], block: usize, m: usize) -> usize
+    requires { ⌜ (block < 16) × (length (now masks) ≡ blocksRoom) × (m ≤ 64) ⌝ }
+    ensures { λ r. ⌜ (getD (now (masks .entry)) block 0 < 2 ^ 64)
+        × (r ≡ block * m + leadingZeros 64 (getD (now (masks .entry)) block 0)) ⌝ }
+{
+    block * m + u64::leading_zeros(masks[block]) as usize
+}
+
+// The bit of the greatest score above 8 from bit `from` on; of several, the lowest number. A score of 8 says that there is none.
+pub fn choose(rows: &[u64], h: &[u16], sh: Shape, from: usize) -> Best
+    requires { ⌜ Fit (now h) sh × (sh .words ≡ 1) × (1 ≤ sh .blocks) × (length (now rows) ≡ 4) × (from < sh .size) ⌝ }
+    ensures { λ r. ⌜ ((c : Code) (x : Word) → Lent c (now (h .entry)) sh → Rows c sh x (now (rows .entry)) → Chosen c sh from x r) ⌝ }
+{
+    let mut scores = [0u32; BLOCKS];
+    let mut masks = [0u64; BLOCKS];
+    weigh_all(rows, h, sh, from, &mut scores, &mut masks);
+    let p = greatest(&scores, sh.blocks);
+    Best {
+        score: p.score,
+        bit: first_bit(&masks, p.block, sh.size),
+    }
+}
+
+// Turns the check of a row over that covers bit k by the shift e; a number that is m or more is no shift. `each` has the first bit of
+// every m set.
+fn turn_place(row: u64, each: u64, e: usize, k: usize, m: usize) -> u64
+    requires { ⌜ (1 ≤ m) × (m ≤ 64) × (64 % m ≡ 0) × (k < m) × Holds each (around m (eqb 0)) ⌝ }
+    ensures { λ r. ⌜ ((f : Word) → Holds row f → Holds r (λ i. f i ⊕ (ltb e m && eqb (i % m) ((k + (m - e)) % m)))) ⌝ }
+{
+    if e < m {
+        return row ^ vectors::funnel(each, each, (64 + e - k) % 64);
+    }
+    row
+}
+
+// Turns the checks of a row over that cover bit k by the shifts of two places.
+fn turn_row(row: u64, each: u64, h: &[u16], at: usize, k: usize, m: usize) -> u64
+    requires { ⌜ (1 ≤ m) × (m ≤ 64) × (64 % m ≡ 0) × (k < m) × Holds each (around m (eqb 0)) × (at + 1 < length (now h)) ⌝ }
+    ensures { λ r. ⌜ ((f : Word) → Holds row f
+        → Holds r (λ i. f i ⊕ over (entries m (now (h .entry)) at) (λ s. eqb (i % m) ((k + (m - s)) % m)))) ⌝ }
+{
+    let v = turn_place(row, each, h[at] as usize, k, m);
+    turn_place(v, each, h[at + 1] as usize, k, m)
+}
+
+// Turns a bit of a word over, and its checks with it.
+pub fn flip(y: &mut [u64], rows: &mut [u64], h: &[u16], sh: Shape, bit: usize)
+    requires { ⌜ Fit (now h) sh × (sh .words ≡ 1) × (length (now y) ≡ wordRoom) × (length (now rows) ≡ 4)
+        × (bit < sh .blocks * sh .size) ⌝ }
+    ensures word { λ _. ⌜ wbit (now (y .exit)) ≡ flipped (wbit (now (y .entry))) bit ⌝ }
+    ensures checks { λ _. ⌜ ((c : Code) (x : Word) → Lent c (now (h .entry)) sh → Rows c sh x (now (rows .entry))
+        → Rows c sh (flipped x bit) (now (rows .exit))) ⌝ }
+{
+    vectors::turn_over(y, bit);
+    let each = repeated(1u64 << 63, sh.size);
+    let b = bit / sh.size;
+    let k = bit % sh.size;
+    let mut r = 0;
+    while r < 4 {
+        rows[r] = turn_row(rows[r], each, h, 2 * (r * sh.blocks + b), k, sh.size);
+        r += 1;
+    }
+}
