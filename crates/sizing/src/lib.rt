@@ -128,7 +128,19 @@ fn go_on(
             return at_end(6, flips, left, unlike);
         }
         left -= best.score - 8;
-        unlike = turn(samples, y, d, starts, counts, met, kept, sh, best.bit, left, unlike);
+        unlike = turn(
+            samples,
+            y,
+            d,
+            starts,
+            counts,
+            met,
+            kept,
+            sh,
+            best.bit,
+            left,
+            unlike,
+        );
         flips += 1;
     }
     at_end(0, flips, 0, unlike)

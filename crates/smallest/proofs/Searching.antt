@@ -319,8 +319,12 @@ module _ (samples : List Float) (sh : Shape) (d : Word) (starts counts : List �
           let y = getD kept b 0 in
           let i = was .inside hbit in
           let place : y % M ≡ y - b * M = in-block (y - b * M) (omega (arith, i .0, i .1)) (omega (arith, i .0)) in
-          inr (omega (arith, p .0, i .0), omega (arith, p .0, i .1), subst (λ q. N ≤ HB (q - b * M) + m) (sym (p .0))
-          (subst (λ q. N ≤ HB q + m) place (p .1)))
+          inr (
+            omega (arith, p .0, i .0),
+            omega (arith, p .0, i .1),
+            subst (λ q. N ≤ HB (q - b * M) + m) (sym (p .0))
+                (subst (λ q. N ≤ HB q + m) place (p .1)),
+          )
         where
           in-block : (k : ℕ) → k < M → getD kept b 0 ≡ b * M + k → getD kept b 0 % M ≡ k
           in-block k l e = ap (λ q. q % M) e ∙ digits-mod b l

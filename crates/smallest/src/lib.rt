@@ -173,7 +173,17 @@ fn raise_all(
             met: met[b],
             bit: kept[b],
         };
-        let low = raise_in(samples, d, starts, 8 * b, counts[b], sh.size, b * sh.size, p, was);
+        let low = raise_in(
+            samples,
+            d,
+            starts,
+            8 * b,
+            counts[b],
+            sh.size,
+            b * sh.size,
+            p,
+            was,
+        );
         met[b] = low.met;
         kept[b] = low.bit;
         b += 1;
@@ -215,7 +225,16 @@ fn raise_check(
     if !vectors::is_set(d, p) {
         return;
     }
-    raise_all(samples, d, starts, counts, met, kept, sh, nearer(p, sh.size));
+    raise_all(
+        samples,
+        d,
+        starts,
+        counts,
+        met,
+        kept,
+        sh,
+        nearer(p, sh.size),
+    );
 }
 
 // What is known of every block when the bits are seen too that a broken check of bit k covers; the starts of its block begin with start `from`.
@@ -243,7 +262,16 @@ fn raise(
 {
     let mut e = 0;
     while e < n {
-        raise_check(samples, d, starts, counts, met, kept, sh, starts[from + e] as usize + k);
+        raise_check(
+            samples,
+            d,
+            starts,
+            counts,
+            met,
+            kept,
+            sh,
+            starts[from + e] as usize + k,
+        );
         e += 1;
     }
 }
@@ -322,26 +350,6 @@ fn smallest_in(
     best
 }
 
-// The same: a search for bits without a met check is the most frequent one, and a loop of its own for the compiler.
-fn smallest_light(
-    samples: &[f32],
-    d: &[u64],
-    starts: &[u16],
-    from: usize,
-    n: usize,
-    met: usize,
-    m: usize,
-    first: usize,
-) -> usize
-    requires { ⌜ Within (now starts) (now d) from n m × (allFinite (now samples) ≡ true) × (first + m ≤ length (now samples)) × (met ≤ n) ⌝ }
-    ensures { λ r. ⌜ Lightest (now (samples .entry)) (wbit (now (d .entry))) (now (starts .entry)) from n met m first m r ⌝ }
-{
-    if met == 0 {
-        return smallest_in(samples, d, starts, from, n, 0, m, first);
-    }
-    smallest_in(samples, d, starts, from, n, met, m, first)
-}
-
 // The smaller of two bits of which the first may be none.
 fn lead(samples: &[f32], best: usize, bit: usize) -> usize
     requires { ⌜ (allFinite (now samples) ≡ true) × (bit < length (now samples)) ⌝ }
@@ -407,7 +415,16 @@ fn weigh(
 {
     let end = samples.len();
     let n = counts[b] as usize;
-    let bit = smallest_light(samples, d, starts, 8 * b, n, met[b] as usize, sh.size, b * sh.size);
+    let bit = smallest_in(
+        samples,
+        d,
+        starts,
+        8 * b,
+        n,
+        met[b] as usize,
+        sh.size,
+        b * sh.size,
+    );
     kept[b] = bit;
     if bit < end {
         return lead(samples, best, bit);
@@ -438,7 +455,17 @@ fn settle(
     if choice::bound_of(counts, met, b) != top {
         return best;
     }
-    let r = still(samples, d, starts, 8 * b, counts[b], met[b], sh.size, kept[b], best);
+    let r = still(
+        samples,
+        d,
+        starts,
+        8 * b,
+        counts[b],
+        met[b],
+        sh.size,
+        kept[b],
+        best,
+    );
     if r < samples.len() {
         return r;
     }
@@ -477,8 +504,8 @@ fn smallest_at(
     best
 }
 
-// The smallest bit of the greatest score.
-pub fn choose(
+// The smallest bit of the greatest score: the bounds go down until one is found.
+fn choose_lower(
     samples: &[f32],
     d: &[u64],
     starts: &[u16],
@@ -508,4 +535,36 @@ pub fn choose(
             };
         }
     }
+}
+
+// The same. Mostly the greatest bound is one that a bit has, and a call of its own for that is faster.
+pub fn choose(
+    samples: &[f32],
+    d: &[u64],
+    starts: &[u16],
+    counts: &[u8],
+    met: &mut [u8],
+    kept: &mut [usize],
+    sh: Shape,
+) -> Best
+    requires { ⌜ Ready sh (now starts) (now counts) (now met) × (length (now kept) ≡ 16) × (length (now d) ≡ 65) × (1 ≤ sh .blocks)
+        × (length (now samples) ≡ sh .blocks * sh .size) × (allFinite (now samples) ≡ true) ⌝ }
+    ensures { λ r. ⌜ Ready sh (now (starts .entry)) (now (counts .entry)) (now (met .exit)) × (r .bit < sh .blocks * sh .size)
+        × (Knows (now (samples .entry)) sh (wbit (now (d .entry))) (now (starts .entry)) (now (counts .entry)) whole
+        (now (met .entry)) (now (kept .entry))
+        → Knows (now (samples .entry)) sh (wbit (now (d .entry))) (now (starts .entry)) (now (counts .entry)) whole
+        (now (met .exit)) (now (kept .exit))
+        × ((g : ℕ → ℕ) → Scored g sh (wbit (now (d .entry))) (now (starts .entry)) (now (counts .entry))
+        → ((i : ℕ) → i < sh .blocks * sh .size → g i ≤ r .score)
+        × Leads (now (samples .entry)) g (r .score) (sh .blocks * sh .size) (r .bit))) ⌝ }
+{
+    let top = choice::greatest(counts, met, sh.blocks);
+    let bit = smallest_at(samples, d, starts, counts, met, kept, sh, top);
+    if bit < samples.len() {
+        return Best {
+            score: top as u32,
+            bit: bit,
+        };
+    }
+    choose_lower(samples, d, starts, counts, met, kept, sh)
 }

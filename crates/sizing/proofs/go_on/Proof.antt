@@ -151,8 +151,12 @@ sub-left-2 c =
     (l .met) (l .kept) was (f .result .bit) (f .result .score) (f .ensures .2) in
     let leads = chosen-leads (w .code) (a .h .now) (a .sh) (w .lent) (s .pre .0) (a .starts .now) (a .counts .now) (s .pre .1) x (wbit (l .y)) (l .d)
     (l .met) (l .kept) was (f .result .bit) (f .result .score) (f .ensures .2) in
-    omega (arith, i .left-is, sized-left x (w .lent) (w .unsent) (wbit (l .y)) (f .result .bit) (f .result .score) (f .ensures .1) (s .pre .7)
-    most leads (omega (arith, c .before .before .if1 .left)))
+    omega (
+      arith,
+      i .left-is,
+      sized-left x (w .lent) (w .unsent) (wbit (l .y)) (f .result .bit) (f .result .score) (f .ensures .1) (s .pre .7)
+          most leads (omega (arith, c .before .before .if1 .left)),
+    )
 
 turn-requires : tie.Need-turn-requires Inv-loop μ-loop
 turn-requires c κs =

@@ -54,8 +54,13 @@ small false = omega arith
 add-broken : tie.Need-add-broken Inv-loop μ-loop
 add-broken c =
     let l = c .before .before .before .before .loop in
-    omega (arith, l .inv .1, c .one .ensures, small (c .before .is-set .result),
-    c .before .before .before .before .before .before .before .pre .few)
+    omega (
+      arith,
+      l .inv .1,
+      c .one .ensures,
+      small (c .before .is-set .result),
+      c .before .before .before .before .before .before .before .pre .few,
+    )
 
 add-e : tie.Need-add-e Inv-loop μ-loop
 add-e c = omega (arith, c .before .before .before .before .before .before .before .pre .few)
@@ -71,9 +76,9 @@ loop-again c =
       omega arith,
       omega (arith, l .inv .1, c .one .ensures, small (c .before .is-set .result)),
       ap (λ z. z + c .one .result) (l .inv .2)
-      ∙ ap (λ z. hits (wbit (a .d .now)) (a .starts .now) (a .from) (l .e) (a .k) + z)
-      (c .one .ensures ∙ ap tally (c .before .is-set .ensures))
-      ∙ sym (count-next (l .e) (λ e. wbit (a .d .now) (getD (a .starts .now) (a .from + e) 0 + a .k))),
+          ∙ ap (λ z. hits (wbit (a .d .now)) (a .starts .now) (a .from) (l .e) (a .k) + z)
+          (c .one .ensures ∙ ap tally (c .before .is-set .ensures))
+          ∙ sym (count-next (l .e) (λ e. wbit (a .d .now) (getD (a .starts .now) (a .from + e) 0 + a .k))),
     )
 
 returns : tie.Need-returns Inv-loop μ-loop

@@ -18,9 +18,11 @@ use Rattle.smallest.proofs.look.Tie as tie
 returns : tie.Need-returns
 returns c =
     let s = c .before .before .before .before in
-    let a = s .args in
-    (s .pre .3, λ seen was. look-past (a .samples .now) (wbit (a .d .now)) (a .starts .now) (a .from) (a .n) (a .m) (a .first) seen (a .low .met)
-    (a .low .bit) was (a .k) (c .if1 .taken))
+    let a = s .args in (
+      s .pre .3,
+      λ seen was. look-past (a .samples .now) (wbit (a .d .now)) (a .starts .now) (a .from) (a .n) (a .m) (a .first) seen (a .low .met)
+          (a .low .bit) was (a .k) (c .if1 .taken),
+    )
 
 broken-of-requires : tie.Need-broken-of-requires
 broken-of-requires c κs =
@@ -32,8 +34,13 @@ add-if2 : tie.Need-add-if2
 add-if2 c =
     let s = c .before .before .before .before .before .before in
     let a = s .args in
-    omega (arith, s .pre .3, s .pre .0 .few, c .before .broken-of .ensures,
-    count-le (a .n) (λ e. wbit (a .d .now) (getD (a .starts .now) (a .from + e) 0 + a .k)))
+    omega (
+      arith,
+      s .pre .3,
+      s .pre .0 .few,
+      c .before .broken-of .ensures,
+      count-le (a .n) (λ e. wbit (a .d .now) (getD (a .starts .now) (a .from + e) 0 + a .k)),
+    )
 
 sub-t13 : tie.Need-sub-t13
 sub-t13 c =
@@ -64,18 +71,22 @@ returns-3 : tie.Need-returns-3
 returns-3 c =
     let s = c .before .before .before .before .before .before .before .before .before in
     let a = s .args in
-    let f = c .before .before .before .before .broken-of in
-    (s .pre .3, λ seen was. look-higher (a .samples .now) (wbit (a .d .now)) (a .starts .now) (a .from) (a .n) (a .m) (a .first) seen
-    (a .low .met) (a .low .bit) was (a .k) (omega (arith, f .ensures, c .if3 .taken)))
+    let f = c .before .before .before .before .broken-of in (
+      s .pre .3,
+      λ seen was. look-higher (a .samples .now) (wbit (a .d .now)) (a .starts .now) (a .from) (a .n) (a .m) (a .first) seen
+          (a .low .met) (a .low .bit) was (a .k) (omega (arith, f .ensures, c .if3 .taken)),
+    )
 
 returns-4 : tie.Need-returns-4
 returns-4 c =
     let s = c .before .before .before .before .before .before .before .before .before .before .before in
     let a = s .args in
-    let f = c .before .before .before .before .before .before .broken-of in
-    (s .pre .3, λ seen was. look-equal (a .samples .now) (wbit (a .d .now)) (a .starts .now) (a .from) (a .n) (a .m) (a .first) seen
-    (a .low .met) (a .low .bit) was (a .k) (a .low .bit) (omega (arith, f .ensures, c .before .before .if3 .left, c .before .before .before .before .if2 .left))
-    (λ u. absurd (omega (arith, c .if4 .taken))) (s .pre .1) (s .pre .2))
+    let f = c .before .before .before .before .before .before .broken-of in (
+      s .pre .3,
+      λ seen was. look-equal (a .samples .now) (wbit (a .d .now)) (a .starts .now) (a .from) (a .n) (a .m) (a .first) seen
+          (a .low .met) (a .low .bit) was (a .k) (a .low .bit) (omega (arith, f .ensures, c .before .before .if3 .left, c .before .before .before .before .if2 .left))
+          (λ u. absurd (omega (arith, c .if4 .taken))) (s .pre .1) (s .pre .2),
+    )
 
 add-lesser : tie.Need-add-lesser
 add-lesser c = search needs
@@ -88,11 +99,18 @@ returns-5 c =
     let s = c .before .before .before .before .before .before .before .before .before .before .before .before in
     let a = s .args in
     let f = c .before .before .before .before .before .before .before .broken-of in
-    let p = c .lesser .ensures in
-    (s .pre .3, λ seen was. look-equal (a .samples .now) (wbit (a .d .now)) (a .starts .now) (a .from) (a .n) (a .m) (a .first) seen
-    (a .low .met) (a .low .bit) was (a .k) (c .lesser .result) (omega (arith, f .ensures, c .before .before .before .if3 .left, c .before .before .before .before .before .if2 .left))
-    (λ u. (c .before .if4 .left, one-inside (a .first) (a .m) (c .lesser .result) (a .low .bit) (a .k) (p .0) (was .inside (c .before .if4 .left))
-    (omega (arith, c .before .before .before .before .before .before .before .before .if1 .left)), p .1, p .2)) (s .pre .1) (s .pre .2))
+    let p = c .lesser .ensures in (
+      s .pre .3,
+      λ seen was. look-equal (a .samples .now) (wbit (a .d .now)) (a .starts .now) (a .from) (a .n) (a .m) (a .first) seen
+          (a .low .met) (a .low .bit) was (a .k) (c .lesser .result) (omega (arith, f .ensures, c .before .before .before .if3 .left, c .before .before .before .before .before .if2 .left))
+          (λ u. (
+            c .before .if4 .left,
+            one-inside (a .first) (a .m) (c .lesser .result) (a .low .bit) (a .k) (p .0) (was .inside (c .before .if4 .left))
+                (omega (arith, c .before .before .before .before .before .before .before .before .if1 .left)),
+            p .1,
+            p .2,
+          )) (s .pre .1) (s .pre .2),
+    )
 
 pub look-spec : {M : Type 1} → statement M
 look-spec =

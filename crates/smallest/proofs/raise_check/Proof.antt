@@ -18,9 +18,11 @@ returns : tie.Need-returns
 returns c =
     let s = c .before .before .before .before .before .before .before .before in
     let a = s .args in
-    let off : wbit (a .d .now) (a .p) ≡ false = sym (c .before .is-set .ensures) ∙ not-true (c .before .is-set .result) (c .if1 .taken) in
-    (s .pre .0, λ seen was. knows-fewer (a .samples .now) (a .sh) (wbit (a .d .now)) (a .starts .now) (a .counts .now) (a .met .now)
-    (a .kept .now) seen _ (λ j i hj hi t. unset (seen j i) (wbit (a .d .now) (a .p)) _ off t) was)
+    let off : wbit (a .d .now) (a .p) ≡ false = sym (c .before .is-set .ensures) ∙ not-true (c .before .is-set .result) (c .if1 .taken) in (
+      s .pre .0,
+      λ seen was. knows-fewer (a .samples .now) (a .sh) (wbit (a .d .now)) (a .starts .now) (a .counts .now) (a .met .now)
+          (a .kept .now) seen _ (λ j i hj hi t. unset (seen j i) (wbit (a .d .now) (a .p)) _ off t) was,
+    )
 
 nearer-requires : tie.Need-nearer-requires
 nearer-requires c κs = search needs
@@ -39,10 +41,12 @@ returns-2 c =
     let s = c .before .before .before .before .before .before .before .before .before .before .before .before .before .before .before .before in
     let a = s .args in
     let f = c .before .before .before .before .raise-all in
-    let n = c .before .before .before .before .before .nearer in
-    (f .ensures .0, λ seen was. knows-fewer (a .samples .now) (a .sh) (wbit (a .d .now)) (a .starts .now) (a .counts .now) _ _ _ _
-    (λ j i hj hi t. subst (λ q. (seen j i || covered (a .starts .now) (8 * j) (a .sh .size) q (getD (a .counts .now) j 0) i) ≡ true)
-    (sym (n .ensures .1)) (as-set (seen j i) (wbit (a .d .now) (a .p)) _ t)) (f .ensures .1 seen was))
+    let n = c .before .before .before .before .before .nearer in (
+      f .ensures .0,
+      λ seen was. knows-fewer (a .samples .now) (a .sh) (wbit (a .d .now)) (a .starts .now) (a .counts .now) _ _ _ _
+          (λ j i hj hi t. subst (λ q. (seen j i || covered (a .starts .now) (8 * j) (a .sh .size) q (getD (a .counts .now) j 0) i) ≡ true)
+          (sym (n .ensures .1)) (as-set (seen j i) (wbit (a .d .now) (a .p)) _ t)) (f .ensures .1 seen was),
+    )
 
 pub raise-check-spec : {M : Type 1} → statement M
 raise-check-spec =

@@ -59,9 +59,11 @@ loop-again c =
       settled-lower f (l .inv .3),
       λ u. settled-none f u (l .inv .4),
       λ was.
-          let p = l .inv .5 was in
-          (f .knows (p .0), λ g scored. subst (λ z. Leads (a .samples .now) g (a .top) z (c .before .before .before .before .settle .result)) next
-          (f .leads (p .0) g scored (p .1 g scored))),
+          let p = l .inv .5 was in (
+            f .knows (p .0),
+            λ g scored. subst (λ z. Leads (a .samples .now) g (a .top) z (c .before .before .before .before .settle .result)) next
+                (f .leads (p .0) g scored (p .1 g scored)),
+          ),
     )
 
 same-length : tie.Need-same-length Inv-loop μ-loop

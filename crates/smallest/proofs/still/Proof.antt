@@ -48,8 +48,13 @@ add-if3 : tie.Need-add-if3
 add-if3 c =
     let s = c .before .before .before .before .before .before .before in
     let a = s .args in
-    omega (arith, s .pre .2, s .pre .0 .few, c .broken-of .ensures,
-    count-le (a .n) (λ e. wbit (a .d .now) (getD (a .starts .now) (a .from + e) 0 + (a .bit % a .m))))
+    omega (
+      arith,
+      s .pre .2,
+      s .pre .0 .few,
+      c .broken-of .ensures,
+      count-le (a .n) (λ e. wbit (a .d .now) (getD (a .starts .now) (a .from + e) 0 + (a .bit % a .m))),
+    )
 
 returns-3 : tie.Need-returns-3
 returns-3 c = λ u. absurd (omega arith)
