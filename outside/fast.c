@@ -190,10 +190,10 @@ static void begin(const uint64_t *s, const uint16_t *h, struct shape sh, struct 
 }
 
 /* Of the 64 bits of block b from bit at on, those of which at most so many checks are met. */
-LEAF uint64_t light_at(const struct kept *kept, unsigned b, unsigned at, unsigned met)
+LEAF uint64_t light(const struct kept *kept, unsigned b, unsigned at)
 {
     const uint16_t *starts = kept->starts[b];
-    unsigned n = kept->counts[b];
+    unsigned n = kept->counts[b], met = kept->met[b];
     if (met <= 1) {
         uint64_t found = ~UINT64_C(0), spare = met == 1 ? ~UINT64_C(0) : 0;
         for (unsigned e = 0; e < n; e++) {
@@ -217,11 +217,6 @@ LEAF uint64_t light_at(const struct kept *kept, unsigned b, unsigned at, unsigne
         one ^= x;
     }
     return over;
-}
-
-LEAF uint64_t light(const struct kept *kept, unsigned b, unsigned at)
-{
-    return light_at(kept, b, at, kept->met[b]);
 }
 
 /* The first bit of block b from bit `from` on that has so few met checks; M if there is none. */

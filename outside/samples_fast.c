@@ -19,11 +19,11 @@ LEAF unsigned smaller(const float *samples, unsigned earlier, unsigned later)
 }
 
 /* The smallest bit of block b among those that have at most as many met checks as its bound says; UNKNOWN if there is none. */
-LEAF unsigned smallest_in(const struct kept *kept, const float *samples, struct shape sh, unsigned b, unsigned met)
+LEAF unsigned smallest_in(const struct kept *kept, const float *samples, struct shape sh, unsigned b)
 {
     unsigned best = UNKNOWN;
     for (unsigned at = 0; at < sh.size; at += 64) {
-        uint64_t mask = light_at(kept, b, at, met);
+        uint64_t mask = light(kept, b, at);
         if (mask != 0 && sh.size - at < 64)
             mask = front(mask, sh.size);
         if (mask != 0 && best == UNKNOWN)
@@ -48,8 +48,8 @@ LEAF unsigned broken_of(const struct kept *kept, unsigned b, unsigned k)
     return n;
 }
 
-/* The smallest bit that is known of the blocks of this bound; the smallest bit of those of which none is known is looked for first,
- * and the bound of one that has no such bit goes down. */
+/* The smallest bit of the blocks of this bound. A block is searched if none is known of it, or if the known one would be the
+ * smallest and has more checks met by now; the bound of one that has no such bit goes down. */
 LEAF unsigned smallest_at(struct kept *kept, unsigned *known, const float *samples, struct shape sh, unsigned top)
 {
     unsigned best = UNKNOWN;
@@ -64,7 +64,7 @@ LEAF unsigned smallest_at(struct kept *kept, unsigned *known, const float *sampl
                 continue;
             }
         }
-        known[b] = kept->met[b] == 0 ? smallest_in(kept, samples, sh, b, 0) : smallest_in(kept, samples, sh, b, kept->met[b]);
+        known[b] = smallest_in(kept, samples, sh, b);
         if (known[b] == UNKNOWN)
             kept->met[b]++;
         else
@@ -119,7 +119,6 @@ LEAF void flip_known(struct kept *kept, unsigned *known, const float *samples, s
         kept->d[p / 64] ^= UINT64_C(1) << (63 - p % 64);
         kept->d[other / 64] ^= UINT64_C(1) << (63 - other % 64);
     }
-    known[b] = UNKNOWN;
     for (unsigned e = 0; e < kept->counts[b]; e++) {
         unsigned p = kept->starts[b][e] + k;
         if (kept->d[p / 64] >> (63 - p % 64) & 1)

@@ -23,12 +23,13 @@ pub record Stands (c : Code) (sh : Shape) (samples : List Float) (y : Word) (d s
   pub knows : Knows samples sh (wbit d) starts counts whole met kept
 
 -- There is a code of which that is kept, and so many of its checks are broken.
-pub record Starting (h : List ℕ) (sh : Shape) (samples : List Float) (left : ℕ) (y : Word) (d starts counts met kept : List ℕ) : Type 0 where
-  pub code : Code
-  pub lent : Lent code h sh
-  pub unsent : code .unsent ≡ 0
-  pub left-is : left ≡ broken code y
-  pub stands : Stands code sh samples y d starts counts met kept
+pub record Starting (h : List ℕ) (sh : Shape) (samples : List Float) (left : ℕ) (y : Word) (d starts counts met kept : List ℕ) : Type 0
+  where
+    pub code : Code
+    pub lent : Lent code h sh
+    pub unsent : code .unsent ≡ 0
+    pub left-is : left ≡ broken code y
+    pub stands : Stands code sh samples y d starts counts met kept
 
 -- The run by sizes from x has come to y after so many flips. So many checks are broken; if there is one, what is kept is y's; and y differs
 -- in so many bits from what was read.

@@ -31,7 +31,8 @@ pub struct Ended {
 // In how many bits the word y differs from the one that was read, once bit `bit` is turned over; before that in so many.
 fn counted(samples: &[f32], y: &[u64], bit: usize, unlike: u32) -> u32
     requires { ⌜ (bit < length (now samples)) × (bit < 64 * length (now y)) × (unlike < 65536) ⌝ }
-    ensures { λ r. ⌜ (r ≤ unlike + 1) × (tally (readOf (now (samples .entry)) bit ⊕ wbit (now (y .entry)) bit) ≤ unlike → r + 2 * tally (readOf (now (samples .entry)) bit ⊕ wbit (now (y .entry)) bit) ≡ unlike + 1) ⌝ }
+    ensures { λ r. ⌜ (r ≤ unlike + 1) × (tally (readOf (now (samples .entry)) bit ⊕ wbit (now (y .entry)) bit) ≤ unlike
+        → r + 2 * tally (readOf (now (samples .entry)) bit ⊕ wbit (now (y .entry)) bit) ≡ unlike + 1) ⌝ }
 {
     if (samples[bit] < 0.0) == vectors::is_set(y, bit) {
         return unlike + 1;
@@ -42,7 +43,8 @@ fn counted(samples: &[f32], y: &[u64], bit: usize, unlike: u32) -> u32
     unlike - 1
 }
 
-// Flips a bit in y, and in what is kept if so many checks, one or more, are broken then; and says in how many bits y differs from what was read.
+// Flips a bit in y, and in what is kept if `left` checks, one or more, are broken then; and says in how many bits y differs from what
+// was read.
 fn turn(
     samples: &[f32],
     y: &mut [u64],
@@ -66,8 +68,8 @@ fn turn(
         × ((c : Code) (h : List ℕ) → Lent c h sh → Gathered h sh (now (starts .entry)) (now (counts .entry)) (sh .blocks) → 0 < left
         → Stands c sh (now (samples .entry)) (wbit (now (y .entry))) (now (d .entry)) (now (starts .entry)) (now (counts .entry))
         (now (met .entry)) (now (kept .entry))
-        → Stands c sh (now (samples .entry)) (flipped (wbit (now (y .entry))) bit) (now (d .exit)) (now (starts .entry)) (now (counts .entry))
-        (now (met .exit)) (now (kept .exit))) ⌝ }
+        → Stands c sh (now (samples .entry)) (flipped (wbit (now (y .entry))) bit) (now (d .exit)) (now (starts .entry))
+        (now (counts .entry)) (now (met .exit)) (now (kept .exit))) ⌝ }
 {
     let r = counted(samples, y, bit, unlike);
     vectors::turn_over(y, bit);

@@ -174,7 +174,8 @@ module _ (samples : List Float) (sh : Shape) (starts counts met kept : List ℕ)
   abbrev place : ℕ → ℕ
   place e = getD starts (8 * b + e) 0 + k
 
-  module _ (turned : (p : ℕ) → wbit d′ p ≡ wbit d p ⊕ sum N (λ e. eqb p (place e) ⊕ eqb p (other M (place e)))) (c : Code) (h : List ℕ) (x : Word)
+  module _ (turned : (p : ℕ) → wbit d′ p ≡ wbit d p ⊕ sum N (λ e. eqb p (place e) ⊕ eqb p (other M (place e)))) (c : Code) (h : List ℕ) (x
+      : Word)
       (lent : Lent c h sh) (g : Gathered h sh starts counts (sh .blocks)) (two : Twice sh (sh .rows) (laid c sh x) (wbit d)) where
     hb : b < sh .blocks
     hb = div-lt-iff-lt-mul (r .some) .1 hbit
@@ -214,7 +215,8 @@ module _ (samples : List Float) (sh : Shape) (starts counts met kept : List ℕ)
     -- the others are seen anew
     seen-anew : (j i : ℕ) → before j i < after j i → raised sh (wbit d′) starts counts (8 * b) k N j i ≡ true
     seen-anew j i less =
-        let o = one-counted (getD counts j 0) (λ e. wbit d (getD starts (8 * j + e) 0 + i)) (λ e. wbit d′ (getD starts (8 * j + e) 0 + i)) less in
+        let o = one-counted (getD counts j 0) (λ e. wbit d (getD starts (8 * j + e) 0 + i)) (λ e. wbit d′ (getD starts (8 * j + e) 0 + i))
+        less in
         let q = getD starts (8 * j + o .at) 0 + i in
         let u = unlike-is (wbit d q) (wbit d′ q) (o .holds) in
         let t : sum N (λ e. eqb q (place e) ⊕ eqb q (other M (place e))) ≡ true

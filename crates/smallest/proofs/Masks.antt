@@ -36,7 +36,8 @@ module _ (samples : List Float) (finite : allFinite samples ≡ true) (mask firs
         → marks k ≡ true → P k
     from-first P h k f l m = let e : first + (k - first) ≡ k = omega arith in subst P e (h (k - first) (omega arith) m)
 
-    over : Over (smaller samples) (length samples) (finite-ordered samples finite) marks bit first 64 (smallest (smaller samples) marks bit first 64)
+    over : Over (smaller samples) (length samples) (finite-ordered samples finite) marks bit first 64 (smallest (smaller samples) marks
+        bit first 64)
     over = smallest-over (smaller samples) (length samples) (finite-ordered samples finite) marks bit first 64 here
         (from-first (λ k. bit ≤ k) before) (from-first (λ k. k < length samples) inside)
 

@@ -62,7 +62,8 @@ module _ (less : ℕ → ℕ → Bool) (top : ℕ) (o : Ordered less top) where
     bit-too = ahead-self bit h;
     all = λ k f l. absurd (omega arith);
   }
-  smallest-over marked bit first (suc n) h b u = go (marked now) refl (smallest-over marked bit first n h (λ k f l. b k f (omega arith)) (λ k f l. u k f (omega arith)))
+  smallest-over marked bit first (suc n) h b u = go (marked now) refl (smallest-over marked bit first n h (λ k f l. b k f (omega arith))
+      (λ k f l. u k f (omega arith)))
       (smallest-one less marked bit first n)
     where
       now : ℕ
@@ -77,7 +78,8 @@ module _ (less : ℕ → ℕ → Bool) (top : ℕ) (o : Ordered less top) where
 
       go : (v : Bool) → marked now ≡ v → Over marked bit first n best → Is less marked bit first best n
           → Over marked bit first (suc n) (if v && less now best then now else best)
-      go true e s is = by _ (later best now (if less now best then now else best) (s .within) (u now (omega arith) (omega arith) e) (before e is) refl)
+      go true e s is = by _ (later best now (if less now best then now else best) (s .within) (u now (omega arith) (omega arith) e)
+          (before e is) refl)
         where
           here : now < top
           here = u now (omega arith) (omega arith) e

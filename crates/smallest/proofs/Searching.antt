@@ -65,8 +65,11 @@ module _ (samples : List Float) (d : Word) (starts : List ℕ) (from n met m fir
           → ((first ≤ r) × (r < first + m) × (r < first + (at + 64))) × (n ≤ H (r - first) + met)
       inside-of u (inl e) =
           let v : best < length samples = omega (arith, e) in
-          let i = was .inside v in
-          ((omega (arith, e, i .0), omega (arith, e, i .1), omega (arith, e, i .2)), subst (λ z. n ≤ H (z - first) + met) (sym e) (was .light v))
+          let i = was .inside v in (
+            (omega (arith, e, i .0), omega (arith, e, i .1), omega (arith, e, i .2)),
+            subst (λ z. n ≤ H (z - first) + met) (sym e) (was
+                .light v),
+          )
       inside-of u (inr p) =
           let j = r - (first + at) in
           let q = mask-light j (omega (arith, p .0, p .1)) (p .2) in
@@ -88,7 +91,8 @@ module _ (samples : List Float) (d : Word) (starts : List ℕ) (from n met m fir
 
           over : r < length samples → (k : ℕ) → k < m → k < at + 64 → n ≤ H k + met → Dec (k < at) → Dec (best < length samples)
               → Ahead (smaller samples) r (first + k)
-          over u k l v t (yes f) (yes b) = ahead-onward (smaller samples) (length samples) (finite-ordered samples finite) r best (first + k) u b
+          over u k l v t (yes f) (yes b) = ahead-onward (smaller samples) (length samples) (finite-ordered samples finite) r best (first +
+              k) u b
               (omega arith) (some u .1 b) (was .ahead b k l f t)
           over u k l v t (yes f) (no b) = absurd (omega (arith, was .none (omega (arith, lt-of-not-le b)) k l f))
           over u k l v t (no f) b =

@@ -125,7 +125,8 @@ module _ (samples : List Float) (d : Word) (starts : List ℕ) (from n m first :
 
         over : r < length samples → (j : ℕ) → j < m → n ≤ H j + met → (seen j ≡ true) ⊎ (j ≡ k)
             → Ahead (smaller samples) r (first + j)
-        over u j lj t (inl p) = ahead-onward (smaller samples) (length samples) (finite-ordered samples finite) r bit (first + j) u (is u .0)
+        over u j lj t (inl p) = ahead-onward (smaller samples) (length samples) (finite-ordered samples finite) r bit (first + j) u (is u
+            .0)
             (omega arith) (is u .2) (was .ahead (is u .0) j lj p t)
         over u j lj t (inr p) = subst (λ i. Ahead (smaller samples) r (first + i)) (sym p) (is u .3)
 

@@ -34,7 +34,8 @@ pub record Known (samples : List Float) (d : Word) (starts : List ℕ) (from n m
       → Ahead (smaller samples) bit (first + k)
 
 -- That of every block; `seen` says of each which bits are.
-pub record Knows (samples : List Float) (sh : Shape) (d : Word) (starts counts : List ℕ) (seen : ℕ → ℕ → Bool) (met kept : List ℕ) : Type 0 where
+pub record Knows (samples : List Float) (sh : Shape) (d : Word) (starts counts : List ℕ) (seen : ℕ → ℕ → Bool) (met kept : List ℕ) : Type
+    0 where
   pub block : (b : ℕ) → b < sh .blocks
       → Known samples d starts (8 * b) (getD counts b 0) (sh .size) (b * sh .size) (seen b) (getD met b 0) (getD kept b 0)
 
@@ -66,8 +67,8 @@ pub record Leads (samples : List Float) (g : ℕ → ℕ) (top end r : ℕ) : Ty
   pub ahead : r < length samples → (i : ℕ) → i < end → top ≤ g i → Ahead (smaller samples) r i
   pub none : length samples ≤ r → (i : ℕ) → i < end → g i < top
 
--- Of the first `at` bits of a block, r is ahead of all that have at most `met` of their n checks met, and is one of them; or there is none, and
--- r is not the number of a sample.
+-- Of the first `at` bits of a block, r is ahead of all that have at most `met` of their n checks met, and is one of them; or there is none,
+-- and r is not the number of a sample.
 pub record Lightest (samples : List Float) (d : Word) (starts : List ℕ) (from n met m first at r : ℕ) : Type 0 where
   pub inside : r < length samples → (first ≤ r) × (r < first + m) × (r < first + at)
   pub light : r < length samples → n ≤ hits d starts from n (r - first) + met

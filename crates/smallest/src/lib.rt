@@ -1,4 +1,5 @@
-// The smallest of the bits of greatest excess. For finding it a run keeps a bound for each block, and the smallest bit of the block at that bound.
+// The smallest of the bits of greatest excess. For finding it a run keeps a bound for each block, and the block's smallest bit at that
+// bound.
 ghost use mathlib.Core.Path.{_≡_};
 ghost use mathlib.Core.Bool.{Bool, true, false, _&&_, _||_};
 ghost use mathlib.Core.List.{List};
@@ -237,7 +238,8 @@ fn raise_check(
     );
 }
 
-// What is known of every block when the bits are seen too that a broken check of bit k covers; the starts of its block begin with start `from`.
+// What is known of every block when the bits are seen too that a broken check of bit k covers; the starts of its block begin with
+// start `from`.
 fn raise(
     samples: &[f32],
     d: &[u64],
@@ -276,7 +278,8 @@ fn raise(
     }
 }
 
-// Turns the checks of a bit over. Only the bits that a check covers which is broken then have fewer checks met than before: these are seen anew.
+// Turns the checks of a bit over. Only the bits that a check covers which is broken then have fewer checks met than before: these are
+// seen anew.
 pub fn flip(
     samples: &[f32],
     d: &mut [u64],
@@ -337,7 +340,8 @@ fn smallest_in(
     m: usize,
     first: usize,
 ) -> usize
-    requires { ⌜ Within (now starts) (now d) from n m × (allFinite (now samples) ≡ true) × (first + m ≤ length (now samples)) × (met ≤ n) ⌝ }
+    requires { ⌜ Within (now starts) (now d) from n m × (allFinite (now samples) ≡ true) × (first + m ≤ length (now samples))
+        × (met ≤ n) ⌝ }
     ensures { λ r. ⌜ Lightest (now (samples .entry)) (wbit (now (d .entry))) (now (starts .entry)) from n met m first m r ⌝ }
 {
     let mut best = samples.len();
@@ -396,7 +400,8 @@ fn still(
     bit
 }
 
-// The smallest of a bit and of those of block b that have no more checks met than is kept of it. If there is none of these, one more is met.
+// The smallest of a bit and of those of block b that have no more checks met than is kept of it. If there is none of these, one more
+// is met.
 fn weigh(
     samples: &[f32],
     d: &[u64],
@@ -411,7 +416,8 @@ fn weigh(
     requires { ⌜ Ready sh (now starts) (now counts) (now met) × (length (now kept) ≡ 16) × (length (now d) ≡ 65)
         × (length (now samples) ≡ sh .blocks * sh .size) × (allFinite (now samples) ≡ true) × (b < sh .blocks) ⌝ }
     ensures { λ r. ⌜ Settled (now (samples .entry)) sh (wbit (now (d .entry))) (now (starts .entry)) (now (counts .entry)) b
-        (bound (now (counts .entry)) (now (met .entry)) b) best r (now (met .entry)) (now (met .exit)) (now (kept .entry)) (now (kept .exit)) ⌝ }
+        (bound (now (counts .entry)) (now (met .entry)) b) best r (now (met .entry)) (now (met .exit)) (now (kept .entry))
+        (now (kept .exit)) ⌝ }
 {
     let end = samples.len();
     let n = counts[b] as usize;
@@ -505,7 +511,7 @@ fn smallest_at(
 }
 
 // The smallest bit of the greatest score: the bounds go down until one is found.
-fn choose_lower(
+pub fn choose(
     samples: &[f32],
     d: &[u64],
     starts: &[u16],
@@ -535,36 +541,4 @@ fn choose_lower(
             };
         }
     }
-}
-
-// The same. Mostly the greatest bound is one that a bit has, and a call of its own for that is faster.
-pub fn choose(
-    samples: &[f32],
-    d: &[u64],
-    starts: &[u16],
-    counts: &[u8],
-    met: &mut [u8],
-    kept: &mut [usize],
-    sh: Shape,
-) -> Best
-    requires { ⌜ Ready sh (now starts) (now counts) (now met) × (length (now kept) ≡ 16) × (length (now d) ≡ 65) × (1 ≤ sh .blocks)
-        × (length (now samples) ≡ sh .blocks * sh .size) × (allFinite (now samples) ≡ true) ⌝ }
-    ensures { λ r. ⌜ Ready sh (now (starts .entry)) (now (counts .entry)) (now (met .exit)) × (r .bit < sh .blocks * sh .size)
-        × (Knows (now (samples .entry)) sh (wbit (now (d .entry))) (now (starts .entry)) (now (counts .entry)) whole
-        (now (met .entry)) (now (kept .entry))
-        → Knows (now (samples .entry)) sh (wbit (now (d .entry))) (now (starts .entry)) (now (counts .entry)) whole
-        (now (met .exit)) (now (kept .exit))
-        × ((g : ℕ → ℕ) → Scored g sh (wbit (now (d .entry))) (now (starts .entry)) (now (counts .entry))
-        → ((i : ℕ) → i < sh .blocks * sh .size → g i ≤ r .score)
-        × Leads (now (samples .entry)) g (r .score) (sh .blocks * sh .size) (r .bit))) ⌝ }
-{
-    let top = choice::greatest(counts, met, sh.blocks);
-    let bit = smallest_at(samples, d, starts, counts, met, kept, sh, top);
-    if bit < samples.len() {
-        return Best {
-            score: top as u32,
-            bit: bit,
-        };
-    }
-    choose_lower(samples, d, starts, counts, met, kept, sh)
 }

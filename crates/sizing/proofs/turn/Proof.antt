@@ -13,7 +13,8 @@ turn-over-requires c κs = search needs
 
 flip-requires : tie.Need-flip-requires
 flip-requires c κs =
-    let s = c .before .before .before .before .before .before .before .before .before .before .before .before .before .before .before .before .before in
+    let s = c .before .before .before .before .before .before .before .before .before .before .before .before .before .before .before
+    .before .before in
     (s .pre .0, s .pre .1, s .pre .3, s .pre .4, s .pre .6, omega (arith, s .pre .4, s .pre .7))
 
 same-length : tie.Need-same-length
@@ -30,10 +31,12 @@ same-length-4 c = search needs
 
 returns : tie.Need-returns
 returns c =
-    let s = c .before .before .before .before .before .before .before .before .before .before .before .before .before .before .before .before .before .before .before .before .before .before .before .before in
+    let s = c .before .before .before .before .before .before .before .before .before .before .before .before .before .before .before
+    .before .before .before .before .before .before .before .before .before in
     let a = s .args in
     let f = c .before .before .before .before .before .before .flip in
-    let n = c .before .before .before .before .before .before .before .before .before .before .before .before .before .before .before .counted in (
+    let n = c .before .before .before .before .before .before .before .before .before .before .before .before .before .before .before
+    .counted in (
       f .ensures .0,
       n .ensures .0,
       n .ensures .1,

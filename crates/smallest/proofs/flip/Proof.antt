@@ -54,14 +54,16 @@ turn-checks-requires c κs =
 
 mul-raise : tie.Need-mul-raise
 mul-raise c =
-    let s = c .before .before .before .before .before .before .before .before .before .before .before .before .before .before .before .before in
+    let s = c .before .before .before .before .before .before .before .before .before .before .before .before .before .before .before
+    .before in
     let a = s .args in
     let hb : a .bit / a .sh .size < a .sh .blocks = div-lt-iff-lt-mul (s .pre .0 .some) .1 (s .pre .5) in
     omega (arith, s .pre .0 .blocks)
 
 raise-requires : tie.Need-raise-requires
 raise-requires c κs =
-    let s = c .before .before .before .before .before .before .before .before .before .before .before .before .before .before .before .before in
+    let s = c .before .before .before .before .before .before .before .before .before .before .before .before .before .before .before
+    .before in
     let a = s .args in
     let r = s .pre .0 in
     let b = a .bit / a .sh .size in
@@ -87,7 +89,8 @@ same-length-3 c = search needs
 
 returns : tie.Need-returns
 returns c =
-    let s = c .before .before .before .before .before .before .before .before .before .before .before .before .before .before .before .before .before .before .before .before .before in
+    let s = c .before .before .before .before .before .before .before .before .before .before .before .before .before .before .before
+    .before .before .before .before .before .before in
     let a = s .args in
     let f = c .before .before .before .before .raise in
     let t = c .before .before .before .before .before .before .before .before .before .before .turn-checks in (
@@ -97,7 +100,8 @@ returns c =
             (a .d .now) _ (t .ensures) k h x lent g two,
         λ was. knows-flip (a .samples .now) (a .sh) (a .starts .now) (a .counts .now) (a .met .now) (a .kept .now) (s .pre .0) (a .bit)
             (s .pre .5) (a .d .now) _ (t .ensures) k h x lent g two
-            (f .ensures .1 (lowered (a .samples .now) (a .sh) (a .starts .now) (a .counts .now) (a .met .now) (a .kept .now) (s .pre .0) (a .bit)
+            (f .ensures .1 (lowered (a .samples .now) (a .sh) (a .starts .now) (a .counts .now) (a .met .now) (a .kept .now) (s .pre .0)
+            (a .bit)
             (s .pre .5) (a .d .now) _ (t .ensures) k h x lent g two)
             (knows-lowered (a .samples .now) (a .sh) (a .starts .now) (a .counts .now) (a .met .now) (a .kept .now) (s .pre .0) (a .bit)
             (s .pre .5) (a .d .now) _ (t .ensures) k h x lent g two was)),

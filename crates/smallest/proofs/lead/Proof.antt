@@ -17,8 +17,13 @@ returns : tie.Need-returns
 returns c =
     let s = c .before .before .before in
     let a = s .args in
-    let p = c .lesser .ensures in
-    (p .0, either-under (length (a .samples .now)) (c .lesser .result) (a .best) (a .bit) (p .0) (c .before .if1 .taken) (s .pre .1), p .2, λ u. p .1)
+    let p = c .lesser .ensures in (
+      p .0,
+      either-under (length (a .samples .now)) (c .lesser .result) (a .best) (a .bit) (p .0) (c .before .if1 .taken) (s .pre .1),
+      p
+          .2,
+      λ u. p .1,
+    )
 
 returns-2 : tie.Need-returns-2
 returns-2 c =

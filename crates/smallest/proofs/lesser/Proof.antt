@@ -16,7 +16,8 @@ returns : tie.Need-returns
 returns c =
     let s = c .before .before .before in
     let a = s .args in
-    later (smaller (a .samples .now)) (length (a .samples .now)) (finite-ordered (a .samples .now) (s .pre .0)) (a .a) (a .b) (c .smaller .result)
+    later (smaller (a .samples .now)) (length (a .samples .now)) (finite-ordered (a .samples .now) (s .pre .0)) (a .a) (a .b) (c .smaller
+    .result)
     (s .pre .1) (s .pre .2) (omega arith) (c .smaller .ensures)
 
 smaller-requires-2 : tie.Need-smaller-requires-2

@@ -46,7 +46,12 @@ sub-t13 : tie.Need-sub-t13
 sub-t13 c =
     let s = c .before .before .before .before .before .before .before in
     let a = s .args in
-    omega (arith, c .before .before .broken-of .ensures, count-le (a .n) (λ e. wbit (a .d .now) (getD (a .starts .now) (a .from + e) 0 + a .k)))
+    omega (
+      arith,
+      c .before .before .broken-of .ensures,
+      count-le (a .n) (λ e. wbit (a .d .now) (getD (a .starts .now) (a .from + e) 0 + a
+          .k)),
+    )
 
 add-t14 : tie.Need-add-t14
 add-t14 c = search needs
@@ -61,7 +66,12 @@ returns-2 c =
           (λ j. seen j || eqb j (a .k)) (a .n - z)
           (a .first + a .k)) (sym (f .ensures))
           (look-lower (a .samples .now) (wbit (a .d .now)) (a .starts .now) (a .from) (a .n) (a .m) (a .first) seen (a .low .met)
-          (a .low .bit) was (a .k) (s .pre .1) (omega (arith, c .before .before .before .if1 .left)) (s .pre .2) (omega (arith, f .ensures, c .if2 .taken))),
+          (a .low .bit) was (a .k) (s .pre .1) (omega (arith, c .before .before .before .if1 .left)) (s .pre .2) (omega (
+            arith,
+            f
+                .ensures,
+            c .if2 .taken,
+          ))),
     )
 
 add-if3 : tie.Need-add-if3
@@ -84,7 +94,13 @@ returns-4 c =
     let f = c .before .before .before .before .before .before .broken-of in (
       s .pre .3,
       λ seen was. look-equal (a .samples .now) (wbit (a .d .now)) (a .starts .now) (a .from) (a .n) (a .m) (a .first) seen
-          (a .low .met) (a .low .bit) was (a .k) (a .low .bit) (omega (arith, f .ensures, c .before .before .if3 .left, c .before .before .before .before .if2 .left))
+          (a .low .met) (a .low .bit) was (a .k) (a .low .bit) (omega (
+            arith,
+            f .ensures,
+            c .before .before .if3 .left,
+            c .before .before
+                .before .before .if2 .left,
+          ))
           (λ u. absurd (omega (arith, c .if4 .taken))) (s .pre .1) (s .pre .2),
     )
 
@@ -102,7 +118,13 @@ returns-5 c =
     let p = c .lesser .ensures in (
       s .pre .3,
       λ seen was. look-equal (a .samples .now) (wbit (a .d .now)) (a .starts .now) (a .from) (a .n) (a .m) (a .first) seen
-          (a .low .met) (a .low .bit) was (a .k) (c .lesser .result) (omega (arith, f .ensures, c .before .before .before .if3 .left, c .before .before .before .before .before .if2 .left))
+          (a .low .met) (a .low .bit) was (a .k) (c .lesser .result) (omega (
+            arith,
+            f .ensures,
+            c .before .before .before .if3 .left,
+            c
+                .before .before .before .before .before .if2 .left,
+          ))
           (λ u. (
             c .before .if4 .left,
             one-inside (a .first) (a .m) (c .lesser .result) (a .low .bit) (a .k) (p .0) (was .inside (c .before .if4 .left))

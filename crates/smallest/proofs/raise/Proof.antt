@@ -34,19 +34,36 @@ loop-holds c =
     )
 
 add-raise-check : tie.Need-add-raise-check Inv-loop μ-loop
-add-raise-check c = let s = c .before .before .before .before .before .before .before .before .before .before in omega (arith, s .pre .5, s .pre .0 .starts-long)
+add-raise-check c = let s = c .before .before .before .before .before .before .before .before .before .before in omega (
+  arith,
+  s .pre .5,
+  s .pre .0 .starts-long,
+)
 
 mul-raise-check : tie.Need-mul-raise-check Inv-loop μ-loop
-mul-raise-check c = let s = c .before .before .before .before .before .before .before .before .before .before in omega (arith, s .pre .5, s .pre .0 .starts-long)
+mul-raise-check c = let s = c .before .before .before .before .before .before .before .before .before .before in omega (
+  arith,
+  s .pre .5,
+  s .pre .0 .starts-long,
+)
 
 shared-slice-read-raise-check : tie.Need-shared-slice-read-raise-check Inv-loop μ-loop
-shared-slice-read-raise-check c = let s = c .before .before .before .before .before .before .before .before .before .before .before in omega (arith, s .pre .5)
+shared-slice-read-raise-check c = let s = c .before .before .before .before .before .before .before .before .before .before .before in
+    omega (arith, s .pre .5)
 
 cast-raise-check : tie.Need-cast-raise-check Inv-loop μ-loop
-cast-raise-check c = let s = c .before .before .before .before .before .before .before .before .before .before .before in omega (arith, s .pre .6 (c .before .before .before .before .loop .e) (omega arith) .0)
+cast-raise-check c = let s = c .before .before .before .before .before .before .before .before .before .before .before in omega (
+  arith,
+  s
+      .pre .6 (c .before .before .before .before .loop .e) (omega arith) .0,
+)
 
 add-raise-check-2 : tie.Need-add-raise-check-2 Inv-loop μ-loop
-add-raise-check-2 c = let s = c .before .before .before .before .before .before .before .before .before .before .before in omega (arith, s .pre .6 (c .before .before .before .before .loop .e) (omega arith) .0)
+add-raise-check-2 c = let s = c .before .before .before .before .before .before .before .before .before .before .before in omega (
+  arith,
+  s
+      .pre .6 (c .before .before .before .before .loop .e) (omega arith) .0,
+)
 
 raise-check-requires : tie.Need-raise-check-requires Inv-loop μ-loop
 raise-check-requires c κs =
@@ -56,14 +73,16 @@ raise-check-requires c κs =
     (l .inv .2, l .inv .1, s .pre .2, s .pre .3, s .pre .4, near .0, near .1)
 
 add-e : tie.Need-add-e Inv-loop μ-loop
-add-e c = let s = c .before .before .before .before .before .before .before .before .before .before .before .before .before .before .before .before in omega (arith, s .pre .5, s .pre .0 .starts-long)
+add-e c = let s = c .before .before .before .before .before .before .before .before .before .before .before .before .before .before
+    .before .before in omega (arith, s .pre .5, s .pre .0 .starts-long)
 
 loop-less : tie.Need-loop-less Inv-loop μ-loop
 loop-less c = omega arith
 
 loop-again : tie.Need-loop-again Inv-loop μ-loop
 loop-again c =
-    let s = c .before .before .before .before .before .before .before .before .before .before .before .before .before .before .before .before in
+    let s = c .before .before .before .before .before .before .before .before .before .before .before .before .before .before .before
+    .before in
     let a = s .args in
     let l = c .before .before .before .before .before .before .before .before .before .loop in
     let f = c .before .before .before .before .raise-check in (
@@ -71,14 +90,16 @@ loop-again c =
       search needs,
       f .ensures .0,
       λ seen was. knows-fewer (a .samples .now) (a .sh) (wbit (a .d .now)) (a .starts .now) (a .counts .now) _ _ _ _
-          (λ j i hj hi t. or-shifted (seen j i) (raised (a .sh) (wbit (a .d .now)) (a .starts .now) (a .counts .now) (a .from) (a .k) (l .e) j i) _
+          (λ j i hj hi t. or-shifted (seen j i) (raised (a .sh) (wbit (a .d .now)) (a .starts .now) (a .counts .now) (a .from) (a .k) (l
+          .e) j i) _
           (ap (λ v. seen j i || v)
           (sym (raised-next (a .sh) (wbit (a .d .now)) (a .starts .now) (a .counts .now) (a .from) (a .k) (l .e) j i)) ∙ t))
           (f .ensures .1 _ (l .inv .3 seen was)),
     )
 
 same-length : tie.Need-same-length Inv-loop μ-loop
-same-length c = c .before .loop .inv .2 .met-long ∙ sym (c .before .before .before .before .before .before .before .before .pre .0 .met-long)
+same-length c = c .before .loop .inv .2 .met-long ∙ sym (c .before .before .before .before .before .before .before .before .pre .0
+    .met-long)
 
 same-length-2 : tie.Need-same-length-2 Inv-loop μ-loop
 same-length-2 c = c .before .loop .inv .1 ∙ sym (c .before .before .before .before .before .before .before .before .pre .1)
@@ -91,7 +112,8 @@ returns c =
     let all : l .e ≡ a .n = omega arith in (
       l .inv .2,
       λ seen was. subst (λ z. Knows (a .samples .now) (a .sh) (wbit (a .d .now)) (a .starts .now) (a .counts .now)
-          (λ j i. seen j i || raised (a .sh) (wbit (a .d .now)) (a .starts .now) (a .counts .now) (a .from) (a .k) z j i) (l .met) (l .kept)) all
+          (λ j i. seen j i || raised (a .sh) (wbit (a .d .now)) (a .starts .now) (a .counts .now) (a .from) (a .k) z j i) (l .met) (l
+          .kept)) all
           (l .inv .3 seen was),
     )
 

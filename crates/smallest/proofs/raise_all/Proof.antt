@@ -7,7 +7,17 @@ use lib.ListN.{length, getD, length-set}
 use Rattle.vectors.specs.Vectors.{wbit}
 use Rattle.bounds.specs.Keeping.{Ready}
 use Rattle.smallest.specs.Knowing.{Known, Knows, covered}
-use Rattle.smallest.proofs.Seeing.{upTo, none-yet, block-here, block-other, block-all, known-fewer, knows-fewer, knows-set, ready-set}
+use Rattle.smallest.proofs.Seeing.{
+  upTo,
+  none-yet,
+  block-here,
+  block-other,
+  block-all,
+  known-fewer,
+  knows-fewer,
+  knows-set,
+  ready-set,
+}
 use Rattle.smallest.proofs.Seeing.{block-room, block-within}
 use borrow.Author.Needs.{needs}
 use Rattle.smallest.proofs.raise_all.Statement.{statement}
@@ -29,8 +39,10 @@ loop-holds c =
       omega arith,
       s .pre .1,
       s .pre .0,
-      λ seen was. knows-fewer (a .samples .now) (a .sh) (wbit (a .d .now)) (a .starts .now) (a .counts .now) (a .met .now) (a .kept .now) seen _
-          (λ j i hj hi t. none-yet seen (λ j i. covered (a .starts .now) (8 * j) (a .sh .size) (a .p) (getD (a .counts .now) j 0) i) j i t) was,
+      λ seen was. knows-fewer (a .samples .now) (a .sh) (wbit (a .d .now)) (a .starts .now) (a .counts .now) (a .met .now) (a .kept .now)
+          seen _
+          (λ j i hj hi t. none-yet seen (λ j i. covered (a .starts .now) (8 * j) (a .sh .size) (a .p) (getD (a .counts .now) j 0) i) j i
+          t) was,
     )
 
 slice-read-raise-in : tie.Need-slice-read-raise-in Inv-loop μ-loop
@@ -52,7 +64,12 @@ mul-raise-in-3 : tie.Need-mul-raise-in-3 Inv-loop μ-loop
 mul-raise-in-3 c =
     let s = c .before .before .before .before .before .before .before .before .before .before .before .before .before in
     let a = s .args in
-    omega (arith, s .pre .3, block-room (c .before .before .before .before .before .before .loop .b) (a .sh .blocks) (a .sh .size) (omega arith))
+    omega (
+      arith,
+      s .pre .3,
+      block-room (c .before .before .before .before .before .before .loop .b) (a .sh .blocks) (a .sh .size) (omega
+          arith),
+    )
 
 raise-in-requires : tie.Need-raise-in-requires Inv-loop μ-loop
 raise-in-requires c κs =
@@ -97,19 +114,22 @@ loop-again c =
       ready-set (a .sh) (a .starts .now) (a .counts .now) (l .met) r (l .b) hb (f .result .met) (f .ensures .0),
       λ seen was.
           let old = l .inv .3 seen was in
-          knows-set (a .samples .now) (a .sh) (wbit (a .d .now)) (a .starts .now) (a .counts .now) (l .met) (l .kept) (l .b) (f .result .met)
+          knows-set (a .samples .now) (a .sh) (wbit (a .d .now)) (a .starts .now) (a .counts .now) (l .met) (l .kept) (l .b) (f .result
+          .met)
           (f .result .bit) (omega (arith, r .met-long, r .blocks)) (omega (arith, l .inv .1, r .blocks)) (upTo seen cover (l .b))
           (upTo seen cover (l .b + 1))
           (known-fewer (a .samples .now) (wbit (a .d .now)) (a .starts .now) (8 * l .b) (getD (a .counts .now) (l .b) 0) (a .sh .size)
           (l .b * a .sh .size) (λ i. upTo seen cover (l .b) (l .b) i || cover (l .b) i) (upTo seen cover (l .b + 1) (l .b)) (f .result .met)
-          (f .result .bit) (λ i hi t. block-here seen cover (l .b) i t) (f .ensures .1 (upTo seen cover (l .b) (l .b)) (old .block (l .b) hb)))
+          (f .result .bit) (λ i hi t. block-here seen cover (l .b) i t) (f .ensures .1 (upTo seen cover (l .b) (l .b)) (old .block (l .b)
+          hb)))
           (λ j hj u. known-fewer (a .samples .now) (wbit (a .d .now)) (a .starts .now) (8 * j) (getD (a .counts .now) j 0) (a .sh .size)
           (j * a .sh .size) (upTo seen cover (l .b) j) (upTo seen cover (l .b + 1) j) (getD (l .met) j 0) (getD (l .kept) j 0)
           (λ i hi t. block-other seen cover (l .b) j i u t) (old .block j hj)),
     )
 
 same-length : tie.Need-same-length Inv-loop μ-loop
-same-length c = c .before .before .loop .inv .2 .met-long ∙ sym (c .before .before .before .before .before .before .before .before .before .pre .0 .met-long)
+same-length c = c .before .before .loop .inv .2 .met-long ∙ sym (c .before .before .before .before .before .before .before .before .before
+    .pre .0 .met-long)
 
 same-length-2 : tie.Need-same-length-2 Inv-loop μ-loop
 same-length-2 c = c .before .before .loop .inv .1 ∙ sym (c .before .before .before .before .before .before .before .before .before .pre .1)
@@ -121,7 +141,8 @@ returns c =
     let l = c .before .before .loop in (
       l .inv .2,
       λ seen was. knows-fewer (a .samples .now) (a .sh) (wbit (a .d .now)) (a .starts .now) (a .counts .now) (l .met) (l .kept) _ _
-          (λ j i hj hi t. block-all seen (λ j i. covered (a .starts .now) (8 * j) (a .sh .size) (a .p) (getD (a .counts .now) j 0) i) (l .b) j i
+          (λ j i hj hi t. block-all seen (λ j i. covered (a .starts .now) (8 * j) (a .sh .size) (a .p) (getD (a .counts .now) j 0) i) (l
+          .b) j i
           (omega arith) t) (l .inv .3 seen was),
     )
 

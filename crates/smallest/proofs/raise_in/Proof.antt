@@ -38,13 +38,28 @@ shared-slice-read-bit-at : tie.Need-shared-slice-read-bit-at Inv-loop μ-loop
 shared-slice-read-bit-at c = let w = c .before .before .before .before .before .before .pre .0 in omega (arith, w .room)
 
 cast-bit-at : tie.Need-cast-bit-at Inv-loop μ-loop
-cast-bit-at c = let w = c .before .before .before .before .before .before .pre .0 in omega (arith, w .near (c .before .before .loop .e) (omega arith), w .d-long)
+cast-bit-at c = let w = c .before .before .before .before .before .before .pre .0 in omega (
+  arith,
+  w .near (c .before .before .loop .e)
+      (omega arith),
+  w .d-long,
+)
 
 bit-at-requires : tie.Need-bit-at-requires Inv-loop μ-loop
-bit-at-requires c κs = (c .before .before .before .before .before .before .pre .4, c .before .before .before .before .before .before .pre .0 .size)
+bit-at-requires c κs = (
+  c .before .before .before .before .before .before .pre .4,
+  c .before .before .before .before .before .before .pre
+      .0 .size,
+)
 
 look-requires : tie.Need-look-requires Inv-loop μ-loop
-look-requires c κs = let s = c .before .before .before .before .before .before .before in (s .pre .0, s .pre .1, s .pre .2, c .before .before .before .loop .inv .1)
+look-requires c κs = let s = c .before .before .before .before .before .before .before in (
+  s .pre .0,
+  s .pre .1,
+  s .pre .2,
+  c .before
+      .before .before .loop .inv .1,
+)
 
 add-e : tie.Need-add-e Inv-loop μ-loop
 add-e c = omega (arith, c .before .before .before .before .before .before .before .before .pre .0 .few)

@@ -62,7 +62,8 @@ returns-2 c =
     let a = s .args in
     let f = c .before .still in
     let e = f .ensures (c .if2 .taken) in
-    let top : bound (a .counts .now) (a .met .now) (a .b) ≡ a .top = sym (c .before .before .before .before .before .before .bound-of .ensures) ∙ c .before .before .before .before .before .if1 .left in
+    let top : bound (a .counts .now) (a .met .now) (a .b) ≡ a .top = sym (c .before .before .before .before .before .before .bound-of
+    .ensures) ∙ c .before .before .before .before .before .if1 .left in
     settled-as
     (stayed (a .samples .now) (a .sh) (wbit (a .d .now)) (a .starts .now) (a .counts .now) (a .met .now) (a .kept .now) (s .pre .0)
     (s .pre .3) (s .pre .4) (a .b) (s .pre .5) (a .best) (f .result) (c .if2 .taken) (e .0) (e .1) (e .2) (e .3)) top
@@ -78,10 +79,13 @@ same-length-4 c = search needs
 
 returns-3 : tie.Need-returns-3
 returns-3 c =
-    let s = c .before .before .before .before .before .before .before .before .before .before .before .before .before .before .before .before .before .before .before .before .before in
+    let s = c .before .before .before .before .before .before .before .before .before .before .before .before .before .before .before
+    .before .before .before .before .before .before in
     let a = s .args in
     let f = c .before .before .before .before .weigh in
-    let top : bound (a .counts .now) (a .met .now) (a .b) ≡ a .top = sym (c .before .before .before .before .before .before .before .before .before .before .before .before .before .bound-of .ensures) ∙ c .before .before .before .before .before .before .before .before .before .before .before .before .if1 .left in
+    let top : bound (a .counts .now) (a .met .now) (a .b) ≡ a .top = sym (c .before .before .before .before .before .before .before
+    .before .before .before .before .before .before .bound-of .ensures) ∙ c .before .before .before .before .before .before .before
+    .before .before .before .before .before .if1 .left in
     settled-as (f .ensures) top
 
 pub settle-spec : {M : Type 1} → statement M

@@ -48,7 +48,8 @@ loop-less c = omega arith
 
 loop-again : tie.Need-loop-again Inv-loop μ-loop
 loop-again c =
-    let s = c .before .before .before .before .before .before .before .before .before .before .before .before .before .before .before .before in
+    let s = c .before .before .before .before .before .before .before .before .before .before .before .before .before .before .before
+    .before in
     let a = s .args in
     let l = c .before .before .before .before .before .before .before .before .before .loop in
     let f = c .before .before .before .before .settle .ensures in
@@ -67,7 +68,8 @@ loop-again c =
     )
 
 same-length : tie.Need-same-length Inv-loop μ-loop
-same-length c = c .before .before .loop .inv .2 .met-long ∙ sym (c .before .before .before .before .before .before .before .before .before .pre .0 .met-long)
+same-length c = c .before .before .loop .inv .2 .met-long ∙ sym (c .before .before .before .before .before .before .before .before .before
+    .pre .0 .met-long)
 
 same-length-2 : tie.Need-same-length-2 Inv-loop μ-loop
 same-length-2 c = c .before .before .loop .inv .1 ∙ sym (c .before .before .before .before .before .before .before .before .before .pre .1)

@@ -17,8 +17,11 @@ abbrev μ-loop : tie.MeasureT-loop
 loop-holds : tie.Need-loop-holds Inv-loop μ-loop
 loop-holds c =
     let s = c .before .before .before in
-    let a = s .args in
-    (omega arith, none-light (a .samples .now) (wbit (a .d .now)) (a .starts .now) (a .from) (a .n) (a .met) (a .m) (a .first) _ (omega arith))
+    let a = s .args in (
+      omega arith,
+      none-light (a .samples .now) (wbit (a .d .now)) (a .starts .now) (a .from) (a .n) (a .met) (a .m) (a .first) _ (omega
+          arith),
+    )
 
 weigh-requires : tie.Need-weigh-requires Inv-loop μ-loop
 weigh-requires c κs =
@@ -39,7 +42,8 @@ among-requires c κs =
       λ i h e. omega (
         arith,
         s .pre .2,
-        mask-light (a .samples .now) (wbit (a .d .now)) (a .starts .now) (a .from) (a .n) (a .met) (a .m) (a .first) (l .at) (c .weigh .result)
+        mask-light (a .samples .now) (wbit (a .d .now)) (a .starts .now) (a .from) (a .n) (a .met) (a .m) (a .first) (l .at) (c .weigh
+            .result)
             (c .weigh .ensures) i h e .0,
       ),
     )
@@ -67,7 +71,8 @@ returns c =
     let s = c .before .before .before .before .before in
     let a = s .args in
     let l = c .before .loop in
-    lightest-all (a .samples .now) (wbit (a .d .now)) (a .starts .now) (a .from) (a .n) (a .met) (a .m) (a .first) (l .at) (l .best) (omega arith)
+    lightest-all (a .samples .now) (wbit (a .d .now)) (a .starts .now) (a .from) (a .n) (a .met) (a .m) (a .first) (l .at) (l .best)
+    (omega arith)
     (l .inv .1)
 
 pub smallest-in-spec : {M : Type 1} → statement M

@@ -42,7 +42,11 @@ broken-of-requires : tie.Need-broken-of-requires
 broken-of-requires c κs =
     let s = c .before .before .before .before .before .before in
     let a = s .args in
-    within-less (a .starts .now) (a .d .now) (a .from) (a .n) (a .m) (a .bit % a .m) (s .pre .0) (omega (arith, mod-lt (a .bit) (s .pre .3)))
+    within-less (a .starts .now) (a .d .now) (a .from) (a .n) (a .m) (a .bit % a .m) (s .pre .0) (omega (
+      arith,
+      mod-lt (a .bit) (s .pre
+          .3),
+    ))
 
 add-if3 : tie.Need-add-if3
 add-if3 c =
