@@ -1,52 +1,128 @@
-/* The run keeps a bound for each block: no bit of it has more broken checks. The bits that have as many are found 64 at once, in
- * every block of the greatest bound, and only their samples are compared. A program has this file in place of fast.c, whose parts
- * it uses. */
+/* The run keeps for each block a bound, of which no bit of it has more broken checks, and its smallest bit that has as many; or
+ * UNKNOWN, if that is not known. A program has this file in place of fast.c, whose parts it uses. */
 #include "samples_fast.h"
 
 #include "fast.c"
 
 #include <float.h>
 
+enum { UNKNOWN = 8176 };
+
 LEAF float size_of(float x)
 {
     return x < 0 ? -x : x;
 }
 
-/* The bit of greatest excess whose sample is the smallest, then the lowest; the excess is the score less 8. All blocks of the
- * greatest bound are searched, and the bound of one that has no such bit goes down. */
-LEAF struct best smallest(struct kept *kept, const float *samples, struct shape sh)
+LEAF unsigned smaller(const float *samples, unsigned earlier, unsigned later)
+{
+    return size_of(samples[later]) < size_of(samples[earlier]) ? later : earlier;
+}
+
+/* The smallest bit of block b among those that have at most as many met checks as its bound says; UNKNOWN if there is none. */
+LEAF unsigned smallest_in(const struct kept *kept, const float *samples, struct shape sh, unsigned b)
+{
+    unsigned best = UNKNOWN;
+    for (unsigned at = 0; at < sh.size; at += 64) {
+        uint64_t mask = light(kept, b, at);
+        if (mask != 0 && sh.size - at < 64)
+            mask = front(mask, sh.size);
+        if (mask != 0 && best == UNKNOWN)
+            best = b * sh.size + at + (unsigned)__builtin_clzll(mask);
+        while (mask != 0) {
+            unsigned place = (unsigned)__builtin_clzll(mask);
+            best = smaller(samples, best, b * sh.size + at + place);
+            mask ^= UINT64_C(1) << (63 - place);
+        }
+    }
+    return best;
+}
+
+/* How many checks of bit k of block b are broken. */
+LEAF unsigned broken_of(const struct kept *kept, unsigned b, unsigned k)
+{
+    unsigned n = 0;
+    for (unsigned e = 0; e < kept->counts[b]; e++) {
+        unsigned p = kept->starts[b][e] + k;
+        n += (unsigned)(kept->d[p / 64] >> (63 - p % 64)) & 1;
+    }
+    return n;
+}
+
+/* The smallest bit of the blocks of this bound. A block is searched if none is known of it, or if the known one would be the
+ * smallest and has more checks met by now; the bound of one that has no such bit goes down. */
+LEAF unsigned smallest_at(struct kept *kept, unsigned *known, const float *samples, struct shape sh, unsigned top)
+{
+    unsigned best = UNKNOWN;
+    for (unsigned b = 0; b < sh.blocks; b++) {
+        if (8u + kept->counts[b] - 2u * kept->met[b] != top)
+            continue;
+        if (known[b] != UNKNOWN) {
+            if (best != UNKNOWN && smaller(samples, best, known[b]) == best)
+                continue;
+            if (broken_of(kept, b, known[b] - b * sh.size) + kept->met[b] == kept->counts[b]) {
+                best = known[b];
+                continue;
+            }
+        }
+        known[b] = smallest_in(kept, samples, sh, b);
+        if (known[b] == UNKNOWN)
+            kept->met[b]++;
+        else
+            best = best == UNKNOWN ? known[b] : smaller(samples, best, known[b]);
+    }
+    return best;
+}
+
+/* The bit of greatest excess whose sample is the smallest, then the lowest; the excess is the score less 8. */
+LEAF struct best smallest(struct kept *kept, unsigned *known, const float *samples, struct shape sh)
 {
     for (;;) {
-        struct best best = {0, 0};
-        float least = 0;
-        bool found = false;
+        struct best best = {0, UNKNOWN};
         for (unsigned b = 0; b < sh.blocks; b++) {
             unsigned bound = 8u + kept->counts[b] - 2u * kept->met[b];
             best.score = best.score < bound ? bound : best.score;
         }
-        for (unsigned b = 0; b < sh.blocks; b++) {
-            if (8u + kept->counts[b] - 2u * kept->met[b] != best.score)
-                continue;
-            bool any = false;
-            for (unsigned at = 0; at < sh.size; at += 64) {
-                uint64_t mask = light(kept, b, at);
-                if (mask != 0 && sh.size - at < 64)
-                    mask = front(mask, sh.size);
-                for (; mask != 0; any = true) {
-                    unsigned place = (unsigned)__builtin_clzll(mask), bit = b * sh.size + at + place;
-                    mask ^= UINT64_C(1) << (63 - place);
-                    if (!found || size_of(samples[bit]) < least) {
-                        found = true;
-                        least = size_of(samples[bit]);
-                        best.bit = bit;
-                    }
-                }
-            }
-            if (!any)
-                kept->met[b]++;
-        }
-        if (found)
+        best.bit = smallest_at(kept, known, samples, sh, best.score);
+        if (best.bit != UNKNOWN)
             return best;
+    }
+}
+
+/* Bit k of block b has a broken check more. */
+LEAF void look(struct kept *kept, unsigned *known, const float *samples, struct shape sh, unsigned b, unsigned k)
+{
+    unsigned hits = broken_of(kept, b, k), bit = b * sh.size + k;
+    if (hits + kept->met[b] > kept->counts[b]) {
+        kept->met[b] = (uint8_t)(kept->counts[b] - hits);
+        known[b] = bit;
+    } else if (hits + kept->met[b] == kept->counts[b] && known[b] != UNKNOWN)
+        known[b] = known[b] < bit ? smaller(samples, known[b], bit) : smaller(samples, bit, known[b]);
+}
+
+/* The check at p, in the first half of a doubled row, was broken: all bits that it covers are looked at. */
+static void raise_check(struct kept *kept, unsigned *known, const float *samples, struct shape sh, unsigned p)
+{
+    for (unsigned b = 0; b < sh.blocks; b++)
+        for (unsigned e = 0; e < kept->counts[b]; e++) {
+            unsigned s = kept->starts[b][e], k = s <= p ? p - s : s <= p + sh.size ? p + sh.size - s : sh.size;
+            if (k < sh.size)
+                look(kept, known, samples, sh, b, k);
+        }
+}
+
+/* Turns the checks of a bit over, in both places, and brings what is known of each block up to date. */
+LEAF void flip_known(struct kept *kept, unsigned *known, const float *samples, struct shape sh, unsigned bit)
+{
+    unsigned b = bit / sh.size, k = bit % sh.size, wide = 64 * (2 * sh.words + 1);
+    for (unsigned e = 0; e < kept->counts[b]; e++) {
+        unsigned p = kept->starts[b][e] + k, other = p % wide < sh.size ? p + sh.size : p - sh.size;
+        kept->d[p / 64] ^= UINT64_C(1) << (63 - p % 64);
+        kept->d[other / 64] ^= UINT64_C(1) << (63 - other % 64);
+    }
+    for (unsigned e = 0; e < kept->counts[b]; e++) {
+        unsigned p = kept->starts[b][e] + k;
+        if (kept->d[p / 64] >> (63 - p % 64) & 1)
+            raise_check(kept, known, samples, sh, p % wide < sh.size ? p : p - sh.size);
     }
 }
 
@@ -56,18 +132,22 @@ LEAF uint8_t run_samples(const float *samples, uint64_t *y, const uint64_t *s, c
     if (answer->last == 0)
         return 0;
     struct kept kept;
+    unsigned known[16];
     begin(s, h, sh, &kept);
+    for (unsigned b = 0; b < 16; b++)
+        known[b] = UNKNOWN;
     for (;;) {
-        struct best best = smallest(&kept, samples, sh);
+        struct best best = smallest(&kept, known, samples, sh);
         if (best.score <= 8)
             return 5;
         if (answer->flips == limit)
             return 6;
-        flip_kept(y, &kept, sh, best.bit);
+        y[best.bit / 64] ^= UINT64_C(1) << (63 - best.bit % 64);
         answer->flips++;
         answer->last -= best.score - 8;
         if (answer->last == 0)
             return 0;
+        flip_known(&kept, known, samples, sh, best.bit);
     }
 }
 

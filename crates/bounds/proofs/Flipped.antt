@@ -8,8 +8,8 @@ use native.Mathlib.Nat.{mod-lt, div-add-mod', div-lt-iff-lt-mul, lt-of-not-le, a
 use native.Mathlib.Numerals.{add-one}
 use native.Mathlib.Decide.{decLt, ℕ-discrete}
 use native.Mathlib.Omega.{arith}
-use borrow.Author.Tests.{lt-ltb, le-ltb, ltb-false, eq-eqb, ne-eqb}
-use lib.Dec.{eqb, ltb, lit<}
+use borrow.Author.Tests.{lt-ltb, le-ltb, ltb-false, lt-leb, leb-false, eq-eqb, ne-eqb}
+use lib.Dec.{eqb, leb, ltb, lit<}
 use lib.ListN.{getD, length}
 use Rattle.bits.specs.Bits.{Word, _⊕_, sum, count, tally, flipped, if_then_else_, over, countOf}
 use Rattle.bits.proofs.Counting.{none-counted}
@@ -20,6 +20,7 @@ use Rattle.rules.proofs.Flips.{met-flip, broken-met}
 use Rattle.layout.specs.declared.Shape.{Shape}
 use Rattle.vectors.specs.Vectors.{wbit}
 use Rattle.layout.specs.Lent.{Fit, total, shiftsOf, Lent, laid, score}
+use Rattle.layout.proofs.Lending.{total-same}
 use Rattle.layout.proofs.Laying.{laid-at}
 use Rattle.bounds.specs.Reading.{Twice, other, Starts, Gathered}
 use Rattle.bounds.specs.Keeping.{Under, Ready, Kept}
@@ -186,6 +187,19 @@ module _ (h : List ℕ) (sh : Shape) (b k : ℕ) (hk : k < sh .size) (small : sh
         ltb-false (2 * M) (suc ((p + k) % 1024))
             (none-counted n (λ e. far (getD starts (8 * b + e) 0)) none-far e he),
       )
+
+  abbrev beyond : Word
+  beyond p = leb (sh .rows) ((p + k) / 1024)
+
+  none-beyond : count n (λ e. beyond (getD starts (8 * b + e) 0)) ≡ 0
+  none-beyond =
+      are .each beyond
+      ∙ total-same (sh .rows) _ (λ r. 0) (λ r hr. none-of (shiftsOf sh h r b) _
+      (λ s. lt-leb (sh .rows) ((1024 * r + (M - s) + k) / 1024) (omega (arith, row-of r s)))) ∙ total-none (sh .rows) (λ r. 0) (λ r. refl)
+
+  pub start-row : (e : ℕ) → e < n → (getD starts (8 * b + e) 0 + k) / 1024 < sh .rows
+  start-row e he = leb-false (sh .rows) ((getD starts (8 * b + e) 0 + k) / 1024)
+      (none-counted n (λ e. beyond (getD starts (8 * b + e) 0)) none-beyond e he)
 
   module _ (c : Code) (lent : Lent c h sh) (hb : b < sh .blocks) (fits : M ≤ 64 * sh .words) (x d d′ : Word)
       (two : Twice sh (sh .rows) (laid c sh x) d)

@@ -233,7 +233,7 @@ fn turn_check(d: &mut [u64], p: usize, m: usize)
 }
 
 // Turns the checks of bit k of a block over.
-fn turn_checks(d: &mut [u64], starts: &[u16], first: usize, n: usize, k: usize, m: usize)
+pub fn turn_checks(d: &mut [u64], starts: &[u16], first: usize, n: usize, k: usize, m: usize)
     requires { ⌜ (1 ≤ m) × (m ≤ 512) × (first + n ≤ length (now starts)) × (length (now starts) < 2 ^ 32) × (length (now d) ≡ rowsRoom) × ((e : ℕ) → e < n → (getD (now starts) (first + e) 0 + k < 4096) × ((getD (now starts) (first + e) 0 + k) % 1024 < 2 * m)) ⌝ }
     ensures { λ r. ⌜ ((p : ℕ) → wbit (now (d .exit)) p ≡ wbit (now (d .entry)) p ⊕ sum n (λ e. eqb p (getD (now (starts .entry)) (first + e) 0 + k) ⊕ eqb p (other m (getD (now (starts .entry)) (first + e) 0 + k)))) ⌝ }
 {

@@ -61,7 +61,7 @@ fn first_light(
 }
 
 // The bound of block b.
-fn bound_of(counts: &[u8], met: &[u8], b: usize) -> u8
+pub fn bound_of(counts: &[u8], met: &[u8], b: usize) -> u8
     requires { ⌜ (b < length (now counts)) × (b < length (now met)) × (getD (now counts) b 0 ≤ 8) × (getD (now met) b 0 ≤ getD (now counts) b 0) ⌝ }
     ensures { λ r. ⌜ r ≡ bound (now (counts .entry)) (now (met .entry)) b ⌝ }
 {
@@ -79,7 +79,7 @@ fn higher(a: u8, b: u8) -> u8
 }
 
 // The greatest bound.
-fn greatest(counts: &[u8], met: &[u8], blocks: usize) -> u8
+pub fn greatest(counts: &[u8], met: &[u8], blocks: usize) -> u8
     requires { ⌜ (blocks ≤ length (now counts)) × (blocks ≤ length (now met)) × ((b : ℕ) → b < blocks → (getD (now counts) b 0 ≤ 8) × (getD (now met) b 0 ≤ getD (now counts) b 0)) ⌝ }
     ensures { λ r. ⌜ r ≡ highest (now (counts .entry)) (now (met .entry)) blocks ⌝ }
 {

@@ -7,7 +7,7 @@ ghost use Rattle.rules.specs.Codes.{offered};
 ghost use Rattle.vectors.specs.Vectors.{wbit};
 ghost use Rattle.offer.specs.Offers.{offerOf, Known};
 ghost use Rattle.codes.specs.Answers.{asCorrected};
-ghost use Rattle.sizes.specs.Samples.{read as readOf};
+ghost use Rattle.sizes.specs.Samples.{read as readOf, allFinite};
 ghost use Rattle.samples.specs.Answers.{ranSamples, samplesAnswer};
 use codes::Corrected;
 use layout::SYNDROME;
@@ -17,8 +17,10 @@ use offer::Offer;
 
 // The run on the bits y that were read from as many samples as the code has bits, into an output of the right length.
 fn correct_read(o: Offer, samples: &[f32], limit: u16, y: &mut [u64], out: &mut [u8]) -> Corrected
-    requires { ⌜ Known o × (o .steps ≡ true) × (length (now samples) ≡ o .bits) × (length (now y) ≡ 130) × (length (now out) ≡ o .word) × (wbit (now y) ≡ readOf (now samples)) ⌝ }
-    ensures { λ r. ⌜ ((n : ℕ) → offered n ≡ true → o ≡ offerOf n → asCorrected r (now (out .exit)) ≡ ranSamples n (now (samples .entry)) limit (now (out .entry))) ⌝ }
+    requires { ⌜ Known o × (o .steps ≡ true) × (length (now samples) ≡ o .bits) × (length (now y) ≡ 130) × (length (now out) ≡ o .word)
+        × (allFinite (now samples) ≡ true) × (wbit (now y) ≡ readOf (now samples)) ⌝ }
+    ensures { λ r. ⌜ ((n : ℕ) → offered n ≡ true → o ≡ offerOf n
+        → asCorrected r (now (out .exit)) ≡ ranSamples n (now (samples .entry)) limit (now (out .entry))) ⌝ }
 {
     let mut t = [0u16; TABLE];
     let mut s = [0u64; SYNDROME];

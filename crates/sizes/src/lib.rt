@@ -115,7 +115,7 @@ fn magnitude(s: f32) -> f32
 }
 
 // Of two bits, the later one only if its sample is smaller.
-fn smaller(samples: &[f32], earlier: usize, later: usize) -> usize
+pub fn smaller(samples: &[f32], earlier: usize, later: usize) -> usize
     requires { ⌜ (earlier < length (now samples)) × (later < length (now samples)) ⌝ }
     ensures { λ r. ⌜ r ≡ (if smallerOf (now (samples .entry)) later earlier then later else earlier) ⌝ }
 {
@@ -126,7 +126,7 @@ fn smaller(samples: &[f32], earlier: usize, later: usize) -> usize
 }
 
 // The first bit of v that is set.
-fn first_set(v: u64) -> usize
+pub fn first_set(v: u64) -> usize
     requires { ⌜ 0 < v ⌝ }
     ensures { λ r. ⌜ (r < 64) × (digit 64 v r ≡ true) × ((i : ℕ) → i < r → digit 64 v i ≡ false) ⌝ }
 {

@@ -1,5 +1,3 @@
-pub mod Levels
-pub mod Blocks
 pub mod Sized
 pub mod Unlikes
 pub mod Turns

@@ -1,112 +1,85 @@
--- One flip of the run by sizes, from what the functions ensure.
-use mathlib.Core.Path.{_≡_, sym, ap, _∙_, subst}
+-- What is kept at the start of a run by sizes, and how many bits differ after a flip.
+use mathlib.Core.Path.{_≡_, refl, sym, ap, _∙_, subst}
 use mathlib.Core.Bool.{Bool, true, false}
 use mathlib.Core.List.{List}
-use Prim.Native.Nat.{ℕ, _+_, _-_, _*_, _/_, _≤_, _<_}
+use Prim.Native.Nat.{ℕ, zero, suc, _+_, _*_, _≤_, _<_}
+use native.Mathlib.Nat.{add-zero}
 use native.Mathlib.Omega.{arith}
 use lib.Ieee.{Float}
-use lib.ListN.{getD}
+use lib.ListN.{length, getD, replicate}
 use Rattle.bits.specs.Bits.{Word, tally, _⊕_, flipped}
+use Rattle.bits.proofs.Counting.{count-le}
+use Rattle.bits.proofs.Octets.{zeros-at}
 use Rattle.rules.specs.Codes.{Code, bits}
-use Rattle.rules.specs.Checks.{broken, metOf}
 use Rattle.answers.specs.Calls.{differing}
 use Rattle.answers.proofs.Differing.{differ-flip}
 use Rattle.vectors.specs.Vectors.{wbit}
 use Rattle.layout.specs.declared.Shape.{Shape}
-use Rattle.layout.specs.Lent.{Fit, Lent, score}
-use Rattle.planes.specs.Ranges.{Top}
-use Rattle.bounds.specs.Reading.{Gathered}
-use Rattle.bounds.specs.Keeping.{Scored, Under, Kept}
+use Rattle.layout.specs.Lent.{Fit, Lent, laid, score}
+use Rattle.bounds.specs.Reading.{Twice, Gathered}
+use Rattle.bounds.specs.Keeping.{Scored}
 use Rattle.bounds.proofs.Turned.{scored}
-use Rattle.choice.specs.declared.Best.{Best}
-use Rattle.choice.specs.Searching.{Lowered, Found}
-use Rattle.runs.specs.Turns.{Carried}
-use Rattle.runs.proofs.Turning.{top-small, chosen-top, chosen-kept}
-use Rattle.sizes.specs.Samples.{read, smaller}
-use Rattle.sizes.specs.Sizes.{smallest}
-use Rattle.sizing.specs.Searching.{Reached, scoring}
-use Rattle.sizing.specs.Turning.{Shown, Turned}
-use Rattle.sizing.proofs.Sized.{sized-flip, smallest-inside, smallest-met, smallest-left}
+use Rattle.sizes.specs.Samples.{read}
+use Rattle.smallest.specs.Knowing.{Knows, whole, Leads}
+use Rattle.sizing.specs.Turning.{Stands}
 
 few : (b : Bool) → tally b ≤ 1
 few true = omega arith
 few false = omega arith
 
-module _ (c : Code) (h : List ℕ) (sh : Shape) (samples : List Float) (y d starts counts met : List ℕ) (best : Best) (unlike : ℕ)
-    (s : Shown c h sh samples y d starts counts met best unlike) (some : 1 ≤ sh .size) (fits : sh .size ≤ 64 * sh .words)
-    (above : 8 < best .score)
-    (r : ℕ) (met₁ : List ℕ)
-    (searched : (g : ℕ → ℕ) → Scored g sh (wbit d) starts counts → Under g sh 0 counts met
-    → ((n : ℕ) → n < sh .blocks * sh .size → g n ≤ best .score)
-    → (r ≡ smallest (smaller samples) (scoring g (best .score)) (best .bit) 0 (sh .blocks * sh .size)) × Under g sh 0 counts met₁
-    × Reached g sh (best .score) counts met₁ (sh .blocks))
-    (v : ℕ) (counted : tally (read samples r ⊕ wbit y r) ≤ unlike → v + 2 * tally (read samples r ⊕ wbit y r) ≡ unlike + 1)
-    (y′ : List ℕ) (word : wbit y′ ≡ flipped (wbit y) r) (d′ met′ : List ℕ)
-    (keeps : (c : Code) (h : List ℕ) (from : ℕ) (x : Word) → Lent c h sh → Gathered h sh starts counts (sh .blocks)
-    → Kept c sh from x d counts met₁
-    → metOf c x r ≡ getD met₁ (r / sh .size) 0 → Kept c sh from (flipped x r) d′ counts met′) where
-  found : (r ≡ smallest (smaller samples) (scoring (score c (wbit y)) (best .score)) (best .bit) 0 (sh .blocks * sh .size))
-      × Under (score c (wbit y)) sh 0 counts met₁
-      × Reached (score c (wbit y)) sh (best .score) counts met₁ (sh .blocks)
-  found = searched (score c (wbit y)) (scored c h sh (s .lent) (wbit y) (wbit d) fits (s .kept .twice) starts counts (s .gathered))
-      (s .kept .under) (λ n l. s .top .most n (omega arith) l)
+-- one bit more or less differs
+pub differs-flip : (c : Code) (samples : List Float) (y : Word) (r : ℕ) → r < bits c → (unlike v : ℕ)
+    → unlike ≡ differing c (read samples) y
+    → (tally (read samples r ⊕ y r) ≤ unlike → v + 2 * tally (read samples r ⊕ y r) ≡ unlike + 1)
+    → v ≡ differing c (read samples) (flipped y r)
+differs-flip c samples y r inside unlike v was counted =
+    let now = differ-flip c (read samples) y r inside in
+    let enough : tally (read samples r ⊕ y r) ≤ unlike = omega (arith, now, was, few (read samples r ⊕ y r)) in
+    omega (arith, counted enough, now, was)
 
-  inside : r < bits c
-  inside = omega (arith, smallest-inside (smaller samples) (s .lent) (s .all) (wbit y) (s .top) r (found .0), s .lent .bits-are)
+-- no met check is counted on, and no bit is known
+unknown : (n i : ℕ) → i < n → _≡_ {A = ℕ} (getD (replicate n 8176) i 0) 8176
+unknown zero i l = absurd (omega arith)
+unknown (suc n) zero l = refl
+unknown (suc n) (suc i) l = unknown n i (omega arith)
 
-  pub turned-is : Turned c sh samples y best v y′ d′ counts met′
-  turned-is = record {
-    bit = r;
-    next = sized-flip (smaller samples) (s .lent) (s .all) (wbit y) (s .top) r (found .0) (s .some) above;
-    word = word;
-    kept = subst (λ z. Kept c sh 0 z d′ counts met′) (sym word)
-        (keeps c h 0 (wbit y) (s .lent) (s .gathered) (record { twice = s .kept .twice; under = found .1 })
-        (smallest-met (smaller samples) (s .lent) (s .all) (wbit y) (s .top) r (found .0) starts counts met₁ some (s .gathered)
-        (found .2)));
-    left = ap (λ z. broken c z + (best .score - 8)) word ∙ smallest-left (smaller samples) (s .lent) (s .all) (wbit y) (s .top) r
-        (found .0) (omega arith);
-    differs = differs;
-  }
-    where
-      flip-differs : differing c (read samples) (flipped (wbit y) r) + 2 * tally (read samples r ⊕ wbit y r) ≡ differing c (read samples)
-          (wbit y) + 1
-      flip-differs = differ-flip c (read samples) (wbit y) r inside
+pub begun-stands : (c : Code) (sh : Shape) (samples : List Float) (starts counts : List ℕ) (x s : Word) (d : List ℕ) → sh .blocks ≤ 16
+    → length samples ≤ 8176 → s ≡ laid c sh x → Twice sh (sh .rows) s (wbit d)
+    → Stands c sh samples x d starts counts (replicate 16 0) (replicate 16 8176)
+begun-stands c sh samples starts counts x s d blocks long e two = record {
+  twice = subst (λ z. Twice sh (sh .rows) z (wbit d)) e two;
+  knows = record {
+    block = λ b hb.
+        let none : length samples ≤ getD (replicate 16 8176) b 0 = omega (arith, unknown 16 b (omega arith)) in
+        record {
+          under = λ k l t. omega (arith, zeros-at 16 b, count-le (getD counts b 0) (λ e. wbit d (getD starts (8 * b + e) 0 + k)));
+          inside = λ u. absurd (omega arith);
+          ahead = λ u. absurd (omega arith);
+        };
+  };
+}
 
-      differs : v ≡ differing c (read samples) (wbit y′)
-      differs =
-          let enough : tally (read samples r ⊕ wbit y r) ≤ unlike =
-          omega (arith, flip-differs, s .differs, few (read samples r ⊕ wbit y r)) in
-          omega (arith, counted enough, flip-differs, s .differs, ap (differing c (read samples)) word)
+pub stands-as : {c : Code} {sh : Shape} {samples : List Float} {y z : Word} {d starts counts met kept : List ℕ} → y ≡ z
+    → Stands c sh samples y d starts counts met kept → Stands c sh samples z d starts counts met kept
+stands-as {c} {sh} {samples} {y} {z} {d} {starts} {counts} {met} {kept} e was =
+    subst (λ x. Stands c sh samples x d starts counts met kept) e was
 
--- ---- before a flip
+-- ---- a bit that was chosen
 
 module _ (c : Code) (h : List ℕ) (sh : Shape) (lent : Lent c h sh) (fit : Fit h sh) (starts counts : List ℕ)
-    (g : Gathered h sh starts counts (sh .blocks)) (all : c .unsent ≡ 0)
-    (y d met met′ : List ℕ) (left : ℕ) (was : Carried c sh 0 left (wbit y) d counts met) (best : Best)
-    (low : Lowered sh 0 (wbit d) starts counts met met′)
-    (found : Found sh 0 (wbit d) starts counts met (best .score) (best .bit) met′) where
-  pub shown-top : Top (score c (wbit y)) 0 (sh .blocks * sh .size) (best .bit) (best .score)
-  shown-top = found .first (score c (wbit y)) (scored c h sh lent (wbit y) (wbit d) (fit .held) (was .kept .twice) starts counts g)
-      (was .kept .under)
+    (g : Gathered h sh starts counts (sh .blocks)) (samples : List Float) (y : Word) (d met kept : List ℕ)
+    (was : Stands c sh samples y d starts counts met kept) {met′ kept′ : List ℕ} (r top : ℕ)
+    (chose : Knows samples sh (wbit d) starts counts whole met kept → Knows samples sh (wbit d) starts counts whole met′ kept′
+    × ((f : ℕ → ℕ) → Scored f sh (wbit d) starts counts
+    → ((i : ℕ) → i < sh .blocks * sh .size → f i ≤ top) × Leads samples f top (sh .blocks * sh .size) r)) where
+  scores : Scored (score c y) sh (wbit d) starts counts
+  scores = scored c h sh lent y (wbit d) (fit .held) (was .twice) starts counts g
 
-  pub shown-small : best .score ≤ 16
-  shown-small = omega (
-    arith,
-    top-small lent (wbit y) (chosen-top c h sh lent fit starts counts g 0 (wbit y) d met met′ (best .score)
-        (best .bit) (was .kept) low found),
-  )
+  pub chosen-most : (i : ℕ) → i < sh .blocks * sh .size → score c y i ≤ top
+  chosen-most = chose (was .knows) .1 (score c y) scores .0
 
-  pub shown-some : 0 < left → broken c (wbit y) ≡ 0 → ⊥
-  shown-some l e = omega (arith, was .left-is)
+  pub chosen-leads : Leads samples (score c y) top (sh .blocks * sh .size) r
+  chosen-leads = chose (was .knows) .1 (score c y) scores .1
 
-  pub shown : 0 < left → (samples : List Float) (unlike : ℕ) → unlike ≡ differing c (read samples) (wbit y)
-      → Shown c h sh samples y d starts counts met′ best unlike
-  shown l samples unlike e = record {
-    lent = lent;
-    gathered = g;
-    all = all;
-    kept = chosen-kept c h sh lent fit starts counts g 0 (wbit y) d met met′ (best .score) (best .bit) (was .kept) low found;
-    some = shown-some l;
-    top = shown-top;
-    differs = e;
-  }
+  pub chosen-stands : Stands c sh samples y d starts counts met′ kept′
+  chosen-stands = record { twice = was .twice; knows = chose (was .knows) .0 }

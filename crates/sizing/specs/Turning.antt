@@ -1,54 +1,43 @@
--- One flip of the run by sizes, and the run.
+-- What a run by sizes keeps, and the run.
 use mathlib.Core.Path.{_≡_}
 use mathlib.Core.List.{List}
-use Prim.Native.Nat.{ℕ, _+_, _-_, _*_}
+use Prim.Native.Nat.{ℕ, _<_}
 use lib.Ieee.{Float}
-use lib.IntN.{subℕ}
-use Rattle.bits.specs.Bits.{Word, flipped}
+use Rattle.bits.specs.Bits.{Word}
 use Rattle.rules.specs.Codes.{Code}
 use Rattle.rules.specs.Checks.{broken}
-use Rattle.rules.specs.Flipping.{flip}
 use Rattle.answers.specs.Calls.{differing}
 use Rattle.vectors.specs.Vectors.{wbit}
 use Rattle.layout.specs.declared.Shape.{Shape}
-use Rattle.layout.specs.Lent.{Lent, laid, score}
-use Rattle.planes.specs.Ranges.{Top}
-use Rattle.bounds.specs.Reading.{Gathered}
-use Rattle.bounds.specs.Keeping.{Kept}
-use Rattle.choice.specs.declared.Best.{Best}
-use Rattle.runs.specs.Turns.{Carried, Going, RunsTo}
+use Rattle.layout.specs.Lent.{Lent, laid}
+use Rattle.bounds.specs.Reading.{Twice}
+use Rattle.runs.specs.Turns.{Going, RunsTo}
 use Rattle.sizes.specs.Samples.{read, smaller}
 use Rattle.sizes.specs.Sizes.{bySize}
+use Rattle.smallest.specs.Knowing.{Knows, whole}
 use Rattle.sizing.specs.declared.Ended.{Ended}
 
--- The state is that of the word y, which has a broken check; this bit has the greatest score; and y differs in so many bits from what was
--- read.
-pub record Shown (c : Code) (h : List ℕ) (sh : Shape) (samples : List Float) (y d starts counts met : List ℕ) (best : Best)
-    (unlike : ℕ) : Type 0 where
-  pub lent : Lent c h sh
-  pub gathered : Gathered h sh starts counts (sh .blocks)
-  pub all : c .unsent ≡ 0
-  pub kept : Kept c sh 0 (wbit y) d counts met
-  pub some : broken c (wbit y) ≡ 0 → ⊥
-  pub top : Top (score c (wbit y)) 0 (sh .blocks * sh .size) (best .bit) (best .score)
-  pub differs : unlike ≡ differing c (read samples) (wbit y)
+-- What is kept is that of the word y: its syndrome, doubled, and what is known of each block.
+pub record Stands (c : Code) (sh : Shape) (samples : List Float) (y : Word) (d starts counts met kept : List ℕ) : Type 0 where
+  pub twice : Twice sh (sh .rows) (laid c sh y) (wbit d)
+  pub knows : Knows samples sh (wbit d) starts counts whole met kept
 
--- The smallest such bit was flipped, and the state is that of the word afterwards.
-pub record Turned (c : Code) (sh : Shape) (samples : List Float) (y : List ℕ) (best : Best) (unlike : ℕ)
-    (y′ d′ counts met′ : List ℕ) : Type 0 where
-  pub bit : ℕ
-  pub next : bySize (smaller samples) c (wbit y) ≡ flip bit (subℕ (best .score) 8)
-  pub word : wbit y′ ≡ flipped (wbit y) bit
-  pub kept : Kept c sh 0 (wbit y′) d′ counts met′
-  pub left : broken c (wbit y′) + (best .score - 8) ≡ broken c (wbit y)
-  pub differs : unlike ≡ differing c (read samples) (wbit y′)
+-- There is a code of which that is kept, and so many of its checks are broken.
+pub record Starting (h : List ℕ) (sh : Shape) (samples : List Float) (left : ℕ) (y : Word) (d starts counts met kept : List ℕ) : Type 0
+  where
+    pub code : Code
+    pub lent : Lent code h sh
+    pub unsent : code .unsent ≡ 0
+    pub left-is : left ≡ broken code y
+    pub stands : Stands code sh samples y d starts counts met kept
 
--- The run by sizes from x has come to y after so many flips; the state is y's, so many checks are broken, and it differs in so many bits
--- from what was read.
-pub record Coming (c : Code) (sh : Shape) (samples : List Float) (limit : ℕ) (x : Word) (flips : ℕ) (y d counts met : List ℕ)
+-- The run by sizes from x has come to y after so many flips. So many checks are broken; if there is one, what is kept is y's; and y differs
+-- in so many bits from what was read.
+pub record Coming (c : Code) (sh : Shape) (samples : List Float) (limit : ℕ) (x : Word) (flips : ℕ) (y d starts counts met kept : List ℕ)
     (left unlike : ℕ) : Type 0 where
   pub going : Going (bySize (smaller samples) c) c sh limit x flips (wbit y) (laid c sh (wbit y))
-  pub carried : Carried c sh 0 left (wbit y) d counts met
+  pub left-is : left ≡ broken c (wbit y)
+  pub stands : 0 < left → Stands c sh samples (wbit y) d starts counts met kept
   pub differs : unlike ≡ differing c (read samples) (wbit y)
 
 -- The run by sizes from x ends with the word y; so many of its checks are broken, and in so many bits it differs from x.

@@ -65,6 +65,7 @@ run-requires c κs =
       shaped k (e .0 ∙ sym (ap (λ z. z .shape) (k .is))) .0,
       s .pre .2 ∙ bits-are (k .number) (k .is) (k .offers) ∙ e .1 .lent .bits-are,
       s .pre .5,
+      s .pre .6,
       record {
         code = code (k .number);
         begins = record {
@@ -111,13 +112,13 @@ returns c =
     let t : T (offered n && not (eqb n 5)) = as-truth (steps-by n is (s .pre .1)) in
     let at-first = f .ensures (code n) _ _ _ (e .1 .fit) (e .1 .lent) (e .2) in
     let to = g .ensures (code n) (record { lent = e .1 .lent; unsent = all-sent n is (s .pre .1); held = e .2; broken = at-first }) in
-    corrected-is n t _ (a .samples .now) (a .limit) (g .result) _ _ (s .pre .5) to (f .result) (w .result) (j .result) at-first
+    corrected-is n t _ (a .samples .now) (a .limit) (g .result) _ _ (s .pre .6) to (f .result) (w .result) (j .result) at-first
     (w .ensures (code n) _ _ (e .1 .fit) (e .1 .lent) (e .2))
-    (j .ensures n off is (theRun n t _ (a .samples .now) (a .limit) (g .result) _ _ (s .pre .5) to)
-    (ran-number n t _ (a .samples .now) (a .limit) (g .result) _ _ (s .pre .5) to)
-    (ran-word n t _ (a .samples .now) (a .limit) (g .result) _ _ (s .pre .5) to)
-    (ran-met n t _ (a .samples .now) (a .limit) (g .result) _ _ (s .pre .5) to)
-    (ran-unsent n t _ (a .samples .now) (a .limit) (g .result) _ _ (s .pre .5) to))
+    (j .ensures n off is (theRun n t _ (a .samples .now) (a .limit) (g .result) _ _ (s .pre .6) to)
+    (ran-number n t _ (a .samples .now) (a .limit) (g .result) _ _ (s .pre .6) to)
+    (ran-word n t _ (a .samples .now) (a .limit) (g .result) _ _ (s .pre .6) to)
+    (ran-met n t _ (a .samples .now) (a .limit) (g .result) _ _ (s .pre .6) to)
+    (ran-unsent n t _ (a .samples .now) (a .limit) (g .result) _ _ (s .pre .6) to))
     (a .out .now) _ (wrote-word _ _ _ _ (c .before .before .before .before .before .before .before .if1 .taken)
     (c .before .before .before .before .write .ensures (code n) (unsent-is n is off) (bits-are n is off) (word-long n is off (s .pre .4))))
 
@@ -140,13 +141,13 @@ returns-2 c =
     let t : T (offered n && not (eqb n 5)) = as-truth (steps-by n is (s .pre .1)) in
     let at-first = f .ensures (code n) _ _ _ (e .1 .fit) (e .1 .lent) (e .2) in
     let to = g .ensures (code n) (record { lent = e .1 .lent; unsent = all-sent n is (s .pre .1); held = e .2; broken = at-first }) in
-    corrected-is n t _ (a .samples .now) (a .limit) (g .result) _ _ (s .pre .5) to (f .result) (w .result) (j .result) at-first
+    corrected-is n t _ (a .samples .now) (a .limit) (g .result) _ _ (s .pre .6) to (f .result) (w .result) (j .result) at-first
     (w .ensures (code n) _ _ (e .1 .fit) (e .1 .lent) (e .2))
-    (j .ensures n off is (theRun n t _ (a .samples .now) (a .limit) (g .result) _ _ (s .pre .5) to)
-    (ran-number n t _ (a .samples .now) (a .limit) (g .result) _ _ (s .pre .5) to)
-    (ran-word n t _ (a .samples .now) (a .limit) (g .result) _ _ (s .pre .5) to)
-    (ran-met n t _ (a .samples .now) (a .limit) (g .result) _ _ (s .pre .5) to)
-    (ran-unsent n t _ (a .samples .now) (a .limit) (g .result) _ _ (s .pre .5) to))
+    (j .ensures n off is (theRun n t _ (a .samples .now) (a .limit) (g .result) _ _ (s .pre .6) to)
+    (ran-number n t _ (a .samples .now) (a .limit) (g .result) _ _ (s .pre .6) to)
+    (ran-word n t _ (a .samples .now) (a .limit) (g .result) _ _ (s .pre .6) to)
+    (ran-met n t _ (a .samples .now) (a .limit) (g .result) _ _ (s .pre .6) to)
+    (ran-unsent n t _ (a .samples .now) (a .limit) (g .result) _ _ (s .pre .6) to))
     (a .out .now) _ (wrote-none _ _ _ (c .if1 .left))
 
 pub correct-read-spec : {M : Type 1} → statement M

@@ -69,7 +69,9 @@ correct-read-requires c κs =
     let t = taken (a .code) is (f .before .of .result .steps) (steps-offered (a .code) is) (length (a .samples .now))
     (f .before .of .result .bits) (length (a .out .now)) (f .before .of .result .word) (f .refusal .ensures)
     (c .before .before .before .before .before .before .if1 .left) in
-    (t .known, t .chosen, t .input-is, search needs, t .output-is, c .before .before .before .before .read .ensures .0)
+    let r = c .before .before .before .before .read in
+    let finite = sym (r .ensures .1) ∙ not-false (r .result) (c .before .before .if2 .left) in
+    (t .known, t .chosen, t .input-is, search needs, t .output-is, finite, r .ensures .0)
 
 same-length : tie.Need-same-length
 same-length c = search needs

@@ -1,14 +1,16 @@
 -- `sizing::run`: a quiet word is left as it is; of any other the state is made, and the run goes on from it. Assumes nothing.
 use mathlib.Core.Path.{_≡_, refl, sym, _∙_}
+use native.Mathlib.Omega.{arith}
 use borrow.Author.Needs.{needs}
 use Rattle.rules.specs.Checks.{broken}
 use Rattle.answers.proofs.Differing.{differ-self}
 use Rattle.vectors.specs.Vectors.{wbit}
 use Rattle.layout.specs.Lent.{laid}
-use Rattle.runs.proofs.Turning.{going-start, ends-quiet, begun-kept, begun-ready, runs-as}
+use Rattle.runs.proofs.Turning.{going-start, ends-quiet, begun-ready, runs-as}
 use Rattle.sizes.specs.Samples.{smaller}
 use Rattle.sizes.specs.Sizes.{bySize}
 use Rattle.sizing.proofs.Sized.{sized-quiet}
+use Rattle.sizing.proofs.Turns.{begun-stands}
 use Rattle.sizing.proofs.run.Statement.{statement}
 use Rattle.sizing.proofs.run.Tie as tie
 
@@ -25,7 +27,7 @@ returns c k w =
     record {
       runs = runs-as _ _ (e .0) (e .1)
           (ends-quiet way k (a .sh) (a .limit) y 0 y (laid k (a .sh) y) (going-start way k (a .sh) (a .limit) y (laid k (a .sh) y) refl)
-          (sized-quiet (smaller (a .samples .now)) (w .lent) (w .unsent) y none));
+          (sized-quiet (a .samples .now) (w .lent) (w .unsent) y none));
       last = e .2 ∙ sym none;
       differs = e .3 ∙ sym (differ-self k y);
     }
@@ -54,31 +56,34 @@ slice-aggregate-go-on-3 c = search needs
 slice-aggregate-go-on-4 : tie.Need-slice-aggregate-go-on-4
 slice-aggregate-go-on-4 c = search needs
 
+slice-aggregate-go-on-5 : tie.Need-slice-aggregate-go-on-5
+slice-aggregate-go-on-5 c = search needs
+
 go-on-requires : tie.Need-go-on-requires
 go-on-requires c κs =
     let s = c .before .before .before .before .before .before .before .before .before .before .before .before .before .before .before
-    .before .before in
+    .before .before .before in
     let a = s .args in
-    let m = c .before .before .before .before .before .before .before .before .begin in
-    let w = s .pre .6 in
+    let m = c .before .before .before .before .before .before .before .before .before .begin in
+    let w = s .pre .7 in
     let k = w .begins in (
       s .pre .0,
       m .ensures .1,
       begun-ready (s .pre .0) (m .ensures .1) (search needs) (search needs),
+      search needs,
       s .pre .1,
       search needs,
       s .pre .3,
       s .pre .4,
       s .pre .5,
+      s .pre .6,
       record {
         code = w .code;
         lent = k .lent;
         unsent = k .unsent;
-        carried = record {
-          kept = begun-kept (w .code) (a .h .now) (a .sh) (k .lent) _ _ (m .ensures .1) 0 (wbit (a .y .now)) _ _ (k .held)
-              (m .ensures .0);
-          left-is = k .broken;
-        };
+        left-is = k .broken;
+        stands = begun-stands (w .code) (a .sh) (a .samples .now) _ _ (wbit (a .y .now)) _ _ (s .pre .0 .blocks)
+            (omega (arith, s .pre .4, s .pre .0 .bits)) (k .held) (m .ensures .0);
       },
     )
 
@@ -88,14 +93,13 @@ same-length c = search needs
 returns-2 : tie.Need-returns-2
 returns-2 c k e =
     let s = c .before .before .before .before .before .before .before .before .before .before .before .before .before .before .before
-    .before .before .before .before .before .before .before in
+    .before .before .before .before .before .before .before .before .before in
     let a = s .args in
-    let m = c .before .before .before .before .before .before .before .before .before .before .before .before .before .begin in
-    c .before .before .before .before .go-on .ensures k (e .lent) (e .unsent)
-    (record {
-      kept = begun-kept k (a .h .now) (a .sh) (e .lent) _ _ (m .ensures .1) 0 (wbit (a .y .now)) _ _ (e .held) (m .ensures .0);
-      left-is = e .broken;
-    })
+    let m = c .before .before .before .before .before .before .before .before .before .before .before .before .before .before .before
+    .begin in
+    c .before .before .before .before .before .go-on .ensures k (e .lent) (e .unsent) (e .broken)
+    (begun-stands k (a .sh) (a .samples .now) _ _ (wbit (a .y .now)) _ _ (s .pre .0 .blocks) (omega (arith, s .pre .4, s .pre .0 .bits))
+    (e .held) (m .ensures .0))
 
 pub run-spec : {M : Type 1} → statement M
 run-spec =
@@ -111,6 +115,7 @@ run-spec =
     slice-aggregate-go-on-2
     slice-aggregate-go-on-3
     slice-aggregate-go-on-4
+    slice-aggregate-go-on-5
     go-on-requires
     same-length
     returns-2)

@@ -1,12 +1,9 @@
--- `sizing::turn`: the smallest bit of the greatest score is flipped, and the state is kept. Assumes nothing.
+-- `sizing::turn`: the bit is flipped in the word, and what is kept follows while a check is broken. Assumes nothing.
 use native.Mathlib.Omega.{arith}
-use Rattle.sizing.proofs.Turns.{turned-is}
+use Rattle.vectors.specs.Vectors.{wbit}
 use borrow.Author.Needs.{needs}
 use Rattle.sizing.proofs.turn.Statement.{statement}
 use Rattle.sizing.proofs.turn.Tie as tie
-
-smallest-at-requires : tie.Need-smallest-at-requires
-smallest-at-requires c κs = search needs
 
 counted-requires : tie.Need-counted-requires
 counted-requires c κs = search needs
@@ -16,16 +13,9 @@ turn-over-requires c κs = search needs
 
 flip-requires : tie.Need-flip-requires
 flip-requires c κs =
-    let a = c .before .before .before .before .before .before .before .before .before .before .smallest-at in (
-      a .ensures .1,
-      search needs,
-      omega (
-        arith,
-        a .ensures .0,
-        c .before .before .before .before .before .before .before .before .before .before .before .before .before
-            .before .before .before .before .before .before .pre .3,
-      ),
-    )
+    let s = c .before .before .before .before .before .before .before .before .before .before .before .before .before .before .before
+    .before .before in
+    (s .pre .0, s .pre .1, s .pre .3, s .pre .4, s .pre .6, omega (arith, s .pre .4, s .pre .7))
 
 same-length : tie.Need-same-length
 same-length c = search needs
@@ -36,33 +26,51 @@ same-length-2 c = search needs
 same-length-3 : tie.Need-same-length-3
 same-length-3 c = search needs
 
+same-length-4 : tie.Need-same-length-4
+same-length-4 c = search needs
+
 returns : tie.Need-returns
 returns c =
     let s = c .before .before .before .before .before .before .before .before .before .before .before .before .before .before .before
     .before .before .before .before .before .before .before .before .before in
     let a = s .args in
-    let f = c .before .before .before .before .flip in
-    let o = c .before .before .before .before .before .before .before .before .before .turn-over in
-    let n = c .before .before .before .before .before .before .before .before .before .before .before .counted in
-    let m = c .before .before .before .before .before .before .before .before .before .before .before .before .before .before .before
-    .smallest-at in (
+    let f = c .before .before .before .before .before .before .flip in
+    let n = c .before .before .before .before .before .before .before .before .before .before .before .before .before .before .before
+    .counted in (
       f .ensures .0,
       n .ensures .0,
-      λ k h shown. turned-is k h (a .sh) (a .samples .now) (a .y .now) (a .d .now) (a .starts .now) (a .counts .now) (a .met .now)
-          (a .best) (a .unlike) shown
-          (s .pre .0 .some) (s .pre .0 .held) (s .pre .6) (m .result) _ (m .ensures .2) (n .result) (n .ensures .1) _ (o .ensures) _ _
-          (f .ensures .1),
+      n .ensures .1,
+      c .before .before .before .before .before .before .before .before .before .before .before .before .before .turn-over .ensures,
+      λ k h lent g l was.
+          let e = f .ensures .1 k h (wbit (a .y .now)) lent g (was .twice) in
+          record { twice = e .0; knows = e .1 (was .knows) },
+    )
+
+same-length-5 : tie.Need-same-length-5
+same-length-5 c = search needs
+
+returns-2 : tie.Need-returns-2
+returns-2 c =
+    let s = c .before .before .before .before .before .before .before .before .before .before .before .before .before .before in
+    let n = c .before .before .before .before .before .counted in (
+      s .pre .0,
+      n .ensures .0,
+      n .ensures .1,
+      c .before .before .before .turn-over .ensures,
+      λ k h lent g l was. absurd (omega (arith, c .if1 .left)),
     )
 
 pub turn-spec : {M : Type 1} → statement M
 turn-spec =
     tie.close
     (tie.spec
-    smallest-at-requires
     counted-requires
     turn-over-requires
     flip-requires
     same-length
     same-length-2
     same-length-3
-    returns)
+    same-length-4
+    returns
+    same-length-5
+    returns-2)

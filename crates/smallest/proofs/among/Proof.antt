@@ -1,0 +1,96 @@
+-- `smallest::among`: the smallest of the bits that are set, beginning with the bit or with the first of them. Assumes nothing.
+use mathlib.Core.Path.{_≡_, refl, sym, ap, _∙_}
+use mathlib.Core.Bool.{true, false, true≢false}
+use mathlib.Core.Logic.{_⊎_, inl, inr}
+use Prim.Native.Nat.{ℕ, _+_, _-_, _≤_, _<_}
+use native.Mathlib.Omega.{arith}
+use lib.ListN.{length}
+use Rattle.bits.specs.Bits.{digit}
+use Rattle.bits.proofs.Octets.{digit-zero}
+use Rattle.sizes.specs.Samples.{smaller}
+use Rattle.sizes.proofs.Orders.{finite-ordered}
+use Rattle.smallest.proofs.Orders.{ahead-self}
+use Rattle.smallest.proofs.Masks.{marks, marks-hold, among-bit, among-all, among-one, first-before, one-set}
+use borrow.Author.Needs.{needs}
+use Rattle.smallest.proofs.among.Statement.{statement}
+use Rattle.smallest.proofs.among.Tie as tie
+
+returns : tie.Need-returns
+returns c =
+    let s = c .before .before in
+    let a = s .args in
+    let none : (i : ℕ) → digit 64 (a .mask) i ≡ false = λ i. ap (λ v. digit 64 v i) (c .if1 .taken) ∙ digit-zero 64 i in (
+      λ u. (u, λ i l. none i),
+      λ u. (
+        inl refl,
+        λ v. ahead-self (smaller (a .samples .now)) (length (a .samples .now)) (finite-ordered (a .samples .now) (s .pre .0)) (a .bit) u,
+        λ i l e. absurd (true≢false (sym e ∙ none i)),
+      ),
+    )
+
+smallest-of-requires : tie.Need-smallest-of-requires
+smallest-of-requires c κs = search needs
+
+returns-2 : tie.Need-returns-2
+returns-2 c =
+    let s = c .before .before .before .before in
+    let a = s .args in
+    let f = c .smallest-of in
+    let x = a .samples .now in
+    let is = f .ensures .1 (marks x (s .pre .0) (a .mask) (a .first)) 64 (omega arith) (marks-hold x (s .pre .0) (a .mask) (a .first)) in
+    let here = c .before .if2 .taken in
+    let before : (i : ℕ) → i < 64 → digit 64 (a .mask) i ≡ true → a .bit ≤ a .first + i = λ i l e. omega (arith, s .pre .1 here) in (
+      λ u. absurd (omega (arith, f .ensures .0)),
+      λ u. (
+        among-one x (s .pre .0) (a .mask) (a .first) (s .pre .2) (a .bit) here before (f .result) is,
+        λ v. among-bit x (s .pre .0) (a .mask) (a .first) (s .pre .2) (a .bit) here before (f .result) is,
+        among-all x (s .pre .0) (a .mask) (a .first) (s .pre .2) (a .bit) here before (f .result) is,
+      ),
+    )
+
+first-set-requires : tie.Need-first-set-requires
+first-set-requires c κs = search needs
+
+add-smallest-of : tie.Need-add-smallest-of
+add-smallest-of c =
+    let s = c .before .before .before .before in
+    let f = c .first-set in
+    omega (arith, s .pre .2 (f .result) (f .ensures .0) (f .ensures .1))
+
+smallest-of-requires-2 : tie.Need-smallest-of-requires-2
+smallest-of-requires-2 c κs =
+    let s = c .before .before .before .before in
+    let f = c .first-set in
+    (s .pre .2 (f .result) (f .ensures .0) (f .ensures .1), s .pre .2)
+
+returns-3 : tie.Need-returns-3
+returns-3 c =
+    let s = c .before .before .before .before .before in
+    let a = s .args in
+    let g = c .before .first-set in
+    let f = c .smallest-of2 in
+    let x = a .samples .now in
+    let is = f .ensures .1 (marks x (s .pre .0) (a .mask) (a .first)) 64 (omega arith) (marks-hold x (s .pre .0) (a .mask) (a .first)) in
+    let bit = a .first + g .result in
+    let here : bit < length x = s .pre .2 (g .result) (g .ensures .0) (g .ensures .1) in
+    let before = first-before (a .mask) (a .first) (g .result) (g .ensures .2) in (
+      λ u. absurd (omega (arith, f .ensures .0)),
+      λ u. (
+        inr (one-set (a .mask) (a .first) (g .result) (f .result) (g .ensures .0) (g .ensures .1)
+            (among-one x (s .pre .0) (a .mask) (a .first) (s .pre .2) bit here before (f .result) is)),
+        λ v. absurd (omega (arith, c .before .before .if2 .left)),
+        among-all x (s .pre .0) (a .mask) (a .first) (s .pre .2) bit here before (f .result) is,
+      ),
+    )
+
+pub among-spec : {M : Type 1} → statement M
+among-spec =
+    tie.close
+    (tie.spec
+    returns
+    smallest-of-requires
+    returns-2
+    first-set-requires
+    add-smallest-of
+    smallest-of-requires-2
+    returns-3)

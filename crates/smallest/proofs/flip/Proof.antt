@@ -1,0 +1,126 @@
+-- `smallest::flip`: the bits that have fewer checks met are those that are seen anew. Assumes nothing.
+use Prim.Native.Nat.{ℕ, _+_, _*_, _/_, _%_, _≤_, _<_}
+use native.Mathlib.Nat.{mod-lt, div-lt-iff-lt-mul}
+use native.Mathlib.Omega.{arith}
+use lib.ListN.{length, getD}
+use Rattle.vectors.specs.Vectors.{wbit}
+use Rattle.smallest.proofs.Flipping.{twice-flip, lowered, knows-lowered, knows-flip}
+use borrow.Author.Needs.{needs}
+use Rattle.smallest.proofs.flip.Statement.{statement}
+use Rattle.smallest.proofs.flip.Tie as tie
+
+div-b : tie.Need-div-b
+div-b c = search needs
+
+rem-k : tie.Need-rem-k
+rem-k c = search needs
+
+shared-slice-read-n : tie.Need-shared-slice-read-n
+shared-slice-read-n c =
+    let s = c .before .before .before .before .before .before .before .before .before in
+    let a = s .args in
+    let hb : a .bit / a .sh .size < a .sh .blocks = div-lt-iff-lt-mul (s .pre .0 .some) .1 (s .pre .5) in
+    omega (arith, s .pre .0 .counts-long, s .pre .0 .blocks)
+
+cast-n : tie.Need-cast-n
+cast-n c =
+    let s = c .before .before .before .before .before .before .before .before .before in
+    let a = s .args in
+    let hb : a .bit / a .sh .size < a .sh .blocks = div-lt-iff-lt-mul (s .pre .0 .some) .1 (s .pre .5) in
+    omega (arith, s .pre .0 .low (a .bit / a .sh .size) hb)
+
+mul-turn-checks : tie.Need-mul-turn-checks
+mul-turn-checks c =
+    let s = c .before .before .before .before .before .before .before .before .before .before in
+    let a = s .args in
+    let hb : a .bit / a .sh .size < a .sh .blocks = div-lt-iff-lt-mul (s .pre .0 .some) .1 (s .pre .5) in
+    omega (arith, s .pre .0 .blocks)
+
+turn-checks-requires : tie.Need-turn-checks-requires
+turn-checks-requires c κs =
+    let s = c .before .before .before .before .before .before .before .before .before .before in
+    let a = s .args in
+    let r = s .pre .0 in
+    let b = a .bit / a .sh .size in
+    let hb : b < a .sh .blocks = div-lt-iff-lt-mul (r .some) .1 (s .pre .5) in
+    let hk : a .bit % a .sh .size < a .sh .size = mod-lt (a .bit) (r .some) in (
+      r .some,
+      omega (arith, r .held, r .words),
+      omega (arith, r .low b hb, r .starts-long, r .blocks),
+      omega (arith, r .starts-long),
+      s .pre .2,
+      λ e h. (omega (arith, r .near b e hb h, r .held, r .words), r .inside b e (a .bit % a .sh .size) hb h hk),
+    )
+
+mul-raise : tie.Need-mul-raise
+mul-raise c =
+    let s = c .before .before .before .before .before .before .before .before .before .before .before .before .before .before .before
+    .before in
+    let a = s .args in
+    let hb : a .bit / a .sh .size < a .sh .blocks = div-lt-iff-lt-mul (s .pre .0 .some) .1 (s .pre .5) in
+    omega (arith, s .pre .0 .blocks)
+
+raise-requires : tie.Need-raise-requires
+raise-requires c κs =
+    let s = c .before .before .before .before .before .before .before .before .before .before .before .before .before .before .before
+    .before in
+    let a = s .args in
+    let r = s .pre .0 in
+    let b = a .bit / a .sh .size in
+    let hb : b < a .sh .blocks = div-lt-iff-lt-mul (r .some) .1 (s .pre .5) in
+    let hk : a .bit % a .sh .size < a .sh .size = mod-lt (a .bit) (r .some) in (
+      r,
+      s .pre .1,
+      search needs,
+      s .pre .3,
+      s .pre .4,
+      omega (arith, r .low b hb, r .starts-long, r .blocks),
+      λ e h. (omega (arith, r .near b e hb h, r .held, r .words), r .inside b e (a .bit % a .sh .size) hb h hk),
+    )
+
+same-length : tie.Need-same-length
+same-length c = search needs
+
+same-length-2 : tie.Need-same-length-2
+same-length-2 c = search needs
+
+same-length-3 : tie.Need-same-length-3
+same-length-3 c = search needs
+
+returns : tie.Need-returns
+returns c =
+    let s = c .before .before .before .before .before .before .before .before .before .before .before .before .before .before .before
+    .before .before .before .before .before .before in
+    let a = s .args in
+    let f = c .before .before .before .before .raise in
+    let t = c .before .before .before .before .before .before .before .before .before .before .turn-checks in (
+      f .ensures .0,
+      λ k h x lent g two. (
+        twice-flip (a .samples .now) (a .sh) (a .starts .now) (a .counts .now) (a .met .now) (a .kept .now) (s .pre .0) (a .bit) (s .pre .5)
+            (a .d .now) _ (t .ensures) k h x lent g two,
+        λ was. knows-flip (a .samples .now) (a .sh) (a .starts .now) (a .counts .now) (a .met .now) (a .kept .now) (s .pre .0) (a .bit)
+            (s .pre .5) (a .d .now) _ (t .ensures) k h x lent g two
+            (f .ensures .1 (lowered (a .samples .now) (a .sh) (a .starts .now) (a .counts .now) (a .met .now) (a .kept .now) (s .pre .0)
+            (a .bit)
+            (s .pre .5) (a .d .now) _ (t .ensures) k h x lent g two)
+            (knows-lowered (a .samples .now) (a .sh) (a .starts .now) (a .counts .now) (a .met .now) (a .kept .now) (s .pre .0) (a .bit)
+            (s .pre .5) (a .d .now) _ (t .ensures) k h x lent g two was)),
+      ),
+    )
+
+pub flip-spec : {M : Type 1} → statement M
+flip-spec =
+    tie.close
+    (tie.spec
+    div-b
+    rem-k
+    shared-slice-read-n
+    cast-n
+    mul-turn-checks
+    turn-checks-requires
+    mul-raise
+    raise-requires
+    same-length
+    same-length-2
+    same-length-3
+    returns)

@@ -1,0 +1,103 @@
+-- `smallest::smallest_at`: one block more at each turn. Assumes nothing.
+use mathlib.Core.Path.{_≡_, sym, ap, _∙_, subst}
+use Prim.Native.Nat.{ℕ, _+_, _-_, _*_, _≤_, _<_}
+use native.Mathlib.Decide.{ℕ-discrete}
+use native.Mathlib.Omega.{arith}
+use lib.ListN.{length, getD}
+use Rattle.vectors.specs.Vectors.{wbit}
+use Rattle.bounds.specs.Keeping.{bound, Ready, Scored}
+use Rattle.smallest.specs.Knowing.{Knows, whole, Leads}
+use Rattle.smallest.proofs.Searching.{leads-none, settled-lower, settled-none}
+use borrow.Author.Needs.{needs}
+use Rattle.smallest.proofs.smallest_at.Statement.{statement}
+use Rattle.smallest.proofs.smallest_at.Tie as tie
+
+abbrev Inv-loop : tie.InvT-loop
+Inv-loop samples d starts counts met₀ kept₀ sh top best₀ b₀ met kept best b =
+    (b ≤ sh .blocks) × (length kept ≡ 16) × Ready sh starts counts met × ((j : ℕ) → j < sh .blocks → bound counts met j ≤ top)
+    × (length samples ≤ best → (j : ℕ) → j < b → bound counts met j < top)
+    × (Knows samples sh (wbit d) starts counts whole met₀ kept₀ → Knows samples sh (wbit d) starts counts whole met kept
+    × ((g : ℕ → ℕ) → Scored g sh (wbit d) starts counts → Leads samples g top (b * sh .size) best))
+
+abbrev μ-loop : tie.MeasureT-loop
+μ-loop samples d starts counts met₀ kept₀ sh top best₀ b₀ met kept best b = sh .blocks - b
+
+loop-holds : tie.Need-loop-holds Inv-loop μ-loop
+loop-holds c =
+    let s = c .before .before .before .before .before .before in
+    let a = s .args in (
+      omega arith,
+      s .pre .1,
+      s .pre .0,
+      s .pre .5,
+      λ u j l. absurd (omega arith),
+      λ was. (was, λ g scored. leads-none (a .samples .now) g (a .top) (a .sh .size) _ (omega arith)),
+    )
+
+settle-requires : tie.Need-settle-requires Inv-loop μ-loop
+settle-requires c κs =
+    let s = c .before .before .before .before .before .before .before .before .before .before .before in
+    let l = c .before .before .before .before .loop in
+    (l .inv .2, l .inv .1, s .pre .2, s .pre .3, s .pre .4, c .before .before .if1 .taken, l .inv .3 (l .b) (c .before .before .if1 .taken))
+
+add-b : tie.Need-add-b Inv-loop μ-loop
+add-b c = omega (arith, c .before .before .before .before .before .before .before .before .before .loop .inv .2 .blocks)
+
+loop-less : tie.Need-loop-less Inv-loop μ-loop
+loop-less c = omega arith
+
+loop-again : tie.Need-loop-again Inv-loop μ-loop
+loop-again c =
+    let s = c .before .before .before .before .before .before .before .before .before .before .before .before .before .before .before
+    .before in
+    let a = s .args in
+    let l = c .before .before .before .before .before .before .before .before .before .loop in
+    let f = c .before .before .before .before .settle .ensures in
+    let next : l .b * a .sh .size + a .sh .size ≡ (l .b + 1) * a .sh .size = omega arith in (
+      omega arith,
+      search needs,
+      f .ready,
+      settled-lower f (l .inv .3),
+      λ u. settled-none f u (l .inv .4),
+      λ was.
+          let p = l .inv .5 was in (
+            f .knows (p .0),
+            λ g scored. subst (λ z. Leads (a .samples .now) g (a .top) z (c .before .before .before .before .settle .result)) next
+                (f .leads (p .0) g scored (p .1 g scored)),
+          ),
+    )
+
+same-length : tie.Need-same-length Inv-loop μ-loop
+same-length c = c .before .before .loop .inv .2 .met-long ∙ sym (c .before .before .before .before .before .before .before .before .before
+    .pre .0 .met-long)
+
+same-length-2 : tie.Need-same-length-2 Inv-loop μ-loop
+same-length-2 c = c .before .before .loop .inv .1 ∙ sym (c .before .before .before .before .before .before .before .before .before .pre .1)
+
+returns : tie.Need-returns Inv-loop μ-loop
+returns c =
+    let s = c .before .before .before .before .before .before .before .before .before in
+    let a = s .args in
+    let l = c .before .before .loop in
+    let all : l .b ≡ a .sh .blocks = omega arith in (
+      l .inv .2,
+      λ u j hj. l .inv .4 u j (omega arith),
+      λ was.
+          let p = l .inv .5 was in
+          (p .0, λ g scored. subst (λ z. Leads (a .samples .now) g (a .top) (z * a .sh .size) (l .best)) all (p .1 g scored)),
+    )
+
+pub smallest-at-spec : {M : Type 1} → statement M
+smallest-at-spec =
+    tie.close
+    (tie.spec
+    Inv-loop
+    μ-loop
+    loop-holds
+    settle-requires
+    add-b
+    loop-less
+    loop-again
+    same-length
+    same-length-2
+    returns)

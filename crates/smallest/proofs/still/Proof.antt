@@ -1,0 +1,91 @@
+-- `smallest::still`: the bit before stays ahead; or the known bit does, and it has no more checks met. Assumes nothing.
+use mathlib.Core.Path.{_≡_, refl, sym, ap, _∙_, subst}
+use mathlib.Core.Logic.{_⊎_, inl, inr}
+use Prim.Native.Nat.{ℕ, _+_, _%_, _≤_, _<_}
+use native.Mathlib.Nat.{mod-lt}
+use native.Mathlib.Omega.{arith}
+use lib.ListN.{length, getD}
+use Rattle.bits.proofs.Counting.{count-le}
+use Rattle.vectors.specs.Vectors.{wbit}
+use Rattle.sizes.specs.Samples.{smaller}
+use Rattle.smallest.specs.Knowing.{Ahead}
+use Rattle.smallest.proofs.Orders.{other-one}
+use Rattle.smallest.proofs.Seeing.{within-less}
+use borrow.Author.Needs.{needs}
+use Rattle.smallest.proofs.still.Statement.{statement}
+use Rattle.smallest.proofs.still.Tie as tie
+
+returns : tie.Need-returns
+returns c = λ u. absurd (omega arith)
+
+lead-requires : tie.Need-lead-requires
+lead-requires c κs = search needs
+
+returns-2 : tie.Need-returns-2
+returns-2 c =
+    let s = c .before .before .before .before .before .before in
+    let a = s .args in
+    let x = smaller (a .samples .now) in
+    let e = c .before .lead .ensures in
+    let is = c .if2 .taken in
+    λ u. (
+      c .before .before .if1 .left,
+      subst (λ r. Ahead x r (a .bit)) is (e .2),
+      λ v. subst (λ r. Ahead x r (a .best)) is (e .3 v),
+      inl refl,
+    )
+
+rem-broken-of : tie.Need-rem-broken-of
+rem-broken-of c = search needs
+
+broken-of-requires : tie.Need-broken-of-requires
+broken-of-requires c κs =
+    let s = c .before .before .before .before .before .before in
+    let a = s .args in
+    within-less (a .starts .now) (a .d .now) (a .from) (a .n) (a .m) (a .bit % a .m) (s .pre .0) (omega (
+      arith,
+      mod-lt (a .bit) (s .pre
+          .3),
+    ))
+
+add-if3 : tie.Need-add-if3
+add-if3 c =
+    let s = c .before .before .before .before .before .before .before in
+    let a = s .args in
+    omega (
+      arith,
+      s .pre .2,
+      s .pre .0 .few,
+      c .broken-of .ensures,
+      count-le (a .n) (λ e. wbit (a .d .now) (getD (a .starts .now) (a .from + e) 0 + (a .bit % a .m))),
+    )
+
+returns-3 : tie.Need-returns-3
+returns-3 c = λ u. absurd (omega arith)
+
+returns-4 : tie.Need-returns-4
+returns-4 c =
+    let s = c .before .before .before .before .before .before .before .before in
+    let a = s .args in
+    let x = smaller (a .samples .now) in
+    let e = c .before .before .before .lead .ensures in
+    let is = other-one (e .0) (c .before .before .if2 .left) in
+    λ u. (
+      u,
+      subst (λ r. Ahead x r (a .bit)) is (e .2),
+      λ v. subst (λ r. Ahead x r (a .best)) is (e .3 v),
+      inr (refl, omega (arith, c .before .broken-of .ensures, c .if3 .left)),
+    )
+
+pub still-spec : {M : Type 1} → statement M
+still-spec =
+    tie.close
+    (tie.spec
+    returns
+    lead-requires
+    returns-2
+    rem-broken-of
+    broken-of-requires
+    add-if3
+    returns-3
+    returns-4)

@@ -1,0 +1,114 @@
+-- `smallest::weigh`: the block's smallest bit is kept; or it has none, and its bound goes down. Assumes nothing.
+use Prim.Native.Nat.{ℕ, _+_, _*_, _≤_, _<_}
+use native.Mathlib.Omega.{arith}
+use lib.ListN.{length}
+use Rattle.vectors.specs.Vectors.{wbit}
+use Rattle.smallest.proofs.Seeing.{block-room, block-within}
+use Rattle.smallest.proofs.Searching.{weighed-some, weighed-none, heavier}
+use borrow.Author.Needs.{needs}
+use Rattle.smallest.proofs.weigh.Statement.{statement}
+use Rattle.smallest.proofs.weigh.Tie as tie
+
+shared-slice-read-n : tie.Need-shared-slice-read-n
+shared-slice-read-n c = search needs
+
+cast-n : tie.Need-cast-n
+cast-n c = let s = c .before .before .before .before .before .before .before in omega (arith, s .pre .0 .low (s .args .b) (s .pre .5))
+
+mul-smallest-in : tie.Need-mul-smallest-in
+mul-smallest-in c = search needs
+
+slice-read-smallest-in : tie.Need-slice-read-smallest-in
+slice-read-smallest-in c = search needs
+
+cast-smallest-in : tie.Need-cast-smallest-in
+cast-smallest-in c =
+    let s = c .before .before .before .before .before .before .before .before in
+    omega (arith, s .pre .0 .low (s .args .b) (s .pre .5), s .pre .0 .few (s .args .b) (s .pre .5))
+
+mul-smallest-in-2 : tie.Need-mul-smallest-in-2
+mul-smallest-in-2 c =
+    let s = c .before .before .before .before .before .before .before .before .before in
+    let a = s .args in
+    omega (arith, s .pre .3, block-room (a .b) (a .sh .blocks) (a .sh .size) (s .pre .5))
+
+smallest-in-requires : tie.Need-smallest-in-requires
+smallest-in-requires c κs =
+    let s = c .before .before .before .before .before .before .before .before .before in
+    let a = s .args in (
+      block-within (a .sh) (a .starts .now) (a .counts .now) (a .met .now) (s .pre .0) (a .b) (s .pre .5) (a .d .now) (s .pre .2),
+      s .pre .4,
+      omega (arith, s .pre .3, block-room (a .b) (a .sh .blocks) (a .sh .size) (s .pre .5)),
+      s .pre .0 .few (a .b) (s .pre .5),
+    )
+
+mul-kept : tie.Need-mul-kept
+mul-kept c = search needs
+
+slice-write-kept : tie.Need-slice-write-kept
+slice-write-kept c = search needs
+
+lead-requires : tie.Need-lead-requires
+lead-requires c κs = search needs
+
+same-length : tie.Need-same-length
+same-length c = search needs
+
+returns : tie.Need-returns
+returns c =
+    let s = c .before .before .before .before .before .before .before .before .before .before .before .before in
+    let a = s .args in
+    let f = c .before .before .smallest-in in
+    let e = c .lead .ensures in
+    weighed-some (a .samples .now) (a .sh) (wbit (a .d .now)) (a .starts .now) (a .counts .now) (a .met .now) (a .kept .now) (s .pre .0)
+    (s .pre .3) (s .pre .4) (a .b) (s .pre .5) (f .result) (f .ensures) (omega (arith, s .pre .1, s .pre .5, s .pre .0 .blocks)) (a .best)
+    (c .lead .result) (c .before .if1 .taken) (e .0) (e .1) (e .2) (e .3)
+
+slice-read-met : tie.Need-slice-read-met
+slice-read-met c = search needs
+
+add-met : tie.Need-add-met
+add-met c =
+    let s = c .before .before .before .before .before .before .before .before .before .before .before .before in
+    omega (arith, s .pre .0 .low (s .args .b) (s .pre .5), s .pre .0 .few (s .args .b) (s .pre .5))
+
+slice-write-met : tie.Need-slice-write-met
+slice-write-met c = search needs
+
+same-length-2 : tie.Need-same-length-2
+same-length-2 c = search needs
+
+same-length-3 : tie.Need-same-length-3
+same-length-3 c = search needs
+
+returns-2 : tie.Need-returns-2
+returns-2 c =
+    let s = c .before .before .before .before .before .before .before .before .before .before .before .before in
+    let a = s .args in
+    let f = c .before .before .smallest-in in
+    weighed-none (a .samples .now) (a .sh) (wbit (a .d .now)) (a .starts .now) (a .counts .now) (a .met .now) (a .kept .now) (s .pre .0)
+    (s .pre .3) (s .pre .4) (a .b) (s .pre .5) (f .result) (f .ensures) (omega (arith, s .pre .1, s .pre .5, s .pre .0 .blocks)) (a .best)
+    (c .before .if1 .left)
+
+pub weigh-spec : {M : Type 1} → statement M
+weigh-spec =
+    tie.close
+    (tie.spec
+    shared-slice-read-n
+    cast-n
+    mul-smallest-in
+    slice-read-smallest-in
+    cast-smallest-in
+    mul-smallest-in-2
+    smallest-in-requires
+    mul-kept
+    slice-write-kept
+    lead-requires
+    same-length
+    returns
+    slice-read-met
+    add-met
+    slice-write-met
+    same-length-2
+    same-length-3
+    returns-2)
