@@ -164,7 +164,11 @@ pub both-put : (o F D E : List ℕ) (x : Word) → length F ≤ length o → D �
     → E ≡ octets (length (take (length (D ++ drop (length F) o) - length F) (drop (length F) (D ++ drop (length F) o)))) x
     → putMid (length F) (length (D ++ drop (length F) o) - length F) (D ++ drop (length F) o) E ≡ F ++ octets (length o - length F) x
 both-put o F D E x h e g =
-    ap₂ (λ l m. l ++ (E ++ m)) (take-at D (drop n o) n d) (drop-of-length-le (drop n all) {i = length all - n} (omega (arith, length-drop n all)))
+    ap₂ (λ l m. l ++ (E ++ m)) (take-at D (drop n o) n d) (drop-of-length-le (drop n all) {i = length all - n} (omega (
+      arith,
+      length-drop n
+          all,
+    )))
     ∙ ap (λ z. D ++ z) (append-nil E)
     ∙ ap₂ (λ l m. l ++ m) e (g ∙ ap (λ k. octets k x) room)
   where

@@ -37,7 +37,8 @@ returns c =
     let u = s .args .unsent in
     let x = bit (s .args .octets .now) in
     c .before .before .lift .ensures
-    ∙ ap (later u) (c .before .before .before .before .before .before .trim .ensures ∙ ap (upTo (511 - u)) (c .before .before .before .before .before .before .before .before .before .before .cut .ensures))
+    ∙ ap (later u) (c .before .before .before .before .before .before .trim .ensures ∙ ap (upTo (511 - u)) (c .before .before .before
+    .before .before .before .before .before .before .before .cut .ensures))
     ∙ first-block u x (s .pre .2)
 
 pub cut-first-spec : {M : Type 1} → statement M

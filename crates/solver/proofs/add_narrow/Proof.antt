@@ -39,13 +39,26 @@ slice-aggregate-window c = search needs
 mul-window : tie.Need-mul-window Inv-loop μ-loop
 mul-window c =
     let s = c .before .before .before .before .before .before .before .before .before .before in
-    omega (arith, s .pre .1, s .pre .0 .held, mul-le-mul-right {m = c .before .before .before .loop .b} {n = 3} (s .args .sh .size) (omega arith))
+    omega (
+      arith,
+      s .pre .1,
+      s .pre .0 .held,
+      mul-le-mul-right {m = c .before .before .before .loop .b} {n = 3} (s .args .sh .size) (omega
+          arith),
+    )
 
 window-requires : tie.Need-window-requires Inv-loop μ-loop
 window-requires c κs =
     let s = c .before .before .before .before .before .before .before .before .before .before in
     let long : length (c .before .before .before .before .before .load .last .1 .0) ≡ 5 = search needs in
-    omega (arith, long, s .pre .1, s .pre .0 .held, mul-le-mul-right {m = c .before .before .before .loop .b} {n = 3} (s .args .sh .size) (omega arith))
+    omega (
+      arith,
+      long,
+      s .pre .1,
+      s .pre .0 .held,
+      mul-le-mul-right {m = c .before .before .before .loop .b} {n = 3} (s .args .sh .size)
+          (omega arith),
+    )
 
 front-requires : tie.Need-front-requires Inv-loop μ-loop
 front-requires c κs = search needs
@@ -64,7 +77,8 @@ loop-less c = omega arith
 
 loop-again : tie.Need-loop-again Inv-loop μ-loop
 loop-again c =
-    let s = c .before .before .before .before .before .before .before .before .before .before .before .before .before .before .before .before .before in
+    let s = c .before .before .before .before .before .before .before .before .before .before .before .before .before .before .before
+    .before .before in
     let sh = s .args .sh in
     let h = s .args .h .now in
     let x = bit (s .args .octets .now) in
@@ -73,7 +87,8 @@ loop-again c =
     let block : Holds (c .before .before .before .before .before .front .result) (upTo M (from (l .b * M) x)) =
     λ i hi. c .before .before .before .before .before .front .ensures i hi
     ∙ ap (λ (p : Bool). ltb i M && p) (c .before .before .before .before .before .before .window .ensures i hi
-    ∙ ap (λ (z : Word). z (l .b * M + i)) (c .before .before .before .before .before .before .before .before .before .before .before .before .load .ensures)) in (
+    ∙ ap (λ (z : Word). z (l .b * M + i)) (c .before .before .before .before .before .before .before .before .before .before .before
+    .before .load .ensures)) in (
       omega arith,
       c .before .before .add-narrow-block .kept .1 .1 .1 .1 .0 ∙ l .inv .1,
       c .before .before .add-narrow-block .ensures

@@ -18,7 +18,8 @@ use Rattle.solver.proofs.add_wide.Tie as tie
 
 abbrev Inv-loop : tie.InvT-loop
 Inv-loop octets unsent h sh s₀ part₀ d₀ odd₀ b₀ s part d odd b =
-    (b ≤ 14) × (length part ≡ 8) × (length d ≡ 16) × (length s ≡ 16) × (odd < 2 ^ 14) × (odd ≡ number b (oddBlock (later unsent (bit octets))))
+    (b ≤ 14) × (length part ≡ 8) × (length d ≡ 16) × (length s ≡ 16) × (odd < 2 ^ 14) × (odd ≡ number b (oddBlock (later unsent (bit
+    octets))))
     × (wbit s ≡ rowed (wide sh) (sh .rows) (summed sh h (later unsent (bit octets)) b))
 
 abbrev μ-loop : tie.MeasureT-loop
@@ -90,9 +91,11 @@ loop-less c = omega arith
 
 loop-again : tie.Need-loop-again Inv-loop μ-loop
 loop-again c =
-    let s = c .before .before .before .before .before .before .before .before .before .before .before .before .before .before .before .before .before .before .before in
+    let s = c .before .before .before .before .before .before .before .before .before .before .before .before .before .before .before
+    .before .before .before .before in
     let a = s .args in
-    let l = c .before .before .before .before .before .before .before .before .before .before .before .before .before .before .before .loop in
+    let l = c .before .before .before .before .before .before .before .before .before .before .before .before .before .before .before .loop
+    in
     let x = later (a .unsent) (bit (a .octets .now)) in
     let sh = a .sh in
     let cut = c .before .before .before .before .before .before .before .before .before .before .before .before .cut-block in
@@ -100,7 +103,8 @@ loop-again c =
     let v = 2 * l .odd + odd .result in
     let long : length (cut .last .1 .1 .1 .0) ≡ 8 = cut .kept .1 .1 .1 .0 ∙ l .inv .1 in
     let one = odd .ensures .1 ∙ cut-odd (cut .last .1 .1 .1 .0) 511 (from (l .b * 511) x) (cut .ensures) (omega arith) in
-    let e : v ≡ number (l .b + 1) (oddBlock x) = ap (λ (n : ℕ). 2 * l .odd + n) one ∙ number-more (l .b) (l .odd) (oddBlock x) (l .inv .5) in (
+    let e : v ≡ number (l .b + 1) (oddBlock x) = ap (λ (n : ℕ). 2 * l .odd + n) one ∙ number-more (l .b) (l .odd) (oddBlock x) (l .inv .5)
+    in (
       omega arith,
       long,
       c .before .before .before .before .before .before .double .kept .1 .1 .0 ∙ l .inv .2,

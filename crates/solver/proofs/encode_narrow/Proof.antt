@@ -64,7 +64,8 @@ write-requires c κs =
     let unsent = ok .small (s .pre .1) .1 in (
       ok .fits,
       lit≤ tt,
-      c .before .before .before .before .walk-narrow .kept .1 .0 ∙ c .before .before .before .before .before .before .before .lay-narrow .kept .1 .1 .0,
+      c .before .before .before .before .walk-narrow .kept .1 .0 ∙ c .before .before .before .before .before .before .before .lay-narrow
+          .kept .1 .1 .0,
       omega (arith, ok .enough, s .pre .2, inside, unsent),
       omega (arith, ok .front, s .pre .3, word, unsent),
       omega (arith, ok .behind-front, s .pre .3, word, unsent),
@@ -86,9 +87,11 @@ returns c = λ n off is short.
     let x : Word = bit info in
     let whole = taken-whole (code n) unsent x in
     let only = subst (λ (z : Word). z ≡ upTo (information (code n)) z) (sym whole) short in
-    let laid = c .before .before .before .before .before .before .before .before .before .before .lay-narrow .ensures n off (sym same ∙ ap (λ z. z .shape) is) only in
+    let laid = c .before .before .before .before .before .before .before .before .before .before .lay-narrow .ensures n off (sym same ∙ ap
+    (λ z. z .shape) is) only in
     let f : ℕ → Word = endRows n (sh .size) x in
-    let ended = c .before .before .before .before .before .before .before .walk-narrow .ensures (checkRows (code n) x) (laid ∙ start-held n refl ok x) in
+    let ended = c .before .before .before .before .before .before .before .walk-narrow .ensures (checkRows (code n) x) (laid ∙ start-held n
+    refl ok x) in
     let sends : 4 * sh .size ≡ informed sh - code n .unsent = omega (arith, unsent) in
     c .before .before .write .ensures f ended (short-sent n x (4 * sh .size) (omega (arith, unsent, ok .informs)) short)
     ∙ ap₂ (λ (l m : ℕ). octets l (completed sh 1 f m x)) long sends

@@ -54,7 +54,11 @@ invert-requires : tie.Need-invert-requires
 invert-requires c κs = search needs
 
 sub-write : tie.Need-sub-write
-sub-write c = omega (arith, small (c .before .before .before .before .before .before .before .before .before .before .before .before .pre .0) .unsent)
+sub-write c = omega (
+  arith,
+  small (c .before .before .before .before .before .before .before .before .before .before .before .before .pre
+      .0) .unsent,
+)
 
 slice-aggregate-write : tie.Need-slice-aggregate-write
 slice-aggregate-write c = search needs
@@ -69,7 +73,8 @@ write-requires c κs =
     let unsent = ap (λ z. z .unsent) (k .is) in (
       ok .fits,
       lit≤ tt,
-      c .before .before .before .before .invert .kept .1 .0 ∙ c .before .before .before .before .before .before .before .walk-wide .kept .1 .0 ∙ c .before .before .before .before .before .before .before .before .before .before .lay-wide .kept .1 .1 .1 .0,
+      c .before .before .before .before .invert .kept .1 .0 ∙ c .before .before .before .before .before .before .before .walk-wide .kept .1
+          .0 ∙ c .before .before .before .before .before .before .before .before .before .before .lay-wide .kept .1 .1 .1 .0,
       omega (arith, ok .enough, s .pre .2, inside, unsent),
       omega (arith, ok .front, s .pre .3, word, unsent),
       omega (arith, ok .behind-front, s .pre .3, word, unsent),
@@ -80,7 +85,8 @@ same-length c = search needs
 
 returns : tie.Need-returns
 returns c = λ n off is short.
-    let s = c .before .before .before .before .before .before .before .before .before .before .before .before .before .before .before .before .before in
+    let s = c .before .before .before .before .before .before .before .before .before .before .before .before .before .before .before
+    .before .before in
     let o = s .args .o in
     let info = s .args .information .now in
     let lay = c .before .before .before .before .before .before .before .before .before .before .before .before .before .lay-wide in
@@ -91,13 +97,16 @@ returns c = λ n off is short.
     let unsent : o .unsent ≡ code n .unsent = ap (λ z. z .unsent) is ∙ own .unsent in
     let long = s .pre .3 ∙ ap (λ z. z .word) is ∙ own .word in
     let x : Word = lifted (code n) (bit info) in
-    let laid = lay .ensures .1 n x off (sym same ∙ ap (λ z. z .shape) is) (sym (taken-later (code n) (o .unsent) unsent (bit info))) short in
+    let laid = lay .ensures .1 n x off (sym same ∙ ap (λ z. z .shape) is) (sym (taken-later (code n) (o .unsent) unsent (bit info))) short
+    in
     let f : ℕ → Word = endRows n (sh .size) x in
     let g : ℕ → Word = λ r i. f r i ⊕ oddTogether x r in
     let turned = c .before .before .before .before .before .before .before .invert .ensures x f (laid .0)
-    (c .before .before .before .before .before .before .before .before .before .before .walk-wide .ensures (checkRows (code n) x) (laid .1 ∙ start-held n refl ok x)) in
+    (c .before .before .before .before .before .before .before .before .before .before .walk-wide .ensures (checkRows (code n) x) (laid .1
+    ∙ start-held n refl ok x)) in
     let sends : 7154 - o .unsent ≡ informed sh - code n .unsent = omega (arith, unsent) in
-    c .before .before .write .ensures g turned (short-sent n (bit info) (7154 - o .unsent) (omega (arith, unsent, own .low, ok .informs)) short)
+    c .before .before .write .ensures g turned (short-sent n (bit info) (7154 - o .unsent) (omega (arith, unsent, own .low, ok .informs))
+    short)
     ∙ ap₂ (λ (l m : ℕ). octets l (completed sh 0 g m (bit info))) long sends
     ∙ all-sent n sh ok (omega (arith, own .low)) 0 g (bit info) (ok .near-rows refl x (short-of (information (code n)) x short))
 

@@ -82,7 +82,8 @@ returns c =
             ap (λ (v : ℕ). 4 * v) (added .0 .1 ∙ ap (λ (z : Word). number 14 (oddBlock z)) (sym ex))
                 ∙ odd-all x (λ i h. none i (omega (arith, bits))),
             cut
-                ∙ ap (λ (z : Word). within (wide sh) (sh .size) (sh .rows) (rowed (wide sh) (sh .rows) (summed sh (t .last .0) z 14))) (sym ex)
+                ∙ ap (λ (z : Word). within (wide sh) (sh .size) (sh .rows) (rowed (wide sh) (sh .rows) (summed sh (t .last .0) z 14))) (sym
+                ex)
                 ∙ laid-informed n sh (t .last .0) 14 x lends (omega (arith, ap (λ z. z .blocks) wideness))
                 (λ i h. none i (omega (arith, bits, size))),
           ),

@@ -48,7 +48,8 @@ same-length-3 c = search needs
 
 returns-3 : tie.Need-returns-3
 returns-3 c = λ n off is.
-    let size = c .before .before .before .before .before .before .before .pre .0 (c .before .before .before .before .before .if1 .left) (c .before .before .before .before .if2 .left) in
+    let size = c .before .before .before .before .before .before .before .pre .0 (c .before .before .before .before .before .if1 .left) (c
+    .before .before .before .before .if2 .left) in
     let own = by-size _ _ (offerOf 3 .shape) (record {
       small = λ e. absurd (omega arith);
       middle = λ e. absurd (omega arith);

@@ -43,7 +43,8 @@ returns c = λ f e short.
     let info = a .information .now in
     let put = c .before .before .write-both in
     let tail = c .before .before .before .before .before .before .before .lay-tail in
-    all-octets (a .sh) (a .first) f (a .n) (bit info) info (put .last .1 .1 .0) (length (a .word .now)) (wbit (tail .last .1 .1 .1 .1 .1 .0))
+    all-octets (a .sh) (a .first) f (a .n) (bit info) info (put .last .1 .1 .0) (length (a .word .now)) (wbit (tail .last .1 .1 .1 .1 .1
+    .0))
     refl (s .pre .3) (s .pre .4) (put .kept .1 .1 .0) (λ i. c .slice-known2 .given i .fits) (put .ensures) (tail .ensures f e short)
 
 pub write-spec : {M : Type 1} → statement M
