@@ -5,7 +5,9 @@ ghost use mathlib.Core.List.{_++_};
 ghost use Prim.Native.Nat.{ℕ, _+_, _-_, _*_, _/_, _%_, _≤_, _<_};
 ghost use lib.ListN.{length, take, drop, replicate};
 ghost use Rattle.framecheck.specs.Table.{table as tableOf};
-ghost use Rattle.blocks.specs.Blocks.{two, four, block as blockOf, exported as exportedOf, exportAnswer, exportRoom, numberIn, usedIn, countRight, clear as clearOf, fault as faultOf, firstFault, imported as importedOf, wholeBlocks, importAnswer, importRoom};
+ghost use Rattle.blocks.specs.Blocks.{two, four, block as blockOf, exported as exportedOf, exportAnswer, exportRoom, numberIn};
+ghost use Rattle.blocks.specs.Blocks.{usedIn, countRight, clear as clearOf, fault as faultOf, firstFault, imported as importedOf};
+ghost use Rattle.blocks.specs.Blocks.{wholeBlocks, importAnswer, importRoom};
 ghost use Rattle.blocks.specs.Answers.{asExported, asFault, asImported};
 
 #[repr(C)]
@@ -240,7 +242,8 @@ fn room(blocks: &[u8], n: usize) -> usize
 
 // The used octets of n blocks, one block after another.
 fn take_data(blocks: &[u8], n: usize, out: &mut [u8])
-    requires { ⌜ (length (now blocks) ≡ 512 * n) × (n ≤ 128) × (firstFault n 0 (now blocks) .number ≡ 0) × (length (now out) ≡ length (importedOf n (now blocks))) ⌝ }
+    requires { ⌜ (length (now blocks) ≡ 512 * n) × (n ≤ 128) × (firstFault n 0 (now blocks) .number ≡ 0)
+        × (length (now out) ≡ length (importedOf n (now blocks))) ⌝ }
     ensures { λ _. ⌜ now (out .exit) ≡ importedOf n (now (blocks .entry)) ⌝ }
 {
     let mut end: usize = 0;

@@ -42,7 +42,8 @@ fn note(h: &[u16], at: usize, m: usize, row: usize, starts: &mut [u16], n: usize
 // The starts of block b at its eight places, and how many they are.
 fn gather(h: &[u16], sh: Shape, b: usize, starts: &mut [u16]) -> usize
     requires { ⌜ Fit (now h) sh × (b < sh .blocks) × (length (now starts) ≡ startsRoom) ⌝ }
-    ensures { λ r. ⌜ (r ≤ 8) × Starts (now (h .entry)) sh b (now (starts .exit)) r × ((e : ℕ) → e < 8 * b → getD (now (starts .exit)) e 0 ≡ getD (now (starts .entry)) e 0) ⌝ }
+    ensures { λ r. ⌜ (r ≤ 8) × Starts (now (h .entry)) sh b (now (starts .exit)) r
+        × ((e : ℕ) → e < 8 * b → getD (now (starts .exit)) e 0 ≡ getD (now (starts .entry)) e 0) ⌝ }
 {
     let m = sh.size;
     let mut n = 8 * b;
@@ -84,7 +85,8 @@ fn row(s: &[u64], at: usize, words: usize, m: usize, v: &mut [u64])
 // The first m bits of v, twice over from word `to` of d on.
 fn double_narrow_row(v: u64, m: usize, d: &mut [u64], to: usize)
     requires { ⌜ (1 ≤ m) × (m ≤ 64) × (to + 2 ≤ length (now d)) × (length (now d) < 2 ^ 32) ⌝ }
-    ensures { λ r. ⌜ ((s : Word) → (start : ℕ) → Holds v (from start s) → Placed s start m (wbit (now (d .entry))) (64 * to) (wbit (now (d .exit)))) ⌝ }
+    ensures { λ r. ⌜ ((s : Word) → (start : ℕ) → Holds v (from start s)
+        → Placed s start m (wbit (now (d .entry))) (64 * to) (wbit (now (d .exit)))) ⌝ }
 {
     let p = double_word(front(v, m), m);
     d[to] = p.first;
@@ -93,7 +95,8 @@ fn double_narrow_row(v: u64, m: usize, d: &mut [u64], to: usize)
 
 // The m bits of a row that begins with word `at`, twice over from word `to` of d on.
 fn double_row(s: &[u64], at: usize, words: usize, m: usize, v: &mut [u64], d: &mut [u64], to: usize)
-    requires { ⌜ (at + words ≤ length (now s)) × (words ≤ length (now v)) × (1 ≤ m) × (m ≤ 64 * words) × (to + 2 * words ≤ length (now d)) × (length (now d) < 2 ^ 32) ⌝ }
+    requires { ⌜ (at + words ≤ length (now s)) × (words ≤ length (now v)) × (1 ≤ m) × (m ≤ 64 * words) × (to + 2 * words ≤ length (now d))
+        × (length (now d) < 2 ^ 32) ⌝ }
     ensures { λ r. ⌜ Placed (wbit (now (s .entry))) (64 * at) m (wbit (now (d .entry))) (64 * to) (wbit (now (d .exit))) ⌝ }
 {
     if words == 1 {
@@ -107,7 +110,8 @@ fn double_row(s: &[u64], at: usize, words: usize, m: usize, v: &mut [u64], d: &m
 
 // Every row of the syndrome twice over.
 fn double_rows(s: &[u64], sh: Shape, v: &mut [u64], d: &mut [u64])
-    requires { ⌜ (1 ≤ sh .size) × (sh .size ≤ 64 * sh .words) × (sh .words ≤ 8) × (sh .rows ≤ 4) × (sh .rows * sh .words ≤ 16) × (length (now s) ≡ syndromeRoom) × (length (now v) ≡ 8) × (length (now d) ≡ rowsRoom) ⌝ }
+    requires { ⌜ (1 ≤ sh .size) × (sh .size ≤ 64 * sh .words) × (sh .words ≤ 8) × (sh .rows ≤ 4) × (sh .rows * sh .words ≤ 16)
+        × (length (now s) ≡ syndromeRoom) × (length (now v) ≡ 8) × (length (now d) ≡ rowsRoom) ⌝ }
     ensures { λ r. ⌜ Twice sh (sh .rows) (wbit (now (s .entry))) (wbit (now (d .exit))) ⌝ }
 {
     let words = sh.words;
@@ -121,8 +125,10 @@ fn double_rows(s: &[u64], sh: Shape, v: &mut [u64], d: &mut [u64])
 
 // The doubled rows of the syndrome s, and the starts of every block. The bounds begin with no met check.
 pub fn begin(s: &[u64], h: &[u16], sh: Shape, d: &mut [u64], starts: &mut [u16], counts: &mut [u8])
-    requires { ⌜ Fit (now h) sh × (length (now s) ≡ syndromeRoom) × (length (now d) ≡ rowsRoom) × (length (now starts) ≡ startsRoom) × (length (now counts) ≡ blocksRoom) ⌝ }
-    ensures { λ r. ⌜ Twice sh (sh .rows) (wbit (now (s .entry))) (wbit (now (d .exit))) × Gathered (now (h .entry)) sh (now (starts .exit)) (now (counts .exit)) (sh .blocks) ⌝ }
+    requires { ⌜ Fit (now h) sh × (length (now s) ≡ syndromeRoom) × (length (now d) ≡ rowsRoom) × (length (now starts) ≡ startsRoom)
+        × (length (now counts) ≡ blocksRoom) ⌝ }
+    ensures { λ r. ⌜ Twice sh (sh .rows) (wbit (now (s .entry))) (wbit (now (d .exit)))
+        × Gathered (now (h .entry)) sh (now (starts .exit)) (now (counts .exit)) (sh .blocks) ⌝ }
 {
     let mut v = [0u64; BLOCK];
     double_rows(s, sh, &mut v, d);
@@ -131,8 +137,10 @@ pub fn begin(s: &[u64], h: &[u16], sh: Shape, d: &mut [u64], starts: &mut [u16],
 
 // Of 64 bits, those of which at most so many checks are met, none or one; mostly the first checks show that there is none.
 fn few_met(d: &[u64], starts: &[u16], first: usize, n: usize, at: usize, met: usize) -> u64
-    requires { ⌜ (met ≤ 1) × (n ≤ 8) × (first + n ≤ length (now starts)) × (length (now starts) < 2 ^ 32) × (length (now d) < 2 ^ 32) × ((e : ℕ) → e < n → 64 + (getD (now starts) (first + e) 0 + at) < 64 * length (now d)) ⌝ }
-    ensures { λ r. ⌜ ((i : ℕ) → i < 64 → digit 64 r i ≡ leb n (hits (wbit (now (d .entry))) (now (starts .entry)) first n (at + i) + met)) ⌝ }
+    requires { ⌜ (met ≤ 1) × (n ≤ 8) × (first + n ≤ length (now starts)) × (length (now starts) < 2 ^ 32) × (length (now d) < 2 ^ 32)
+        × ((e : ℕ) → e < n → 64 + (getD (now starts) (first + e) 0 + at) < 64 * length (now d)) ⌝ }
+    ensures { λ r. ⌜ ((i : ℕ) → i < 64 → digit 64 r i
+        ≡ leb n (hits (wbit (now (d .entry))) (now (starts .entry)) first n (at + i) + met)) ⌝ }
 {
     let mut found = u64::MAX;
     let mut spare = spread(met);
@@ -151,7 +159,8 @@ fn few_met(d: &[u64], starts: &[u16], first: usize, n: usize, at: usize, met: us
 
 // Of 64 bits, those of which at least so many checks are broken: the counts begin so far below 8, and pass 7 there.
 fn many_broken(d: &[u64], starts: &[u16], first: usize, n: usize, at: usize, need: usize) -> u64
-    requires { ⌜ (1 ≤ need) × (need ≤ 8) × (n ≤ 8) × (first + n ≤ length (now starts)) × (length (now starts) < 2 ^ 32) × (length (now d) < 2 ^ 32) × ((e : ℕ) → e < n → 64 + (getD (now starts) (first + e) 0 + at) < 64 * length (now d)) ⌝ }
+    requires { ⌜ (1 ≤ need) × (need ≤ 8) × (n ≤ 8) × (first + n ≤ length (now starts)) × (length (now starts) < 2 ^ 32)
+        × (length (now d) < 2 ^ 32) × ((e : ℕ) → e < n → 64 + (getD (now starts) (first + e) 0 + at) < 64 * length (now d)) ⌝ }
     ensures { λ r. ⌜ ((i : ℕ) → i < 64 → digit 64 r i ≡ leb need (hits (wbit (now (d .entry))) (now (starts .entry)) first n (at + i))) ⌝ }
 {
     let mut counts = all(8 - need);
@@ -186,8 +195,10 @@ fn between(v: u64, at: usize, begin: usize, m: usize) -> u64
 
 // Of 64 bits, those of which at most so many of the n checks are met.
 fn lightest(d: &[u64], starts: &[u16], first: usize, n: usize, at: usize, met: usize) -> u64
-    requires { ⌜ (n ≤ 8) × (met ≤ n) × (first + n ≤ length (now starts)) × (length (now starts) < 2 ^ 32) × (length (now d) < 2 ^ 32) × ((e : ℕ) → e < n → 64 + (getD (now starts) (first + e) 0 + at) < 64 * length (now d)) ⌝ }
-    ensures { λ r. ⌜ ((i : ℕ) → i < 64 → digit 64 r i ≡ leb n (hits (wbit (now (d .entry))) (now (starts .entry)) first n (at + i) + met)) ⌝ }
+    requires { ⌜ (n ≤ 8) × (met ≤ n) × (first + n ≤ length (now starts)) × (length (now starts) < 2 ^ 32) × (length (now d) < 2 ^ 32)
+        × ((e : ℕ) → e < n → 64 + (getD (now starts) (first + e) 0 + at) < 64 * length (now d)) ⌝ }
+    ensures { λ r. ⌜ ((i : ℕ) → i < 64 → digit 64 r i
+        ≡ leb n (hits (wbit (now (d .entry))) (now (starts .entry)) first n (at + i) + met)) ⌝ }
 {
     if met <= 1 {
         return few_met(d, starts, first, n, at, met);
@@ -209,7 +220,8 @@ pub fn weigh(
     begin: usize,
     m: usize,
 ) -> u64
-    requires { ⌜ (n ≤ 8) × (met ≤ n) × (first + n ≤ length (now starts)) × (length (now starts) < 2 ^ 32) × (length (now d) < 2 ^ 32) × ((e : ℕ) → e < n → 64 + (getD (now starts) (first + e) 0 + at) < 64 * length (now d)) ⌝ }
+    requires { ⌜ (n ≤ 8) × (met ≤ n) × (first + n ≤ length (now starts)) × (length (now starts) < 2 ^ 32) × (length (now d) < 2 ^ 32)
+        × ((e : ℕ) → e < n → 64 + (getD (now starts) (first + e) 0 + at) < 64 * length (now d)) ⌝ }
     ensures { λ r. ⌜ Holds r (from at (light (wbit (now (d .entry))) (now (starts .entry)) first n met begin m)) ⌝ }
 {
     let found = lightest(d, starts, first, n, at, met);
@@ -234,8 +246,11 @@ fn turn_check(d: &mut [u64], p: usize, m: usize)
 
 // Turns the checks of bit k of a block over.
 pub fn turn_checks(d: &mut [u64], starts: &[u16], first: usize, n: usize, k: usize, m: usize)
-    requires { ⌜ (1 ≤ m) × (m ≤ 512) × (first + n ≤ length (now starts)) × (length (now starts) < 2 ^ 32) × (length (now d) ≡ rowsRoom) × ((e : ℕ) → e < n → (getD (now starts) (first + e) 0 + k < 4096) × ((getD (now starts) (first + e) 0 + k) % 1024 < 2 * m)) ⌝ }
-    ensures { λ r. ⌜ ((p : ℕ) → wbit (now (d .exit)) p ≡ wbit (now (d .entry)) p ⊕ sum n (λ e. eqb p (getD (now (starts .entry)) (first + e) 0 + k) ⊕ eqb p (other m (getD (now (starts .entry)) (first + e) 0 + k)))) ⌝ }
+    requires { ⌜ (1 ≤ m) × (m ≤ 512) × (first + n ≤ length (now starts)) × (length (now starts) < 2 ^ 32) × (length (now d) ≡ rowsRoom)
+        × ((e : ℕ) → e < n → (getD (now starts) (first + e) 0 + k < 4096) × ((getD (now starts) (first + e) 0 + k) % 1024 < 2 * m)) ⌝ }
+    ensures { λ r. ⌜ ((p : ℕ) → wbit (now (d .exit)) p ≡ wbit (now (d .entry)) p
+        ⊕ sum n (λ e. eqb p (getD (now (starts .entry)) (first + e) 0 + k)
+        ⊕ eqb p (other m (getD (now (starts .entry)) (first + e) 0 + k)))) ⌝ }
 {
     let mut e = 0;
     while e < n {
@@ -269,7 +284,12 @@ fn raise(met: &mut [u8], by: u8)
 // Turns the checks of a bit over and raises the bounds; the bit has as many met checks as the bound of its block says.
 pub fn flip(d: &mut [u64], starts: &[u16], counts: &[u8], met: &mut [u8], sh: Shape, bit: usize)
     requires { ⌜ Ready sh (now starts) (now counts) (now met) × (length (now d) ≡ rowsRoom) × (bit < sh .blocks * sh .size) ⌝ }
-    ensures { λ r. ⌜ Ready sh (now (starts .entry)) (now (counts .entry)) (now (met .exit)) × ((c : Code) (h : List ℕ) (from : ℕ) (x : Word) → Lent c h sh → Gathered h sh (now (starts .entry)) (now (counts .entry)) (sh .blocks) → Kept c sh from x (now (d .entry)) (now (counts .entry)) (now (met .entry)) → metOf c x bit ≡ getD (now (met .entry)) (bit / sh .size) 0 → Kept c sh from (flipped x bit) (now (d .exit)) (now (counts .entry)) (now (met .exit))) ⌝ }
+    ensures { λ r. ⌜ Ready sh (now (starts .entry)) (now (counts .entry)) (now (met .exit))
+        × ((c : Code) (h : List ℕ) (from : ℕ) (x : Word) → Lent c h sh
+        → Gathered h sh (now (starts .entry)) (now (counts .entry)) (sh .blocks)
+        → Kept c sh from x (now (d .entry)) (now (counts .entry)) (now (met .entry))
+        → metOf c x bit ≡ getD (now (met .entry)) (bit / sh .size) 0
+        → Kept c sh from (flipped x bit) (now (d .exit)) (now (counts .entry)) (now (met .exit))) ⌝ }
 {
     let b = bit / sh.size;
     let n = counts[b] as usize;

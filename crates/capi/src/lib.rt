@@ -1,7 +1,8 @@
 // The calls for C and Rust. A slice is handed over as a pointer and its length; the records are those of the calls.
 ghost use mathlib.Core.Path.{_≡_};
 ghost use lib.ListN.{length};
-ghost use Rattle.answers.specs.Calls.{wordOctetsAnswer, informationOctetsAnswer, encodeAnswer, checkAnswer, openAnswer, correctAnswer, stepAnswer};
+ghost use Rattle.answers.specs.Calls.{wordOctetsAnswer, informationOctetsAnswer, encodeAnswer, checkAnswer, openAnswer, correctAnswer};
+ghost use Rattle.answers.specs.Calls.{stepAnswer};
 ghost use Rattle.answers.specs.Lists.{listAnswer};
 ghost use Rattle.lists.specs.Answers.{asEntries, asListed};
 ghost use Rattle.samples.specs.Answers.{samplesAnswer};
@@ -86,7 +87,8 @@ pub struct Opened {
 
 #[no_mangle]
 pub extern "C" fn pandoricchia_open(code: u8, word: &[u8]) -> Opened
-    ensures { λ r. ⌜ (r .number ≡ openAnswer code (now (word .entry)) .number) × (r .lowest ≡ openAnswer code (now (word .entry)) .lowest) × (r .octets ≡ length (openAnswer code (now (word .entry)) .part)) ⌝ }
+    ensures { λ r. ⌜ (r .number ≡ openAnswer code (now (word .entry)) .number) × (r .lowest ≡ openAnswer code (now (word .entry)) .lowest)
+        × (r .octets ≡ length (openAnswer code (now (word .entry)) .part)) ⌝ }
 {
     let mut number: u8 = 0;
     let mut lowest: u32 = 0;

@@ -27,7 +27,9 @@ fn first_in_block(
     begin: usize,
     sh: Shape,
 ) -> usize
-    requires { ⌜ (1 ≤ sh .size) × (sh .size ≤ 64 * sh .words) × (64 * sh .words < sh .size + 64) × (sh .words ≤ 8) × (b < 16) × (n ≤ 8) × (met ≤ n) × (length (now d) ≡ rowsRoom) × (length (now starts) ≡ startsRoom) × ((e : ℕ) → e < n → getD (now starts) (8 * b + e) 0 ≤ 3072 + sh .size) ⌝ }
+    requires { ⌜ (1 ≤ sh .size) × (sh .size ≤ 64 * sh .words) × (64 * sh .words < sh .size + 64) × (sh .words ≤ 8) × (b < 16) × (n ≤ 8)
+        × (met ≤ n) × (length (now d) ≡ rowsRoom) × (length (now starts) ≡ startsRoom)
+        × ((e : ℕ) → e < n → getD (now starts) (8 * b + e) 0 ≤ 3072 + sh .size) ⌝ }
     ensures { λ r. ⌜ r ≡ least (sh .size) (light (wbit (now (d .entry))) (now (starts .entry)) (8 * b) n met begin (sh .size)) ⌝ }
 {
     let mut k = 0;
@@ -51,7 +53,9 @@ fn first_light(
     begin: usize,
     sh: Shape,
 ) -> usize
-    requires { ⌜ (1 ≤ sh .size) × (sh .size ≤ 64 * sh .words) × (64 * sh .words < sh .size + 64) × (sh .words ≤ 8) × (b < 16) × (n ≤ 8) × (met ≤ n) × (length (now d) ≡ rowsRoom) × (length (now starts) ≡ startsRoom) × ((e : ℕ) → e < n → getD (now starts) (8 * b + e) 0 ≤ 3072 + sh .size) ⌝ }
+    requires { ⌜ (1 ≤ sh .size) × (sh .size ≤ 64 * sh .words) × (64 * sh .words < sh .size + 64) × (sh .words ≤ 8) × (b < 16) × (n ≤ 8)
+        × (met ≤ n) × (length (now d) ≡ rowsRoom) × (length (now starts) ≡ startsRoom)
+        × ((e : ℕ) → e < n → getD (now starts) (8 * b + e) 0 ≤ 3072 + sh .size) ⌝ }
     ensures { λ r. ⌜ r ≡ least (sh .size) (light (wbit (now (d .entry))) (now (starts .entry)) (8 * b) n met begin (sh .size)) ⌝ }
 {
     if met == 0 {
@@ -62,7 +66,8 @@ fn first_light(
 
 // The bound of block b.
 pub fn bound_of(counts: &[u8], met: &[u8], b: usize) -> u8
-    requires { ⌜ (b < length (now counts)) × (b < length (now met)) × (getD (now counts) b 0 ≤ 8) × (getD (now met) b 0 ≤ getD (now counts) b 0) ⌝ }
+    requires { ⌜ (b < length (now counts)) × (b < length (now met)) × (getD (now counts) b 0 ≤ 8)
+        × (getD (now met) b 0 ≤ getD (now counts) b 0) ⌝ }
     ensures { λ r. ⌜ r ≡ bound (now (counts .entry)) (now (met .entry)) b ⌝ }
 {
     8 + counts[b] - 2 * met[b]
@@ -80,7 +85,8 @@ fn higher(a: u8, b: u8) -> u8
 
 // The greatest bound.
 pub fn greatest(counts: &[u8], met: &[u8], blocks: usize) -> u8
-    requires { ⌜ (blocks ≤ length (now counts)) × (blocks ≤ length (now met)) × ((b : ℕ) → b < blocks → (getD (now counts) b 0 ≤ 8) × (getD (now met) b 0 ≤ getD (now counts) b 0)) ⌝ }
+    requires { ⌜ (blocks ≤ length (now counts)) × (blocks ≤ length (now met))
+        × ((b : ℕ) → b < blocks → (getD (now counts) b 0 ≤ 8) × (getD (now met) b 0 ≤ getD (now counts) b 0)) ⌝ }
     ensures { λ r. ⌜ r ≡ highest (now (counts .entry)) (now (met .entry)) blocks ⌝ }
 {
     let mut top: u8 = 0;
@@ -113,8 +119,10 @@ fn look(
     b: usize,
     top: u8,
 ) -> usize
-    requires { ⌜ Ready sh (now starts) (now counts) (now met) × (length (now d) ≡ rowsRoom) × (from < sh .size) × (b < sh .blocks) × (bound (now counts) (now met) b ≤ top) ⌝ }
-    ensures { λ r. ⌜ Looked sh from (wbit (now (d .entry))) (now (starts .entry)) (now (counts .entry)) b top r (now (met .entry)) (now (met .exit)) ⌝ }
+    requires { ⌜ Ready sh (now starts) (now counts) (now met) × (length (now d) ≡ rowsRoom) × (from < sh .size) × (b < sh .blocks)
+        × (bound (now counts) (now met) b ≤ top) ⌝ }
+    ensures { λ r. ⌜ Looked sh from (wbit (now (d .entry))) (now (starts .entry)) (now (counts .entry)) b top r (now (met .entry))
+        (now (met .exit)) ⌝ }
 {
     if bound_of(counts, met, b) != top {
         return sh.size;
@@ -138,8 +146,10 @@ fn first_at(
     from: usize,
     top: u8,
 ) -> usize
-    requires { ⌜ Ready sh (now starts) (now counts) (now met) × (length (now d) ≡ rowsRoom) × (from < sh .size) × ((b : ℕ) → b < sh .blocks → bound (now counts) (now met) b ≤ top) ⌝ }
-    ensures { λ r. ⌜ Sought sh from (wbit (now (d .entry))) (now (starts .entry)) (now (counts .entry)) (now (met .entry)) top r (now (met .exit)) ⌝ }
+    requires { ⌜ Ready sh (now starts) (now counts) (now met) × (length (now d) ≡ rowsRoom) × (from < sh .size)
+        × ((b : ℕ) → b < sh .blocks → bound (now counts) (now met) b ≤ top) ⌝ }
+    ensures { λ r. ⌜ Sought sh from (wbit (now (d .entry))) (now (starts .entry)) (now (counts .entry)) (now (met .entry)) top r
+        (now (met .exit)) ⌝ }
 {
     let mut b = 0;
     while b < sh.blocks {
@@ -162,7 +172,9 @@ pub fn choose(
     from: usize,
 ) -> Best
     requires { ⌜ Ready sh (now starts) (now counts) (now met) × (length (now d) ≡ rowsRoom) × (1 ≤ sh .blocks) × (from < sh .size) ⌝ }
-    ensures { λ r. ⌜ Lowered sh from (wbit (now (d .entry))) (now (starts .entry)) (now (counts .entry)) (now (met .entry)) (now (met .exit)) × Found sh from (wbit (now (d .entry))) (now (starts .entry)) (now (counts .entry)) (now (met .entry)) (r .score) (r .bit) (now (met .exit)) ⌝ }
+    ensures { λ r. ⌜ Lowered sh from (wbit (now (d .entry))) (now (starts .entry)) (now (counts .entry)) (now (met .entry))
+        (now (met .exit)) × Found sh from (wbit (now (d .entry))) (now (starts .entry)) (now (counts .entry)) (now (met .entry)) (r .score)
+        (r .bit) (now (met .exit)) ⌝ }
 {
     let end = sh.blocks * sh.size;
     loop {

@@ -8,7 +8,8 @@ ghost use Rattle.bits.specs.Bits.{bit};
 ghost use Rattle.rules.specs.Codes.{code as codeOf, offered};
 ghost use Rattle.rules.specs.Checks.{lowest};
 ghost use Rattle.rules.specs.Encoding.{lifted};
-ghost use Rattle.answers.specs.Calls.{differing, sixSet, fault, ranFrom, steppedFrom, refusedCheck, refusedCorrect, refusedStep, encodeAnswer, checkAnswer, openAnswer, correctAnswer, stepAnswer};
+ghost use Rattle.answers.specs.Calls.{differing, sixSet, fault, ranFrom, steppedFrom, refusedCheck, refusedCorrect, refusedStep};
+ghost use Rattle.answers.specs.Calls.{encodeAnswer, checkAnswer, openAnswer, correctAnswer, stepAnswer};
 ghost use Rattle.offer.specs.Offers.{offerOf, Known};
 ghost use Rattle.vectors.specs.Vectors.{wbit};
 ghost use Rattle.codes.specs.Ends.{EndsAt};
@@ -142,7 +143,8 @@ pub fn check(code: u8, word: &[u8]) -> Checked
 // What is wrong with a word of the right length, and its lowest broken check.
 fn fault_of(o: Offer, word: &[u8]) -> Found
     requires { ⌜ Known o × (length (now word) ≡ o .word) ⌝ }
-    ensures { λ r. ⌜ ((n : ℕ) → offered n ≡ true → o ≡ offerOf n → (r .number ≡ fault n (now (word .entry))) × (r .lowest ≡ lowest (codeOf n) (lifted (codeOf n) (bit (now (word .entry)))))) ⌝ }
+    ensures { λ r. ⌜ ((n : ℕ) → offered n ≡ true → o ≡ offerOf n → (r .number ≡ fault n (now (word .entry)))
+        × (r .lowest ≡ lowest (codeOf n) (lifted (codeOf n) (bit (now (word .entry)))))) ⌝ }
 {
     let mut t = [0u16; TABLE];
     let mut y = [0u64; WORD];
@@ -178,7 +180,8 @@ pub fn open<'a>(code: u8, word: &'a [u8], number: &mut u8, lowest: &mut u32) -> 
 // In how many bits the word at the end of a run differs from the received one: no flip leaves it, and one turns one bit over.
 pub fn unlike_after(o: Offer, word: &[u8], y: &[u64], flips: u32) -> u32
     requires { ⌜ Known o × (length (now word) ≡ o .word) × (length (now y) ≡ wordRoom) ⌝ }
-    ensures { λ r. ⌜ ((n : ℕ) → offered n ≡ true → o ≡ offerOf n → EndsAt (codeOf n) (bit (now (word .entry))) (wbit (now (y .entry))) flips → r ≡ differing (codeOf n) (lifted (codeOf n) (bit (now (word .entry)))) (wbit (now (y .entry)))) ⌝ }
+    ensures { λ r. ⌜ ((n : ℕ) → offered n ≡ true → o ≡ offerOf n → EndsAt (codeOf n) (bit (now (word .entry))) (wbit (now (y .entry))) flips
+        → r ≡ differing (codeOf n) (lifted (codeOf n) (bit (now (word .entry)))) (wbit (now (y .entry)))) ⌝ }
 {
     if flips <= 1 {
         return flips;
@@ -189,7 +192,8 @@ pub fn unlike_after(o: Offer, word: &[u8], y: &[u64], flips: u32) -> u32
 // The flipping run on a word of the right length, into an output of the right length.
 fn correct_taken(o: Offer, word: &[u8], limit: u16, out: &mut [u8]) -> Corrected
     requires { ⌜ Known o × (length (now word) ≡ o .word) × (length (now out) ≡ o .word) ⌝ }
-    ensures { λ r. ⌜ ((n : ℕ) → offered n ≡ true → o ≡ offerOf n → asCorrected r (now (out .exit)) ≡ ranFrom n (now (word .entry)) limit (now (out .entry))) ⌝ }
+    ensures { λ r. ⌜ ((n : ℕ) → offered n ≡ true → o ≡ offerOf n
+        → asCorrected r (now (out .exit)) ≡ ranFrom n (now (word .entry)) limit (now (out .entry))) ⌝ }
 {
     let mut t = [0u16; TABLE];
     let mut y = [0u64; WORD];
@@ -229,7 +233,8 @@ pub fn correct(code: u8, word: &[u8], limit: u16, out: &mut [u8]) -> Corrected
 // One flip of the run on a word of the right length, into an output of the right length.
 fn step_taken(o: Offer, word: &[u8], out: &mut [u8]) -> Stepped
     requires { ⌜ Known o × (length (now word) ≡ o .word) × (length (now out) ≡ o .word) ⌝ }
-    ensures { λ r. ⌜ ((n : ℕ) → offered n ≡ true → o ≡ offerOf n → asStepped r (now (out .exit)) ≡ steppedFrom n (now (word .entry)) (now (out .entry))) ⌝ }
+    ensures { λ r. ⌜ ((n : ℕ) → offered n ≡ true → o ≡ offerOf n
+        → asStepped r (now (out .exit)) ≡ steppedFrom n (now (word .entry)) (now (out .entry))) ⌝ }
 {
     let mut t = [0u16; TABLE];
     let mut y = [0u64; WORD];

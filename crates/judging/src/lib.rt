@@ -30,7 +30,9 @@ fn some_set(y: &[u64], at: usize, n: usize) -> bool
 // The number of a run: after a quiet end 8 for parity unlike the encoder's. No run sets an unsent bit, so 7 is never given.
 pub fn judge(o: Offer, y: &[u64], number: u8) -> u8
     requires { ⌜ Known o × (length (now y) ≡ wordRoom) ⌝ }
-    ensures { λ r. ⌜ ((n : ℕ) → offered n ≡ true → o ≡ offerOf n → (run : Run) → run .number ≡ number → run .word ≡ wbit (now (y .entry)) → (number ≡ 0 → broken (codeOf n) (wbit (now (y .entry))) ≡ 0) → ((i : ℕ) → i < codeOf n .unsent → wbit (now (y .entry)) i ≡ false) → r ≡ judged (codeOf n) run) ⌝ }
+    ensures { λ r. ⌜ ((n : ℕ) → offered n ≡ true → o ≡ offerOf n → (run : Run) → run .number ≡ number → run .word ≡ wbit (now (y .entry))
+        → (number ≡ 0 → broken (codeOf n) (wbit (now (y .entry))) ≡ 0)
+        → ((i : ℕ) → i < codeOf n .unsent → wbit (now (y .entry)) i ≡ false) → r ≡ judged (codeOf n) run) ⌝ }
 {
     if number != 0 {
         return number;
@@ -44,7 +46,8 @@ pub fn judge(o: Offer, y: &[u64], number: u8) -> u8
 // What is wrong with a measured word: a broken check, a bit set after the parity, or parity unlike the encoder's; 0 for a codeword.
 pub fn fault(o: Offer, y: &[u64], s: &[u64]) -> u8
     requires { ⌜ Known o × (length (now y) ≡ wordRoom) × (length (now s) ≡ syndromeRoom) ⌝ }
-    ensures { λ r. ⌜ ((n : ℕ) → offered n ≡ true → o ≡ offerOf n → (word t : List ℕ) (sh : Shape) → length word ≡ codeOf n .wordOctets → Measured n word t (wbit (now (y .entry))) (wbit (now (s .entry))) sh → r ≡ faultOf n word) ⌝ }
+    ensures { λ r. ⌜ ((n : ℕ) → offered n ≡ true → o ≡ offerOf n → (word t : List ℕ) (sh : Shape) → length word ≡ codeOf n .wordOctets
+        → Measured n word t (wbit (now (y .entry))) (wbit (now (s .entry))) sh → r ≡ faultOf n word) ⌝ }
 {
     if !syndromes::is_quiet(s) {
         return 9;

@@ -92,7 +92,9 @@ fn ended(
     excess: i8,
 ) -> Listing
     requires { ⌜ Known (l .offer) × (length (now word) ≡ l .offer .word) × (length (now y) ≡ wordRoom) × (flips ≤ 65535) ⌝ }
-    ensures { λ r. ⌜ (r .goes ≡ false) × (r .place ≡ flips) × ((n limit : ℕ) → Ends n (now (word .entry)) limit l flips (wbit (now (y .entry))) number bit excess → (table : List Entry) → listedAs (r .answer) table ≡ endsWith n (now (word .entry)) limit table) ⌝ }
+    ensures { λ r. ⌜ (r .goes ≡ false) × (r .place ≡ flips)
+        × ((n limit : ℕ) → Ends n (now (word .entry)) limit l flips (wbit (now (y .entry))) number bit excess → (table : List Entry)
+        → listedAs (r .answer) table ≡ endsWith n (now (word .entry)) limit table) ⌝ }
 {
     let o = l.offer;
     let begun = l.answer;
@@ -121,7 +123,8 @@ fn ended(
 
 // The list after one more flip, with its record.
 fn went(l: Listing, flips: usize, bit: u32, excess: i8, left: u32) -> Listing
-    ensures { λ r. ⌜ (r .goes ≡ true) × (r .place ≡ flips) × (r .record ≡ record { bit = bit; excess = excess; left = left }) × (r .answer ≡ l .answer) × (r .limit ≡ l .limit) × (r .offer ≡ l .offer) ⌝ }
+    ensures { λ r. ⌜ (r .goes ≡ true) × (r .place ≡ flips) × (r .record ≡ record { bit = bit; excess = excess; left = left })
+        × (r .answer ≡ l .answer) × (r .limit ≡ l .limit) × (r .offer ≡ l .offer) ⌝ }
 {
     let o = l.offer;
     let begun = l.answer;
@@ -149,7 +152,9 @@ fn turn(
     s: &mut [u64],
 ) -> Listing
     requires { ⌜ Standing (now word) l flips (now t) (now y) (now s) ⌝ }
-    ensures { λ r. ⌜ (r .place ≡ flips) × ((n limit room : ℕ) → Stands n (now (word .entry)) limit room l flips (now (t .entry)) (now (y .entry)) (now (s .entry)) → Lists n (now (word .entry)) limit room r (now (t .exit)) (now (y .exit)) (now (s .exit))) ⌝ }
+    ensures { λ r. ⌜ (r .place ≡ flips) × ((n limit room : ℕ)
+        → Stands n (now (word .entry)) limit room l flips (now (t .entry)) (now (y .entry)) (now (s .entry))
+        → Lists n (now (word .entry)) limit room r (now (t .exit)) (now (y .exit)) (now (s .exit))) ⌝ }
 {
     let o = l.offer;
     let sh = o.shape;
@@ -171,14 +176,17 @@ fn turn(
 // The next record of the list, or its end.
 pub fn next(l: Listing, word: &[u8], t: &mut [u16], y: &mut [u64], s: &mut [u64]) -> Listing
     requires { ⌜ Goes (now word) l (now t) (now y) (now s) ⌝ }
-    ensures { λ r. ⌜ (r .place ≡ l .place + 1) × ((n limit room : ℕ) → Lists n (now (word .entry)) limit room l (now (t .entry)) (now (y .entry)) (now (s .entry)) → Lists n (now (word .entry)) limit room r (now (t .exit)) (now (y .exit)) (now (s .exit))) ⌝ }
+    ensures { λ r. ⌜ (r .place ≡ l .place + 1) × ((n limit room : ℕ)
+        → Lists n (now (word .entry)) limit room l (now (t .entry)) (now (y .entry)) (now (s .entry))
+        → Lists n (now (word .entry)) limit room r (now (t .exit)) (now (y .exit)) (now (s .exit))) ⌝ }
 {
     turn(l, l.place + 1, word, t, y, s)
 }
 
 // No run has more flips than checks are broken at its start; for the near-Earth codes than half as many.
 fn most_flips(o: Offer, first: u32) -> u32
-    ensures { λ r. ⌜ ((n : ℕ) → offered n ≡ true → o ≡ offerOf n → (x : Word) → first ≡ broken (codeOf n) x → (limit : ℕ) → length (run (byExcess (codeOf n)) limit x .flips) ≤ r) ⌝ }
+    ensures { λ r. ⌜ ((n : ℕ) → offered n ≡ true → o ≡ offerOf n → (x : Word) → first ≡ broken (codeOf n) x → (limit : ℕ)
+        → length (run (byExcess (codeOf n)) limit x .flips) ≤ r) ⌝ }
 {
     if o.asked {
         return first / 2;
@@ -203,7 +211,8 @@ fn count_flips(o: Offer, word: &[u8], limit: u16) -> usize
 // Whether a table of so many places serves the run on a word: by the bounds where they tell, else the flips are counted.
 fn serves(o: Offer, word: &[u8], limit: u16, first: u32, room: usize) -> bool
     requires { ⌜ Known o × (length (now word) ≡ o .word) ⌝ }
-    ensures { λ r. ⌜ ((n : ℕ) → offered n ≡ true → o ≡ offerOf n → first ≡ broken (codeOf n) (wordOf n (now (word .entry))) → r ≡ leb (length (runOf n (now (word .entry)) limit .flips)) room) ⌝ }
+    ensures { λ r. ⌜ ((n : ℕ) → offered n ≡ true → o ≡ offerOf n → first ≡ broken (codeOf n) (wordOf n (now (word .entry)))
+        → r ≡ leb (length (runOf n (now (word .entry)) limit .flips)) room) ⌝ }
 {
     if limit as usize <= room {
         return true;
@@ -225,7 +234,8 @@ fn begin_taken(
     s: &mut [u64],
 ) -> Listing
     requires { ⌜ Known o × (length (now word) ≡ o .word) × Blank (now t) (now y) (now s) ⌝ }
-    ensures { λ r. ⌜ (r .place ≡ 0) × ((n : ℕ) → offered n ≡ true → o ≡ offerOf n → Lists n (now (word .entry)) limit room r (now (t .exit)) (now (y .exit)) (now (s .exit))) ⌝ }
+    ensures { λ r. ⌜ (r .place ≡ 0) × ((n : ℕ) → offered n ≡ true → o ≡ offerOf n
+        → Lists n (now (word .entry)) limit room r (now (t .exit)) (now (y .exit)) (now (s .exit))) ⌝ }
 {
     let sh = measured::measure(o, word, t, y, s);
     let first = syndromes::broken(s);

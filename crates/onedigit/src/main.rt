@@ -50,7 +50,8 @@ fn word_noticed(
     word: u64,
 ) -> bool
     requires { ⌜ Sizes m rows count parts (now parity) (now generator) × (at < length (now generator)) ⌝ }
-    ensures noticed { λ r. ⌜ ((printed : ℕ) → m ≤ printed → r ≡ not (flatTied m printed rows count parts (now (parity .entry)) (set (now (generator .entry)) at word))) ⌝ }
+    ensures noticed { λ r. ⌜ ((printed : ℕ) → m ≤ printed
+        → r ≡ not (flatTied m printed rows count parts (now (parity .entry)) (set (now (generator .entry)) at word))) ⌝ }
     ensures kept { λ r. ⌜ now (generator .exit) ≡ now (generator .entry) ⌝ }
 {
     let before = generator[at];
@@ -72,7 +73,8 @@ fn place_noticed(
     shift: u16,
 ) -> bool
     requires { ⌜ Sizes m rows count parts (now parity) (now generator) × (at < length (now parity)) ⌝ }
-    ensures noticed { λ r. ⌜ ((printed : ℕ) → m ≤ printed → r ≡ not (flatTied m printed rows count parts (set (now (parity .entry)) at shift) (now (generator .entry)))) ⌝ }
+    ensures noticed { λ r. ⌜ ((printed : ℕ) → m ≤ printed
+        → r ≡ not (flatTied m printed rows count parts (set (now (parity .entry)) at shift) (now (generator .entry)))) ⌝ }
     ensures kept { λ r. ⌜ now (parity .exit) ≡ now (parity .entry) ⌝ }
 {
     let before = parity[at];
@@ -101,8 +103,10 @@ fn digit_noticed(
     generator: &mut [u64],
     t: usize,
 ) -> bool
-    requires { ⌜ Sizes m rows count parts (now parity) (now generator) × (0 < digits) × (digits ≤ 16) × (t / 15 / digits < length (now generator)) ⌝ }
-    ensures noticed { λ r. ⌜ ((printed : ℕ) → m ≤ printed → r ≡ digitNoticed m printed rows count parts digits (now (parity .entry)) (now (generator .entry)) t) ⌝ }
+    requires { ⌜ Sizes m rows count parts (now parity) (now generator) × (0 < digits) × (digits ≤ 16)
+        × (t / 15 / digits < length (now generator)) ⌝ }
+    ensures noticed { λ r. ⌜ ((printed : ℕ) → m ≤ printed
+        → r ≡ digitNoticed m printed rows count parts digits (now (parity .entry)) (now (generator .entry)) t) ⌝ }
     ensures kept { λ r. ⌜ now (generator .exit) ≡ now (generator .entry) ⌝ }
 {
     let at = t / 15 / digits;
@@ -121,7 +125,9 @@ fn digits_noticed(
     generator: &mut [u64],
 ) -> usize
     requires { ⌜ Sizes m rows count parts (now parity) (now generator) × (0 < digits) × (digits ≤ 16) × (length (now generator) < 65536) ⌝ }
-    ensures noticed { λ r. ⌜ ((printed : ℕ) → m ≤ printed → r ≡ bits.count (length (now (generator .entry)) * digits * 15) (digitNoticed m printed rows count parts digits (now (parity .entry)) (now (generator .entry)))) ⌝ }
+    ensures noticed { λ r. ⌜ ((printed : ℕ) → m ≤ printed
+        → r ≡ bits.count (length (now (generator .entry)) * digits * 15)
+        (digitNoticed m printed rows count parts digits (now (parity .entry)) (now (generator .entry)))) ⌝ }
     ensures kept { λ r. ⌜ now (generator .exit) ≡ now (generator .entry) ⌝ }
 {
     let n = generator.len() * digits * 15;
@@ -171,7 +177,8 @@ fn entry_noticed(
     s: usize,
 ) -> bool
     requires { ⌜ Sizes m rows count parts (now parity) (now generator) × (place < length (now parity)) × (s ≤ m) ⌝ }
-    ensures noticed { λ r. ⌜ ((printed : ℕ) → m ≤ printed → r ≡ placeNoticed m printed rows count parts (now (parity .entry)) (now (generator .entry)) place s) ⌝ }
+    ensures noticed { λ r. ⌜ ((printed : ℕ) → m ≤ printed
+        → r ≡ placeNoticed m printed rows count parts (now (parity .entry)) (now (generator .entry)) place s) ⌝ }
     ensures kept { λ r. ⌜ now (parity .exit) ≡ now (parity .entry) ⌝ }
 {
     if !wrong_entry(m, parity, place, s) {
@@ -204,7 +211,9 @@ fn entries_noticed(
     generator: &[u64],
 ) -> usize
     requires { ⌜ Sizes m rows count parts (now parity) (now generator) × (length (now parity) < 65536) ⌝ }
-    ensures noticed { λ r. ⌜ ((printed : ℕ) → m ≤ printed → r ≡ bits.count (length (now (parity .entry)) * (m + 1)) (entryNoticed m printed rows count parts (now (parity .entry)) (now (generator .entry)))) ⌝ }
+    ensures noticed { λ r. ⌜ ((printed : ℕ) → m ≤ printed
+        → r ≡ bits.count (length (now (parity .entry)) * (m + 1))
+        (entryNoticed m printed rows count parts (now (parity .entry)) (now (generator .entry)))) ⌝ }
     ensures kept { λ r. ⌜ now (parity .exit) ≡ now (parity .entry) ⌝ }
 {
     let n = parity.len() * (m + 1);
@@ -266,7 +275,8 @@ fn try_code(
     parity: &mut [u16],
     generator: &mut [u64],
 )
-    requires { ⌜ Sizes m rows count parts (now parity) (now generator) × (0 < digits) × (digits ≤ 16) × (length (now parity) < 65536) × (length (now generator) < 65536) ⌝ }
+    requires { ⌜ Sizes m rows count parts (now parity) (now generator) × (0 < digits) × (digits ≤ 16) × (length (now parity) < 65536)
+        × (length (now generator) < 65536) ⌝ }
 {
     let tried = generator.len() * digits * 15;
     let caught = digits_noticed(m, rows, count, parts, digits, parity, generator);
@@ -287,7 +297,8 @@ fn answer(n: u8)
 
 // Codes 1 to 3 have four rows of four information blocks and four parity blocks.
 fn try_telecommand(n: usize, m: usize, digits: usize, parity: &mut [u16], generator: &mut [u64])
-    requires { ⌜ Sizes m 4 4 4 (now parity) (now generator) × (0 < digits) × (digits ≤ 16) × (length (now parity) < 65536) × (length (now generator) < 65536) ⌝ }
+    requires { ⌜ Sizes m 4 4 4 (now parity) (now generator) × (0 < digits) × (digits ≤ 16) × (length (now parity) < 65536)
+        × (length (now generator) < 65536) ⌝ }
 {
     try_code(n, m, 4, 4, 4, digits, parity, generator);
 }

@@ -117,8 +117,10 @@ fn wide_entry(octets: &[u8], u: usize, p: usize, m: usize, s: usize) -> u64
 
 // The first 64 checks of row 0.
 fn first_group(octets: &[u8], u: usize, h: &[u16], sh: Shape) -> u64
-    requires { ⌜ Fit (now h) sh × (1 ≤ sh .rows) × (130 ≤ sh .size) × (sh .blocks * sh .size ≤ 8 * length (now octets) + u) × (u ≤ 18) × (9 ≤ length (now octets)) × (length (now octets) ≤ 1022) ⌝ }
-    ensures { λ r. ⌜ ((c : Code) → u ≡ c .unsent → Has 64 r (group sh (now (h .entry)) (lifted c (bit (now (octets .entry)))) 0 (2 * sh .blocks))) ⌝ }
+    requires { ⌜ Fit (now h) sh × (1 ≤ sh .rows) × (130 ≤ sh .size) × (sh .blocks * sh .size ≤ 8 * length (now octets) + u) × (u ≤ 18)
+        × (9 ≤ length (now octets)) × (length (now octets) ≤ 1022) ⌝ }
+    ensures { λ r. ⌜ ((c : Code) → u ≡ c .unsent → Has 64 r
+        (group sh (now (h .entry)) (lifted c (bit (now (octets .entry)))) 0 (2 * sh .blocks))) ⌝ }
 {
     let mut v: u64 = 0;
     let mut k = 0;
@@ -141,7 +143,8 @@ fn double_block(y: &[u64], p: usize, m: usize, d: &mut [u64])
 
 // Every block twice over, each in 16 words.
 fn double_blocks(y: &[u64], sh: Shape, d: &mut [u64])
-    requires { ⌜ (448 < sh .size) × (sh .size ≤ 512) × (sh .blocks ≡ 16) × (sh .blocks * sh .size ≤ 8176) × (length (now y) ≡ 130) × (length (now d) ≡ 256) ⌝ }
+    requires { ⌜ (448 < sh .size) × (sh .size ≤ 512) × (sh .blocks ≡ 16) × (sh .blocks * sh .size ≤ 8176) × (length (now y) ≡ 130)
+        × (length (now d) ≡ 256) ⌝ }
     ensures { λ _. ⌜ Twofold (sh .blocks) (sh .size) (wbit (now (y .entry))) (now (d .exit)) ⌝ }
 {
     let mut b: usize = 0;
@@ -202,7 +205,8 @@ fn groups_lowest(d: &[u64], begins: &[usize], m: usize) -> usize
 // The lowest broken check of row r, counted from the row's first, or M if none is broken.
 fn wide_row_lowest(d: &[u64], h: &[u16], sh: Shape, r: usize) -> usize
     requires { ⌜ Fit (now h) sh × Full (now h) sh × (sh .blocks ≡ 16) × (r < sh .rows) × (length (now d) ≡ 256) ⌝ }
-    ensures { λ l. ⌜ ((c : Code) (x : Word) → Lent c (now (h .entry)) sh → Twofold (sh .blocks) (sh .size) x (now (d .entry)) → l ≡ least (sh .size) (from (r * sh .size) (check c x))) ⌝ }
+    ensures { λ l. ⌜ ((c : Code) (x : Word) → Lent c (now (h .entry)) sh → Twofold (sh .blocks) (sh .size) x (now (d .entry))
+        → l ≡ least (sh .size) (from (r * sh .size) (check c x))) ⌝ }
 {
     let mut begins = [0usize; 32];
     begin_row(h, sh, r, &mut begins);
@@ -212,7 +216,8 @@ fn wide_row_lowest(d: &[u64], h: &[u16], sh: Shape, r: usize) -> usize
 // The lowest broken check, row after row.
 fn wide_rows_lowest(d: &[u64], h: &[u16], sh: Shape) -> u32
     requires { ⌜ Fit (now h) sh × Full (now h) sh × (sh .blocks ≡ 16) × (length (now d) ≡ 256) ⌝ }
-    ensures { λ n. ⌜ ((c : Code) (x : Word) → Lent c (now (h .entry)) sh → Twofold (sh .blocks) (sh .size) x (now (d .entry)) → n ≡ lowestOf c x) ⌝ }
+    ensures { λ n. ⌜ ((c : Code) (x : Word) → Lent c (now (h .entry)) sh → Twofold (sh .blocks) (sh .size) x (now (d .entry))
+        → n ≡ lowestOf c x) ⌝ }
 {
     let mut row = 0;
     while row < sh.rows {
@@ -241,7 +246,8 @@ fn whole_lowest(octets: &[u8], u: usize, h: &[u16], sh: Shape) -> u32
 // laid out, and group comes after group, from the first on: to begin with the second would cost more instructions, not fewer.
 fn wide_lowest(o: Offer, word: &[u8]) -> u32
     requires { ⌜ Known o × (length (now word) ≡ o .word) × (o .shape .size ≡ 511) ⌝ }
-    ensures { λ r. ⌜ ((n : ℕ) → offered n ≡ true → o ≡ offerOf n → r ≡ lowestOf (codeOf n) (lifted (codeOf n) (bit (now (word .entry))))) ⌝ }
+    ensures { λ r. ⌜ ((n : ℕ) → offered n ≡ true → o ≡ offerOf n
+        → r ≡ lowestOf (codeOf n) (lifted (codeOf n) (bit (now (word .entry))))) ⌝ }
 {
     let mut t = [0u16; TABLE];
     tables::lend511(&mut t);
@@ -272,7 +278,8 @@ fn narrow_entry(d: Pair, m: usize, s: usize) -> u64
 // What block b adds to the checks of row r.
 fn narrow_block(y: &[u64], h: &[u16], sh: Shape, b: usize, r: usize) -> u64
     requires { ⌜ Fit (now h) sh × (sh .size ≤ 64) × (b < sh .blocks) × (r < sh .rows) × (length (now y) ≡ 17) ⌝ }
-    ensures { λ v. ⌜ Has (sh .size) v (λ i. placed sh (now (h .entry)) (wbit (now (y .entry))) r (2 * b) i ⊕ placed sh (now (h .entry)) (wbit (now (y .entry))) r (1 + 2 * b) i) ⌝ }
+    ensures { λ v. ⌜ Has (sh .size) v (λ i. placed sh (now (h .entry)) (wbit (now (y .entry))) r (2 * b) i
+        ⊕ placed sh (now (h .entry)) (wbit (now (y .entry))) r (1 + 2 * b) i) ⌝ }
 {
     let block = vectors::front(vectors::window(y, b * sh.size), sh.size);
     let d = vectors::double_word(block, sh.size);
@@ -345,7 +352,8 @@ fn lend_narrow(size: usize, t: &mut [u16]) -> Shape
 // The lowest broken check where one word holds a row.
 fn narrow_lowest(o: Offer, word: &[u8]) -> u32
     requires { ⌜ Known o × (length (now word) ≡ o .word) × (o .shape .size ≡ 511 → ⊥) ⌝ }
-    ensures { λ r. ⌜ ((n : ℕ) → offered n ≡ true → o ≡ offerOf n → r ≡ lowestOf (codeOf n) (lifted (codeOf n) (bit (now (word .entry))))) ⌝ }
+    ensures { λ r. ⌜ ((n : ℕ) → offered n ≡ true → o ≡ offerOf n
+        → r ≡ lowestOf (codeOf n) (lifted (codeOf n) (bit (now (word .entry))))) ⌝ }
 {
     let of = o.shape;
     let mut t = [0u16; TABLE];
@@ -358,7 +366,8 @@ fn narrow_lowest(o: Offer, word: &[u8]) -> u32
 // The lowest broken check, or the number of checks if none is broken.
 fn lowest_broken(o: Offer, word: &[u8]) -> u32
     requires { ⌜ Known o × (length (now word) ≡ o .word) ⌝ }
-    ensures { λ r. ⌜ ((n : ℕ) → offered n ≡ true → o ≡ offerOf n → r ≡ lowestOf (codeOf n) (lifted (codeOf n) (bit (now (word .entry))))) ⌝ }
+    ensures { λ r. ⌜ ((n : ℕ) → offered n ≡ true → o ≡ offerOf n
+        → r ≡ lowestOf (codeOf n) (lifted (codeOf n) (bit (now (word .entry))))) ⌝ }
 {
     let sh = o.shape;
     if sh.size == 511 {

@@ -6,7 +6,8 @@ ghost use lib.Dec.{eqb};
 ghost use lib.ListN.{length};
 ghost use Rattle.bits.specs.Bits.{digit, _⊕_, below, if_then_else_};
 ghost use Rattle.vectors.specs.Vectors.{wbit, Holds, upTo, from, joined};
-ghost use Rattle.sizes.specs.Samples.{isOne, sampleOf, read as readOf, magnitude as magnitudeOf, smaller as smallerOf, isFinite, allFinite};
+ghost use Rattle.sizes.specs.Samples.{isOne, sampleOf, read as readOf, magnitude as magnitudeOf, smaller as smallerOf, isFinite};
+ghost use Rattle.sizes.specs.Samples.{allFinite};
 ghost use Rattle.sizes.specs.Sizes.{smallest as smallestOf};
 
 // The bits of some samples, and whether all of these are finite.
@@ -39,7 +40,8 @@ fn mark(s: f32, place: usize) -> u32
 // The bits of the n samples from sample `at` on, in front, and whether these are finite.
 fn half(samples: &[f32], at: usize, n: usize) -> Narrow
     requires { ⌜ (n ≤ 32) × (at + n ≤ length (now samples)) ⌝ }
-    ensures { λ r. ⌜ ((i : ℕ) → i < 32 → digit 32 (r .bits) i ≡ upTo n (from at (readOf (now (samples .entry)))) i) × (r .finite ≡ below n (λ i. isFinite (sampleOf (now (samples .entry)) (at + i)))) ⌝ }
+    ensures { λ r. ⌜ ((i : ℕ) → i < 32 → digit 32 (r .bits) i ≡ upTo n (from at (readOf (now (samples .entry)))) i)
+        × (r .finite ≡ below n (λ i. isFinite (sampleOf (now (samples .entry)) (at + i)))) ⌝ }
 {
     let mut bits: u32 = 0;
     let mut finite = true;
@@ -66,7 +68,8 @@ fn front(n: usize) -> usize
 // The same of up to 64 samples: in two halves, whose loops the compiler takes four samples at a time.
 fn word(samples: &[f32], at: usize, n: usize) -> Wide
     requires { ⌜ (n ≤ 64) × (at + n ≤ length (now samples)) ⌝ }
-    ensures { λ r. ⌜ Holds (r .bits) (upTo n (from at (readOf (now (samples .entry))))) × (r .finite ≡ below n (λ i. isFinite (sampleOf (now (samples .entry)) (at + i)))) ⌝ }
+    ensures { λ r. ⌜ Holds (r .bits) (upTo n (from at (readOf (now (samples .entry)))))
+        × (r .finite ≡ below n (λ i. isFinite (sampleOf (now (samples .entry)) (at + i)))) ⌝ }
 {
     let m = front(n);
     let a = half(samples, at, m);
@@ -80,7 +83,9 @@ fn word(samples: &[f32], at: usize, n: usize) -> Wide
 // The words that the samples fill whole.
 fn read_whole(samples: &[f32], y: &mut [u64]) -> bool
     requires { ⌜ length (now samples) ≤ 64 * length (now y) ⌝ }
-    ensures { λ r. ⌜ (wbit (now (y .exit)) ≡ joined (64 * (length (now (samples .entry)) / 64)) (readOf (now (samples .entry))) (wbit (now (y .entry)))) × (r ≡ below (64 * (length (now (samples .entry)) / 64)) (λ i. isFinite (sampleOf (now (samples .entry)) i))) ⌝ }
+    ensures { λ r. ⌜ (wbit (now (y .exit)) ≡ joined (64 * (length (now (samples .entry)) / 64)) (readOf (now (samples .entry)))
+        (wbit (now (y .entry)))) × (r ≡ below (64 * (length (now (samples .entry)) / 64))
+        (λ i. isFinite (sampleOf (now (samples .entry)) i))) ⌝ }
 {
     let whole = samples.len() / 64;
     let mut finite = true;
@@ -144,7 +149,9 @@ fn turned(v: u64, n: usize) -> u64
 // The smallest of a bit and of the bits that are set in mask, which begins with bit `first`.
 pub fn smallest_of(samples: &[f32], mask: u64, first: usize, bit: usize) -> usize
     requires { ⌜ (bit < length (now samples)) × ((i : ℕ) → i < 64 → digit 64 mask i ≡ true → first + i < length (now samples)) ⌝ }
-    ensures { λ r. ⌜ (r < length (now (samples .entry))) × ((marked : ℕ → Bool) (n : ℕ) → n ≤ 64 → Holds mask (upTo n (from first marked)) → r ≡ smallestOf (smallerOf (now (samples .entry))) marked bit first n) ⌝ }
+    ensures { λ r. ⌜ (r < length (now (samples .entry)))
+        × ((marked : ℕ → Bool) (n : ℕ) → n ≤ 64 → Holds mask (upTo n (from first marked))
+        → r ≡ smallestOf (smallerOf (now (samples .entry))) marked bit first n) ⌝ }
 {
     let mut left = mask;
     let mut best = bit;

@@ -26,7 +26,8 @@ struct Places {
 // The two places of block b of row r.
 fn read_places(h: &[u16], sh: Shape, b: usize, r: usize) -> Places
     requires { ⌜ Fit (now h) sh × (b < sh .blocks) × (r < sh .rows) ⌝ }
-    ensures { λ p. ⌜ (p .first ≡ getD (now (h .entry)) (placeOf sh r b) (sh .size)) × (p .second ≡ getD (now (h .entry)) (placeOf sh r b + 1) (sh .size)) ⌝ }
+    ensures { λ p. ⌜ (p .first ≡ getD (now (h .entry)) (placeOf sh r b) (sh .size))
+        × (p .second ≡ getD (now (h .entry)) (placeOf sh r b + 1) (sh .size)) ⌝ }
 {
     let at = 2 * (r * sh.blocks + b);
     Places {
@@ -38,7 +39,8 @@ fn read_places(h: &[u16], sh: Shape, b: usize, r: usize) -> Places
 // Adds a doubled block to row r, turned by s; a number that is M or more is no shift.
 fn add_entry(d: &[u64], s: usize, sh: Shape, acc: &mut [u64], r: usize)
     requires { ⌜ (sh .size ≤ wide sh) × (2 * sh .words ≤ length (now d)) × ((r + 1) * sh .words ≤ length (now acc)) ⌝ }
-    ensures { λ q. ⌜ wbit (now (acc .exit)) ≡ added (wbit (now (acc .entry))) (wide sh * r) (wide sh * (r + 1)) (entry (sh .size) (turned (wbit (now (d .entry)))) s) ⌝ }
+    ensures { λ q. ⌜ wbit (now (acc .exit)) ≡ added (wbit (now (acc .entry))) (wide sh * r) (wide sh * (r + 1))
+        (entry (sh .size) (turned (wbit (now (d .entry)))) s) ⌝ }
 {
     if s < sh.size {
         vectors::add_turned(d, s, acc, r * sh.words, sh.words);
@@ -47,8 +49,10 @@ fn add_entry(d: &[u64], s: usize, sh: Shape, acc: &mut [u64], r: usize)
 
 // Adds a doubled block to row r, turned by each of its shifts there.
 fn add_row(d: &[u64], h: &[u16], sh: Shape, b: usize, acc: &mut [u64], r: usize)
-    requires { ⌜ Fit (now h) sh × (2 * sh .words ≤ length (now d)) × (b < sh .blocks) × (r < sh .rows) × (length (now acc) ≡ syndromeRoom) ⌝ }
-    ensures { λ q. ⌜ wbit (now (acc .exit)) ≡ added (wbit (now (acc .entry))) (wide sh * r) (wide sh * (r + 1)) (spread sh (now (h .entry)) b (turned (wbit (now (d .entry)))) r) ⌝ }
+    requires { ⌜ Fit (now h) sh × (2 * sh .words ≤ length (now d)) × (b < sh .blocks) × (r < sh .rows)
+        × (length (now acc) ≡ syndromeRoom) ⌝ }
+    ensures { λ q. ⌜ wbit (now (acc .exit)) ≡ added (wbit (now (acc .entry))) (wide sh * r) (wide sh * (r + 1))
+        (spread sh (now (h .entry)) b (turned (wbit (now (d .entry)))) r) ⌝ }
 {
     let p = read_places(h, sh, b, r);
     add_entry(d, p.first, sh, acc, r);
@@ -70,8 +74,10 @@ pub fn add_block(d: &[u64], h: &[u16], sh: Shape, b: usize, acc: &mut [u64])
 
 // Adds every block of y to the rows; part and d have room for a block, and for a doubled one.
 fn add_blocks(y: &[u64], h: &[u16], sh: Shape, part: &mut [u64], d: &mut [u64], acc: &mut [u64])
-    requires { ⌜ Fit (now h) sh × (length (now y) ≡ wordRoom) × (length (now part) ≡ sh .words) × (length (now d) ≡ 2 * sh .words) × (length (now acc) ≡ syndromeRoom) × (wbit (now acc) ≡ (λ n. false)) ⌝ }
-    ensures { λ q. ⌜ wbit (now (acc .exit)) ≡ rowed (wide sh) (sh .rows) (summed sh (now (h .entry)) (wbit (now (y .entry))) (sh .blocks)) ⌝ }
+    requires { ⌜ Fit (now h) sh × (length (now y) ≡ wordRoom) × (length (now part) ≡ sh .words) × (length (now d) ≡ 2 * sh .words)
+        × (length (now acc) ≡ syndromeRoom) × (wbit (now acc) ≡ (λ n. false)) ⌝ }
+    ensures { λ q. ⌜ wbit (now (acc .exit)) ≡ rowed (wide sh) (sh .rows)
+        (summed sh (now (h .entry)) (wbit (now (y .entry))) (sh .blocks)) ⌝ }
 {
     let mut b = 0;
     while b < sh.blocks {
@@ -85,7 +91,8 @@ fn add_blocks(y: &[u64], h: &[u16], sh: Shape, part: &mut [u64], d: &mut [u64], 
 // The same for blocks that one word holds, doubled in two.
 fn add_narrow_entry(d: Pair, s: usize, sh: Shape, acc: &mut [u64], r: usize)
     requires { ⌜ (sh .words ≡ 1) × (sh .size ≤ wide sh) × (r < length (now acc)) ⌝ }
-    ensures { λ q. ⌜ wbit (now (acc .exit)) ≡ added (wbit (now (acc .entry))) (wide sh * r) (wide sh * (r + 1)) (entry (sh .size) (turned (both d)) s) ⌝ }
+    ensures { λ q. ⌜ wbit (now (acc .exit)) ≡ added (wbit (now (acc .entry))) (wide sh * r) (wide sh * (r + 1))
+        (entry (sh .size) (turned (both d)) s) ⌝ }
 {
     if s < sh.size {
         vectors::add_word(vectors::funnel(d.first, d.second, s), acc, r);
@@ -95,7 +102,8 @@ fn add_narrow_entry(d: Pair, s: usize, sh: Shape, acc: &mut [u64], r: usize)
 // Adds it to row r, turned by each of its shifts there.
 fn add_narrow_row(d: Pair, h: &[u16], sh: Shape, b: usize, acc: &mut [u64], r: usize)
     requires { ⌜ Fit (now h) sh × (sh .words ≡ 1) × (b < sh .blocks) × (r < sh .rows) × (length (now acc) ≡ syndromeRoom) ⌝ }
-    ensures { λ q. ⌜ wbit (now (acc .exit)) ≡ added (wbit (now (acc .entry))) (wide sh * r) (wide sh * (r + 1)) (spread sh (now (h .entry)) b (turned (both d)) r) ⌝ }
+    ensures { λ q. ⌜ wbit (now (acc .exit)) ≡ added (wbit (now (acc .entry))) (wide sh * r) (wide sh * (r + 1))
+        (spread sh (now (h .entry)) b (turned (both d)) r) ⌝ }
 {
     let p = read_places(h, sh, b, r);
     add_narrow_entry(d, p.first, sh, acc, r);
@@ -117,8 +125,10 @@ pub fn add_narrow_block(d: Pair, h: &[u16], sh: Shape, b: usize, acc: &mut [u64]
 
 // Adds every block of y to the rows.
 fn add_narrow_blocks(y: &[u64], h: &[u16], sh: Shape, acc: &mut [u64])
-    requires { ⌜ Fit (now h) sh × (sh .words ≡ 1) × (length (now y) ≡ wordRoom) × (length (now acc) ≡ syndromeRoom) × (wbit (now acc) ≡ (λ n. false)) ⌝ }
-    ensures { λ q. ⌜ wbit (now (acc .exit)) ≡ rowed (wide sh) (sh .rows) (summed sh (now (h .entry)) (wbit (now (y .entry))) (sh .blocks)) ⌝ }
+    requires { ⌜ Fit (now h) sh × (sh .words ≡ 1) × (length (now y) ≡ wordRoom) × (length (now acc) ≡ syndromeRoom)
+        × (wbit (now acc) ≡ (λ n. false)) ⌝ }
+    ensures { λ q. ⌜ wbit (now (acc .exit)) ≡ rowed (wide sh) (sh .rows)
+        (summed sh (now (h .entry)) (wbit (now (y .entry))) (sh .blocks)) ⌝ }
 {
     let mut b = 0;
     while b < sh.blocks {
@@ -131,7 +141,8 @@ fn add_narrow_blocks(y: &[u64], h: &[u16], sh: Shape, acc: &mut [u64])
 // Adds every block of y to the rows, of whatever width.
 fn add_all(y: &[u64], h: &[u16], sh: Shape, acc: &mut [u64])
     requires { ⌜ Fit (now h) sh × (length (now y) ≡ wordRoom) × (length (now acc) ≡ syndromeRoom) × (wbit (now acc) ≡ (λ n. false)) ⌝ }
-    ensures { λ q. ⌜ wbit (now (acc .exit)) ≡ rowed (wide sh) (sh .rows) (summed sh (now (h .entry)) (wbit (now (y .entry))) (sh .blocks)) ⌝ }
+    ensures { λ q. ⌜ wbit (now (acc .exit)) ≡ rowed (wide sh) (sh .rows)
+        (summed sh (now (h .entry)) (wbit (now (y .entry))) (sh .blocks)) ⌝ }
 {
     if sh.words == 1 {
         add_narrow_blocks(y, h, sh, acc);
@@ -146,7 +157,8 @@ fn add_all(y: &[u64], h: &[u16], sh: Shape, acc: &mut [u64])
 // Clears what is past bit M of row r, where it does not fill its last word.
 fn trim_row(s: &mut [u64], sh: Shape, r: usize)
     requires { ⌜ (1 ≤ sh .size) × (sh .size ≤ wide sh) × (wide sh < sh .size + 64) × ((r + 1) * sh .words ≤ length (now s)) ⌝ }
-    ensures { λ q. ⌜ ((x : Word) → wbit (now (s .entry)) ≡ within (wide sh) (sh .size) r x → wbit (now (s .exit)) ≡ within (wide sh) (sh .size) (r + 1) x) ⌝ }
+    ensures { λ q. ⌜ ((x : Word) → wbit (now (s .entry)) ≡ within (wide sh) (sh .size) r x
+        → wbit (now (s .exit)) ≡ within (wide sh) (sh .size) (r + 1) x) ⌝ }
 {
     let t = sh.size % 64;
     if t > 0 {
@@ -179,7 +191,8 @@ pub fn syndrome(y: &[u64], h: &[u16], sh: Shape, s: &mut [u64])
 // How many checks are broken.
 pub fn broken(s: &[u64]) -> u32
     requires { ⌜ length (now s) ≡ syndromeRoom ⌝ }
-    ensures { λ n. ⌜ ((c : Code) (h : List ℕ) (sh : Shape) (x : Word) → Fit h sh → Lent c h sh → wbit (now (s .entry)) ≡ laid c sh x → n ≡ broken c x) ⌝ }
+    ensures { λ n. ⌜ ((c : Code) (h : List ℕ) (sh : Shape) (x : Word) → Fit h sh → Lent c h sh → wbit (now (s .entry)) ≡ laid c sh x
+        → n ≡ broken c x) ⌝ }
 {
     vectors::ones(s) as u32
 }
@@ -187,7 +200,8 @@ pub fn broken(s: &[u64]) -> u32
 // Whether no check is broken.
 pub fn is_quiet(s: &[u64]) -> bool
     requires { ⌜ length (now s) ≡ syndromeRoom ⌝ }
-    ensures { λ n. ⌜ ((c : Code) (h : List ℕ) (sh : Shape) (x : Word) → Fit h sh → Lent c h sh → wbit (now (s .entry)) ≡ laid c sh x → n ≡ eqb (broken c x) 0) ⌝ }
+    ensures { λ n. ⌜ ((c : Code) (h : List ℕ) (sh : Shape) (x : Word) → Fit h sh → Lent c h sh → wbit (now (s .entry)) ≡ laid c sh x
+        → n ≡ eqb (broken c x) 0) ⌝ }
 {
     !vectors::any(s)
 }
@@ -195,7 +209,8 @@ pub fn is_quiet(s: &[u64]) -> bool
 // The lowest broken check, or the number of checks if none is broken.
 pub fn lowest(s: &[u64], sh: Shape) -> u32
     requires { ⌜ (length (now s) ≡ syndromeRoom) × (1 ≤ sh .words) × (sh .words ≤ 8) × (sh .rows ≤ 4) × (sh .size ≤ 64 * sh .words) ⌝ }
-    ensures { λ n. ⌜ ((c : Code) (h : List ℕ) (x : Word) → Fit h sh → Lent c h sh → wbit (now (s .entry)) ≡ laid c sh x → n ≡ lowest c x) ⌝ }
+    ensures { λ n. ⌜ ((c : Code) (h : List ℕ) (x : Word) → Fit h sh → Lent c h sh → wbit (now (s .entry)) ≡ laid c sh x
+        → n ≡ lowest c x) ⌝ }
 {
     let place = vectors::first(s);
     if place >= 1024 {
@@ -208,7 +223,8 @@ pub fn lowest(s: &[u64], sh: Shape) -> u32
 // Turns the check of row r over that covers bit k by the shift e; a number that is M or more is no shift.
 fn flip_entry(s: &mut [u64], e: usize, sh: Shape, k: usize, r: usize)
     requires { ⌜ (sh .size ≤ wide sh) × (k < sh .size) × ((r + 1) * sh .words ≤ length (now s)) × (length (now s) ≡ syndromeRoom) ⌝ }
-    ensures { λ q. ⌜ wbit (now (s .exit)) ≡ added (wbit (now (s .entry))) (wide sh * r) (wide sh * (r + 1)) (entry (sh .size) (covering (sh .size) k) e) ⌝ }
+    ensures { λ q. ⌜ wbit (now (s .exit)) ≡ added (wbit (now (s .entry))) (wide sh * r) (wide sh * (r + 1))
+        (entry (sh .size) (covering (sh .size) k) e) ⌝ }
 {
     if e < sh.size {
         let mut i = k + (sh.size - e);
@@ -222,7 +238,8 @@ fn flip_entry(s: &mut [u64], e: usize, sh: Shape, k: usize, r: usize)
 // Turns the checks of row r over that cover bit k of block b.
 fn flip_row(s: &mut [u64], h: &[u16], sh: Shape, b: usize, k: usize, r: usize)
     requires { ⌜ Fit (now h) sh × (b < sh .blocks) × (k < sh .size) × (r < sh .rows) × (length (now s) ≡ syndromeRoom) ⌝ }
-    ensures { λ q. ⌜ wbit (now (s .exit)) ≡ added (wbit (now (s .entry))) (wide sh * r) (wide sh * (r + 1)) (spread sh (now (h .entry)) b (covering (sh .size) k) r) ⌝ }
+    ensures { λ q. ⌜ wbit (now (s .exit)) ≡ added (wbit (now (s .entry))) (wide sh * r) (wide sh * (r + 1))
+        (spread sh (now (h .entry)) b (covering (sh .size) k) r) ⌝ }
 {
     let p = read_places(h, sh, b, r);
     flip_entry(s, p.first, sh, k, r);
@@ -232,7 +249,8 @@ fn flip_row(s: &mut [u64], h: &[u16], sh: Shape, b: usize, k: usize, r: usize)
 // Turns the checks over that cover bit k of block b.
 fn flip_checks(s: &mut [u64], h: &[u16], sh: Shape, b: usize, k: usize)
     requires { ⌜ Fit (now h) sh × (b < sh .blocks) × (k < sh .size) × (length (now s) ≡ syndromeRoom) ⌝ }
-    ensures { λ q. ⌜ wbit (now (s .exit)) ≡ plus (wbit (now (s .entry))) (rowed (wide sh) (sh .rows) (spread sh (now (h .entry)) b (covering (sh .size) k))) ⌝ }
+    ensures { λ q. ⌜ wbit (now (s .exit)) ≡ plus (wbit (now (s .entry)))
+        (rowed (wide sh) (sh .rows) (spread sh (now (h .entry)) b (covering (sh .size) k))) ⌝ }
 {
     let mut r = 0;
     while r < sh.rows {
@@ -245,7 +263,8 @@ fn flip_checks(s: &mut [u64], h: &[u16], sh: Shape, b: usize, k: usize)
 pub fn flip(y: &mut [u64], s: &mut [u64], h: &[u16], sh: Shape, n: usize)
     requires { ⌜ Fit (now h) sh × (length (now y) ≡ wordRoom) × (length (now s) ≡ syndromeRoom) × (n < sh .blocks * sh .size) ⌝ }
     ensures word { λ q. ⌜ wbit (now (y .exit)) ≡ flipped (wbit (now (y .entry))) n ⌝ }
-    ensures checks { λ q. ⌜ ((c : Code) → Lent c (now (h .entry)) sh → (x : Word) → wbit (now (s .entry)) ≡ laid c sh x → wbit (now (s .exit)) ≡ laid c sh (flipped x n)) ⌝ }
+    ensures checks { λ q. ⌜ ((c : Code) → Lent c (now (h .entry)) sh → (x : Word) → wbit (now (s .entry)) ≡ laid c sh x
+        → wbit (now (s .exit)) ≡ laid c sh (flipped x n)) ⌝ }
 {
     vectors::turn_over(y, n);
     flip_checks(s, h, sh, n / sh.size, n % sh.size);

@@ -97,7 +97,8 @@ fn parity_meets(
     at: usize,
 ) -> bool
     requires { ⌜ (d < m) × (m < 65536) × (place + 3 * parts ≤ length (now parity)) × (at + parts * words m ≤ length (now generator)) ⌝ }
-    ensures { λ r. ⌜ r ≡ blocks (row m parts (now (parity .entry)) place) 0 (λ part s. digit m (getD (numbers m parts (now (generator .entry)) at) part 0) ((d + s) % m)) ⌝ }
+    ensures { λ r. ⌜ r ≡ blocks (row m parts (now (parity .entry)) place) 0
+        (λ part s. digit m (getD (numbers m parts (now (generator .entry)) at) part 0) ((d + s) % m)) ⌝ }
 {
     let n = words_of(m);
     let mut sum = false;
@@ -144,8 +145,10 @@ fn cancels_at(
     generator: &[u64],
     at: usize,
 ) -> bool
-    requires { ⌜ (d < m) × (m < 65536) × (information + 3 ≤ length (now parity)) × (first + 3 * parts ≤ length (now parity)) × (at + parts * words m ≤ length (now generator)) ⌝ }
-    ensures { λ r. ⌜ r ≡ cancels m m (block m (now (parity .entry)) information) (row m parts (now (parity .entry)) first) (numbers m parts (now (generator .entry)) at) d ⌝ }
+    requires { ⌜ (d < m) × (m < 65536) × (information + 3 ≤ length (now parity)) × (first + 3 * parts ≤ length (now parity))
+        × (at + parts * words m ≤ length (now generator)) ⌝ }
+    ensures { λ r. ⌜ r ≡ cancels m m (block m (now (parity .entry)) information) (row m parts (now (parity .entry)) first)
+        (numbers m parts (now (generator .entry)) at) d ⌝ }
 {
     !(block_own(m, parity, information, d)
         ^ parity_meets(m, parts, parity, first, d, generator, at))
@@ -161,8 +164,10 @@ fn block_tied(
     generator: &[u64],
     at: usize,
 ) -> bool
-    requires { ⌜ (m < 65536) × (information + 3 ≤ length (now parity)) × (first + 3 * parts ≤ length (now parity)) × (at + parts * words m ≤ length (now generator)) ⌝ }
-    ensures { λ r. ⌜ r ≡ below m (cancels m m (block m (now (parity .entry)) information) (row m parts (now (parity .entry)) first) (numbers m parts (now (generator .entry)) at)) ⌝ }
+    requires { ⌜ (m < 65536) × (information + 3 ≤ length (now parity)) × (first + 3 * parts ≤ length (now parity))
+        × (at + parts * words m ≤ length (now generator)) ⌝ }
+    ensures { λ r. ⌜ r ≡ below m (cancels m m (block m (now (parity .entry)) information) (row m parts (now (parity .entry)) first)
+        (numbers m parts (now (generator .entry)) at)) ⌝ }
 {
     let mut above = m;
     while above > 0 {
@@ -192,8 +197,10 @@ fn row_tied(
     place: usize,
     generator: &[u64],
 ) -> bool
-    requires { ⌜ (m < 65536) × (parts < 65536) × (place + 3 * (count + parts) ≤ length (now parity)) × (count * (parts * words m) ≡ length (now generator)) ⌝ }
-    ensures { λ r. ⌜ r ≡ rowTied m m (row m parts (now (parity .entry)) (place + 3 * count)) (row m (count + parts) (now (parity .entry)) place) (generatorOf m count parts (now (generator .entry))) ⌝ }
+    requires { ⌜ (m < 65536) × (parts < 65536) × (place + 3 * (count + parts) ≤ length (now parity))
+        × (count * (parts * words m) ≡ length (now generator)) ⌝ }
+    ensures { λ r. ⌜ r ≡ rowTied m m (row m parts (now (parity .entry)) (place + 3 * count))
+        (row m (count + parts) (now (parity .entry)) place) (generatorOf m count parts (now (generator .entry))) ⌝ }
 {
     let first = place + 3 * count;
     let step = row_words(m, parts);
@@ -220,8 +227,10 @@ fn rows_tied(
     parity: &[u16],
     generator: &[u64],
 ) -> bool
-    requires { ⌜ (m < 65536) × (count < 65536) × (parts < 65536) × (rows * (3 * (count + parts)) ≡ length (now parity)) × (count * (parts * words m) ≡ length (now generator)) ⌝ }
-    ensures { λ r. ⌜ r ≡ rowsTied m m (parityOf m rows (count + parts) (now (parity .entry))) (generatorOf m count parts (now (generator .entry))) ⌝ }
+    requires { ⌜ (m < 65536) × (count < 65536) × (parts < 65536) × (rows * (3 * (count + parts)) ≡ length (now parity))
+        × (count * (parts * words m) ≡ length (now generator)) ⌝ }
+    ensures { λ r. ⌜ r ≡ rowsTied m m (parityOf m rows (count + parts) (now (parity .entry)))
+        (generatorOf m count parts (now (generator .entry))) ⌝ }
 {
     let step = 3 * (count + parts);
     let mut left = rows;
@@ -288,7 +297,8 @@ pub fn tied(
     generator: &[u64],
 ) -> bool
     requires { ⌜ Sizes m rows count parts (now parity) (now generator) ⌝ }
-    ensures { λ r. ⌜ ((printed : ℕ) → m ≤ printed → r ≡ flatTied m printed rows count parts (now (parity .entry)) (now (generator .entry))) ⌝ }
+    ensures { λ r. ⌜ ((printed : ℕ) → m ≤ printed
+        → r ≡ flatTied m printed rows count parts (now (parity .entry)) (now (generator .entry))) ⌝ }
 {
     if rows_tied(m, rows, count, parts, parity, generator) {
         return all_padded(m, count, parts, generator);

@@ -10,7 +10,9 @@ ghost use Rattle.rules.specs.Encoding.{lifted, encoded, written};
 ghost use Rattle.answers.specs.Calls.{refusedCorrect};
 ghost use Rattle.codes.specs.Answers.{asEncoded, asCorrected};
 ghost use Rattle.randomiser.specs.Randomiser.{telecommand, randomised};
-ghost use Rattle.units.specs.Units.{unitCode, tail as tailOf, blocksFor, codeblock, codeblocks, unit as unitOf, unitLength, unitOctets, writeAnswer, same as sameOf, started, between as betweenOf, blocksIn, shaped, received, readerNumber, readerAnswer, readNext, readAnswer};
+ghost use Rattle.units.specs.Units.{unitCode, tail as tailOf, blocksFor, codeblock, codeblocks, unit as unitOf, unitLength};
+ghost use Rattle.units.specs.Units.{unitOctets, writeAnswer, same as sameOf, started, between as betweenOf, blocksIn, shaped};
+ghost use Rattle.units.specs.Units.{received, readerNumber, readerAnswer, readNext, readAnswer};
 ghost use Rattle.units.specs.Answers.{asReading, asHanded};
 use codes::Corrected;
 
@@ -118,8 +120,10 @@ fn copy(from: &[u8], to: &mut [u8])
 
 // A whole part of the information as a codeblock, randomised; `used` octets of codeblocks came before.
 fn write_part(code: u8, part: &[u8], used: usize, out: &mut [u8])
-    requires { ⌜ (unitCode code ≡ true) × (length (now part) ≡ codeOf code .informationOctets) × (length (now out) ≡ codeOf code .wordOctets) ⌝ }
-    ensures { λ _. ⌜ now (out .exit) ≡ randomised telecommand used (written (codeOf code) (encoded (codeOf code) (lifted (codeOf code) (bit (now (part .entry)))))) ⌝ }
+    requires { ⌜ (unitCode code ≡ true) × (length (now part) ≡ codeOf code .informationOctets)
+        × (length (now out) ≡ codeOf code .wordOctets) ⌝ }
+    ensures { λ _. ⌜ now (out .exit) ≡ randomised telecommand used
+        (written (codeOf code) (encoded (codeOf code) (lifted (codeOf code) (bit (now (part .entry)))))) ⌝ }
 {
     codes::encode(code, part, out);
     randomiser::randomise(out, used);
@@ -133,8 +137,12 @@ fn fill() -> [u8; 32]
 
 // The last part of the information, with its fill.
 fn write_last(code: u8, rest: &[u8], used: usize, out: &mut [u8])
-    requires { ⌜ (unitCode code ≡ true) × (length (now rest) < codeOf code .informationOctets) × (length (now out) ≡ codeOf code .wordOctets) ⌝ }
-    ensures { λ _. ⌜ now (out .exit) ≡ randomised telecommand used (written (codeOf code) (encoded (codeOf code) (lifted (codeOf code) (bit (now (rest .entry) ++ replicate (codeOf code .informationOctets - length (now (rest .entry))) 0x55))))) ⌝ }
+    requires { ⌜ (unitCode code ≡ true) × (length (now rest) < codeOf code .informationOctets)
+        × (length (now out) ≡ codeOf code .wordOctets) ⌝ }
+    ensures { λ _. ⌜ now (out .exit) ≡ randomised telecommand used
+        (written (codeOf code) (encoded (codeOf code)
+        (lifted (codeOf code) (bit (now (rest .entry) ++ replicate
+        (codeOf code .informationOctets - length (now (rest .entry))) 0x55))))) ⌝ }
 {
     let mut part = fill();
     let long = rest.len();
@@ -145,7 +153,8 @@ fn write_last(code: u8, rest: &[u8], used: usize, out: &mut [u8])
 
 // Codeblock k.
 fn write_block(code: u8, information: &[u8], k: usize, used: usize, out: &mut [u8])
-    requires { ⌜ (unitCode code ≡ true) × (k * codeOf code .informationOctets < length (now information)) × (length (now out) ≡ codeOf code .wordOctets) ⌝ }
+    requires { ⌜ (unitCode code ≡ true) × (k * codeOf code .informationOctets < length (now information))
+        × (length (now out) ≡ codeOf code .wordOctets) ⌝ }
     ensures { λ _. ⌜ now (out .exit) ≡ randomised telecommand used (codeblock code (now (information .entry)) k) ⌝ }
 {
     let size = information_octets(code);
@@ -162,7 +171,8 @@ fn write_block(code: u8, information: &[u8], k: usize, used: usize, out: &mut [u
 // All codeblocks, into an output that they fill.
 fn write_blocks(code: u8, information: &[u8], out: &mut [u8])
     requires { ⌜ (unitCode code ≡ true) × (length (now out) ≡ blocksFor code (length (now information)) * codeOf code .wordOctets) ⌝ }
-    ensures { λ _. ⌜ now (out .exit) ≡ randomised telecommand 0 (codeblocks code (now (information .entry)) (blocksFor code (length (now (information .entry))))) ⌝ }
+    ensures { λ _. ⌜ now (out .exit) ≡ randomised telecommand 0
+        (codeblocks code (now (information .entry)) (blocksFor code (length (now (information .entry))))) ⌝ }
 {
     let word = word_octets(code);
     let mut k: usize = 0;
@@ -342,7 +352,8 @@ fn word_buffer() -> [u8; 64]
 
 // The next codeblock.
 fn read_next(state: Reading, unit: &[u8], out: &mut [u8]) -> Handed
-    requires { ⌜ (unitCode (state .code) ≡ true) × (state .place < blocksIn (state .code) (now unit)) × (length (now out) ≡ codeOf (state .code) .informationOctets) ⌝ }
+    requires { ⌜ (unitCode (state .code) ≡ true) × (state .place < blocksIn (state .code) (now unit))
+        × (length (now out) ≡ codeOf (state .code) .informationOctets) ⌝ }
     ensures { λ r. ⌜ asHanded r (now (out .exit)) ≡ readNext (asReading state) (now (unit .entry)) (now (out .entry)) ⌝ }
 {
     let code = state.code;

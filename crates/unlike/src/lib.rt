@@ -35,7 +35,8 @@ fn apart_whole(octets: &[u8], y: &[u64], u: usize, k: usize) -> usize
 // In how many of the first n bits the octets differ from what stands in y from bit u on; they hold these bits, and end within 64 of the
 // last.
 pub fn unlike(octets: &[u8], y: &[u64], u: usize, n: usize) -> usize
-    requires { ⌜ (n ≤ 8 * length (now octets)) × (length (now octets) < 8 * (n / 64) + 8) × (length (now octets) ≤ 1022) × (n / 64 + 2 ≤ length (now y)) × (u < 64) ⌝ }
+    requires { ⌜ (n ≤ 8 * length (now octets)) × (length (now octets) < 8 * (n / 64) + 8) × (length (now octets) ≤ 1022)
+        × (n / 64 + 2 ≤ length (now y)) × (u < 64) ⌝ }
     ensures { λ r. ⌜ (r ≡ count n (λ i. bit (now (octets .entry)) i ⊕ wbit (now (y .entry)) (u + i))) × (r ≤ 8192) ⌝ }
 {
     let k = n / 64;

@@ -71,7 +71,8 @@ pub fn last(octets: &[u8]) -> u64
 // The words that the octets fill whole.
 fn load_whole(octets: &[u8], ws: &mut [u64])
     requires { ⌜ length (now octets) ≤ 8 * length (now ws) ⌝ }
-    ensures { λ r. ⌜ wbit (now (ws .exit)) ≡ joined (64 * (length (now (octets .entry)) / 8)) (bit (now (octets .entry))) (wbit (now (ws .entry))) ⌝ }
+    ensures { λ r. ⌜ wbit (now (ws .exit)) ≡ joined (64 * (length (now (octets .entry)) / 8)) (bit (now (octets .entry)))
+        (wbit (now (ws .entry))) ⌝ }
 {
     let whole = octets.len() / 8;
     let mut k = 0;
@@ -191,7 +192,8 @@ fn double_words(v: &[u64], n: usize, t: usize, d: &mut [u64])
 
 // The m bits of v twice over. They stand in n words, t bits short of filling them, so they begin again t bits before word n.
 pub fn double(v: &[u64], m: usize, d: &mut [u64])
-    requires { ⌜ (wbit (now v) ≡ upTo m (wbit (now v))) × (1 ≤ m) × (m ≤ 64 * length (now v)) × (2 * m ≤ 64 * length (now d)) × (length (now d) ≤ 2 ^ 57) ⌝ }
+    requires { ⌜ (wbit (now v) ≡ upTo m (wbit (now v))) × (1 ≤ m) × (m ≤ 64 * length (now v)) × (2 * m ≤ 64 * length (now d))
+        × (length (now d) ≤ 2 ^ 57) ⌝ }
     ensures { λ r. ⌜ wbit (now (d .exit)) ≡ twice m (wbit (now (v .entry))) ⌝ }
 {
     let n = (m + 63) / 64;
@@ -349,7 +351,8 @@ pub fn lift(ws: &mut [u64], u: usize)
 // Writes the first n octets of v from octet at on.
 fn put(v: u64, n: usize, out: &mut [u8], at: usize)
     requires { ⌜ (n ≤ 8) × (at + n ≤ length (now out)) ⌝ }
-    ensures { λ r. ⌜ bit (now (out .exit)) ≡ joined (8 * (at + n)) (joined (8 * at) (bit (now (out .entry))) (λ k. digit 64 v (k - 8 * at))) (bit (now (out .entry))) ⌝ }
+    ensures { λ r. ⌜ bit (now (out .exit)) ≡ joined (8 * (at + n)) (joined (8 * at) (bit (now (out .entry))) (λ k. digit 64 v (k - 8 * at)))
+        (bit (now (out .entry))) ⌝ }
 {
     let mut j = 0;
     while j < n {
