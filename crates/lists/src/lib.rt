@@ -68,7 +68,7 @@ fn refused(number: u8) -> Listing
         },
         answer: Listed {
             number: number,
-            flips: 0,
+            flips: 0, // however many there were
             first: 0,
             last: 0,
             unlike: 0,
