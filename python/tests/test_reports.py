@@ -41,6 +41,13 @@ class Reports(unittest.TestCase):
             self.assertIn(said, page.bars())
         self.assertIn("This log has no flips", page.text)
 
+    def test_told(self) -> None:
+        """A word's index is its name, as the log has it; and a log has its limit already."""
+        page = command("report", given=b"word answer flips first last unlike\n16681 5 1 4 2 1\n").out.decode()
+        self.assertIn("<td>16681</td>", page)
+        said = "pandoricchia report: standard input: --limit is for words, and this is a log: they are corrected already\n"
+        self.assertEqual(command("report", "--limit", 5, given=(SAMPLES / "code5.log").read_bytes()), (2, b"", said))
+
     def test_runs(self) -> None:
         """Of a log of why the worst words have their runs."""
         page = Page(self, command("report", WHY, "--worst", 20).out)
