@@ -39,6 +39,7 @@ class Reports(unittest.TestCase):
         said = "answer 0: 10 words;answer 6: 3 words;flips 1: 3 words;unlike 4: 1 word;1 refused: 98 broken checks, 0 flips"
         for said in said.split(";"):
             self.assertIn(said, page.bars())
+        self.assertIn("4bits changed at most in a word that was taken", page.text)
         self.assertIn("This log has no flips", page.text)
 
     def test_told(self) -> None:

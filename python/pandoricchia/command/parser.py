@@ -198,7 +198,8 @@ def _words(verbs: Verbs) -> None:
     opened = verbs.add(
         "open", words.open_words, "take the information out of codewords",
         f"{RECORDING} {LOG} Its columns are index, answer, the lowest broken check, and the information in hexadecimal, - where there is"
-        " none. Codes 1, 2, 3 and 5. With --output the information's octets are written; a refused word has none.",
+        " none. Codes 1, 2, 3 and 5. With --output the information's octets are written, what encode filled up among them; a refused word"
+        " has none.",
         "pandoricchia open mended.bin --output notes.back > mended.opened",
     )
     _input(opened, "the recording")

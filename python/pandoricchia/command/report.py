@@ -200,7 +200,7 @@ def made(counted: Counted, name: str, digest: str, worst: int) -> str:
                 (f"{tally.words:,}", "words", False),
                 (f"{tally.answers[0]:,}", "taken", False),
                 (f"{tally.refused:,}", "refused", tally.refused > 0),
-                (f"{most:,}", "bits changed in one word at most", most > PROMISED),
+                (f"{most:,}", "bits changed at most in a word that was taken", most > PROMISED),
             ]
         )
     ]
