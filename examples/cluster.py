@@ -6,16 +6,21 @@ usage: examples/cluster.py [--scheduler ADDRESS | --workers N] [--program WORDS]
 
 Without a scheduler's address a cluster of N workers is started on this machine. The program is wordbench on each worker's path,
 unless another is named. A range travels to its worker, so no files are shared, and two a worker are under way at a time: however
-long the recording, the memory is bounded. Exits non-zero, with the log unfinished, where a worker's wordbench says that it failed.
+long the recording, the memory is bounded. Exits non-zero, with the log unfinished and a line that says why, where no cluster is
+found or a worker's wordbench is not there or says that it failed.
 """
 import argparse
 import collections
 import itertools
+import os
 import shlex
 import subprocess
 import sys
 
-from distributed import Client
+try:
+    from distributed import Client
+except ImportError:
+    sys.exit("cluster.py: this python3 has no Dask (Debian's python3-distributed, for /usr/bin/python3)")
 
 HEADER = b"word answer flips first last unlike\n"
 WORD_OCTETS = {1: 16, 2: 32, 3: 64, 4: 1022, 5: 1020}
@@ -25,7 +30,7 @@ def lines(program, head, words, first):
     """On a worker: the log's lines for these words, without the header, counted from the first one's index."""
     ran = subprocess.run(program, input=head + words, stdout=subprocess.PIPE, stderr=subprocess.PIPE, check=True)
     if ran.stderr:
-        raise RuntimeError(ran.stderr.decode())
+        raise RuntimeError(ran.stderr.decode().strip())
     logged = (line.split(b" ", 1) for line in ran.stdout.splitlines()[1:])
     return b"".join(b"%d %s\n" % (first + int(index), rest) for index, rest in logged)
 
@@ -67,4 +72,10 @@ def main():
 
 
 if __name__ == "__main__":
-    main()
+    try:
+        main()
+    except BrokenPipeError:  # nobody reads the log any more; what is left of it goes nowhere
+        os.dup2(os.open(os.devnull, os.O_WRONLY), sys.stdout.fileno())
+        sys.exit(1)
+    except (OSError, RuntimeError, subprocess.CalledProcessError) as error:
+        sys.exit("cluster.py: %s" % error)

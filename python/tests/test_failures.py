@@ -44,6 +44,11 @@ class Failures(unittest.TestCase):
             ran = command(*words.split())
             self.assertEqual((ran.status, ran.out, ran.said.count("\n")), (2, b"", 1), words)
             self.assertRegex(ran.said, "^pandoricchia.*: .*; see pandoricchia.* --help\n$")
+        ran = command("unit", "read", "--code", 1, "a", "b")
+        self.assertEqual(ran.said, "pandoricchia unit read: not understood: b; see pandoricchia unit read --help\n")
+        for verb, codes in (("nearest", "1"), ("unit read", "1, 3")):
+            said = f"argument -c/--code: '2' is no code of this verb ({codes}); see pandoricchia {verb} --help"
+            self.assertEqual(command(*verb.split(), "--code", 2).said, f"pandoricchia {verb}: {said}\n")
         ran = command("spoil", "--wrong", 129, CODE1)
         self.assertEqual(ran, (2, b"", "pandoricchia spoil: --wrong: a word of code 1 has 128 bits that can be wrong\n"))
         ran = command("campaign", "--code", 1, "--wrong", 129)
@@ -62,13 +67,47 @@ class Failures(unittest.TestCase):
     def test_writes(self) -> None:
         for verb in ("correct", "report", "spoil --wrong 1", "blocks export", "open"):
             ran = command(*verb.split(), CODE1, "--output", self.place / "none" / "out")
-            self.assertEqual((ran.status, ran.said.split(": ", 1)[1]), (2, f"{self.place}/none/out: No such file or directory\n"))
+            self.assertEqual((ran.status, ran.out), (2, b""))
+            self.assertEqual(ran.said.split(": ", 1)[1], f"{self.place}/none/out: No such file or directory\n")
             ran = command(*verb.split(), CODE1, "--output", "/dev/full")
             self.assertEqual((ran.status, ran.said.split(": ", 1)[1]), (2, "/dev/full: No space left on device\n"))
         with open("/dev/full", "wb") as full:
             running = process("correct", CODE1, stdout=full, stderr=subprocess.PIPE)
         self.assertEqual(running.communicate()[1], b"pandoricchia correct: standard output: No space left on device\n")
         self.assertEqual(running.returncode, 2)
+
+    def test_before_the_work(self) -> None:
+        """An output that can't be is said before anything else is done, and not after a campaign of an hour."""
+        words = ("--output", self.place / "none" / "out")
+        for verb in ("report", "summary"):
+            ran = command(verb, *words, given=b"no log")
+            self.assertEqual(ran, (2, b"", f"pandoricchia {verb}: {self.place}/none/out: No such file or directory\n"))
+        none = {_library.ENVIRONMENT: str(self.place / "none.so")}
+        running = process("campaign", *words, env=none, stdout=subprocess.PIPE, stderr=subprocess.PIPE)
+        self.assertIn(b"none/out: No such file or directory\n", running.communicate()[1])
+
+    def test_printed_and_written(self) -> None:
+        """What is printed and what is written do not go to one place, where one would spoil the other."""
+        self.out.write_bytes(b"before")
+        for name, stream in (("-", subprocess.PIPE), ("/dev/stdout", subprocess.PIPE), (self.out, self.out.open("ab"))):
+            running = process("correct", CODE1, "--output", name, stdout=stream, stderr=subprocess.PIPE)
+            out, said = running.communicate()
+            self.assertEqual((running.returncode, out or b""), (2, b""))
+            wanted = f"pandoricchia correct: --output {name}: that is standard output, where what is printed goes\n"
+            self.assertEqual(said.decode(), wanted)
+            if not isinstance(stream, int):
+                stream.close()
+        self.assertEqual(self.out.read_bytes(), b"before")
+        running = process("correct", CODE1, "--output", "/dev/null", stdout=subprocess.DEVNULL)
+        self.assertEqual(running.wait(), 1)
+
+    def test_named_pipes(self) -> None:
+        """A pipe that a shell names, as in --output >(gzip), and standard output by its name."""
+        sent = CODE1.read_bytes()[3:]
+        wanted = command("bch", "encode", given=sent[:70]).out
+        for name in ("/dev/stdout", "/dev/fd/1"):
+            running = process("bch", "encode", "--output", name, stdin=subprocess.PIPE, stdout=subprocess.PIPE)
+            self.assertEqual((running.communicate(sent[:70])[0], running.returncode), (wanted, 0))
 
     def test_closed(self) -> None:
         """Closed standard streams: no file comes to stand in their place."""
@@ -77,6 +116,10 @@ class Failures(unittest.TestCase):
         ran = subprocess.run(["sh", "-c", '"$@" >&-', "sh", *words], env=environment, stderr=subprocess.PIPE, check=False)
         self.assertEqual((ran.returncode, ran.stderr), (2, b"pandoricchia correct: standard output: Bad file descriptor\n"))
         self.assertEqual(list(self.place.iterdir()), [])
+        del words[4]
+        ran = subprocess.run(["sh", "-c", '"$@" <&-', "sh", *words], env=environment, capture_output=True, check=False)
+        self.assertEqual((ran.returncode, ran.stderr), (2, b"pandoricchia correct: standard input: Bad file descriptor\n"))
+        self.assertEqual((ran.stdout, list(self.place.iterdir())), (b"", []))
 
     def test_in_place(self) -> None:
         """The output may be the input; it keeps its mode, and a link to it stays one."""

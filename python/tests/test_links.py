@@ -41,7 +41,8 @@ class Links(unittest.TestCase):
             ran = command("unit", "read", "--code", code, "--limit", 0, given=spoilt)
             self.assertEqual((ran.status, ran.out.splitlines()[1].split()[1], ran.out.splitlines()[-1][-1:]), (1, b"6", b"-"))
         head = b"codeblock answer flips first last unlike lowest information\n"
-        self.assertEqual(command("unit", "read", "--code", 1, given=b"no unit"), (1, head + b"0 11 0 0 0 0 0 -\n", ""))
+        said = "pandoricchia unit read: standard input: number 11: the whole start is not there\n"
+        self.assertEqual(command("unit", "read", "--code", 1, given=b"no unit"), (1, head + b"0 11 0 0 0 0 0 -\n", said))
         said = "pandoricchia unit write: no unit is written: number 2: input length differs\n"
         self.assertEqual(command("unit", "write", "--code", 1), (1, b"", said))
         said = "pandoricchia unit write: standard input: more than 65536 octets of information\n"

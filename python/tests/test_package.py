@@ -1,8 +1,9 @@
 """How the shared library is found, the package installed, and README's example."""
 from __future__ import annotations
 
+import base64
 import doctest
-import importlib.metadata
+import hashlib
 import importlib.util
 import os
 import pathlib
@@ -11,21 +12,14 @@ import subprocess
 import sys
 import tempfile
 import unittest
-from typing import Dict, Optional, Set, Tuple
+import zipfile
+from typing import Dict, Optional, Set
 
 from pandoricchia import _library
 
 from .judge import TOP
 
 ASK = "import pandoricchia; print(pandoricchia.__file__, pandoricchia.word_octets(5))"
-
-
-def newest(name: str) -> Tuple[int, ...]:
-    """The version of an installed package, () where there is none."""
-    try:
-        return tuple(int(part) for part in importlib.metadata.version(name).split(".")[:2])
-    except (importlib.metadata.PackageNotFoundError, ValueError):
-        return ()
 
 
 def files(folder: pathlib.Path) -> Set[str]:
@@ -72,22 +66,38 @@ class Package(unittest.TestCase):
         self.assertIn("ImportError", found.stderr)
 
     def test_installed(self) -> None:
-        """Without a network: by pip where it can build a wheel, else by setuptools alone."""
-        setuptools = newest("setuptools")
-        if setuptools < (61,):
-            self.skipTest("installing needs setuptools 61 or newer")
+        """By pip, without a network and without setuptools; all of the package is there, and the command."""
+        if not importlib.util.find_spec("pip"):
+            self.skipTest("installing needs pip")
         source, target = self.place / "source", self.place / "target"
         shutil.copytree(TOP / "python", source, ignore=shutil.ignore_patterns("__pycache__", "tests"))
-        if importlib.util.find_spec("pip") and (newest("wheel") or setuptools >= (70, 1)):
-            command = ["-m", "pip", "install", "--quiet", "--no-index", "--no-build-isolation", "--no-deps", "--no-compile"]
-            command += ["--disable-pip-version-check", "--target", str(target), str(source)]
-        else:
-            command = ["-c", "import setuptools; setuptools.setup()", "--quiet", "build", "--build-lib", str(target)]
-        done = subprocess.run([sys.executable, *command], cwd=source, capture_output=True, text=True, check=False)
+        command = [sys.executable, "-m", "pip", "install", "--quiet", "--no-index", "--no-compile", "--disable-pip-version-check"]
+        done = subprocess.run([*command, "--target", str(target), str(source)], capture_output=True, text=True, check=False)
         self.assertEqual(done.returncode, 0, done.stderr)
         self.assertEqual(files(target / "pandoricchia"), files(TOP / "python/pandoricchia"))
         found = self.run_python(target, str(self.library))
         self.assertEqual(found.stdout.split(), [str(target / "pandoricchia/__init__.py"), "1020"], found.stderr)
+        environment = {"PATH": os.environ.get("PATH", ""), "PYTHONPATH": str(target)}
+        ran = subprocess.run([target / "bin/pandoricchia", "--version"], env=environment, capture_output=True, text=True, check=False)
+        self.assertEqual((ran.returncode, ran.stdout), (0, f"pandoricchia {_library.VERSION}\n"), ran.stderr)
+
+    def test_wheel(self) -> None:
+        """The wheel's list has every file with its hash and its length, and is the same when it is made again."""
+        sys.path.insert(0, str(TOP / "python"))
+        self.addCleanup(sys.path.remove, str(TOP / "python"))
+        import make_wheel  # as pip finds it
+
+        wheel = self.place / make_wheel.build_wheel(str(self.place))
+        first = wheel.read_bytes()
+        make_wheel.build_wheel(str(self.place))
+        self.assertEqual(wheel.read_bytes(), first)
+        with zipfile.ZipFile(wheel) as held:
+            names = held.namelist()
+            listed = [line.split(",") for line in held.read(names[-1]).decode().splitlines()]
+            self.assertEqual([path for path, _, _ in listed], names)
+            for path, kind, length in listed[:-1]:
+                digest = base64.urlsafe_b64encode(hashlib.sha256(held.read(path)).digest()).decode().rstrip("=")
+                self.assertEqual((kind, int(length)), ("sha256=" + digest, len(held.read(path))))
 
     def test_readme(self) -> None:
         failed, tried = doctest.testfile(str(TOP / "README.md"), module_relative=False, verbose=False)

@@ -9,7 +9,7 @@ import unittest
 import pandoricchia
 
 from .command import SAMPLES, command
-from .pages import Page, browser, shown
+from .pages import Page, browser, labels, overlap, shown
 
 
 class Pictures(unittest.TestCase):
@@ -66,6 +66,16 @@ class Pictures(unittest.TestCase):
         self.assertEqual(len(page.charts), 5)
         self.assertIn("0 wrong bits, right: 6 of 6", page.bars())
         self.assertIn("No coding gain", page.text)
+
+    def test_room(self) -> None:
+        """No label of a campaign's chart lies over another, however many wrong bits it goes through."""
+        out = self.place / "page.html"
+        for code, wrong in ((1, 0), (1, 30), (1, 31), (1, 128), (2, 256)):
+            command("campaign", "--code", code, "--words", 1, "--wrong", wrong, "--output", out)
+            for chart in Page(self, out.read_bytes()).charts:
+                said = labels(chart)
+                for k, (text, box) in enumerate(said):
+                    self.assertFalse([other for other, place in said[:k] if overlap(box, place)], text)
 
     def test_browser(self) -> None:
         if not browser():

@@ -39,7 +39,15 @@ class Reports(unittest.TestCase):
         said = "answer 0: 10 words;answer 6: 3 words;flips 1: 3 words;unlike 4: 1 word;1 refused: 98 broken checks, 0 flips"
         for said in said.split(";"):
             self.assertIn(said, page.bars())
+        self.assertIn("4bits changed at most in a word that was taken", page.text)
         self.assertIn("This log has no flips", page.text)
+
+    def test_told(self) -> None:
+        """A word's index is its name, as the log has it; and a log has its limit already."""
+        page = command("report", given=b"word answer flips first last unlike\n16681 5 1 4 2 1\n").out.decode()
+        self.assertIn("<td>16681</td>", page)
+        said = "pandoricchia report: standard input: --limit is for words, and this is a log: they are corrected already\n"
+        self.assertEqual(command("report", "--limit", 5, given=(SAMPLES / "code5.log").read_bytes()), (2, b"", said))
 
     def test_runs(self) -> None:
         """Of a log of why the worst words have their runs."""

@@ -22,6 +22,11 @@ def taken(log: bytes) -> int:
     return 0 if all(line.split()[1] == b"0" for line in log.splitlines()[1:] if not line.startswith(b" ")) else 1
 
 
+def not_offered(verb: str, name: object = "standard input") -> str:
+    """What is said of a recording as a whole whose code is not offered."""
+    return f"pandoricchia {verb}: {name}: number 1: code not offered by this call\n"
+
+
 def lines(ran: bytes) -> List[List[int]]:
     """A log's numbers."""
     return [[int(field) for field in line.split()] for line in ran.splitlines()[1:]]
@@ -40,8 +45,11 @@ class Logs(unittest.TestCase):
         self.assertGreater(len(logs), 20)
         for log in logs:
             wanted, recording = log.read_bytes(), log.with_suffix(".bin")
-            self.assertEqual(command("correct", recording), (taken(wanted), wanted, ""), log.name)
-            self.assertEqual(command("correct", given=recording.read_bytes()), (taken(wanted), wanted, ""), log.name)
+            none = b"\n0 1 " in wanted
+            said = not_offered("correct", recording) if none else ""
+            self.assertEqual(command("correct", recording), (taken(wanted), wanted, said), log.name)
+            said = not_offered("correct") if none else ""
+            self.assertEqual(command("correct", given=recording.read_bytes()), (taken(wanted), wanted, said), log.name)
             reasons = command("why", recording)
             self.assertEqual(b"".join(line for line in reasons.out.splitlines(True) if not line.startswith(b" ")), wanted, log.name)
 
@@ -112,7 +120,8 @@ class Words(unittest.TestCase):
             self.assertEqual(ran.status, 1)
             quiet = bytes([code, 0, 0]) + bytes(3 * pandoricchia.word_octets(code))
             self.assertEqual((command("check", given=quiet).status, command("quick", given=quiet).status), (0, 0))
-        self.assertEqual(command("check", given=b"\x06\0\0abc"), (1, b"word answer broken lowest\n0 1 0 0\n", ""))
+        ran = command("check", given=b"\x06\0\0abc")
+        self.assertEqual(ran, (1, b"word answer broken lowest\n0 1 0 0\n", not_offered("check")))
 
     def test_encoded(self) -> None:
         for code in CODES:
@@ -128,6 +137,8 @@ class Words(unittest.TestCase):
             self.assertEqual(command("encode", "--code", code, "--bare", given=b"".join(informations)).out, wanted[3:])
         self.assertEqual(command("encode", "--code", 3), (0, b"\x03\xff\xff", ""))
         self.assertEqual(command("encode", "--code", 1, "--fill", given=b"abc").out[3:], bytes(raising.encode(1, b"abcUUUUU")))
+        ran = command("encode", "--code", 4, "--fill", given=b"abc")
+        self.assertEqual(ran, (0, b"\x04\xff\xff" + raising.encode(4, b"abc" + b"U" * 891 + b"@"), ""))
 
     def test_encode_refused(self) -> None:
         """All or nothing: an output that is there stays."""
@@ -135,7 +146,7 @@ class Words(unittest.TestCase):
         out.write_bytes(b"before")
         ran = command("encode", "--code", 1, "--output", out, given=b"eight oct")
         self.assertEqual(ran, (1, b"", "pandoricchia encode: word 1: number 2: input length differs\n"))
-        ran = command("encode", "--code", 4, "--output", out, given=b"\xff" * 895)
+        ran = command("encode", "--code", 4, "--fill", "--output", out, given=b"\xff" * 895)
         self.assertEqual(ran, (1, b"", "pandoricchia encode: word 0: number 4: one of the six last bits set\n"))
         self.assertEqual([path.name for path in self.place.iterdir()], ["out"])
         self.assertEqual(out.read_bytes(), b"before")
@@ -181,7 +192,21 @@ class Words(unittest.TestCase):
             self.assertEqual([line[3] for line in shown[1:]], [sent[0].hex().upper(), "-", sent[2].hex().upper()])
             self.assertEqual([(int(line[1]), int(line[2])) for line in shown[1:]], [tuple(pandoricchia.open(code, w)[:2]) for w in words])
             self.assertEqual(ran.status, 1)
-        self.assertEqual(command("open", "--code", 4, given=bytes(1022)).out, b"word answer lowest information\n0 1 0 -\n")
+
+    def test_not_offered(self) -> None:
+        """A code that a verb does not take: one line in the log and one on standard error, and an output that is there stays."""
+        out = self.place / "out"
+        out.write_bytes(b"before")
+        for verb, recording, log in (
+            ("correct", b"\x09\0\0words", b"word answer flips first last unlike\n0 1 0 0 0 0\n"),
+            ("open", b"\x04\0\0" + bytes(3 * 1022), b"word answer lowest information\n0 1 0 -\n"),
+            ("nearest", b"\x02\0\0" + bytes(32), b"word answer least bits\n0 1 0\n"),
+        ):
+            self.assertEqual(command(verb, "--output", out, given=recording), (1, log, not_offered(verb)))
+        self.assertEqual(command("open", "--code", 4, given=bytes(2044)).out, b"word answer lowest information\n0 1 0 -\n")
+        ran = command("spoil", "--wrong", 1, "--output", out, given=b"\x09\0\0words")
+        self.assertEqual(ran, (1, b"", not_offered("spoil")))
+        self.assertEqual(out.read_bytes(), b"before")
 
     def test_nearest(self) -> None:
         out = self.place / "out"
@@ -195,4 +220,3 @@ class Words(unittest.TestCase):
                 wanted.append([k, answer.number, answer.least, *list(answer.bits)[:answer.least]])
                 mended += word if answer.number else bytes(found)
             self.assertEqual((lines(ran.out), out.read_bytes(), ran.status), (wanted, mended, 1))
-        self.assertEqual(command("nearest", given=b"\x02\0\0" + bytes(32)), (1, b"word answer least bits\n0 1 0\n", ""))

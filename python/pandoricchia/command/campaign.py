@@ -125,8 +125,8 @@ def drawn(found: Dict[int, Rows], options: Namespace) -> str:
 
 def campaign(options: Namespace) -> int:
     """Tables on standard output, and a page with charts to --output."""
-    found = tried(options)
-    with Sink(None) as out, kept(options.output) as made:
+    with Sink(None) as out, kept(options.output) as made:  # first of all: a long campaign is not for nothing
+        found = tried(options)
         out.write("\n".join(printed(code, rows) for code, rows in found.items()).encode())
         made.write(drawn(found, options).encode())
     return 0

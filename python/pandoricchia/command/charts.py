@@ -252,7 +252,7 @@ def run(first: int, flips: Sequence[Flip], title: str) -> str:
             picture.text(field.x(k), field.y(heights[k - 1]) - 7, f"excess {flip.excess}", 10, "end", colour)
         if labels or k % 20 == 0:
             picture.text(field.x(k), field.y(0) + 17, k, 11 if few else 9)
-    picture.text(field.x(0), field.y(0) + 17, 0, 11)
+    picture.text(field.x(0), field.y(0) + 17, 0, 11 if few else 9)
     field.foot("flips made")
     if again:
         picture.dot(field.left + 6, 308, 5, "#fff", RED)
@@ -267,7 +267,7 @@ def outcomes(rows: Sequence[Tuple[int, Mapping[str, int]]], kinds: Sequence[Tupl
     field = Field(picture, 50, 250)
     field.side(100, "words", " %")
     field.across = len(rows)
-    every = 1 if len(rows) <= 30 else 2
+    every = ticks(len(rows) - 1, 30)[1]
     for k, (wrong, counts) in enumerate(rows):
         whole, below = sum(counts.values()) or 1, 0.0
         for kind, colour in kinds:

@@ -21,8 +21,10 @@ def run(arguments: Optional[Sequence[str]] = None) -> int:
     """The verb that the arguments name: its status."""
     label = "pandoricchia"
     try:
-        options = parser().parse_args(arguments)
+        options, rest = parser().parse_known_args(arguments)
         label = options.label
+        if rest:  # said here, so that it is the verb's help that is named
+            raise Usage(f"{label}: not understood: {rest[0]}; see {label} --help")
         return int(options.run(options))
     except Usage as error:
         say(str(error))
@@ -41,12 +43,12 @@ def run(arguments: Optional[Sequence[str]] = None) -> int:
 
 
 def _descriptors() -> None:
-    """Standard streams that are closed get a place of their own, so that no file comes to stand there; they can't be written."""
+    """Standard streams that are closed get a place of their own, so that no file comes to stand there; it can't be read or written."""
     for descriptor in (0, 1, 2):
         try:
             os.fstat(descriptor)
         except OSError:
-            os.open(os.devnull, os.O_RDONLY)
+            os.open(os.devnull, os.O_RDONLY if descriptor else os.O_WRONLY)
 
 
 def _end(number: int, _: object) -> None:

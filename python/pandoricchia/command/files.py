@@ -81,19 +81,20 @@ class Sink:
         self.name = "standard output" if name is None or name == "-" else name
         self._descriptor, self._path, self._part = 1, "", ""
         if name is not None and name != "-":
-            self._begin(os.path.realpath(name))
+            self._begin(name)
 
-    def _begin(self, path: str) -> None:
+    def _begin(self, name: str) -> None:
         try:
             mode: Optional[int] = None
-            if os.path.exists(path):
-                found = os.stat(path)
+            if os.path.exists(name):
+                found = os.stat(name)
                 if not stat.S_ISREG(found.st_mode):
-                    self._descriptor = os.open(path, os.O_WRONLY)
+                    self._descriptor = os.open(name, os.O_WRONLY)  # a shell's /dev/fd/63 has no other name
                     return
-                if not os.access(path, os.W_OK):
+                if not os.access(name, os.W_OK):
                     raise PermissionError(errno.EACCES, "")
                 mode = stat.S_IMODE(found.st_mode)
+            path = os.path.realpath(name)
             folder, last = os.path.split(path)
             part = os.path.join(folder, f".{last}.{os.getpid()}.part")
             self._descriptor = os.open(part, os.O_WRONLY | os.O_CREAT | os.O_EXCL, 0o666)
@@ -155,8 +156,19 @@ class Nowhere(Sink):
         """Drops them."""
 
 
+def _prints_to(name: str) -> bool:
+    """Whether a name is standard output's own: a file or a pipe in which a log and octets would mix, or one push the other out."""
+    try:
+        found = os.stat(name)
+        return os.path.samestat(found, os.fstat(1)) and (stat.S_ISREG(found.st_mode) or stat.S_ISFIFO(found.st_mode))
+    except OSError:
+        return False
+
+
 def kept(name: Optional[str]) -> Sink:
-    """The output of a verb whose log goes to standard output: the file that is named, or none."""
+    """The output of a verb whose log goes to standard output: the file that is named, which is another, or none."""
+    if name is not None and (name == "-" or _prints_to(name)):
+        raise Failed(f"--output {name}: that is standard output, where what is printed goes")
     return Nowhere() if name is None else Sink(name)
 
 

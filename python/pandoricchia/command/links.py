@@ -42,11 +42,12 @@ def unit_read(options: Namespace) -> int:
     with Source(options.input) as source, Sink(None) as printed:
         unit = _whole(source, UNIT, "a unit")
         reader = Reader(options.code, unit, NO_LIMIT if options.limit is None else options.limit)
-        printed.write(b"codeblock answer flips first last unlike lowest information\n")
+        columns = b"codeblock answer flips first last unlike lowest information\n"
         if reader.number != Number.DONE:
-            printed.write(b"0 %d 0 0 0 0 0 -\n" % reader.number)
-            return 1
+            printed.write(columns + b"0 %d 0 0 0 0 0 -\n" % reader.number)
+            raise Refusal(f"{source.name}: number {int(reader.number)}: {reader.number.text}")
         with kept(options.output) as out:
+            printed.write(columns)
             for index, block in enumerate(reader):
                 line = " ".join(str(int(value)) for value in (index, *block.corrected))
                 printed.write(f"{line} {block.information.hex().upper() or '-'}\n".encode())

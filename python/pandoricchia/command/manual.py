@@ -9,11 +9,12 @@ from .._library import ENVIRONMENT, VERSION
 from .parser import DESCRIPTION, filled, parser
 
 #: When it last changed.
-DATE = "2026-11-15"
+DATE = "2026-11-16"
 
 STATUS = (
     ("0", "All is taken. Of check and quick: no check is broken."),
-    ("1", "Something is refused. Where the verb writes octets alone, one line on standard error says what."),
+    ("1", "Something is refused: the log says which words. Where it is the whole input, or the verb writes octets alone, one line on"
+          " standard error says what, and no output file is left or changed."),
     ("2", "Bad usage, or a read or write that failed: one line on standard error says what, and no output file is left or changed."),
 )
 

@@ -26,6 +26,10 @@ th { color: #16365c; font-weight: 600; }
 .small { color: #555; font-size: 0.88rem; overflow-wrap: anywhere; }
 code { font-size: 0.92em; }
 summary { cursor: pointer; color: #16365c; }
+@media screen {
+  section { overflow-x: auto; }
+  svg { min-width: 40rem; }
+}
 @media print {
   body { font-size: 11pt; margin: 0; max-width: none; }
   svg, tr { break-inside: avoid; }

@@ -47,6 +47,17 @@ def _number(least: int, most: int) -> Callable[[str], int]:
     return read
 
 
+def _one_of(codes: Tuple[int, ...]) -> Callable[[str], int]:
+    """The type of a code's number."""
+
+    def read(given: str) -> int:
+        if given not in map(str, codes):
+            raise argparse.ArgumentTypeError(f"{given!r} is no code of this verb ({', '.join(map(str, codes))})")
+        return int(given)
+
+    return read
+
+
 def _rate(given: str) -> float:
     try:
         value = float(given)
@@ -98,7 +109,7 @@ def _output(parser: argparse.ArgumentParser, what: str) -> None:
 
 
 def _code(parser: argparse.ArgumentParser, what: str, codes: Tuple[int, ...] = (1, 2, 3, 4, 5), required: bool = False) -> None:
-    parser.add_argument("-c", "--code", type=_number(codes[0], codes[-1]), choices=codes, metavar="CODE", required=required, help=what)
+    parser.add_argument("-c", "--code", type=_one_of(codes), metavar="CODE", required=required, help=what)
 
 
 def _limit(parser: argparse.ArgumentParser, what: str = "the most flips of a word, 0 to 65535") -> None:
@@ -135,7 +146,8 @@ def _words(verbs: Verbs) -> None:
     _output(encode, "where the recording goes, else to standard output")
     _code(encode, "the code, 1 to 5", required=True)
     _limit(encode, "the limit that the recording is to say, 65535 unless said")
-    encode.add_argument("--fill", action="store_true", help="fill up a short last word's information with octets 55, as a unit does")
+    filling = "fill up a short last word's information with octets 55, as a unit does; under code 4 its six last bits are 0"
+    encode.add_argument("--fill", action="store_true", help=filling)
     encode.add_argument("--bare", action="store_true", help="write the words alone, without a recording's three octets")
     _jobs(encode)
 
@@ -186,7 +198,8 @@ def _words(verbs: Verbs) -> None:
     opened = verbs.add(
         "open", words.open_words, "take the information out of codewords",
         f"{RECORDING} {LOG} Its columns are index, answer, the lowest broken check, and the information in hexadecimal, - where there is"
-        " none. Codes 1, 2, 3 and 5. With --output the information's octets are written; a refused word has none.",
+        " none. Codes 1, 2, 3 and 5. With --output the information's octets are written, what encode filled up among them; a refused word"
+        " has none.",
         "pandoricchia open mended.bin --output notes.back > mended.opened",
     )
     _input(opened, "the recording")

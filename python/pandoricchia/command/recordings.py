@@ -5,7 +5,8 @@ from argparse import Namespace
 from typing import Iterator, NamedTuple, Tuple
 
 from .. import calls
-from .files import Source
+from ..numbers import Number
+from .files import Refusal, Source
 
 #: No run has as many flips: a limit that is none.
 NO_LIMIT = 65535
@@ -60,6 +61,16 @@ def told(octets: bytes, options: Namespace) -> Head:
     else:
         code, limit = 0, 0
     return Head(code, limit if options.limit is None else options.limit, octets)
+
+
+def not_offered(source: Source) -> Refusal:
+    """What is said of a recording whose code is not offered, or not by this verb."""
+    return Refusal(f"{source.name}: number {int(Number.CODE)}: {Number.CODE.text}")
+
+
+def information(octets: bytes, code: int) -> bytes:
+    """Octets as the information of a word: of code 4 the six last bits, which are none, become 0."""
+    return octets[:-1] + bytes([octets[-1] & 0xC0]) if code == 4 else octets
 
 
 def header(code: int, limit: int) -> bytes:

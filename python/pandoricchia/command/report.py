@@ -11,7 +11,7 @@ from .. import calls
 from ..numbers import Number, text
 from . import charts
 from .charts import Flip
-from .files import Refusal, Sink, Source
+from .files import Failed, Refusal, Sink, Source
 from .jobs import ordered
 from .logs import PROMISED, RUN_REFUSED, Entry, Tally, entries, is_log, plural
 from .page import NAMES, facts, page, section, table
@@ -63,6 +63,8 @@ def _counted(source: Source, options: Namespace, bar: Progress) -> Counted:
     tally = Tally(options.worst)
     start = b"" if options.code is not None else source.read(3)
     if is_log(start):
+        if options.limit is not None:
+            raise Failed(f"{source.name}: --limit is for words, and this is a log: they are corrected already")
         for entry in entries(lines_of(source, bar, start), source.name):
             tally.add(entry)
         return Counted(tally, None)
@@ -198,7 +200,7 @@ def made(counted: Counted, name: str, digest: str, worst: int) -> str:
                 (f"{tally.words:,}", "words", False),
                 (f"{tally.answers[0]:,}", "taken", False),
                 (f"{tally.refused:,}", "refused", tally.refused > 0),
-                (f"{most:,}", "bits changed in one word at most", most > PROMISED),
+                (f"{most:,}", "bits changed at most in a word that was taken", most > PROMISED),
             ]
         )
     ]
@@ -228,7 +230,7 @@ def made(counted: Counted, name: str, digest: str, worst: int) -> str:
 def _looks(tally: Tally, head: Optional[Head], worst: int) -> str:
     if not tally.looks:
         return section("Words that need a look", "<p>None: every word was taken, with at most two bits changed and none turned back.</p>")
-    rows = [(entry.word, entry.answer, entry.flips, entry.first, entry.last, entry.unlike, "; ".join(entry.looks)) for entry in tally.worst]
+    rows = [(str(e.word), e.answer, e.flips, e.first, e.last, e.unlike, "; ".join(e.looks)) for e in tally.worst]
     columns = ("word", "answer", "flips", "first", "last", "unlike", "why")
     pieces = [f"<p>{escape(tally.looked())}. The worst, at most {worst}, first:</p>", table(columns, rows, (6,))]
     if head is None and not any(entry.under for entry in tally.worst):
@@ -243,10 +245,8 @@ def _looks(tally: Tally, head: Optional[Head], worst: int) -> str:
 
 def report(options: Namespace) -> int:
     """The page of a log or a recording."""
-    with _Hashed(options.input) as source:
+    with _Hashed(options.input) as source, Sink(options.output) as out:
         with Progress("report", source.size) as bar:
             counted = _counted(source, options, bar)
-        digest = source.hash.hexdigest()
-    with Sink(options.output) as out:
-        out.write(made(counted, source.name, digest, options.worst).encode())
+        out.write(made(counted, source.name, source.hash.hexdigest(), options.worst).encode())
     return 1 if counted.tally.refused else 0

@@ -6,6 +6,7 @@ import random
 from typing import Iterable, Iterator, Set
 
 from .. import calls
+from . import recordings
 
 
 def chance(*what: object) -> random.Random:
@@ -50,8 +51,5 @@ def turned(word: Iterable[int], at: Iterable[int]) -> bytes:
 
 
 def information(draws: random.Random, code: int) -> bytes:
-    """Information of a word; of code 4 the six last bits, which are no information, are 0."""
-    octets = bytearray(draws.randbytes(calls.information_octets(code)))
-    if code == 4:
-        octets[-1] &= 0xC0
-    return bytes(octets)
+    """Information of a word."""
+    return recordings.information(draws.randbytes(calls.information_octets(code)), code)

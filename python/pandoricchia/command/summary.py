@@ -71,9 +71,9 @@ def summarised(tally: Tally) -> str:
 def summary(options: Namespace) -> int:
     """The summary of a log."""
     tally = Tally(options.worst)
-    with Source(options.input) as source, Progress("summary", source.size) as bar:
-        for entry in entries(lines_of(source, bar), source.name):
-            tally.add(entry)
-    with Sink(options.output) as out:
+    with Source(options.input) as source, Sink(options.output) as out:
+        with Progress("summary", source.size) as bar:
+            for entry in entries(lines_of(source, bar), source.name):
+                tally.add(entry)
         out.write(summarised(tally).encode())
     return 1 if tally.refused else 0

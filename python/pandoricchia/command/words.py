@@ -14,7 +14,7 @@ from . import spoiling
 from .files import Failed, Refusal, Sink, Source, kept, octets_out
 from .jobs import ordered
 from .progress import Progress
-from .recordings import NO_LIMIT, Part, head, header, parts
+from .recordings import NO_LIMIT, Part, head, header, information, not_offered, parts
 
 #: No run of any code has more flips than this.
 PLACES = 511
@@ -89,10 +89,10 @@ def open_part(ask: Ask, part: Part) -> Done:
     lines, octets, taken = [], [], True
     for index, word in part.words(calls.word_octets(ask.code)):
         number, lowest, count = calls.open(ask.code, word)
-        information = bytes(word[:count])
-        lines.append("%d %d %d %s\n" % (index, number, lowest, information.hex().upper() or "-"))
+        held = bytes(word[:count])
+        lines.append("%d %d %d %s\n" % (index, number, lowest, held.hex().upper() or "-"))
         taken = taken and number == Number.DONE
-        octets.append(information)
+        octets.append(held)
     return Done(lines, octets, taken)
 
 
@@ -140,8 +140,9 @@ def encode_part(ask: Ask, part: Part) -> Done:
     length = calls.information_octets(ask.code)
     word = bytearray(calls.word_octets(ask.code))
     for index, given in part.words(length):
-        filled = bytes(given).ljust(length, bytes([FILL])) if ask.fill else given
-        number = calls.encode(ask.code, filled, word)
+        if ask.fill and len(given) < length:
+            given = memoryview(information(bytes(given).ljust(length, bytes([FILL])), ask.code))
+        number = calls.encode(ask.code, given, word)
         if number != Number.DONE:
             return Done([], octets, False, f"word {index}: number {int(number)}: {number.text}")
         octets.append(bytes(word))
@@ -167,13 +168,12 @@ def _log(verb: str, columns: str, work: Callable[[Ask, Part], Done], options: Na
     with Source(options.input) as source, Sink(None) as printed:
         told = head(source, options)
         ask = Ask(told.code, told.limit, keep=options.output is not None, reach=getattr(options, "reach", 0))
-        unknown = not told.offered or offered and told.code not in offered
-        printed.write(columns.encode() + b"\n")
-        if unknown:
-            printed.write("".join(work(Ask(0), Part(0, b"")).lines).encode())
-            return 1
+        if not told.offered or offered and told.code not in offered:
+            printed.write((columns + "\n" + "".join(work(Ask(0), Part(0, b"")).lines)).encode())
+            raise not_offered(source)
         taken = True
         with kept(options.output) as out, Progress(verb, source.size, lines=True) as bar:
+            printed.write(columns.encode() + b"\n")
             if verb != "open":
                 out.write(told.octets)
             for done in ordered(partial(work, ask), parts(source, calls.word_octets(ask.code)), options.jobs):
@@ -201,7 +201,7 @@ def quick(options: Namespace) -> int:
 
 def open_words(options: Namespace) -> int:
     """The information of each codeword."""
-    return _log("open", "word answer lowest information", open_part, options)
+    return _log("open", "word answer lowest information", open_part, options, 1, 2, 3, 5)
 
 
 def why(options: Namespace) -> int:
@@ -233,7 +233,7 @@ def spoil(options: Namespace) -> int:
     with Source(options.input) as source:
         told = head(source, options)
         if not told.offered:
-            raise Refusal(f"number {int(Number.CODE)}: {Number.CODE.text}")
+            raise not_offered(source)
         if options.wrong is not None and options.wrong > spoiling.bits(told.code):
             raise Failed(f"--wrong: a word of code {told.code} has {spoiling.bits(told.code)} bits that can be wrong")
         ask = Ask(told.code, seed=options.seed, wrong=options.wrong, rate=options.rate or 0.0)
