@@ -240,7 +240,14 @@ fn peak_in(samples: &[f32], score: u32, mask: u64, top: u32, first: usize, bit: 
 }
 
 // The smallest of a bit and of those that the masks have of the blocks with this score.
-fn smallest_peak(samples: &[f32], scores: &[u32], masks: &[u64], sh: Shape, top: u32, bit: usize) -> usize
+fn smallest_peak(
+    samples: &[f32],
+    scores: &[u32],
+    masks: &[u64],
+    sh: Shape,
+    top: u32,
+    bit: usize,
+) -> usize
     requires { ⌜ (sh .blocks ≤ 16) × (1 ≤ sh .size) × (sh .size ≤ 64) × (length (now scores) ≡ blocksRoom) × (length (now masks) ≡ blocksRoom)
         × (length (now samples) ≡ sh .blocks * sh .size) × (bit < length (now samples)) × Marked sh (now scores) (now masks) top ⌝ }
     ensures { λ r. ⌜ ((marked : ℕ → Bool) → Marks marked sh (now (scores .entry)) (now (masks .entry)) top

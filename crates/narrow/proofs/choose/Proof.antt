@@ -78,9 +78,14 @@ smallest-peak-requires c κs =
       search needs,
       search needs,
       long .0,
-      omega (arith, long .0, f .first-bit .ensures .1, top-in (held .code) (a .h .now) (a .sh) (s .pre .0) narrow (held .word) (a .from)
-          (s .pre .4) _ _ (g .greatest .result .score) (g .greatest .result .block) (f .first-bit .ensures .0) weighed (g .greatest .ensures)
-          high .under),
+      omega (
+        arith,
+        long .0,
+        f .first-bit .ensures .1,
+        top-in (held .code) (a .h .now) (a .sh) (s .pre .0) narrow (held .word) (a .from)
+            (s .pre .4) _ _ (g .greatest .result .score) (g .greatest .result .block) (f .first-bit .ensures .0) weighed (g .greatest .ensures)
+            high .under,
+      ),
       record {
         marked = _;
         marks = high-marks (held .code) (a .sh) (s .pre .0 .some) narrow (held .word) _ _ (g .greatest .result .score)
