@@ -11,6 +11,7 @@ use borrow.Author.Tests.{le-ltb, lt-ltb, ltb-true, le-leb, leb-true, eq-eqb, ne-
 use lib.Arith.{digits-lt}
 use lib.Count.{leadingZeros}
 use lib.Dec.{eqb, leb, ltb, lit<}
+use lib.Ieee.{Float}
 use lib.ListN.{getD, length, set}
 use lib.Seq.{getD-set-same, getD-set-other}
 use Rattle.bits.specs.Bits.{Word, flipped, over, if_then_else_, _⊕_}
@@ -27,6 +28,8 @@ use Rattle.layout.specs.declared.Shape.{Shape}
 use Rattle.layout.specs.Lent.{Fit, Lent, laid, score, total, shiftsOf, placeOf}
 use Rattle.layout.proofs.Laying.{laid-at}
 use Rattle.bounds.proofs.Entries.{within}
+use Rattle.sizes.specs.Samples.{smaller}
+use Rattle.sizes.specs.Sizes.{smallest}
 use Rattle.narrow.specs.Weighing.{around, broke, sent, Peaked, Weighed, Greatest, Chosen}
 
 -- ---- rows
@@ -213,7 +216,7 @@ module _ (c : Code) (h : List ℕ) (sh : Shape) (fit : Fit h sh) (narrow : sh .s
             (omega (arith, split n)),
       )
 
-  most-in : (n : ℕ) → from ≤ n → n < sh .blocks * sh .size → score c x n ≤ top
+  pub most-in : (n : ℕ) → from ≤ n → n < sh .blocks * sh .size → score c x n ≤ top
   most-in n a l = go (decLe (score c x n) 8)
     where
       go : Dec (score c x n ≤ 8) → score c x n ≤ top
@@ -281,7 +284,7 @@ module _ (c : Code) (h : List ℕ) (sh : Shape) (fit : Fit h sh) (narrow : sh .s
             (λ (w : score c x n < top). w)
             (le-or-lt top (score c x n))
 
-    top-in : Top (score c x) from (sh .blocks * sh .size) (block * sh .size + k) top
+    pub top-in : Top (score c x) from (sh .blocks * sh .size) (block * sh .size + k) top
     top-in = record {
       above = sent-from (sh .size) from block k inside (both .0);
       under = digits-lt (best .inside high) near;
@@ -290,5 +293,9 @@ module _ (c : Code) (h : List ℕ) (sh : Shape) (fit : Fit h sh) (narrow : sh .s
       first = before;
     }
 
-  pub chosen : Chosen c sh from x (record { score = top; bit = block * sh .size + leadingZeros 64 (getD masks block 0) })
-  chosen = record { most = most-in; top = top-in }
+  -- A bit is chosen that is the smallest of those that have this score.
+  pub chosen : (samples : List Float) (bit : ℕ)
+      → (8 < top → bit ≡ smallest (smaller samples) (λ n. leb top (score c x n)) (block * sh .size + leadingZeros 64 (getD masks block 0))
+      from (sh .blocks * sh .size - from))
+      → Chosen c sh from x samples (record { score = top; bit = bit })
+  chosen samples bit e = record { most = most-in; low = _; top = top-in; bit = e }

@@ -1,3 +1,4 @@
 pub mod Around
 pub mod Levels
 pub mod Blocks
+pub mod Peaks

@@ -1,18 +1,21 @@
 -- Rows and blocks that one word holds each, and what is seen of a block's bits at once.
 use mathlib.Core.Path.{_≡_}
-use mathlib.Core.Bool.{true, _&&_}
+use mathlib.Core.Bool.{Bool, true, false, _&&_}
 use mathlib.Core.List.{List}
 use Prim.Native.Nat.{ℕ, _+_, _-_, _*_, _%_, _≤_, _<_}
 use lib.Dec.{eqb, leb, ltb}
+use lib.Ieee.{Float}
 use lib.ListN.{getD}
 use Rattle.bits.specs.Bits.{Word, if_then_else_, countOf}
 use Rattle.rules.specs.Codes.{Code}
 use Rattle.rules.specs.Checks.{check}
-use Rattle.vectors.specs.Vectors.{Holds}
+use Rattle.vectors.specs.Vectors.{Holds, upTo, from as bitsFrom}
 use Rattle.planes.specs.Ranges.{Top}
 use Rattle.choice.specs.declared.Best.{Best}
 use Rattle.layout.specs.declared.Shape.{Shape}
-use Rattle.layout.specs.Lent.{total, shiftsOf, score}
+use Rattle.layout.specs.Lent.{Lent, total, shiftsOf, score}
+use Rattle.sizes.specs.Samples.{smaller}
+use Rattle.sizes.specs.Sizes.{smallest}
 use Rattle.narrow.specs.declared.Weights.{Weights}
 
 -- The first m bits of a word, over and over.
@@ -22,6 +25,13 @@ around m f i = f (i % m)
 -- Each of four words holds a row of the checks of x, over and over.
 abbrev pub Rows : Code → Shape → Word → List ℕ → Type 0
 Rows c sh x rows = (r : ℕ) → r < 4 → Holds (getD rows r 0) (around (sh .size) (λ i. check c x (r * sh .size + i)))
+
+-- They are the rows of a word under a code whose table is lent.
+pub record Held (h : List ℕ) (sh : Shape) (rows : List ℕ) : Type 0 where
+  pub code : Code
+  pub word : Word
+  pub lent : Lent code h sh
+  pub rows-are : Rows code sh word rows
 
 -- Of the bits that count, those of which at most so many of n checks are met; hits has their broken ones.
 abbrev pub lightly : Word → (ℕ → ℕ) → ℕ → ℕ → Word
@@ -63,7 +73,21 @@ pub record Greatest (scores : List ℕ) (blocks top block : ℕ) : Type 0 where
   pub first : 8 < top → (b : ℕ) → b < block → getD scores b 0 < top
   pub low : block < 16
 
--- No bit that is sent has a greater score than this one; and if the score is above 8, the bit is the first that has it.
-pub record Chosen (c : Code) (sh : Shape) (from : ℕ) (x : Word) (b : Best) : Type 0 where
+-- The marked bits of a block are those of its mask if it has this score, and else there is none.
+pub record Marks (marked : ℕ → Bool) (sh : Shape) (scores masks : List ℕ) (top : ℕ) : Type 0 where
+  pub here : (b : ℕ) → b < sh .blocks → getD scores b 0 ≡ top → Holds (getD masks b 0) (upTo (sh .size) (bitsFrom (b * sh .size) marked))
+  pub none : (b : ℕ) → b < sh .blocks → (getD scores b 0 ≡ top → ⊥) → (k : ℕ) → k < sh .size → marked (b * sh .size + k) ≡ false
+
+-- Some bits are marked so.
+pub record Marked (sh : Shape) (scores masks : List ℕ) (top : ℕ) : Type 0 where
+  pub marked : ℕ → Bool
+  pub marks : Marks marked sh scores masks top
+
+-- No bit that is sent has a greater score than this one. If the score is above 8, `low` is the first that has it, and the bit is the
+-- smallest of all that have it.
+pub record Chosen (c : Code) (sh : Shape) (from : ℕ) (x : Word) (samples : List Float) (b : Best) : Type 0 where
   pub most : (n : ℕ) → from ≤ n → n < sh .blocks * sh .size → score c x n ≤ b .score
-  pub top : 8 < b .score → Top (score c x) from (sh .blocks * sh .size) (b .bit) (b .score)
+  pub low : ℕ
+  pub top : 8 < b .score → Top (score c x) from (sh .blocks * sh .size) low (b .score)
+  pub bit : 8 < b .score
+      → b .bit ≡ smallest (smaller samples) (λ n. leb (b .score) (score c x n)) low from (sh .blocks * sh .size - from)

@@ -1,17 +1,19 @@
 // Codes whose blocks one word holds: the rows of the syndrome over and over in a word each, and the bits of greatest excess from them.
 ghost use mathlib.Core.Path.{_≡_};
-ghost use mathlib.Core.Bool.{true, _&&_};
+ghost use mathlib.Core.Bool.{Bool, true, _&&_};
 ghost use Prim.Native.Nat.{ℕ, _+_, _-_, _*_, _%_, _^_, _<_, _≤_};
 ghost use lib.Count.{leadingZeros};
 ghost use lib.Dec.{eqb, ltb};
 ghost use lib.ListN.{length, getD};
-ghost use Rattle.bits.specs.Bits.{Word, flipped, tally, over, countOf, _⊕_};
+ghost use Rattle.bits.specs.Bits.{Word, digit, flipped, tally, over, countOf, _⊕_};
 ghost use Rattle.rules.specs.Codes.{Code};
-ghost use Rattle.vectors.specs.Vectors.{wbit, Holds, upTo};
+ghost use Rattle.vectors.specs.Vectors.{wbit, Holds, upTo, from as bitsFrom};
 ghost use Rattle.planes.specs.Ranges.{Top};
 ghost use Rattle.layout.specs.Lent.{Fit, Lent, laid, score, entries, shiftsOf, total};
 ghost use Rattle.layout.specs.Rooms.{blocksRoom, syndromeRoom, wordRoom};
-ghost use Rattle.narrow.specs.Weighing.{around, Rows, Weighs, broke, sent, Peaked, Weighed, Greatest, Chosen};
+ghost use Rattle.sizes.specs.Samples.{smaller};
+ghost use Rattle.sizes.specs.Sizes.{smallest};
+ghost use Rattle.narrow.specs.Weighing.{around, Rows, Held, Weighs, broke, sent, Peaked, Weighed, Greatest, Marks, Marked, Chosen};
 use choice::Best;
 use layout::BLOCKS;
 use layout::Shape;
@@ -223,18 +225,71 @@ pub fn first_bit(masks: &[u64], block: usize, m: usize) -> usize
     block * m + u64::leading_zeros(masks[block]) as usize
 }
 
-// The bit of the greatest score above 8 from bit `from` on; of several, the lowest number. A score of 8 says that there is none.
-pub fn choose(rows: &[u64], h: &[u16], sh: Shape, from: usize) -> Best
-    requires { ⌜ Fit (now h) sh × (sh .words ≡ 1) × (1 ≤ sh .blocks) × (length (now rows) ≡ 4) × (from < sh .size) ⌝ }
-    ensures { λ r. ⌜ ((c : Code) (x : Word) → Lent c (now (h .entry)) sh → Rows c sh x (now (rows .entry)) → Chosen c sh from x r) ⌝ }
+// The smallest of a bit and of those that are set in the mask of a block which begins with bit `first`, if it has the score `top`.
+fn peak_in(samples: &[f32], score: u32, mask: u64, top: u32, first: usize, bit: usize) -> usize
+    requires { ⌜ (bit < length (now samples))
+        × (score ≡ top → (i : ℕ) → i < 64 → digit 64 mask i ≡ true → first + i < length (now samples)) ⌝ }
+    ensures { λ r. ⌜ (r < length (now (samples .entry))) × (score ≡ top → (marked : ℕ → Bool) (n : ℕ) → n ≤ 64
+        → Holds mask (upTo n (bitsFrom first marked)) → r ≡ smallest (smaller (now (samples .entry))) marked bit first n)
+        × ((score ≡ top → ⊥) → r ≡ bit) ⌝ }
+{
+    if score != top {
+        return bit;
+    }
+    sizes::smallest_of(samples, mask, first, bit)
+}
+
+// The smallest of a bit and of those that the masks have of the blocks with this score.
+fn smallest_peak(
+    samples: &[f32],
+    scores: &[u32],
+    masks: &[u64],
+    sh: Shape,
+    top: u32,
+    bit: usize,
+) -> usize
+    requires { ⌜ (sh .blocks ≤ 16) × (1 ≤ sh .size) × (sh .size ≤ 64) × (length (now scores) ≡ blocksRoom) × (length (now masks) ≡ blocksRoom)
+        × (length (now samples) ≡ sh .blocks * sh .size) × (bit < length (now samples)) × Marked sh (now scores) (now masks) top ⌝ }
+    ensures { λ r. ⌜ ((marked : ℕ → Bool) → Marks marked sh (now (scores .entry)) (now (masks .entry)) top
+        → r ≡ smallest (smaller (now (samples .entry))) marked bit 0 (sh .blocks * sh .size)) ⌝ }
+{
+    let mut best = bit;
+    let mut b = 0;
+    while b < sh.blocks {
+        best = peak_in(samples, scores[b], masks[b], top, b * sh.size, best);
+        b += 1;
+    }
+    best
+}
+
+// The bit of the greatest score above 8 from bit `from` on; of several the one with the smallest sample, then the lowest number; without
+// samples the lowest. A score of 8 says that there is none.
+pub fn choose(samples: &[f32], rows: &[u64], h: &[u16], sh: Shape, from: usize) -> Best
+    requires { ⌜ Fit (now h) sh × (sh .words ≡ 1) × (1 ≤ sh .blocks) × (length (now rows) ≡ 4) × (from < sh .size)
+        × (0 < length (now samples) → (length (now samples) ≡ sh .blocks * sh .size) × (from ≡ 0)) × Held (now h) sh (now rows) ⌝ }
+    ensures { λ r. ⌜ ((c : Code) (x : Word) → Lent c (now (h .entry)) sh → Rows c sh x (now (rows .entry))
+        → Chosen c sh from x (now (samples .entry)) r) ⌝ }
 {
     let mut scores = [0u32; BLOCKS];
     let mut masks = [0u64; BLOCKS];
     weigh_all(rows, h, sh, from, &mut scores, &mut masks);
     let p = greatest(&scores, sh.blocks);
+    let low = first_bit(&masks, p.block, sh.size);
+    if p.score <= 8 {
+        return Best {
+            score: p.score,
+            bit: low,
+        };
+    }
+    if samples.len() == 0 {
+        return Best {
+            score: p.score,
+            bit: low,
+        };
+    }
     Best {
         score: p.score,
-        bit: first_bit(&masks, p.block, sh.size),
+        bit: smallest_peak(samples, &scores, &masks, sh, p.score, low),
     }
 }
 

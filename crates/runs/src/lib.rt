@@ -9,6 +9,8 @@ ghost use Rattle.rules.specs.Flipping.{byExcess};
 ghost use Rattle.vectors.specs.Vectors.{wbit};
 ghost use Rattle.layout.specs.Lent.{Fit, Lent, laid};
 ghost use Rattle.bounds.specs.Reading.{Gathered};
+ghost use Rattle.sizes.specs.Samples.{smaller};
+ghost use Rattle.sizes.specs.Sizes.{bySize};
 ghost use Rattle.bounds.specs.Keeping.{Ready};
 ghost use Rattle.runs.specs.Turns.{Holding, Begins, Beginning, Carried, Continuing, CarriedNarrow, ContinuingNarrow};
 ghost use Rattle.runs.specs.Turns.{Within, comesNext, RunsTo};
@@ -57,7 +59,7 @@ fn next_bounded(s: &[u64], h: &[u16], sh: Shape, from: usize) -> Next
     Next::Flip(best.bit, excess)
 }
 
-// The same where one word holds a block: a bit that is to be flipped shows at once.
+// The same where one word holds a block: a bit that is to be flipped shows at once. All bits have equal sizes.
 fn next_narrow(s: &[u64], h: &[u16], sh: Shape, from: usize) -> Next
     requires { ⌜ Fit (now h) sh × (length (now s) ≡ syndromeRoom) × (1 ≤ sh .blocks) × (from < sh .size)
         × Holding (now h) sh (wbit (now s)) × (sh .words ≡ 1) ⌝ }
@@ -65,9 +67,10 @@ fn next_narrow(s: &[u64], h: &[u16], sh: Shape, from: usize) -> Next
         × ((c : Code) → Lent c (now (h .entry)) sh → c .unsent ≡ from → (x : Word) → wbit (now (s .entry)) ≡ laid c sh x
         → (broken c x ≡ 0 → ⊥) → byExcess c x ≡ comesNext r) ⌝ }
 {
+    let equal = [0f32; 0];
     let mut rows = [0u64; 4];
     narrow::begin(s, sh, &mut rows);
-    let best = narrow::choose(&rows, h, sh, from);
+    let best = narrow::choose(&equal, &rows, h, sh, from);
     if best.score > 8 {
         return Next::Flip(best.bit, best.score as i8 - 8);
     }
@@ -143,9 +146,10 @@ fn go_on(
     at_end(0, flips, 0)
 }
 
-// The run from the word y, whose blocks one word holds each and whose rows are kept, under a limit: flips until it ends. So many checks are
-// broken.
+// The run by the sizes of the samples from the word y, whose blocks one word holds each and whose rows are kept, under a limit: flips until
+// it ends. So many checks are broken.
 fn go_on_narrow(
+    samples: &[f32],
     y: &mut [u64],
     rows: &mut [u64],
     h: &[u16],
@@ -155,17 +159,18 @@ fn go_on_narrow(
     first: u32,
 ) -> Ended
     requires { ⌜ Fit (now h) sh × (sh .words ≡ 1) × (length (now y) ≡ wordRoom) × (length (now rows) ≡ 4) × (1 ≤ sh .blocks)
-        × (from < sh .size) × ContinuingNarrow (now h) sh from first (wbit (now y)) (now rows) ⌝ }
+        × (from < sh .size) × (0 < length (now samples) → (length (now samples) ≡ sh .blocks * sh .size) × (from ≡ 0))
+        × ContinuingNarrow (now h) sh from first (wbit (now y)) (now rows) ⌝ }
     ensures { λ r. ⌜ ((c : Code) → Lent c (now (h .entry)) sh → c .unsent ≡ from
         → CarriedNarrow c sh first (wbit (now (y .entry))) (now (rows .entry))
-        → RunsTo (byExcess c) c sh limit (wbit (now (y .entry))) (r .ran) (wbit (now (y .exit))) (laid c sh (wbit (now (y .exit))))
+        → RunsTo (bySize (smaller (now (samples .entry))) c) c sh limit (wbit (now (y .entry))) (r .ran) (wbit (now (y .exit))) (laid c sh (wbit (now (y .exit))))
         × (r .last ≡ broken c (wbit (now (y .exit))))) ⌝ }
 {
     let end = limit as u32;
     let mut flips: u32 = 0;
     let mut left = first;
     while left > 0 {
-        let chosen = narrow::choose(rows, h, sh, from);
+        let chosen = narrow::choose(samples, rows, h, sh, from);
         if chosen.score <= 8 {
             return at_end(5, flips, left);
         }
@@ -214,8 +219,9 @@ fn run_bounded(
     )
 }
 
-// The same where one word holds a block.
-fn run_narrow(
+// The run by the sizes of the samples, where one word holds a block: as many samples as bits, or none, where all bits have equal sizes.
+pub fn run_narrow(
+    samples: &[f32],
     y: &mut [u64],
     s: &[u64],
     h: &[u16],
@@ -225,14 +231,15 @@ fn run_narrow(
     first: u32,
 ) -> Ended
     requires { ⌜ Fit (now h) sh × (length (now y) ≡ wordRoom) × (length (now s) ≡ syndromeRoom) × (1 ≤ sh .blocks) × (from < sh .size)
+        × (0 < length (now samples) → (length (now samples) ≡ sh .blocks * sh .size) × (from ≡ 0))
         × Beginning (now h) sh from first (wbit (now y)) (wbit (now s)) × (sh .words ≡ 1) ⌝ }
     ensures { λ r. ⌜ ((c : Code) → Begins c (now (h .entry)) sh from first (wbit (now (y .entry))) (wbit (now (s .entry)))
-        → RunsTo (byExcess c) c sh limit (wbit (now (y .entry))) (r .ran) (wbit (now (y .exit))) (laid c sh (wbit (now (y .exit))))
-        × (r .last ≡ broken c (wbit (now (y .exit))))) ⌝ }
+        → RunsTo (bySize (smaller (now (samples .entry))) c) c sh limit (wbit (now (y .entry))) (r .ran) (wbit (now (y .exit)))
+        (laid c sh (wbit (now (y .exit)))) × (r .last ≡ broken c (wbit (now (y .exit))))) ⌝ }
 {
     let mut rows = [0u64; 4];
     narrow::begin(s, sh, &mut rows);
-    go_on_narrow(y, &mut rows, h, sh, from, limit, first)
+    go_on_narrow(samples, y, &mut rows, h, sh, from, limit, first)
 }
 
 // The run from the word y with the syndrome s, of which so many checks are broken, under a limit: flips until it ends.
@@ -255,7 +262,8 @@ pub fn run(
         return at_end(0, 0, 0);
     }
     if sh.words == 1 {
-        return run_narrow(y, s, h, sh, from, limit, first);
+        let equal = [0f32; 0];
+        return run_narrow(&equal, y, s, h, sh, from, limit, first);
     }
     run_bounded(y, s, h, sh, from, limit, first)
 }

@@ -1,3 +1,4 @@
 pub mod Sized
 pub mod Unlikes
 pub mod Turns
+pub mod Beside

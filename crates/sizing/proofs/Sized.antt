@@ -25,7 +25,8 @@ use Rattle.layout.specs.Lent.{Lent, score}
 use Rattle.planes.specs.Ranges.{Top}
 use Rattle.planes.proofs.Ranges.{top-ends}
 use Rattle.choice.proofs.Excesses.{score-excess, degree-le}
-use Rattle.runs.proofs.Turning.{next-stuck, next-flip}
+use Rattle.runs.proofs.Turning.{next-stuck}
+use Rattle.runs.proofs.Sizes.{score-left, sized-next}
 use Rattle.sizes.specs.Samples.{smaller, allFinite}
 use Rattle.sizes.specs.Sizes.{smallest, reaching, instead, smallestSent, bySize}
 use Rattle.sizes.proofs.Orders.{finite-ordered}
@@ -34,10 +35,6 @@ use Rattle.smallest.specs.Knowing.{Ahead, Leads}
 use Rattle.smallest.proofs.Orders.{ahead-both, Over, smallest-over}
 
 module _ (samples : List Float) {c : Code} {h : List ℕ} {sh : Shape} (lent : Lent c h sh) (all : c .unsent ≡ 0) (x : Word) where
-  pub sized-quiet : broken c x ≡ 0 → bySize (smaller samples) c x ≡ quiet
-  unfolding bySize
-  sized-quiet e = ap (instead (smallestSent (smaller samples) c x)) (quiet-next c x e)
-
   abbrev end : ℕ
   end = sh .blocks * sh .size
 
@@ -81,17 +78,6 @@ module _ (samples : List Float) {c : Code} {h : List ℕ} {sh : Shape} (lent : L
     unfolding bySize
     sized-stuck d l = ap (instead (smallestSent (smaller samples) c x)) (next-stuck lent x all-bits all d l)
 
-    -- a bit reaches the greatest excess where it has the greatest score
-    reaches : (n : ℕ) → n < bits c → reaching c x (subℕ top 8) n ≡ high n
-    reaches n l =
-        ap (λ e. not (ltZ e (subℕ top 8))) (score-excess lent x n l) ∙ ap not (sub-order (score c x n) 8 top 8)
-        ∙ go (decLe top (score c x n))
-      where
-        go : Dec (top ≤ score c x n) → not (ltb (score c x n + 8) (top + 8)) ≡ leb top (score c x n)
-        go (yes u) = ap not (le-ltb (score c x n + 8) (top + 8) (omega arith)) ∙ sym (le-leb top (score c x n) u)
-        go (no u) = ap not (lt-ltb (score c x n + 8) (top + 8) (omega (arith, lt-of-not-le u)))
-            ∙ sym (lt-leb top (score c x n) (lt-of-not-le u))
-
     -- the smallest of these is the one that is ahead of all
     is-smallest : allFinite samples ≡ true → r ≡ smallest (smaller samples) high low 0 end
     is-smallest finite = ahead-both (smaller samples) (length samples) order r z (leads .ahead here z (z-inside one) (z-high one))
@@ -128,19 +114,11 @@ module _ (samples : List Float) {c : Code} {h : List ℕ} {sh : Shape} (lent : L
         z-high (inr p) = leb-true top (score c x z) (p .0)
 
     pub sized-flip : allFinite samples ≡ true → (broken c x ≡ 0 → ⊥) → 8 < top → bySize (smaller samples) c x ≡ flip r (subℕ top 8)
-    unfolding bySize smallestSent
     sized-flip finite d l =
         let none : bits c - 0 ≡ end = omega (arith, lent .bits-are) in
-        ap (instead (smallestSent (smaller samples) c x)) (next-flip lent x all-bits all d l)
-        ∙ ap (λ n. flip n (subℕ top 8))
-        (ap (λ u. smallest (smaller samples) (reaching c x (subℕ top 8)) low u (bits c - u)) all
-        ∙ ap (smallest (smaller samples) (reaching c x (subℕ top 8)) low 0) none
-        ∙ smallest-same (smaller samples) (reaching c x (subℕ top 8)) high low 0 end
-        (λ k f u. reaches k (omega (arith, lent .bits-are, zero-add end))) ∙ sym (is-smallest finite))
+        sized-next (smaller samples) lent x all-bits all d l
+        ∙ ap (λ n. flip n (subℕ top 8)) (ap (smallest (smaller samples) high low 0) none ∙ sym (is-smallest finite))
 
     -- what a flip takes from the broken checks
-    pub sized-left : 8 ≤ top → broken c (flipped x r) + (top - 8) ≡ broken c x
-    unfolding score
-    sized-left l =
-        let in-bits : r < bits c = omega (arith, lent .bits-are) in
-        omega (arith, broken-flip c x r in-bits, leads .is here, broken-met c x r, degree-le lent x r in-bits)
+    pub sized-left : 8 < top → broken c (flipped x r) + (top - 8) ≡ broken c x
+    sized-left = score-left c x r top (omega (arith, lent .bits-are)) (leads .is here)

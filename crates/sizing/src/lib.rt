@@ -3,7 +3,7 @@ ghost use mathlib.Core.Path.{_≡_};
 ghost use mathlib.Core.Bool.{true};
 ghost use mathlib.Core.List.{List};
 ghost use Prim.Native.Nat.{ℕ, _+_, _*_, _<_, _≤_};
-ghost use lib.ListN.{length};
+ghost use lib.ListN.{length, getD};
 ghost use Rattle.bits.specs.Bits.{tally, _⊕_, flipped};
 ghost use Rattle.rules.specs.Codes.{Code};
 ghost use Rattle.rules.specs.Checks.{broken};
@@ -148,8 +148,8 @@ fn go_on(
     at_end(0, flips, 0, unlike)
 }
 
-// The run from the word y that was read, with the syndrome s, of which so many checks are broken, under a limit: flips until it ends.
-pub fn run(
+// The run from the word y that was read, with the syndrome s, of which so many checks are broken, by the bounds of its blocks.
+fn run_bounded(
     samples: &[f32],
     y: &mut [u64],
     s: &[u64],
@@ -164,9 +164,6 @@ pub fn run(
     ensures { λ r. ⌜ ((c : Code) → Begins c (now (h .entry)) sh 0 first (wbit (now (y .entry))) (wbit (now (s .entry)))
         → SizesTo c sh (now (samples .entry)) limit (wbit (now (y .entry))) r (wbit (now (y .exit)))) ⌝ }
 {
-    if first == 0 {
-        return at_end(0, 0, 0, 0);
-    }
     let mut d = [0u64; ROWS];
     let mut starts = [0u16; STARTS];
     let mut counts = [0u8; BLOCKS];
@@ -186,4 +183,64 @@ pub fn run(
         limit,
         first,
     )
+}
+
+// The first sixteen words of y.
+fn keep(y: &[u64], x: &mut [u64])
+    requires { ⌜ (length (now y) ≡ 130) × (length (now x) ≡ 16) ⌝ }
+    ensures { λ _. ⌜ ((j : ℕ) → j < 16 → getD (now (x .exit)) j 0 ≡ getD (now (y .entry)) j 0) ⌝ }
+{
+    let mut j = 0;
+    while j < 16 {
+        x[j] = y[j];
+        j += 1;
+    }
+}
+
+// The same where one word holds a block: the run of `runs`, and the words as they were read beside those at its end.
+fn run_narrow(
+    samples: &[f32],
+    y: &mut [u64],
+    s: &[u64],
+    h: &[u16],
+    sh: Shape,
+    limit: u16,
+    first: u32,
+) -> Ended
+    requires { ⌜ Fit (now h) sh × (length (now y) ≡ 130) × (length (now s) ≡ 16) × (1 ≤ sh .blocks)
+        × (length (now samples) ≡ sh .blocks * sh .size) × Beginning (now h) sh 0 first (wbit (now y)) (wbit (now s)) × (sh .words ≡ 1) ⌝ }
+    ensures { λ r. ⌜ ((c : Code) → Begins c (now (h .entry)) sh 0 first (wbit (now (y .entry))) (wbit (now (s .entry)))
+        → SizesTo c sh (now (samples .entry)) limit (wbit (now (y .entry))) r (wbit (now (y .exit)))) ⌝ }
+{
+    let mut x = [0u64; 16];
+    keep(y, &mut x);
+    let end = runs::run_narrow(samples, y, s, h, sh, 0, limit, first);
+    let ran = end.ran;
+    let unlike = unlike::unlike_words(&x, y, (samples.len() + 63) / 64);
+    at_end(ran.number, ran.flips, end.last, unlike as u32)
+}
+
+// The run from the word y that was read, with the syndrome s, of which so many checks are broken, under a limit: flips until it ends.
+pub fn run(
+    samples: &[f32],
+    y: &mut [u64],
+    s: &[u64],
+    h: &[u16],
+    sh: Shape,
+    limit: u16,
+    first: u32,
+) -> Ended
+    requires { ⌜ Fit (now h) sh × (length (now y) ≡ 130) × (length (now s) ≡ 16) × (1 ≤ sh .blocks)
+        × (length (now samples) ≡ sh .blocks * sh .size) × (allFinite (now samples) ≡ true) × (wbit (now y) ≡ readOf (now samples))
+        × Beginning (now h) sh 0 first (wbit (now y)) (wbit (now s)) ⌝ }
+    ensures { λ r. ⌜ ((c : Code) → Begins c (now (h .entry)) sh 0 first (wbit (now (y .entry))) (wbit (now (s .entry)))
+        → SizesTo c sh (now (samples .entry)) limit (wbit (now (y .entry))) r (wbit (now (y .exit)))) ⌝ }
+{
+    if first == 0 {
+        return at_end(0, 0, 0, 0);
+    }
+    if sh.words == 1 {
+        return run_narrow(samples, y, s, h, sh, limit, first);
+    }
+    run_bounded(samples, y, s, h, sh, limit, first)
 }

@@ -11,13 +11,17 @@ use borrow.Author.Tests.{lt-ltb}
 use lib.Ieee.{Float}
 use lib.ListN.{length}
 use Rattle.bits.specs.Bits.{digit}
+use Rattle.bits.proofs.Octets.{digit-zero}
 use Rattle.vectors.specs.Vectors.{Holds, upTo, from}
 use Rattle.sizes.specs.Samples.{smaller, allFinite}
 use Rattle.sizes.specs.Sizes.{smallest}
 use Rattle.sizes.proofs.Orders.{finite-ordered}
 use Rattle.sizes.proofs.Smallest.{Is, smallest-one}
 use Rattle.smallest.specs.Knowing.{Ahead}
-use Rattle.smallest.proofs.Orders.{Over, smallest-over}
+use Rattle.smallest.proofs.Orders.{Over, smallest-over, ahead-self}
+
+pub no-digit : (v i : ℕ) → v ≡ 0 → digit 64 v i ≡ false
+no-digit v i e = ap (λ z. digit 64 z i) e ∙ digit-zero 64 i
 
 module _ (samples : List Float) (finite : allFinite samples ≡ true) (mask first : ℕ) where
   abbrev pub marks : ℕ → Bool
@@ -28,6 +32,21 @@ module _ (samples : List Float) (finite : allFinite samples ≡ true) (mask firs
 
   pub marks-hold : Holds mask (upTo 64 (from first marks))
   marks-hold i l = sym (at i) ∙ ap (λ b. b && marks (first + i)) (sym (lt-ltb i 64 l))
+
+  -- none is set
+  pub among-none : mask ≡ 0 → (bit : ℕ)
+      → (length samples ≤ bit → (length samples ≤ bit) × ((i : ℕ) → i < 64 → digit 64 mask i ≡ false))
+      × (bit < length samples → ((bit ≡ bit) ⊎ ((first ≤ bit) × (bit < first + 64) × (digit 64 mask (bit - first) ≡ true)))
+      × (bit < length samples → Ahead (smaller samples) bit bit)
+      × ((i : ℕ) → i < 64 → digit 64 mask i ≡ true → Ahead (smaller samples) bit (first + i)))
+  among-none e bit = (
+    λ u. (u, λ i l. no-digit mask i e),
+    λ u. (
+      inl refl,
+      λ v. ahead-self (smaller samples) (length samples) (finite-ordered samples finite) bit u,
+      λ i l q. absurd (true≢false (sym q ∙ no-digit mask i e)),
+    ),
+  )
 
   module _ (inside : (i : ℕ) → i < 64 → digit 64 mask i ≡ true → first + i < length samples) (bit : ℕ) (here : bit < length samples)
       (before : (i : ℕ) → i < 64 → digit 64 mask i ≡ true → bit ≤ first + i) (r : ℕ)

@@ -5,7 +5,7 @@ ghost use mathlib.Core.Bool.{Bool, true, false, _&&_, _||_};
 ghost use mathlib.Core.List.{List};
 ghost use mathlib.Core.Logic.{_⊎_};
 ghost use Prim.Native.Nat.{ℕ, _+_, _-_, _*_, _/_, _%_, _<_, _≤_};
-ghost use lib.Dec.{eqb};
+ghost use lib.Dec.{eqb, ltb};
 ghost use lib.ListN.{length, getD};
 ghost use Rattle.bits.specs.Bits.{Word, digit, tally, flipped};
 ghost use Rattle.rules.specs.Codes.{Code};
@@ -15,7 +15,7 @@ ghost use Rattle.bounds.specs.Reading.{hits, Twice, Gathered};
 ghost use Rattle.bounds.specs.Keeping.{bound, Ready, Scored};
 ghost use Rattle.sizes.specs.Samples.{smaller, allFinite};
 ghost use Rattle.smallest.specs.Knowing.{Within, Ahead, Known, Knows, whole, covered, nearer as nearerOf};
-ghost use Rattle.smallest.specs.Knowing.{raised, Leads, Lightest, Settled};
+ghost use Rattle.smallest.specs.Knowing.{raised, Leads, Lightest, Settled, allSet};
 use choice::Best;
 use layout::Shape;
 
@@ -354,6 +354,80 @@ fn smallest_in(
     best
 }
 
+// Of 64 bits, those that have none of four checks met: the first bit's stand at a, b, c and e. Mostly two of them show that there is none.
+fn none_met(d: &[u64], a: usize, b: usize, c: usize, e: usize) -> u64
+    requires { ⌜ (a / 64 + 1 < length (now d)) × (b / 64 + 1 < length (now d)) × (c / 64 + 1 < length (now d))
+        × (e / 64 + 1 < length (now d)) ⌝ }
+    ensures { λ r. ⌜ Holds r (allSet (wbit (now (d .entry))) a b c e) ⌝ }
+{
+    let x = vectors::window(d, a);
+    if x == 0 {
+        return 0;
+    }
+    let y = x & vectors::window(d, b);
+    if y == 0 {
+        return 0;
+    }
+    y & vectors::window(d, c) & vectors::window(d, e)
+}
+
+// Of 64 bits from bit `at` on, how many stand before bit m.
+fn left(m: usize, at: usize) -> usize
+    requires { ⌜ at < m ⌝ }
+    ensures { λ r. ⌜ (r ≤ 64) × ((i : ℕ) → i < 64 → ltb i r ≡ ltb (at + i) m) ⌝ }
+{
+    if m - at < 64 { m - at } else { 64 }
+}
+
+// The smallest bit of a block that has none of its four checks met; if there is none, the number of samples.
+fn smallest_none(
+    samples: &[f32],
+    d: &[u64],
+    starts: &[u16],
+    from: usize,
+    m: usize,
+    first: usize,
+) -> usize
+    requires { ⌜ Within (now starts) (now d) from 4 m × (allFinite (now samples) ≡ true) × (first + m ≤ length (now samples)) ⌝ }
+    ensures { λ r. ⌜ Lightest (now (samples .entry)) (wbit (now (d .entry))) (now (starts .entry)) from 4 0 m first m r ⌝ }
+{
+    let s0 = starts[from] as usize;
+    let s1 = starts[from + 1] as usize;
+    let s2 = starts[from + 2] as usize;
+    let s3 = starts[from + 3] as usize;
+    let mut best = samples.len();
+    let mut at = 0;
+    while at < m {
+        let v = none_met(d, s0 + at, s1 + at, s2 + at, s3 + at);
+        if v != 0 {
+            best = among(samples, vectors::front(v, left(m, at)), first + at, best);
+        }
+        at += 64;
+    }
+    best
+}
+
+// The same as smallest_in; if it is for bits with none of four checks met, by the quicker way.
+fn smallest_light(
+    samples: &[f32],
+    d: &[u64],
+    starts: &[u16],
+    from: usize,
+    n: usize,
+    met: usize,
+    m: usize,
+    first: usize,
+) -> usize
+    requires { ⌜ Within (now starts) (now d) from n m × (allFinite (now samples) ≡ true) × (first + m ≤ length (now samples))
+        × (met ≤ n) ⌝ }
+    ensures { λ r. ⌜ Lightest (now (samples .entry)) (wbit (now (d .entry))) (now (starts .entry)) from n met m first m r ⌝ }
+{
+    if met == 0 && n == 4 {
+        return smallest_none(samples, d, starts, from, m, first);
+    }
+    smallest_in(samples, d, starts, from, n, met, m, first)
+}
+
 // The smaller of two bits of which the first may be none.
 fn lead(samples: &[f32], best: usize, bit: usize) -> usize
     requires { ⌜ (allFinite (now samples) ≡ true) × (bit < length (now samples)) ⌝ }
@@ -421,7 +495,7 @@ fn weigh(
 {
     let end = samples.len();
     let n = counts[b] as usize;
-    let bit = smallest_in(
+    let bit = smallest_light(
         samples,
         d,
         starts,

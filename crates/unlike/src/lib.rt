@@ -49,3 +49,17 @@ pub fn unlike(octets: &[u8], y: &[u64], u: usize, n: usize) -> usize
     let w = vectors::front(vectors::window(y, u + 64 * k), t);
     sum + apart(v, w)
 }
+
+// In how many of the first 64 k bits two vectors differ.
+pub fn unlike_words(x: &[u64], y: &[u64], k: usize) -> usize
+    requires { ⌜ (k ≤ length (now x)) × (k ≤ length (now y)) × (k ≤ 16) ⌝ }
+    ensures { λ r. ⌜ (r ≡ count (64 * k) (λ i. wbit (now (x .entry)) i ⊕ wbit (now (y .entry)) i)) × (r ≤ 1024) ⌝ }
+{
+    let mut sum: usize = 0;
+    let mut j = 0;
+    while j < k {
+        sum += apart(x[j], y[j]);
+        j += 1;
+    }
+    sum
+}

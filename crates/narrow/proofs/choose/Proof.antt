@@ -1,9 +1,11 @@
--- `narrow::choose`: all blocks are weighed, and the first bit of the best one is taken. Assumes nothing.
-use mathlib.Core.Path.{sym, subst}
+-- `narrow::choose`: all blocks are weighed, and of the bits of the best ones the smallest is taken. Assumes nothing.
+use mathlib.Core.Path.{_∙_}
+use Prim.Native.Nat.{_*_, _≤_, _<_}
 use native.Mathlib.Omega.{arith}
 use borrow.Author.Needs.{needs}
-use Rattle.narrow.specs.Weighing.{Chosen}
-use Rattle.narrow.proofs.Blocks.{chosen}
+use Rattle.sizes.specs.Samples.{smaller}
+use Rattle.narrow.proofs.Blocks.{top-in, chosen}
+use Rattle.narrow.proofs.Peaks.{no-smaller, high-marks, weighed-from, smallest-from}
 use Rattle.narrow.proofs.choose.Statement.{statement}
 use Rattle.narrow.proofs.choose.Tie as tie
 
@@ -30,13 +32,84 @@ first-bit-requires c κs = search needs
 
 returns : tie.Need-returns
 returns c k x lent is =
-    let s = c .before .before .before .before .before .before .before .before .before .before .before in
+    let s : tie.Start = search needs in
     let a = s .args in
-    let p = c .before .before .greatest in
-    subst (λ n. Chosen k (a .sh) (a .from) x (record { score = p .result .score; bit = n })) (sym (c .first-bit .ensures .1))
-    (chosen k (a .h .now) (a .sh) (s .pre .0) (omega (arith, s .pre .0 .held, s .pre .1)) x (a .from) (s .pre .4) _ _
-    (p .result .score) (p .result .block) (c .first-bit .ensures .0)
-    (c .before .before .before .before .before .before .weigh-all .ensures k x lent is) (p .ensures))
+    let w : tie.After-weigh-all = search needs in
+    let g : tie.After-greatest = search needs in
+    let f : tie.After-first-bit = search needs in
+    let narrow : a .sh .size ≤ 64 = omega (arith, s .pre .0 .held, s .pre .1) in
+    chosen k (a .h .now) (a .sh) (s .pre .0) narrow x (a .from) (s .pre .4) _ _ (g .greatest .result .score) (g .greatest .result .block)
+    (f .first-bit .ensures .0) (w .weigh-all .ensures k x lent is) (g .greatest .ensures) (a .samples .now) (f .first-bit .result)
+    (λ high. absurd (omega (arith, c .if1 .taken)))
+
+returns-2 : tie.Need-returns-2
+returns-2 c k x lent is =
+    let s : tie.Start = search needs in
+    let a = s .args in
+    let w : tie.After-weigh-all = search needs in
+    let g : tie.After-greatest = search needs in
+    let f : tie.After-first-bit = search needs in
+    let narrow : a .sh .size ≤ 64 = omega (arith, s .pre .0 .held, s .pre .1) in
+    chosen k (a .h .now) (a .sh) (s .pre .0) narrow x (a .from) (s .pre .4) _ _ (g .greatest .result .score) (g .greatest .result .block)
+    (f .first-bit .ensures .0) (w .weigh-all .ensures k x lent is) (g .greatest .ensures) (a .samples .now) (f .first-bit .result)
+    (λ high. f .first-bit .ensures .1 ∙ no-smaller (a .samples .now) (c .if2 .taken) _ _ (a .from) _)
+
+slice-aggregate-smallest-peak : tie.Need-slice-aggregate-smallest-peak
+slice-aggregate-smallest-peak c = search needs
+
+slice-aggregate-smallest-peak-2 : tie.Need-slice-aggregate-smallest-peak-2
+slice-aggregate-smallest-peak-2 c = search needs
+
+smallest-peak-requires : tie.Need-smallest-peak-requires
+smallest-peak-requires c κs =
+    let s : tie.Start = search needs in
+    let a = s .args in
+    let w : tie.After-weigh-all = search needs in
+    let g : tie.After-greatest = search needs in
+    let f : tie.After-first-bit = search needs in
+    let narrow : a .sh .size ≤ 64 = omega (arith, s .pre .0 .held, s .pre .1) in
+    let held = s .pre .6 in
+    let high : 8 < g .greatest .result .score = c .before .before .before .if1 .left in
+    let long = s .pre .5 (omega (arith, c .before .before .if2 .left)) in
+    let weighed = w .weigh-all .ensures (held .code) (held .word) (held .lent) (held .rows-are) in (
+      s .pre .0 .blocks,
+      s .pre .0 .some,
+      narrow,
+      search needs,
+      search needs,
+      long .0,
+      omega (
+        arith,
+        long .0,
+        f .first-bit .ensures .1,
+        top-in (held .code) (a .h .now) (a .sh) (s .pre .0) narrow (held .word) (a .from)
+            (s .pre .4) _ _ (g .greatest .result .score) (g .greatest .result .block) (f .first-bit .ensures .0) weighed (g .greatest .ensures)
+            high .under,
+      ),
+      record {
+        marked = _;
+        marks = high-marks (held .code) (a .sh) (s .pre .0 .some) narrow (held .word) _ _ (g .greatest .result .score)
+            (g .greatest .result .block) (weighed-from (long .1) weighed)
+            (g .greatest .ensures) high;
+      },
+    )
+
+returns-3 : tie.Need-returns-3
+returns-3 c k x lent is =
+    let s : tie.Start = search needs in
+    let a = s .args in
+    let w : tie.After-weigh-all = search needs in
+    let g : tie.After-greatest = search needs in
+    let f : tie.After-first-bit = search needs in
+    let narrow : a .sh .size ≤ 64 = omega (arith, s .pre .0 .held, s .pre .1) in
+    let long = s .pre .5 (omega (arith, c .before .before .before .if2 .left)) in
+    let weighed = w .weigh-all .ensures k x lent is in
+    chosen k (a .h .now) (a .sh) (s .pre .0) narrow x (a .from) (s .pre .4) _ _ (g .greatest .result .score) (g .greatest .result .block)
+    (f .first-bit .ensures .0) (w .weigh-all .ensures k x lent is) (g .greatest .ensures) (a .samples .now) (c .smallest-peak .result)
+    (λ high.
+    c .smallest-peak .ensures _ (high-marks k (a .sh) (s .pre .0 .some) narrow x _ _ (g .greatest .result .score) (g .greatest .result .block)
+    (weighed-from (long .1) weighed) (g .greatest .ensures) high)
+    ∙ smallest-from (smaller (a .samples .now)) _ (a .sh .blocks * a .sh .size) (f .first-bit .ensures .1) (long .1))
 
 pub choose-spec : {M : Type 1} → statement M
 choose-spec =
@@ -49,4 +122,9 @@ choose-spec =
     greatest-requires
     slice-aggregate-first-bit
     first-bit-requires
-    returns)
+    returns
+    returns-2
+    slice-aggregate-smallest-peak
+    slice-aggregate-smallest-peak-2
+    smallest-peak-requires
+    returns-3)

@@ -1,10 +1,11 @@
 -- `runs::next_narrow`: a bit of a score above 8 is to be flipped; where there is none, the bounds say what comes next. Assumes nothing.
-use mathlib.Core.Path.{refl, sym, ap, _∙_}
+use mathlib.Core.Path.{_≡_, refl, sym, ap, _∙_}
+use mathlib.Core.List.{[]}
 use native.Mathlib.Omega.{arith}
 use borrow.Author.Needs.{needs}
 use Rattle.rules.specs.Flipping.{flip}
-use Rattle.planes.proofs.Ranges.{top-ends}
-use Rattle.runs.proofs.Turning.{score-fits, excess-fits, excess-kept, top-lt, top-small, next-flip}
+use Rattle.runs.proofs.Turning.{score-fits, excess-fits, excess-kept}
+use Rattle.runs.proofs.Sizes.{chosen-inside, chosen-flip, chosen-small, sized-equal}
 use Rattle.runs.proofs.next_narrow.Statement.{statement}
 use Rattle.runs.proofs.next_narrow.Tie as tie
 
@@ -13,41 +14,61 @@ slice-aggregate-begin c = search needs
 
 begin-requires : tie.Need-begin-requires
 begin-requires c κs =
-    let s = c .before .before .before in
+    let s : tie.Start = search needs in
     (s .pre .0 .some, omega (arith, s .pre .0 .held, s .pre .5), s .pre .5, s .pre .0 .narrow (s .pre .5) .0, s .pre .1, refl)
 
 slice-aggregate-choose : tie.Need-slice-aggregate-choose
 slice-aggregate-choose c = search needs
 
+slice-aggregate-choose-2 : tie.Need-slice-aggregate-choose-2
+slice-aggregate-choose-2 c = search needs
+
 choose-requires : tie.Need-choose-requires
-choose-requires c κs = search needs
+choose-requires c κs =
+    let s : tie.Start = search needs in
+    let begun : tie.After-begin = search needs in
+    let w = s .pre .4 in (
+      s .pre .0,
+      s .pre .5,
+      s .pre .2,
+      search needs,
+      s .pre .3,
+      λ some. absurd (omega arith),
+      record { code = w .code; word = w .word; lent = w .lent; rows-are = begun .begin .ensures (w .code) (w .word) (w .held) },
+    )
 
-cast-t13 : tie.Need-cast-t13
-cast-t13 c =
-    let w = c .before .before .before .before .before .before .before .before .before .before .pre .4 in
-    let f = c .before .before .before .choose .ensures (w .code) (w .word) (w .lent)
-    (c .before .before .before .before .before .before .begin .ensures (w .code) (w .word) (w .held)) in
-    score-fits _ (top-small (w .lent) (w .word) (top-ends refl (sym (w .lent .bits-are)) (f .top (c .before .if1 .taken))))
+cast-t16 : tie.Need-cast-t16
+cast-t16 c =
+    let chose : tie.After-choose = search needs in
+    let begun : tie.After-begin = search needs in
+    let s : tie.Start = search needs in
+    let w = s .pre .4 in
+    score-fits _ (chosen-small [] (w .lent) (w .word) (chose .choose .result)
+    (chose .choose .ensures (w .code) (w .word) (w .lent) (begun .begin .ensures (w .code) (w .word) (w .held))) (c .before .if1 .taken))
 
-sub-t14 : tie.Need-sub-t14
-sub-t14 c =
-    let w = c .before .before .before .before .before .before .before .before .before .before .pre .4 in
-    let f = c .before .before .before .choose .ensures (w .code) (w .word) (w .lent)
-    (c .before .before .before .before .before .before .begin .ensures (w .code) (w .word) (w .held)) in
-    excess-fits _ (top-small (w .lent) (w .word) (top-ends refl (sym (w .lent .bits-are)) (f .top (c .before .if1 .taken))))
+sub-t17 : tie.Need-sub-t17
+sub-t17 c =
+    let chose : tie.After-choose = search needs in
+    let begun : tie.After-begin = search needs in
+    let s : tie.Start = search needs in
+    let w = s .pre .4 in
+    excess-fits _ (chosen-small [] (w .lent) (w .word) (chose .choose .result)
+    (chose .choose .ensures (w .code) (w .word) (w .lent) (begun .begin .ensures (w .code) (w .word) (w .held))) (c .before .if1 .taken))
 
 returns : tie.Need-returns
 returns c =
-    let w = c .before .before .before .before .before .before .before .before .before .before .pre .4 in
-    let best = c .before .before .before .choose in
-    let begun = c .before .before .before .before .before .before .begin .ensures in
+    let chose : tie.After-choose = search needs in
+    let begun : tie.After-begin = search needs in
+    let s : tie.Start = search needs in
+    let w = s .pre .4 in
+    let best = chose .choose in
+    let rows = begun .begin .ensures in
     let high = c .before .if1 .taken in
-    let top = top-ends refl (sym (w .lent .bits-are)) (best .ensures (w .code) (w .word) (w .lent) (begun (w .code) (w .word) (w .held))
-    .top high) in (
-      top-lt (w .lent) (w .word) top,
+    let here = best .ensures (w .code) (w .word) (w .lent) (rows (w .code) (w .word) (w .held)) in (
+      chosen-inside [] (w .lent) (w .word) (best .result) here high,
       λ k l u x e some.
-          next-flip l x (top-ends refl (sym (l .bits-are)) (best .ensures k x l (begun k x e) .top high)) u some high
-          ∙ ap (flip (best .result .bit)) (sym (excess-kept _ (top-small (w .lent) (w .word) top))),
+          sym (ap (λ way. way x) (sized-equal [] refl k)) ∙ chosen-flip [] l x (best .result) (best .ensures k x l (rows k x e)) high u some
+          ∙ ap (flip (best .result .bit)) (sym (excess-kept _ (chosen-small [] (w .lent) (w .word) (best .result) here high))),
     )
 
 next-bounded-requires : tie.Need-next-bounded-requires
@@ -63,9 +84,10 @@ next-narrow-spec =
     slice-aggregate-begin
     begin-requires
     slice-aggregate-choose
+    slice-aggregate-choose-2
     choose-requires
-    cast-t13
-    sub-t14
+    cast-t16
+    sub-t17
     returns
     next-bounded-requires
     returns-2)

@@ -11,32 +11,32 @@ slice-aggregate-begin c = search needs
 
 begin-requires : tie.Need-begin-requires
 begin-requires c κs =
-    let s = c .before .before .before .before in
-    (s .pre .0 .some, omega (arith, s .pre .0 .held, s .pre .6), s .pre .6, s .pre .0 .narrow (s .pre .6) .0, s .pre .2, refl)
+    let s : tie.Start = search needs in
+    (s .pre .0 .some, omega (arith, s .pre .0 .held, s .pre .7), s .pre .7, s .pre .0 .narrow (s .pre .7) .0, s .pre .2, refl)
 
 slice-aggregate-go-on-narrow : tie.Need-slice-aggregate-go-on-narrow
 slice-aggregate-go-on-narrow c = search needs
 
 go-on-narrow-requires : tie.Need-go-on-narrow-requires
 go-on-narrow-requires c κs =
-    let s = c .before .before .before .before .before .before .before .before in
-    let a = s .args in
-    let w = s .pre .5 in
+    let s : tie.Start = search needs in
+    let begun : tie.After-begin = search needs in
+    let w = s .pre .6 in
     let k = w .begins in (
       s .pre .0,
-      s .pre .6,
+      s .pre .7,
       s .pre .1,
       search needs,
       s .pre .3,
       s .pre .4,
+      s .pre .5,
       record {
         code = w .code;
         lent = k .lent;
         unsent = k .unsent;
         carried = record {
-          rows-are = c .before .before .before .begin .ensures (w .code) (wbit (a .y .now)) (k .held);
-          left-is = k
-              .broken;
+          rows-are = begun .begin .ensures (w .code) (wbit (s .args .y .now)) (k .held);
+          left-is = k .broken;
         };
       },
     )
@@ -46,13 +46,11 @@ same-length c = search needs
 
 returns : tie.Need-returns
 returns c k e =
-    let a = c .before .before .before .before .before .before .before .before .before .before .before .before .args in
-    c .before .before .before .go-on-narrow .ensures k (e .lent) (e .unsent)
-    (record {
-      rows-are = c .before .before .before .before .before .before .before .begin .ensures k (wbit (a .y .now)) (e .held);
-      left-is
-          = e .broken;
-    })
+    let s : tie.Start = search needs in
+    let begun : tie.After-begin = search needs in
+    let went : tie.After-go-on-narrow = search needs in
+    went .go-on-narrow .ensures k (e .lent) (e .unsent)
+    (record { rows-are = begun .begin .ensures k (wbit (s .args .y .now)) (e .held); left-is = e .broken })
 
 pub run-narrow-spec : {M : Type 1} → statement M
 run-narrow-spec =

@@ -16,7 +16,8 @@ use Rattle.runs.proofs.Turning.{going-start, ends-quiet, ends-stuck, ends-limit
 use Rattle.sizes.specs.Samples.{read, smaller}
 use Rattle.sizes.specs.Sizes.{bySize}
 use Rattle.sizing.specs.Turning.{Stands, Coming}
-use Rattle.sizing.proofs.Sized.{sized-quiet, sized-stuck, sized-flip, sized-left}
+use Rattle.runs.proofs.Sizes.{sized-quiet}
+use Rattle.sizing.proofs.Sized.{sized-stuck, sized-flip, sized-left}
 use Rattle.sizing.proofs.Turns.{differs-flip, chosen-most, chosen-leads, chosen-stands, stands-as}
 use borrow.Author.Needs.{needs}
 use Rattle.sizing.proofs.go_on.Statement.{statement}
@@ -307,7 +308,7 @@ returns-3 c k lent u eq w =
     let none : broken k (wbit (l .y)) ≡ 0 = omega (arith, i .left-is, c .before .loop-test .left) in
     record {
       runs = runs-as _ _ (e .0) (e .1) (ends-quiet (bySize (smaller (a .samples .now)) k) k (a .sh) (a .limit) (wbit (a .y .now))
-          (l .flips) (wbit (l .y)) _ (i .going) (sized-quiet (a .samples .now) lent u (wbit (l .y)) none));
+          (l .flips) (wbit (l .y)) _ (i .going) (sized-quiet (smaller (a .samples .now)) k (wbit (l .y)) none));
       last = e .2 ∙ sym none;
       differs = e .3 ∙ i .differs ∙ ap (λ z. differing k z (wbit (l .y))) (sym (s .pre .9));
     }

@@ -1,16 +1,12 @@
 -- `smallest::among`: the smallest of the bits that are set, beginning with the bit or with the first of them. Assumes nothing.
-use mathlib.Core.Path.{_≡_, refl, sym, ap, _∙_}
-use mathlib.Core.Bool.{true, false, true≢false}
-use mathlib.Core.Logic.{_⊎_, inl, inr}
-use Prim.Native.Nat.{ℕ, _+_, _-_, _≤_, _<_}
+use mathlib.Core.Path.{_≡_}
+use mathlib.Core.Bool.{true}
+use mathlib.Core.Logic.{inr}
+use Prim.Native.Nat.{ℕ, _+_, _≤_, _<_}
 use native.Mathlib.Omega.{arith}
 use lib.ListN.{length}
 use Rattle.bits.specs.Bits.{digit}
-use Rattle.bits.proofs.Octets.{digit-zero}
-use Rattle.sizes.specs.Samples.{smaller}
-use Rattle.sizes.proofs.Orders.{finite-ordered}
-use Rattle.smallest.proofs.Orders.{ahead-self}
-use Rattle.smallest.proofs.Masks.{marks, marks-hold, among-bit, among-all, among-one, first-before, one-set}
+use Rattle.smallest.proofs.Masks.{marks, marks-hold, among-none, among-bit, among-all, among-one, first-before, one-set}
 use borrow.Author.Needs.{needs}
 use Rattle.smallest.proofs.among.Statement.{statement}
 use Rattle.smallest.proofs.among.Tie as tie
@@ -19,14 +15,7 @@ returns : tie.Need-returns
 returns c =
     let s = c .before .before in
     let a = s .args in
-    let none : (i : ℕ) → digit 64 (a .mask) i ≡ false = λ i. ap (λ v. digit 64 v i) (c .if1 .taken) ∙ digit-zero 64 i in (
-      λ u. (u, λ i l. none i),
-      λ u. (
-        inl refl,
-        λ v. ahead-self (smaller (a .samples .now)) (length (a .samples .now)) (finite-ordered (a .samples .now) (s .pre .0)) (a .bit) u,
-        λ i l e. absurd (true≢false (sym e ∙ none i)),
-      ),
-    )
+    among-none (a .samples .now) (s .pre .0) (a .mask) (a .first) (c .if1 .taken) (a .bit)
 
 smallest-of-requires : tie.Need-smallest-of-requires
 smallest-of-requires c κs = search needs

@@ -15,25 +15,25 @@ shared-slice-read-n c = search needs
 cast-n : tie.Need-cast-n
 cast-n c = let s = c .before .before .before .before .before .before .before in omega (arith, s .pre .0 .low (s .args .b) (s .pre .5))
 
-mul-smallest-in : tie.Need-mul-smallest-in
-mul-smallest-in c = search needs
+mul-smallest-light : tie.Need-mul-smallest-light
+mul-smallest-light c = search needs
 
-slice-read-smallest-in : tie.Need-slice-read-smallest-in
-slice-read-smallest-in c = search needs
+slice-read-smallest-light : tie.Need-slice-read-smallest-light
+slice-read-smallest-light c = search needs
 
-cast-smallest-in : tie.Need-cast-smallest-in
-cast-smallest-in c =
+cast-smallest-light : tie.Need-cast-smallest-light
+cast-smallest-light c =
     let s = c .before .before .before .before .before .before .before .before in
     omega (arith, s .pre .0 .low (s .args .b) (s .pre .5), s .pre .0 .few (s .args .b) (s .pre .5))
 
-mul-smallest-in-2 : tie.Need-mul-smallest-in-2
-mul-smallest-in-2 c =
+mul-smallest-light-2 : tie.Need-mul-smallest-light-2
+mul-smallest-light-2 c =
     let s = c .before .before .before .before .before .before .before .before .before in
     let a = s .args in
     omega (arith, s .pre .3, block-room (a .b) (a .sh .blocks) (a .sh .size) (s .pre .5))
 
-smallest-in-requires : tie.Need-smallest-in-requires
-smallest-in-requires c κs =
+smallest-light-requires : tie.Need-smallest-light-requires
+smallest-light-requires c κs =
     let s = c .before .before .before .before .before .before .before .before .before in
     let a = s .args in (
       block-within (a .sh) (a .starts .now) (a .counts .now) (a .met .now) (s .pre .0) (a .b) (s .pre .5) (a .d .now) (s .pre .2),
@@ -56,9 +56,9 @@ same-length c = search needs
 
 returns : tie.Need-returns
 returns c =
-    let s = c .before .before .before .before .before .before .before .before .before .before .before .before in
+    let s : tie.Start = search needs in
     let a = s .args in
-    let f = c .before .before .smallest-in in
+    let f = c .before .before .smallest-light in
     let e = c .lead .ensures in
     weighed-some (a .samples .now) (a .sh) (wbit (a .d .now)) (a .starts .now) (a .counts .now) (a .met .now) (a .kept .now) (s .pre .0)
     (s .pre .3) (s .pre .4) (a .b) (s .pre .5) (f .result) (f .ensures) (omega (arith, s .pre .1, s .pre .5, s .pre .0 .blocks)) (a .best)
@@ -69,7 +69,7 @@ slice-read-met c = search needs
 
 add-met : tie.Need-add-met
 add-met c =
-    let s = c .before .before .before .before .before .before .before .before .before .before .before .before in
+    let s : tie.Start = search needs in
     omega (arith, s .pre .0 .low (s .args .b) (s .pre .5), s .pre .0 .few (s .args .b) (s .pre .5))
 
 slice-write-met : tie.Need-slice-write-met
@@ -83,9 +83,9 @@ same-length-3 c = search needs
 
 returns-2 : tie.Need-returns-2
 returns-2 c =
-    let s = c .before .before .before .before .before .before .before .before .before .before .before .before in
+    let s : tie.Start = search needs in
     let a = s .args in
-    let f = c .before .before .smallest-in in
+    let f = c .before .before .smallest-light in
     weighed-none (a .samples .now) (a .sh) (wbit (a .d .now)) (a .starts .now) (a .counts .now) (a .met .now) (a .kept .now) (s .pre .0)
     (s .pre .3) (s .pre .4) (a .b) (s .pre .5) (f .result) (f .ensures) (omega (arith, s .pre .1, s .pre .5, s .pre .0 .blocks)) (a .best)
     (c .before .if1 .left)
@@ -96,11 +96,11 @@ weigh-spec =
     (tie.spec
     shared-slice-read-n
     cast-n
-    mul-smallest-in
-    slice-read-smallest-in
-    cast-smallest-in
-    mul-smallest-in-2
-    smallest-in-requires
+    mul-smallest-light
+    slice-read-smallest-light
+    cast-smallest-light
+    mul-smallest-light-2
+    smallest-light-requires
     mul-kept
     slice-write-kept
     lead-requires

@@ -1,0 +1,68 @@
+-- `sizing::keep`: word after word. Assumes nothing.
+use mathlib.Core.Path.{_≡_, refl}
+use Prim.Native.Nat.{ℕ, _+_, _-_, _≤_, _<_}
+use native.Mathlib.Omega.{arith}
+use borrow.Author.Needs.{needs}
+use lib.ListN.{length, getD}
+use Rattle.narrow.proofs.Blocks.{set-rows}
+use Rattle.sizing.proofs.keep.Statement.{statement}
+use Rattle.sizing.proofs.keep.Tie as tie
+
+abbrev Inv-loop : tie.InvT-loop
+Inv-loop y x₀ j₀ x j = (j ≤ 16) × (length x ≡ 16) × ((q : ℕ) → q < j → getD x q 0 ≡ getD y q 0)
+
+abbrev μ-loop : tie.MeasureT-loop
+μ-loop y x₀ j₀ x j = 16 - j
+
+loop-holds : tie.Need-loop-holds Inv-loop μ-loop
+loop-holds c =
+    let s : tie.Start Inv-loop μ-loop = search needs in
+    (omega arith, s .pre .1, λ q l. absurd (omega arith))
+
+mul-x : tie.Need-mul-x Inv-loop μ-loop
+mul-x c = omega arith
+
+shared-slice-read-x : tie.Need-shared-slice-read-x Inv-loop μ-loop
+shared-slice-read-x c = omega arith
+
+mul-x-2 : tie.Need-mul-x-2 Inv-loop μ-loop
+mul-x-2 c = omega arith
+
+slice-write-x : tie.Need-slice-write-x Inv-loop μ-loop
+slice-write-x c = omega arith
+
+add-j : tie.Need-add-j Inv-loop μ-loop
+add-j c = omega arith
+
+loop-less : tie.Need-loop-less Inv-loop μ-loop
+loop-less c = omega arith
+
+loop-again : tie.Need-loop-again Inv-loop μ-loop
+loop-again c =
+    let l = c .before .before .loop in
+    let y = c .before .before .before .args .y .now in
+    let next : l .j + 1 ≤ 16 = omega arith in
+    (next, search needs, set-rows (l .x) (λ q v. v ≡ getD y q 0) (l .j) (getD y (l .j) 0) (omega arith) refl (l .inv .2))
+
+same-length : tie.Need-same-length Inv-loop μ-loop
+same-length c = search needs
+
+returns : tie.Need-returns Inv-loop μ-loop
+returns c j l = c .before .loop .inv .2 j (omega arith)
+
+pub keep-spec : {M : Type 1} → statement M
+keep-spec =
+    tie.close
+    (tie.spec
+    Inv-loop
+    μ-loop
+    loop-holds
+    mul-x
+    shared-slice-read-x
+    mul-x-2
+    slice-write-x
+    add-j
+    loop-less
+    loop-again
+    same-length
+    returns)
