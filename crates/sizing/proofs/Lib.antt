@@ -1,3 +1,3 @@
 pub mod Sized
 pub mod Unlikes
-pub mod Turns
+pub mod Passes

@@ -11,9 +11,9 @@ use Rattle.rules.proofs.Choosing.{quiet-next}
 use Rattle.vectors.specs.Vectors.{wbit}
 use Rattle.planes.proofs.Ranges.{top-ends}
 use Rattle.layout.specs.Lent.{Lent, laid}
-use Rattle.runs.specs.Turns.{Going, CarriedNarrow}
-use Rattle.runs.proofs.Turning.{going-start, ends-quiet, ends-stuck, ends-limit, goes-on, next-flip, flip-left, none-flip, some-sent}
-use Rattle.runs.proofs.Turning.{carried-narrow, runs-as}
+use Rattle.runs.specs.Passes.{Going, CarriedNarrow}
+use Rattle.runs.proofs.Passing.{going-start, ends-quiet, ends-stuck, ends-limit, goes-on, next-flip, flip-left, none-flip, some-sent}
+use Rattle.runs.proofs.Passing.{carried-narrow, runs-as}
 use Rattle.runs.proofs.go_on_narrow.Statement.{statement}
 use Rattle.runs.proofs.go_on_narrow.Tie as tie
 

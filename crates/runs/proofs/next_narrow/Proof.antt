@@ -4,7 +4,7 @@ use native.Mathlib.Omega.{arith}
 use borrow.Author.Needs.{needs}
 use Rattle.rules.specs.Flipping.{flip}
 use Rattle.planes.proofs.Ranges.{top-ends}
-use Rattle.runs.proofs.Turning.{score-fits, excess-fits, excess-kept, top-lt, top-small, next-flip}
+use Rattle.runs.proofs.Passing.{score-fits, excess-fits, excess-kept, top-lt, top-small, next-flip}
 use Rattle.runs.proofs.next_narrow.Statement.{statement}
 use Rattle.runs.proofs.next_narrow.Tie as tie
 

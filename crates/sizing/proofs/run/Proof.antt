@@ -6,11 +6,11 @@ use Rattle.rules.specs.Checks.{broken}
 use Rattle.answers.proofs.Differing.{differ-self}
 use Rattle.vectors.specs.Vectors.{wbit}
 use Rattle.layout.specs.Lent.{laid}
-use Rattle.runs.proofs.Turning.{going-start, ends-quiet, begun-ready, runs-as}
+use Rattle.runs.proofs.Passing.{going-start, ends-quiet, begun-ready, runs-as}
 use Rattle.sizes.specs.Samples.{smaller}
 use Rattle.sizes.specs.Sizes.{bySize}
 use Rattle.sizing.proofs.Sized.{sized-quiet}
-use Rattle.sizing.proofs.Turns.{begun-stands}
+use Rattle.sizing.proofs.Passes.{begun-stands}
 use Rattle.sizing.proofs.run.Statement.{statement}
 use Rattle.sizing.proofs.run.Tie as tie
 
