@@ -39,11 +39,11 @@ def ranges(head, recording, octets):
     """Words, and the index of the first of them. Where there are none, or the code is not offered, one range without words."""
     size = WORD_OCTETS.get(head[0], 0) if len(head) == 3 else 0
     count = max(1, octets // size) if size else 0
-    for turn in itertools.count():
+    for nth in itertools.count():
         words = recording.read(count * size)
-        if turn and not words:
+        if nth and not words:
             return
-        yield words, turn * count
+        yield words, nth * count
 
 
 def main():

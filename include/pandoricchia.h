@@ -244,7 +244,7 @@ typedef struct pandoricchia_reached {
     uint32_t bits[3];  /* which bits, increasing; unused places are 0 */
 } pandoricchia_reached;
 
-/* Nearest, code 1 alone: the fewest flips, up to a reach of 0 to 3, that turn the word into a codeword; of several lists of
+/* Nearest, code 1 alone: the fewest flips, up to a reach of 0 to 3, that make the word a codeword; of several lists of
  * bits the first. Out is the mended word. A codeword is copied, with least 0. */
 pandoricchia_reached pandoricchia_nearest(const uint8_t *word, size_t word_len, uint8_t reach, uint8_t *out, size_t out_len);
 

@@ -1,9 +1,9 @@
 /* BCH calls of the library, of the judge and of the same algorithm in C, to be counted or timed.
  *
- *     bch_bench WHO CALL 0 WRONG TURNS    WHO is library, judge or fast; CALL bch-encode, bch-check or bch-detect
+ *     bch_bench WHO CALL 0 WRONG PASSES    WHO is library, judge or fast; CALL bch-encode, bch-check or bch-detect
  *     bch_bench time CALL 0 WRONG         nanoseconds a call of each
  *
- * The words are bench's: there is no code number, and WRONG is the number of wrong bits, 0, 1 or 2. A turn is one call for
+ * The words are bench's: there is no code number, and WRONG is the number of wrong bits, 0, 1 or 2. A pass is one call for
  * each of a few words, which are the same at every run.
  */
 #include "bch_fast.h"
@@ -44,7 +44,7 @@ static unsigned ask(unsigned who, char call, unsigned w)
                       : fast_bch_check(detect_only, word[w], WORD, out, WORD).mended;
 }
 
-static unsigned long turns(unsigned who, char call, unsigned long n)
+static unsigned long passes(unsigned who, char call, unsigned long n)
 {
     unsigned long sum = 0;
     for (; n > 0; n--)
@@ -70,7 +70,7 @@ int main(int argc, char **argv)
     if (strcmp(argv[1], "time") == 0) {
         for (unsigned who = 0; who < 3; who++) {
             double start = seconds();
-            sum += turns(who, call, 2000);
+            sum += passes(who, call, 2000);
             printf("%.1f ", (seconds() - start) * 1e9 / (2000.0 * WORDS));
         }
         printf("\n");
@@ -79,8 +79,8 @@ int main(int argc, char **argv)
     unsigned who = 0;
     while (who < 2 && strcmp(argv[1], names[who]) != 0)
         who++;
-    turns(who, call, 1);
-    sum = turns(who, call, (unsigned long)atol(argv[5]));
+    passes(who, call, 1);
+    sum = passes(who, call, (unsigned long)atol(argv[5]));
     printf("%.2f\n", (double)sum / (WORDS * atof(argv[5])));
     return 0;
 }

@@ -22,7 +22,7 @@ static void to_octets(const bool *bits, uint8_t *octets)
         octets[i / 8] |= (uint8_t)(bits[i] << (7 - i % 8));
 }
 
-/* Writes the parity behind the information: the dividend is the information times x^7, each of its leading ones in turn is
+/* Writes the parity behind the information: the dividend is the information times x^7, each leading one that is left is
  * struck out with the generator under it, and what is left in the last seven places is sent inverted. */
 static void add_parity(bool *bits)
 {

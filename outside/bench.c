@@ -1,11 +1,11 @@
 /* Calls of the library, of the judge and of the same algorithm in C, to be counted or timed.
  *
- *     bench WHO CALL CODE WRONG TURNS    WHO is library, judge or fast; WRONG a number of wrong bits, random,
+ *     bench WHO CALL CODE WRONG PASSES    WHO is library, judge or fast; WRONG a number of wrong bits, random,
  *                                        or the group of the lowest broken check: zero, first, middle or last
- *     bench time CALL CODE WRONG         nanoseconds a call of each, turn and turn about
+ *     bench time CALL CODE WRONG         nanoseconds a call of each, one after the other
  *     bench stack CALL CODE WRONG        the most octets of stack that a call of each takes
  *
- * A turn is one call for each of a few words, which are the same at every run. Prints flips a word, the times, or the octets.
+ * A pass is one call for each of a few words, which are the same at every run. Prints flips a word, the times, or the octets.
  */
 #include "breaks.h"
 #include "fast.h"
@@ -147,7 +147,7 @@ static unsigned long ask(unsigned who, char call, uint8_t code, unsigned w)
     }
 }
 
-static unsigned long turns(unsigned who, char call, uint8_t code, unsigned long n)
+static unsigned long passes(unsigned who, char call, uint8_t code, unsigned long n)
 {
     unsigned long sum = 0;
     for (; n > 0; n--)
@@ -172,7 +172,7 @@ static void print_times(char call, uint8_t code)
             double start = seconds(), spent = 0;
             unsigned long n = 0, more = 1;
             while (spent < 0.005) {
-                flips += turns(who, call, code, more);
+                flips += passes(who, call, code, more);
                 n += more;
                 more *= 2;
                 spent = seconds() - start;
@@ -249,8 +249,8 @@ int main(int argc, char **argv)
     unsigned who = 0;
     while (who < 2 && strcmp(argv[1], names[who]) != 0)
         who++;
-    turns(who, call, code, 1);
-    unsigned long sum = turns(who, call, code, (unsigned long)atol(argv[5]));
+    passes(who, call, code, 1);
+    unsigned long sum = passes(who, call, code, (unsigned long)atol(argv[5]));
     printf("%.2f\n", (double)sum / (WORDS * atof(argv[5])));
     return 0;
 }

@@ -1,6 +1,6 @@
 /* Import and export of a recording by the library, the judge and the same algorithm in C, to be counted.
  *
- *     blocks_bench WHO CALL OCTETS TURNS    WHO is library, judge or fast; CALL import or export
+ *     blocks_bench WHO CALL OCTETS PASSES    WHO is library, judge or fast; CALL import or export
  */
 #include "blocks_fast.h"
 #include "pandoricchia.h"
@@ -22,7 +22,7 @@ int main(int argc, char **argv)
         octets[i] = (uint8_t)(i * i / 7 + i);
     fast_blocks_prepare();
     fast_export_blocks(octets, len, blocks, room);
-    for (unsigned long turn = strtoul(argv[4], NULL, 10); turn > 0; turn--) {
+    for (unsigned long pass = strtoul(argv[4], NULL, 10); pass > 0; pass--) {
         if (call == 'i')
             answers += who == 'l'   ? pandoricchia_import_blocks(blocks, room, out, len).number
                        : who == 'j' ? judge_import_blocks(blocks, room, out, len).number

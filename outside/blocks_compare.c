@@ -133,7 +133,7 @@ static void one_recording(size_t len)
     if (len > 0)
         import_both(room, below(len));
     import_both(room + 1 + below(511), len);
-    for (unsigned turn = 0; room > 0 && turn < 4; turn++) {
+    for (unsigned pass = 0; room > 0 && pass < 4; pass++) {
         uint8_t kept[512];
         size_t block = below(room / 512);
         memcpy(kept, blocks + block * 512, 512);

@@ -1,4 +1,4 @@
-/* Which checks each parity bit turns over, as the judge has them, solved for single checks by elimination. */
+/* Which checks each parity bit flips, as the judge has them, solved for single checks by elimination. */
 #include "breaks.h"
 #include "judge.h"
 
@@ -15,9 +15,9 @@ struct set {
     uint64_t word[WORDS];
 };
 
-/* turned[k]: the parity bits that turn over the checks of made[k]; in the end made[k] is check k and what is said above. */
+/* flipped[k]: the parity bits that flip the checks of made[k]; in the end made[k] is check k and what is said above. */
 struct solved {
-    struct set made[MOST], turned[MOST];
+    struct set made[MOST], flipped[MOST];
 };
 
 static struct solved *solution[6];
@@ -62,7 +62,7 @@ static struct solved *solve(uint8_t code)
         for (unsigned check = 0; check < n; check++)
             if (broken[check])
                 put(&s->made[k], check);
-        put(&s->turned[k], k);
+        put(&s->flipped[k], k);
     }
     /* The last check of a block row of codes 4 and 5 is the sum of the others of its row, and is left. */
     for (unsigned check = 0; check < n; check++) {
@@ -77,11 +77,11 @@ static struct solved *solve(uint8_t code)
         if (pivot == n)
             abort();
         swap(&s->made[check], &s->made[pivot]);
-        swap(&s->turned[check], &s->turned[pivot]);
+        swap(&s->flipped[check], &s->flipped[pivot]);
         for (unsigned k = 0; k < n; k++)
             if (k != check && in(&s->made[k], check)) {
                 add(&s->made[k], &s->made[check]);
-                add(&s->turned[k], &s->turned[check]);
+                add(&s->flipped[k], &s->flipped[check]);
             }
     }
     return s;
@@ -94,6 +94,6 @@ void break_check(uint8_t code, uint32_t check, uint8_t *word)
     if (code >= 4 && check % 511 == 510)
         return;
     for (unsigned k = 0; k < checks[code]; k++)
-        if (in(&solution[code]->turned[check], k))
+        if (in(&solution[code]->flipped[check], k))
             flip(word, first_parity[code] + k);
 }

@@ -37,28 +37,28 @@ LEAF unsigned ones(uint64_t v)
     return (unsigned)(v * 0x0101010101010101 >> 56);
 }
 
-LEAF unsigned broken(const uint64_t *s, struct shape sh)
+LEAF unsigned broken(const uint64_t *z, struct shape sh)
 {
     unsigned n = 0;
     for (unsigned k = 0; k < sh.rows * sh.words; k++)
-        n += ones(s[k]);
+        n += ones(z[k]);
     return n;
 }
 
-LEAF bool quiet(const uint64_t *s, struct shape sh)
+LEAF bool quiet(const uint64_t *z, struct shape sh)
 {
     uint64_t any = 0;
     for (unsigned k = 0; k < sh.rows * sh.words; k++)
-        any |= s[k];
+        any |= z[k];
     return any == 0;
 }
 
 /* The lowest broken check: the first one of the first word that has one. */
-LEAF unsigned lowest(const uint64_t *s, struct shape sh)
+LEAF unsigned lowest(const uint64_t *z, struct shape sh)
 {
     for (unsigned k = 0; k < sh.rows * sh.words; k++)
-        if (s[k] != 0)
-            return k / sh.words * sh.size + k % sh.words * 64 + (unsigned)__builtin_clzll(s[k]);
+        if (z[k] != 0)
+            return k / sh.words * sh.size + k % sh.words * 64 + (unsigned)__builtin_clzll(z[k]);
     return sh.rows * sh.size;
 }
 
@@ -163,7 +163,7 @@ LEAF void add_turned(const uint64_t *d, unsigned s, uint64_t *sum, unsigned word
 }
 
 /* Adds a block to the rows, turned by its shifts. */
-LEAF void add_block(const uint64_t *v, const uint16_t *h, struct shape sh, unsigned b, uint64_t *s)
+LEAF void add_block(const uint64_t *v, const uint16_t *h, struct shape sh, unsigned b, uint64_t *z)
 {
     uint64_t d[17];
     twice(v, sh, d);
@@ -171,20 +171,20 @@ LEAF void add_block(const uint64_t *v, const uint16_t *h, struct shape sh, unsig
         for (unsigned e = 0; e < 2; e++) {
             unsigned shift = h[2 * (r * sh.blocks + b) + e];
             if (shift < sh.size)
-                add_turned(d, shift, s + r * sh.words, sh.words);
+                add_turned(d, shift, z + r * sh.words, sh.words);
         }
 }
 
-static void syndrome(const uint64_t *y, const uint16_t *h, struct shape sh, uint64_t *s)
+static void syndrome(const uint64_t *y, const uint16_t *h, struct shape sh, uint64_t *z)
 {
-    memset(s, 0, SYNDROME * sizeof *s);
+    memset(z, 0, SYNDROME * sizeof *z);
     for (unsigned b = 0; b < sh.blocks; b++) {
         uint64_t v[8];
         cut(y, b * sh.size, sh, v);
-        add_block(v, h, sh, b, s);
+        add_block(v, h, sh, b, z);
     }
     for (unsigned r = 0; r < sh.rows; r++)
-        s[r * sh.words + sh.words - 1] = front(s[r * sh.words + sh.words - 1], sh.size);
+        z[r * sh.words + sh.words - 1] = front(z[r * sh.words + sh.words - 1], sh.size);
 }
 
 /* What a run keeps from flip to flip: the rows of the syndrome, each twice over; the starts of every block and how many they
@@ -195,11 +195,11 @@ struct kept {
     uint8_t counts[16], met[16];
 };
 
-static void begin(const uint64_t *s, const uint16_t *h, struct shape sh, struct kept *kept)
+static void begin(const uint64_t *z, const uint16_t *h, struct shape sh, struct kept *kept)
 {
     unsigned room = 2 * sh.words + 1;
     for (unsigned r = 0; r < sh.rows; r++)
-        twice(s + r * sh.words, sh, kept->d + r * room);
+        twice(z + r * sh.words, sh, kept->d + r * room);
     for (unsigned b = 0; b < sh.blocks; b++) {
         unsigned n = 0;
         for (unsigned r = 0; r < sh.rows; r++)
@@ -290,10 +290,10 @@ LEAF uint64_t repeated(uint64_t v, unsigned m)
     return v;
 }
 
-LEAF void begin_narrow(const uint64_t *s, struct shape sh, uint64_t *rows)
+LEAF void begin_narrow(const uint64_t *z, struct shape sh, uint64_t *rows)
 {
     for (unsigned r = 0; r < 4; r++)
-        rows[r] = repeated(s[r], sh.size);
+        rows[r] = repeated(z[r], sh.size);
 }
 
 /* The bit of the greatest excess above 0 from bit `from` on; a score of 8 says that there is none. Of each block those bits are
@@ -337,21 +337,21 @@ LEAF void flip_narrow(uint64_t *y, uint64_t *rows, const uint16_t *h, struct sha
 }
 
 /* The bit of greatest excess of a word of which nothing is kept. */
-static struct best choose_once(const uint64_t *s, const uint16_t *h, struct shape sh, unsigned from)
+static struct best choose_once(const uint64_t *z, const uint16_t *h, struct shape sh, unsigned from)
 {
     struct kept kept;
     if (sh.words == 1) {
         uint64_t rows[4];
-        begin_narrow(s, sh, rows);
+        begin_narrow(z, sh, rows);
         struct best best = choose_narrow(rows, h, sh, from);
         if (best.score > 8)
             return best;
     }
-    begin(s, h, sh, &kept);
+    begin(z, h, sh, &kept);
     return choose(&kept, sh, from);
 }
 
-/* Turns the checks of a bit over, in both places, and raises the bounds by as many as it broke. */
+/* Flips the checks of a bit, in both places, and raises the bounds by as many as it broke. */
 LEAF void flip_kept(uint64_t *y, struct kept *kept, struct shape sh, unsigned bit)
 {
     unsigned b = bit / sh.size, k = bit % sh.size, wide = 64 * (2 * sh.words + 1), by = kept->met[b];
@@ -365,7 +365,7 @@ LEAF void flip_kept(uint64_t *y, struct kept *kept, struct shape sh, unsigned bi
         kept->met[n] = (uint8_t)(kept->met[n] < by ? 0 : kept->met[n] - by);
 }
 
-LEAF void flip(uint64_t *y, uint64_t *s, const uint16_t *h, struct shape sh, unsigned bit)
+LEAF void flip(uint64_t *y, uint64_t *z, const uint16_t *h, struct shape sh, unsigned bit)
 {
     unsigned b = bit / sh.size, k = bit % sh.size;
     y[bit / 64] ^= UINT64_C(1) << (63 - bit % 64);
@@ -374,17 +374,17 @@ LEAF void flip(uint64_t *y, uint64_t *s, const uint16_t *h, struct shape sh, uns
             unsigned shift = h[2 * (r * sh.blocks + b) + e];
             if (shift < sh.size) {
                 unsigned i = k >= shift ? k - shift : k + sh.size - shift;
-                s[r * sh.words + i / 64] ^= UINT64_C(1) << (63 - i % 64);
+                z[r * sh.words + i / 64] ^= UINT64_C(1) << (63 - i % 64);
             }
         }
 }
 
 /* The run; left has the broken checks at its start, and gets those at its end. */
-static uint8_t run_narrow(uint64_t *y, const uint64_t *s, const uint16_t *h, struct shape sh, unsigned from, uint16_t limit,
+static uint8_t run_narrow(uint64_t *y, const uint64_t *z, const uint16_t *h, struct shape sh, unsigned from, uint16_t limit,
                           uint32_t *flips, uint32_t *left)
 {
     uint64_t rows[4];
-    begin_narrow(s, sh, rows);
+    begin_narrow(z, sh, rows);
     for (; *left > 0; ++*flips) {
         struct best best = choose_narrow(rows, h, sh, from);
         if (best.score <= 8)
@@ -397,7 +397,7 @@ static uint8_t run_narrow(uint64_t *y, const uint64_t *s, const uint16_t *h, str
     return 0;
 }
 
-static uint8_t run(uint64_t *y, const uint64_t *s, const uint16_t *h, struct shape sh, unsigned from, uint16_t limit,
+static uint8_t run(uint64_t *y, const uint64_t *z, const uint16_t *h, struct shape sh, unsigned from, uint16_t limit,
                    uint32_t *flips, uint32_t *left)
 {
     struct kept kept;
@@ -405,8 +405,8 @@ static uint8_t run(uint64_t *y, const uint64_t *s, const uint16_t *h, struct sha
     if (*left == 0)
         return 0;
     if (sh.words == 1)
-        return run_narrow(y, s, h, sh, from, limit, flips, left);
-    begin(s, h, sh, &kept);
+        return run_narrow(y, z, h, sh, from, limit, flips, left);
+    begin(z, h, sh, &kept);
     for (; *left > 0; ++*flips) {
         struct best best = choose(&kept, sh, from);
         if (best.score <= 8)
@@ -452,10 +452,10 @@ static bool own_parity(const uint64_t *y)
 }
 
 /* Adds the copies of one row, turned by each shift of a step, to another row. */
-LEAF void step(uint64_t *s, const uint16_t *step, struct shape sh)
+LEAF void step(uint64_t *z, const uint16_t *step, struct shape sh)
 {
-    uint64_t d[17], *row = s + step[0] * sh.words;
-    twice(s + step[1] * sh.words, sh, d);
+    uint64_t d[17], *row = z + step[0] * sh.words;
+    twice(z + step[1] * sh.words, sh, d);
     for (unsigned k = 2; k < 10 && step[k] < sh.size; k++)
         add_turned(d, step[k], row, sh.words);
     row[sh.words - 1] = front(row[sh.words - 1], sh.size);
@@ -500,11 +500,11 @@ LEAF void cut_block(const uint8_t *octets, unsigned unsent, unsigned b, struct s
 }
 
 /* The checks that the information breaks; which parity blocks are inverted. */
-LEAF unsigned lay(const uint8_t *octets, size_t len, unsigned unsent, const uint16_t *h, struct shape sh, uint64_t *s)
+LEAF unsigned lay(const uint8_t *octets, size_t len, unsigned unsent, const uint16_t *h, struct shape sh, uint64_t *z)
 {
     uint64_t y[7], v[8];
     unsigned odd = 0;
-    memset(s, 0, SYNDROME * sizeof *s);
+    memset(z, 0, SYNDROME * sizeof *z);
     if (sh.words == 1)
         load(octets, len, y);
     for (unsigned b = 0; b < sh.blocks - sh.rows; b++) {
@@ -514,10 +514,10 @@ LEAF unsigned lay(const uint8_t *octets, size_t len, unsigned unsent, const uint
             cut_block(octets, unsent, b, sh, v);
             odd = 2 * odd + odd_part(v);
         }
-        add_block(v, h, sh, b, s);
+        add_block(v, h, sh, b, z);
     }
     for (unsigned r = 0; r < sh.rows; r++)
-        s[r * sh.words + sh.words - 1] = front(s[r * sh.words + sh.words - 1], sh.size);
+        z[r * sh.words + sh.words - 1] = front(z[r * sh.words + sh.words - 1], sh.size);
     return sh.words == 1 ? 0 : together(4 * odd);
 }
 
@@ -525,15 +525,15 @@ LEAF unsigned lay(const uint8_t *octets, size_t len, unsigned unsent, const uint
 LEAF void put_parity(const uint8_t *information, size_t information_len, unsigned unsent, uint8_t *word, size_t word_len, const uint16_t *h,
                      const uint16_t (*steps)[10], struct shape sh, unsigned first)
 {
-    uint64_t s[SYNDROME], y[17] = {0};
-    unsigned inverted = lay(information, information_len, unsent, h, sh, s);
+    uint64_t z[SYNDROME], y[17] = {0};
+    unsigned inverted = lay(information, information_len, unsent, h, sh, z);
     for (unsigned k = 0; k < 15; k++)
-        step(s, steps[k], sh);
+        step(z, steps[k], sh);
     unsigned sent = (sh.blocks - sh.rows) * sh.size - unsent, at = sent / 8;
     if (at < information_len)
         y[0] = (uint64_t)information[at] << 56;
     for (unsigned a = 0; a < sh.rows; a++) {
-        uint64_t ones = -(uint64_t)(inverted >> a & 1), *row = s + (a + first) % sh.rows * sh.words;
+        uint64_t ones = -(uint64_t)(inverted >> a & 1), *row = z + (a + first) % sh.rows * sh.words;
         for (unsigned j = 0; j < sh.words; j++)
             put(j + 1 < sh.words ? row[j] ^ ones : front(row[j] ^ ones, sh.size), y, sent % 8 + a * sh.size + 64 * j);
     }
@@ -582,9 +582,9 @@ uint8_t fast_encode(uint8_t code, const uint8_t *information, size_t information
 }
 
 #define MEASURE(h, steps, sh, lead) \
-    syndrome(y, h, sh, s);           \
-    wrong = broken(s, sh);           \
-    low = lowest(s, sh)
+    syndrome(y, h, sh, z);           \
+    wrong = broken(z, sh);           \
+    low = lowest(z, sh)
 
 struct judge_checked fast_check(uint8_t code, const uint8_t *word, size_t len)
 {
@@ -592,7 +592,7 @@ struct judge_checked fast_check(uint8_t code, const uint8_t *word, size_t len)
         return (struct judge_checked){1, 0, 0};
     if (len != word_octets[code])
         return (struct judge_checked){2, 0, 0};
-    uint64_t y[HELD], s[SYNDROME];
+    uint64_t y[HELD], z[SYNDROME];
     unsigned wrong, low;
     take(code, word, len, y);
     FOR_CODE(code, MEASURE)
@@ -698,7 +698,7 @@ struct judge_opened fast_open(uint8_t code, const uint8_t *word, size_t len)
         return (struct judge_opened){1, 0, 0};
     if (len != word_octets[code])
         return (struct judge_opened){2, 0, 0};
-    uint64_t y[HELD], s[SYNDROME];
+    uint64_t y[HELD], z[SYNDROME];
     unsigned wrong, low;
     take(code, word, len, y);
     FOR_CODE(code, MEASURE)
@@ -730,14 +730,14 @@ struct judge_corrected fast_correct(uint8_t code, const uint8_t *word, size_t le
     answer.number = !offered(code) ? 1 : len != word_octets[code] ? 2 : out_len != word_octets[code] ? 3 : 0;
     if (answer.number != 0)
         return answer;
-    uint64_t y[HELD], s[SYNDROME];
+    uint64_t y[HELD], z[SYNDROME];
     take(code, word, len, y);
 #define RUN(h, steps, sh, lead) \
-    syndrome(y, h, sh, s);           \
-    answer.first = broken(s, sh);    \
-    answer.lowest = lowest(s, sh);   \
+    syndrome(y, h, sh, z);           \
+    answer.first = broken(z, sh);    \
+    answer.lowest = lowest(z, sh);   \
     answer.last = answer.first;      \
-    answer.number = run(y, s, h, sh, code == 5 ? 18 : 0, limit, &answer.flips, &answer.last)
+    answer.number = run(y, z, h, sh, code == 5 ? 18 : 0, limit, &answer.flips, &answer.last)
     FOR_CODE(code, RUN)
     answer.unlike = answer.flips <= 1 ? answer.flips : unlike(code, word, len, y);
     if (answer.number == 0 && code >= 4 && !own_parity(y))
@@ -748,33 +748,33 @@ struct judge_corrected fast_correct(uint8_t code, const uint8_t *word, size_t le
 }
 
 /* The run with a record of each flip; the reason for a refusal 5 stands in a place of its own. */
-static uint8_t run_listed(uint64_t *y, uint64_t *s, const uint16_t *h, struct shape sh, unsigned from, uint16_t limit,
+static uint8_t run_listed(uint64_t *y, uint64_t *z, const uint16_t *h, struct shape sh, unsigned from, uint16_t limit,
                           uint32_t *flips, struct judge_fliprecord *list, struct judge_fliprecord *reason)
 {
     for (*flips = 0;; ++*flips) {
-        if (quiet(s, sh))
+        if (quiet(z, sh))
             return 0;
-        struct best best = choose_once(s, h, sh, from);
+        struct best best = choose_once(z, h, sh, from);
         if (best.score <= 8) {
             *reason = (struct judge_fliprecord){best.bit, (int8_t)(best.score - 8), 0};
             return 5;
         }
         if (*flips >= limit)
             return 6;
-        flip(y, s, h, sh, best.bit);
-        list[*flips] = (struct judge_fliprecord){best.bit, (int8_t)(best.score - 8), broken(s, sh)};
+        flip(y, z, h, sh, best.bit);
+        list[*flips] = (struct judge_fliprecord){best.bit, (int8_t)(best.score - 8), broken(z, sh)};
     }
 }
 
 static uint32_t count_flips(uint8_t code, const uint8_t *word, size_t len, uint16_t limit)
 {
-    uint64_t y[HELD], s[SYNDROME];
+    uint64_t y[HELD], z[SYNDROME];
     uint32_t flips = 0, left = 0;
     take(code, word, len, y);
 #define COUNT(h, steps, sh, lead) \
-    syndrome(y, h, sh, s);        \
-    left = broken(s, sh);         \
-    run(y, s, h, sh, code == 5 ? 18 : 0, limit, &flips, &left)
+    syndrome(y, h, sh, z);        \
+    left = broken(z, sh);         \
+    run(y, z, h, sh, code == 5 ? 18 : 0, limit, &flips, &left)
     FOR_CODE(code, COUNT)
     return flips;
 }
@@ -792,17 +792,17 @@ struct judge_listed fast_list(uint8_t code, const uint8_t *word, size_t len, uin
     answer.number = !offered(code) ? 1 : len != word_octets[code] ? 2 : 0;
     if (answer.number != 0)
         return answer;
-    uint64_t y[HELD], s[SYNDROME];
+    uint64_t y[HELD], z[SYNDROME];
     struct judge_fliprecord reason = {0, 0, 0};
     take(code, word, len, y);
 #define LIST(h, steps, sh, lead)     \
-    syndrome(y, h, sh, s);           \
-    answer.first = broken(s, sh);    \
-    answer.lowest = lowest(s, sh);   \
+    syndrome(y, h, sh, z);           \
+    answer.first = broken(z, sh);    \
+    answer.lowest = lowest(z, sh);   \
     if (!serves(code, word, len, limit, answer.first, places)) \
         return (struct judge_listed){.number = 10}; \
-    answer.number = run_listed(y, s, h, sh, code == 5 ? 18 : 0, limit, &answer.flips, table, &reason); \
-    answer.last = broken(s, sh)
+    answer.number = run_listed(y, z, h, sh, code == 5 ? 18 : 0, limit, &answer.flips, table, &reason); \
+    answer.last = broken(z, sh)
     FOR_CODE(code, LIST)
     answer.unlike = answer.flips <= 1 ? answer.flips : unlike(code, word, len, y);
     if (answer.number == 0 && code >= 4 && !own_parity(y))
@@ -818,14 +818,14 @@ struct judge_stepped fast_step(uint8_t code, const uint8_t *word, size_t len, ui
     answer.number = !offered(code) || code == 5 ? 1 : len != word_octets[code] ? 2 : out_len != word_octets[code] ? 3 : 0;
     if (answer.number != 0)
         return answer;
-    uint64_t y[HELD], s[SYNDROME];
+    uint64_t y[HELD], z[SYNDROME];
     struct best best = {0, 0};
     take(code, word, len, y);
 #define STEP(h, steps, sh, lead) \
-    syndrome(y, h, sh, s);            \
-    answer.quiet = quiet(s, sh);      \
+    syndrome(y, h, sh, z);            \
+    answer.quiet = quiet(z, sh);      \
     if (!answer.quiet)                \
-    best = choose_once(s, h, sh, 0)
+    best = choose_once(z, h, sh, 0)
     FOR_CODE(code, STEP)
     if (answer.quiet) {
         memcpy(out, word, len);

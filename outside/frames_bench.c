@@ -1,8 +1,8 @@
 /* The taker of the library and the same algorithm in C, to be counted.
  *
- *     frames_bench WHO WHAT WRONG TURNS    WHO is library or fast; WHAT noise, begun, frame, newer or correct
+ *     frames_bench WHO WHAT WRONG PASSES    WHO is library or fast; WHAT noise, begun, frame, newer or correct
  *
- * A turn takes 65,536 octets: noise, drawn evenly, or 1A alone, of which each begins a marker that fails at the next; or a marked
+ * A pass takes 65,536 octets: noise, drawn evenly, or 1A alone, of which each begins a marker that fails at the next; or a marked
  * word with so many wrong bits, by the old sequence or by the newer; or it corrects that word alone.
  */
 #include "fast.h"
@@ -43,7 +43,7 @@ int main(int argc, char **argv)
     }
     pandoricchia_taking taker = pandoricchia_taker_for(edition, 65535).taker;
     struct fast_taker other = {.edition = edition, .limit = 65535};
-    for (unsigned long turns = strtoul(argv[4], NULL, 10); turns > 0; turns--) {
+    for (unsigned long passes = strtoul(argv[4], NULL, 10); passes > 0; passes--) {
         if (correct && fast) {
             sum += fast_correct(5, word, WORD, 65535, out, WORD).flips;
         } else if (correct) {

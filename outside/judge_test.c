@@ -251,7 +251,7 @@ static void starred_cases(void)
     end();
 }
 
-/* The columns of the parity bits of codes 1 to 3, as the judge's own checks show them, turned into a way to any given
+/* The columns of the parity bits of codes 1 to 3, as the judge's own checks show them, made into a way to any given
  * broken checks: solution[i] is a word whose broken checks are check i alone. Gives the rank. */
 static unsigned solve(uint8_t code, uint8_t (*solution)[64])
 {
@@ -407,7 +407,7 @@ static void encoded_words(void)
     begin("encoded words are quiet, opened and taken");
     for (uint8_t code = 1; code <= 5; code++) {
         uint8_t info[MOST_OCTETS], word[MOST_OCTETS], out[MOST_OCTETS];
-        for (unsigned turn = code <= 3 ? 1000 : 60; turn > 0; turn--) {
+        for (unsigned pass = code <= 3 ? 1000 : 60; pass > 0; pass--) {
             draw_codeword(code, info, word);
             for (unsigned bit = 0; bit < info_bits[code]; bit++)
                 if (bit_of(info, bit) != bit_of(word, bit))
@@ -473,18 +473,18 @@ static void wrong_bits(void)
         const unsigned ends[] = {0, 1, 510, 511, info_bits[code] - 1, info_bits[code], covered_bits[code] - 1};
         for (unsigned k = 0; k < sizeof ends / sizeof ends[0]; k++)
             one_wrong_bit(code, ends[k]);
-        for (unsigned turn = 0; turn < 100; turn++)
+        for (unsigned pass = 0; pass < 100; pass++)
             one_wrong_bit(code, below(covered_bits[code]));
     }
     end();
 
     begin("code 5, the last two bits");
-    for (unsigned turn = 0; turn < 30; turn++) {
+    for (unsigned pass = 0; pass < 30; pass++) {
         uint8_t info[MOST_OCTETS], word[MOST_OCTETS], wrong[MOST_OCTETS], out[MOST_OCTETS];
         draw_codeword(5, info, word);
         EXPECT((word[1019] & 3) == 0);
         memcpy(wrong, word, sizeof wrong);
-        wrong[1019] |= (uint8_t)(1 + turn % 3);
+        wrong[1019] |= (uint8_t)(1 + pass % 3);
         EXPECT(judge_check(5, wrong, 1020).broken == 0);
         EXPECT(unopened(5, wrong, 14, 1022));
         EXPECT(are(correct(5, wrong, 0, out), 0, 0, 0, 0, 0, 1022));
@@ -529,9 +529,9 @@ static void choices(void)
     begin("step takes the lowest bit of greatest excess");
     for (uint8_t code = 1; code <= 4; code++) {
         uint8_t info[MOST_OCTETS], word[MOST_OCTETS];
-        for (unsigned turn = code <= 3 ? 200 : 4; turn > 0; turn--) {
+        for (unsigned pass = code <= 3 ? 200 : 4; pass > 0; pass--) {
             draw_codeword(code, info, word);
-            for (unsigned k = code <= 3 ? below(12) : 2 + 10 * turn; k > 0; k--)
+            for (unsigned k = code <= 3 ? below(12) : 2 + 10 * pass; k > 0; k--)
                 flip(word, below(covered_bits[code]));
             choice(code, word);
         }
@@ -544,11 +544,11 @@ static void inverted_blocks(void)
 {
     begin("codes 4 and 5, parity blocks inverted");
     for (uint8_t code = 4; code <= 5; code++) {
-        for (unsigned turn = 0; turn < 12; turn++) {
+        for (unsigned pass = 0; pass < 12; pass++) {
             uint8_t info[MOST_OCTETS], word[MOST_OCTETS], out[MOST_OCTETS];
             draw_codeword(code, info, word);
             for (unsigned k = 0; k < 1022; k++)
-                if ((turn % 3 + 1) >> k / 511 & 1)
+                if ((pass % 3 + 1) >> k / 511 & 1)
                     flip(word, info_bits[code] + k);
             EXPECT(judge_check(code, word, word_octets[code]).broken == 0);
             memset(out, 0x5A, sizeof out);
@@ -722,15 +722,15 @@ static void listed_words(void)
     EXPECT(l.number == 0 && l.flips == 1 && l.first == 5 && l.last == 0 && l.unlike == 1 && l.lowest == 0);
     EXPECT(table[0].bit == 0 && table[0].excess == 5 && table[0].left == 0 && untouched(table, 1));
     for (uint8_t code = 1; code <= 5; code++)
-        for (unsigned turn = code <= 3 ? 300 : 12; turn > 0; turn--) {
-            if (turn % 3 == 0) {
+        for (unsigned pass = code <= 3 ? 300 : 12; pass > 0; pass--) {
+            if (pass % 3 == 0) {
                 draw_octets(word, word_octets[code]);
             } else {
                 draw_codeword(code, info, word);
                 for (unsigned k = below(code <= 3 ? 12 : 41); k > 0; k--)
                     flip(word, below(covered_bits[code]));
             }
-            lists(code, word, (uint16_t)(turn % 2 ? 65535 : below(8)));
+            lists(code, word, (uint16_t)(pass % 2 ? 65535 : below(8)));
         }
     end();
 }
@@ -740,15 +740,15 @@ static void random_words(void)
     begin("the run's bounds on random words");
     for (uint8_t code = 1; code <= 5; code++) {
         uint8_t info[MOST_OCTETS], word[MOST_OCTETS];
-        for (unsigned turn = code <= 3 ? 1000 : 60; turn > 0; turn--) {
-            if (turn % 3 == 0) {
+        for (unsigned pass = code <= 3 ? 1000 : 60; pass > 0; pass--) {
+            if (pass % 3 == 0) {
                 draw_octets(word, word_octets[code]);
             } else {
                 draw_codeword(code, info, word);
                 for (unsigned k = below(code <= 3 ? 12 : 41); k > 0; k--)
                     flip(word, below(covered_bits[code]));
             }
-            bounds(code, word, (uint16_t)(turn % 2 ? 65535 : below(8)));
+            bounds(code, word, (uint16_t)(pass % 2 ? 65535 : below(8)));
         }
     }
     end();
@@ -790,9 +790,9 @@ static void nearest_cases(void)
 
     /* Another way to the same: all lists of the same length, the last one first. */
     begin("nearest: the fewest flips, and the first list");
-    for (unsigned turn = 0; turn < 40; turn++) {
+    for (unsigned pass = 0; pass < 40; pass++) {
         draw_codeword(1, info, word);
-        for (unsigned k = turn % 6; k > 0; k--)
+        for (unsigned k = pass % 6; k > 0; k--)
             flip(word, below(128));
         uint32_t least = 3, first[2] = {0, 0};
         for (unsigned a = 128; a-- > 0;) {
@@ -939,12 +939,12 @@ static void samples_taken(void)
     begin("samples: equal sizes give correct's answer and word");
     const float equal[] = {1, 0.1f, FLT_MAX, FLT_TRUE_MIN, FLT_MIN};
     for (uint8_t code = 1; code <= 4; code++)
-        for (unsigned turn = code <= 3 ? 200 : 10; turn > 0; turn--) {
+        for (unsigned pass = code <= 3 ? 200 : 10; pass > 0; pass--) {
             draw_codeword(code, info, word);
             for (unsigned k = below(code <= 3 ? 12 : 41); k > 0; k--)
                 flip(word, below(covered_bits[code]));
-            uint16_t limit = (uint16_t)(turn % 2 ? 65535 : below(8));
-            put_samples(code, word, equal[turn % 5], samples);
+            uint16_t limit = (uint16_t)(pass % 2 ? 65535 : below(8));
+            put_samples(code, word, equal[pass % 5], samples);
             memset(out, 0x5A, sizeof out);
             memset(other, 0x5A, sizeof other);
             struct judge_corrected a = correct(code, word, limit, out), b = correct_samples(code, samples, limit, other);
@@ -960,8 +960,8 @@ static void samples_taken(void)
 
     begin("samples: codewords and one wrong bit, whatever the sizes");
     for (uint8_t code = 1; code <= 4; code++)
-        for (unsigned turn = code <= 3 ? covered_bits[code] : 20; turn > 0; turn--) {
-            unsigned bit = code <= 3 ? turn - 1 : below(covered_bits[code]);
+        for (unsigned pass = code <= 3 ? covered_bits[code] : 20; pass > 0; pass--) {
+            unsigned bit = code <= 3 ? pass - 1 : below(covered_bits[code]);
             draw_codeword(code, info, word);
             memcpy(wrong, word, sizeof word);
             flip(wrong, bit);
@@ -979,13 +979,13 @@ static void samples_taken(void)
 
     begin("samples: every flip of a run");
     for (uint8_t code = 1; code <= 3; code++)
-        for (unsigned turn = 0; turn < 40; turn++) {
+        for (unsigned pass = 0; pass < 40; pass++) {
             draw_codeword(code, info, word);
             for (unsigned k = below(16); k > 0; k--)
                 flip(word, below(covered_bits[code]));
             put_samples(code, word, 1, samples);
             for (unsigned n = 0; n < covered_bits[code]; n++)
-                samples[n] *= (float)(1 + below(turn % 2 ? 4 : 1000));
+                samples[n] *= (float)(1 + below(pass % 2 ? 4 : 1000));
             samples_followed(code, samples);
         }
     end();

@@ -1,9 +1,9 @@
 /* The search for the nearest command by the library, by the judge and by the same algorithm in C, to be counted or timed.
  *
- *     nearest_bench WHO nearest REACH WRONG TURNS    WHO is library, judge or fast; WRONG 0 to 3 wrong bits, or far
+ *     nearest_bench WHO nearest REACH WRONG PASSES    WHO is library, judge or fast; WRONG 0 to 3 wrong bits, or far
  *     nearest_bench time nearest REACH WRONG         nanoseconds a call of each
  *
- * A turn is one call for each of a few words, which are the same at every run; far: no codeword within a reach of 3.
+ * A pass is one call for each of a few words, which are the same at every run; far: no codeword within a reach of 3.
  */
 #include "nearest_fast.h"
 #include "pandoricchia.h"
@@ -47,7 +47,7 @@ static unsigned ask(unsigned who, uint8_t reach, unsigned w)
                       : fast_nearest(word[w], WORD, reach, out, WORD).least;
 }
 
-static unsigned long turns(unsigned who, uint8_t reach, unsigned long n)
+static unsigned long passes(unsigned who, uint8_t reach, unsigned long n)
 {
     unsigned long sum = 0;
     for (; n > 0; n--)
@@ -73,7 +73,7 @@ static unsigned long print_times(uint8_t reach)
             double start = seconds(), spent = 0;
             unsigned long n = 0, more = 1;
             while (spent < 0.005) {
-                sum += turns(who, reach, more);
+                sum += passes(who, reach, more);
                 n += more;
                 more *= 2;
                 spent = seconds() - start;
@@ -96,7 +96,7 @@ int main(int argc, char **argv)
     unsigned who = 0;
     while (who < 2 && strcmp(argv[1], names[who]) != 0)
         who++;
-    turns(who, reach, 1);
-    printf("%.2f\n", (double)turns(who, reach, (unsigned long)atol(argv[5])) / (WORDS * atof(argv[5])));
+    passes(who, reach, 1);
+    printf("%.2f\n", (double)passes(who, reach, (unsigned long)atol(argv[5])) / (WORDS * atof(argv[5])));
     return 0;
 }

@@ -21,18 +21,18 @@ static void make_columns(void)
             }
 }
 
-static bool search(uint64_t s, unsigned from, unsigned left, uint32_t *bits)
+static bool search(uint64_t z, unsigned from, unsigned left, uint32_t *bits)
 {
     if (left == 1) {
         for (unsigned n = from; n < BITS; n++)
-            if (column[n] == s) {
+            if (column[n] == z) {
                 bits[0] = n;
                 return true;
             }
         return false;
     }
     for (unsigned n = from; n < BITS; n++)
-        if (search(s ^ column[n], n + 1, left - 1, bits + 1)) {
+        if (search(z ^ column[n], n + 1, left - 1, bits + 1)) {
             bits[0] = n;
             return true;
         }
@@ -47,12 +47,12 @@ struct judge_reached fast_nearest(const uint8_t *word, size_t len, uint8_t reach
         return answer;
     if (column[0] == 0)
         make_columns();
-    uint64_t s = 0;
+    uint64_t z = 0;
     for (unsigned n = 0; n < BITS; n++)
         if (word[n / 8] >> (7 - n % 8) & 1)
-            s ^= column[n];
+            z ^= column[n];
     for (; answer.least <= reach; answer.least++)
-        if (answer.least == 0 ? s == 0 : search(s, 0, answer.least, answer.bits)) {
+        if (answer.least == 0 ? z == 0 : search(z, 0, answer.least, answer.bits)) {
             memcpy(out, word, OCTETS);
             for (unsigned k = 0; k < answer.least; k++)
                 out[answer.bits[k] / 8] ^= (uint8_t)(0x80 >> answer.bits[k] % 8);

@@ -1,7 +1,7 @@
 /* Words for programs that nobody here wrote, and the library's own calls on them; outside/peers runs both.
  *
  *     peers make CODE WRONG WORDS            writes so many words: information, the encoded word, and it with WRONG wrong bits
- *     peers CALL CODE WORDS TURNS < FILE     CALL is check, encode or correct: on each of the file's first words, so many times
+ *     peers CALL CODE WORDS PASSES < FILE     CALL is check, encode or correct: on each of the file's first words, so many times
  *
  * A call prints for how many words it did well, and nanoseconds a word. Well is: the encoded word is quiet and the wrong one is
  * not; the encoded word comes out. */
@@ -27,7 +27,7 @@ static void make(uint8_t code, unsigned wrong, size_t count)
     size_t info_octets = pandoricchia_information_octets(code), word_octets = pandoricchia_word_octets(code);
     state = 1000u * code + wrong;
     while (count-- > 0) {
-        uint8_t information[LONGEST], word[LONGEST], turned[LONGEST] = {0};
+        uint8_t information[LONGEST], word[LONGEST], flipped[LONGEST] = {0};
         draw_octets(information, info_octets);
         if (code == 4)
             information[info_octets - 1] &= 0xC0;
@@ -37,11 +37,11 @@ static void make(uint8_t code, unsigned wrong, size_t count)
         for (unsigned left = wrong; left > 0;) {
             size_t bit = below(8 * word_octets);
             uint8_t mask = (uint8_t)(0x80 >> bit % 8);
-            left -= !(turned[bit / 8] & mask);
-            turned[bit / 8] |= mask;
+            left -= !(flipped[bit / 8] & mask);
+            flipped[bit / 8] |= mask;
         }
         for (size_t i = 0; i < word_octets; i++)
-            word[i] ^= turned[i];
+            word[i] ^= flipped[i];
         fwrite(word, 1, word_octets, stdout);
     }
 }
@@ -64,7 +64,7 @@ int main(int argc, char **argv)
         return 0;
     }
     bool checking = strcmp(call, "check") == 0, encoding = strcmp(call, "encode") == 0;
-    size_t count = (size_t)atoi(argv[3]), turns = (size_t)atoi(argv[4]), well = 0;
+    size_t count = (size_t)atoi(argv[3]), passes = (size_t)atoi(argv[4]), well = 0;
     size_t info_octets = pandoricchia_information_octets(code), word_octets = pandoricchia_word_octets(code);
     if (count == 0 || count > MOST)
         return 2;
@@ -74,7 +74,7 @@ int main(int argc, char **argv)
             return 2;
 
     double start = nanoseconds();
-    for (size_t t = 0; t < turns; t++)
+    for (size_t t = 0; t < passes; t++)
         for (size_t w = 0; w < count; w++)
             if (checking)
                 words[w].checked = pandoricchia_check(code, words[w].word, word_octets);
@@ -82,7 +82,7 @@ int main(int argc, char **argv)
                 pandoricchia_encode(code, words[w].information, info_octets, words[w].out, word_octets);
             else
                 pandoricchia_correct(code, words[w].spoiled, word_octets, 65535, words[w].out, word_octets);
-    double each = (nanoseconds() - start) / (double)(turns * count);
+    double each = (nanoseconds() - start) / (double)(passes * count);
 
     for (size_t w = 0; w < count; w++)
         if (checking)

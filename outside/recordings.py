@@ -77,7 +77,7 @@ class Source:
 
 
 def flipped(word, bits):
-    """The word with these bits turned over; bit 0 is the most significant bit of octet 0."""
+    """The word with these bits flipped; bit 0 is the most significant bit of octet 0."""
     octets = bytearray(word)
     for bit in bits:
         octets[bit // 8] ^= 0x80 >> bit % 8
@@ -148,7 +148,7 @@ class Words:
         return flipped(word, self.places(n, self.bits))
 
     def other_parity(self):
-        """Number 8, codes 4 and 5: a codeword with all of the first parity block turned over."""
+        """Number 8, codes 4 and 5: a codeword with all of the first parity block flipped."""
         first = 7154 if self.code == 4 else 7136
         return flipped(self.quiet(), range(first, first + 511))
 

@@ -110,7 +110,7 @@ static void raise_check(struct kept *kept, unsigned *known, const float *samples
         }
 }
 
-/* Turns the checks of a bit over, in both places, and brings what is known of each block up to date. */
+/* Flips the checks of a bit, in both places, and brings what is known of each block up to date. */
 LEAF void flip_known(struct kept *kept, unsigned *known, const float *samples, struct shape sh, unsigned bit)
 {
     unsigned b = bit / sh.size, k = bit % sh.size, wide = 64 * (2 * sh.words + 1);
@@ -126,14 +126,14 @@ LEAF void flip_known(struct kept *kept, unsigned *known, const float *samples, s
     }
 }
 
-LEAF uint8_t run_samples(const float *samples, uint64_t *y, const uint64_t *s, const uint16_t *h, struct shape sh, uint16_t limit,
+LEAF uint8_t run_samples(const float *samples, uint64_t *y, const uint64_t *z, const uint16_t *h, struct shape sh, uint16_t limit,
                            struct judge_corrected *answer)
 {
     if (answer->last == 0)
         return 0;
     struct kept kept;
     unsigned known[16];
-    begin(s, h, sh, &kept);
+    begin(z, h, sh, &kept);
     for (unsigned b = 0; b < 16; b++)
         known[b] = UNKNOWN;
     for (;;) {
@@ -190,18 +190,18 @@ struct judge_corrected fast_correct_samples(uint8_t code, const float *samples, 
     answer.number = !offered(code) || code == 5 ? 1 : len != 8 * word_octets[code] ? 2 : out_len != word_octets[code] ? 3 : 0;
     if (answer.number != 0)
         return answer;
-    uint64_t y[HELD], read[HELD], s[SYNDROME];
+    uint64_t y[HELD], read[HELD], z[SYNDROME];
     if (!read_samples(samples, len, y)) {
         answer.number = 16;
         return answer;
     }
 #define RUN_SAMPLES(h, steps, sh, lead)              \
-    syndrome(y, h, sh, s);                           \
-    answer.first = answer.last = broken(s, sh);      \
-    answer.lowest = lowest(s, sh);                   \
+    syndrome(y, h, sh, z);                           \
+    answer.first = answer.last = broken(z, sh);      \
+    answer.lowest = lowest(z, sh);                   \
     if (answer.last != 0)                            \
         memcpy(read, y, sizeof read);                \
-    answer.number = run_samples(samples, y, s, h, sh, limit, &answer)
+    answer.number = run_samples(samples, y, z, h, sh, limit, &answer)
     FOR_CODE(code, RUN_SAMPLES)
     if (answer.flips != 0)
         for (size_t k = 0; k <= len / 64; k++)

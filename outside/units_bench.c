@@ -1,10 +1,10 @@
 /* Units written and read by the library, by the judge and by the same algorithm in C, to be counted or timed.
  *
- *     units_bench WHO CALL CODE WRONG TURNS    WHO is library, judge or fast; CALL write-unit or read-unit, or encode or correct
+ *     units_bench WHO CALL CODE WRONG PASSES    WHO is library, judge or fast; CALL write-unit or read-unit, or encode or correct
  *                                              for the same codewords one by one
  *     units_bench time CALL CODE WRONG         nanoseconds a codeblock of each
  *
- * A unit has sixteen codeblocks, and WRONG is the number of wrong bits in each. A turn is a unit.
+ * A unit has sixteen codeblocks, and WRONG is the number of wrong bits in each. A pass is a unit.
  */
 #include "units_fast.h"
 
@@ -80,7 +80,7 @@ static unsigned long one_by_one(unsigned who, bool encode)
     return sum;
 }
 
-static unsigned long turns(unsigned who, const char *call, unsigned long n)
+static unsigned long passes(unsigned who, const char *call, unsigned long n)
 {
     unsigned long sum = 0;
     for (; n > 0; n--) {
@@ -113,7 +113,7 @@ int main(int argc, char **argv)
         for (unsigned who = 0; who < 3; who++) {
             unsigned long n = who == 1 ? 20 : 2000, sum = 0;
             double begun = seconds();
-            sum += turns(who, argv[2], n);
+            sum += passes(who, argv[2], n);
             printf("%.1f ", (seconds() - begun) * 1e9 / (double)(n * BLOCKS) + (sum == 1 ? 1e-9 : 0));
         }
         printf("\n");
@@ -121,6 +121,6 @@ int main(int argc, char **argv)
     }
     for (unsigned who = 0; who < 3; who++)
         if (strcmp(argv[1], names[who]) == 0)
-            printf("%lu\n", turns(who, argv[2], strtoul(argv[5], NULL, 10)) + out[0]);
+            printf("%lu\n", passes(who, argv[2], strtoul(argv[5], NULL, 10)) + out[0]);
     return 0;
 }

@@ -88,7 +88,7 @@ def information(chance: random.Random, code: int) -> bytes:
 
 
 def spoiled(chance: random.Random, word: bytes, wrong: int) -> bytes:
-    """The word with so many bits turned."""
+    """The word with so many bits flipped."""
     octets = bytearray(word)
     for bit in chance.sample(range(8 * len(octets)), wrong):
         octets[bit // 8] ^= 0x80 >> bit % 8

@@ -52,9 +52,9 @@ Bits in which they were changed:
       1             1
       3             1
 
-Words that need a look: 1 refused; 1 with more than 2 bits changed; 1 with a bit turned back
+Words that need a look: 1 refused; 1 with more than 2 bits changed; 1 with a bit flipped back
   word 3: answer 5, checks broken, no excess above 0; 1 flip, 1 bit unlike, broken checks 4 at the start and 2 at the end
-  word 1: answer 0, done; 3 flips, 1 bit unlike, broken checks 11 at the start and 0 at the end (a bit turned back)
+  word 1: answer 0, done; 3 flips, 1 bit unlike, broken checks 11 at the start and 0 at the end (a bit flipped back)
   word 2: answer 0, done; 3 flips, 3 bits unlike, broken checks 9 at the start and 0 at the end (more than 2 bits changed)
 """
         self.assertEqual(command("summary", given=log), (1, wanted.encode(), ""))

@@ -190,7 +190,7 @@ module _ (n : ℕ) (near : T (nearEarthed n)) (word : List ℕ) (limit : ℕ) (o
 
 -- ---- codewords, and codewords with one wrong bit
 
--- a sent bit that is turned over is a lifted bit that is
+-- a sent bit that is flipped is a lifted bit that is
 pub lifted-flip : (c : Code) (y : Word) (n : ℕ) → lifted c (flipped y n) ≡ flipped (lifted c y) (n + c .unsent)
 lifted-flip c y n = fun-ext (λ i. go i (decLt i (c .unsent)))
   where
@@ -204,7 +204,7 @@ lifted-flip c y n = fun-ext (λ i. go i (decLt i (c .unsent)))
         ∙ ap₂ (λ a b. a ⊕ b) (sym (lifted-sent-bit c y (i - c .unsent)) ∙ ap (lifted c y) e)
         (eqb-iff (i - c .unsent) n i (n + c .unsent) (λ q. omega (arith, lt-of-not-le g)) (λ q. omega arith))
 
--- the octets of a word with bit b turned over
+-- the octets of a word with bit b flipped
 abbrev pub oneWrong : Code → List ℕ → ℕ → List ℕ
 oneWrong c word b = octets (c .wordOctets) (flipped (bit word) b)
 

@@ -102,7 +102,7 @@ list-numbers n word limit table out lo = go (offered n) (eqb (length word) (code
 
 -- ---- following the list
 
--- each record's bit turned over, one after another
+-- each record's bit flipped, one after another
 unfoldable pub followed : Word → List Entry → Word
 followed x [] = x
 followed x (e ∷ list) = followed (flipped x (e .bit)) list

@@ -22,11 +22,11 @@ use Rattle.rules.proofs.Codewords.{bit-written, written-back}
 use Rattle.answers.proofs.Answers.{correct-cases, step-cases, step-taken}
 use Rattle.rules.proofs.Numbers.{published, whole, lifted-whole, sent-whole, past-word}
 
--- a step turns over the one bit that it names, and no other of the same excess
-pub one-turned : (c : Code) (word : List ℕ) (x : Word) (out : List ℕ) (k : ℕ) (e : ℤ)
+-- a step flips the one bit that it names, and no other of the same excess
+pub one-flipped : (c : Code) (word : List ℕ) (x : Word) (out : List ℕ) (k : ℕ) (e : ℤ)
     → nextStep c word x out (flip k e) .out ≡ written c (flipped x k)
 unfolding nextStep
-one-turned c word x out k e = refl
+one-flipped c word x out k e = refl
 
 -- the codes of step
 abbrev pub stepped : ℕ → Bool
@@ -39,7 +39,7 @@ module _ (n : ℕ) (t : T (stepped n)) (word : List ℕ) (lw : length word ≡ c
   as-bits : lifted (code n) (bit word) ≡ bit word
   as-bits = lifted-whole (code n) (whole n t) (bit word)
 
-  -- the bits of a word with one bit turned over, as it is written
+  -- the bits of a word with one bit flipped, as it is written
   flip-bits : (k : ℕ) → k < bits (code n) → bit (written (code n) (flipped (lifted (code n) (bit word)) k)) ≡ flipped (bit word) k
   flip-bits k h =
       ap (λ x. bit (written (code n) (flipped x k))) as-bits ∙ bit-written (code n) pb (flipped (bit word) k)

@@ -239,7 +239,7 @@ run5 =
 
 -- ---- the same of correct
 
--- the octets of the zero word with three bits turned over
+-- the octets of the zero word with three bits flipped
 abbrev pub threeWrong : Code → ℕ → ℕ → ℕ → List ℕ
 threeWrong c a b d = oneWrong c (twoWrong c (replicate (c .wordOctets) 0) a b) d
 

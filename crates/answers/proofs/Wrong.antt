@@ -31,7 +31,7 @@ use Rattle.answers.proofs.Corrections.{mended}
 
 -- ---- two wrong bits
 
--- the octets of a word with two bits turned over
+-- the octets of a word with two bits flipped
 abbrev pub twoWrong : Code → List ℕ → ℕ → ℕ → List ℕ
 twoWrong c word b d = oneWrong c (oneWrong c word b) d
 
@@ -109,11 +109,11 @@ module _ (n : ℕ) (near : T (nearEarthed n)) (word out : List ℕ) (lw : length
 
 -- ---- which codeword was sent
 
--- the octets of a word with the bits of e turned over
+-- the octets of a word with the bits of e flipped
 abbrev pub wrongAt : Code → List ℕ → Word → List ℕ
 wrongAt c word e = octets (c .wordOctets) (plus (bit word) e)
 
--- the octets of zeros with the same bits turned over
+-- the octets of zeros with the same bits flipped
 abbrev pub wrongAlone : Code → Word → List ℕ
 wrongAlone c e = octets (c .wordOctets) e
 

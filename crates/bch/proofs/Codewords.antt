@@ -1,4 +1,4 @@
--- Codewords by what the division leaves of them: of the word, of the word with a bit turned over, and with two. Assumes nothing.
+-- Codewords by what the division leaves of them: of the word, of the word with a bit flipped, and with two. Assumes nothing.
 use mathlib.Core.Path.{_≡_, refl, sym, ap, ap₂, _∙_, subst}
 use mathlib.Core.Bool.{Bool, true, false, not, _&&_, true≢false}
 use mathlib.Core.Logic.{⊎-elim}
@@ -125,7 +125,7 @@ decided false m n f g = sym (ne-eqb m n (λ e. true≢false (sym (g e))))
 pub codeword-left : (x : Word) → codeword x ≡ eqb (left x) 0
 codeword-left x = decided (codeword x) (left x) 0 (codeword-none x) (none-codeword x)
 
--- ---- a bit turned over
+-- ---- a bit flipped
 
 pub left-flipped : (x : Word) (i j : ℕ) → digit 7 (left (flipped x i)) j ≡ digit 7 (left x) j ⊕ digit 7 (alone i) j
 left-flipped x i j =
@@ -139,7 +139,7 @@ left-flipped x i j =
 alone-lt : (i : ℕ) → alone i < 2 ^ 7
 alone-lt i = remainder-lt 63 (λ k. eqb k i)
 
--- with bit i turned over it is a codeword just if it left what bit i alone leaves
+-- with bit i flipped it is a codeword just if it left what bit i alone leaves
 pub codeword-flipped : (x : Word) (i : ℕ) → codeword (flipped x i) ≡ eqb (left x) (alone i)
 codeword-flipped x i =
     codeword-left (flipped x i)

@@ -93,7 +93,7 @@ like-set r j m n q h e k =
     twice true = refl
     twice false = refl
 
--- the row with every bit turned over
+-- the row with every bit flipped
 pub like-clear : (r j m n : ℕ) → n ≡ bitAnd m (bitXor (getD rows j 0) 0xFFFFFFFFFFFFFFFF) → j < 7 → digit 7 r j ≡ false → Like r j m
     → Like r (j + 1) n
 like-clear r j m n q h e k =

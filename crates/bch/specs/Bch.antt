@@ -44,7 +44,7 @@ unfoldable pub lowest : ℕ → (ℕ → Bool) → ℕ
 lowest zero f = 0
 lowest (suc n) f = if f 0 then 0 else suc (lowest n (λ k. f (suc k)))
 
--- The bit of the 63 that was wrong, if one was: with it turned over the word is a codeword. (No second bit does that.)
+-- The bit of the 63 that was wrong, if one was: with it flipped the word is a codeword. (No second bit does that.)
 abbrev pub wrongBit : Word → ℕ
 wrongBit x = lowest 63 (λ i. codeword (flipped x i))
 

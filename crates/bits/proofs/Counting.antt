@@ -63,7 +63,7 @@ none-counted (suc n) f e i h = go (ℕ-discrete i n) (none-counted n f (omega ar
     go (yes q) ih = ap f q ∙ tally-none (f n) (omega arith)
     go (no d) ih = ih (omega arith)
 
--- turning some bits over: those that were set are lost, the others gained
+-- flipping some bits: those that were set are lost, the others gained
 pub count-xor : (n : ℕ) (f g : ℕ → Bool) → count n (λ i. f i ⊕ g i) + 2 * count n (λ i. g i && f i) ≡ count n f + count n g
 unfolding count
 count-xor zero f g = refl

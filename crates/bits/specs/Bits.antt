@@ -72,7 +72,7 @@ unfoldable pub agree : ℕ → Word → Word → Bool
 agree zero x y = true
 agree (suc n) x y = agree n x y && not (x n ⊕ y n)
 
--- The word with bit n turned over.
+-- The word with bit n flipped.
 abbrev pub flipped : Word → ℕ → Word
 flipped x n k = x k ⊕ eqb k n
 

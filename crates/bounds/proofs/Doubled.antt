@@ -38,11 +38,11 @@ module _ (d p rest : List ℕ) (to : ℕ) (inside : to ≤ length d) where
       ∙ ap (λ k. digit 64 k (n % 64)) (getD-append-add (take to d) (p ++ rest) (n / 64) 0
       ∙ List·getD-append p rest 0 (n / 64) (omega arith))
 
-  pub placed : (s : Word) (start m : ℕ) → 2 * m ≤ 64 * length p → wbit p ≡ twice m (upTo m (from start s))
-      → Placed s start m (wbit d) (64 * to) (wbit (take to d ++ (p ++ rest)))
-  placed s start m fits e = record {
+  pub placed : (z : Word) (start m : ℕ) → 2 * m ≤ 64 * length p → wbit p ≡ twice m (upTo m (from start z))
+      → Placed z start m (wbit d) (64 * to) (wbit (take to d ++ (p ++ rest)))
+  placed z start m fits e = record {
     before = before-part;
-    here = λ n h. in-part n (omega arith) ∙ ap (λ x. x n) e ∙ front-mod m (from start s) n h;
+    here = λ n h. in-part n (omega arith) ∙ ap (λ x. x n) e ∙ front-mod m (from start z) n h;
   }
 
 -- The first m bits of one number, twice over in two words from word `to` on.
@@ -67,9 +67,9 @@ module _ (d : List ℕ) (v m to a b : ℕ) (small : m ≤ 64) (inside : to + 2 �
       filled-more d x (set d to a) (to + 1) one b (omega (arith, length-set d to a))
       (λ i hi. sym (in-two (64 * (to + 1) + i) (64 + i) (omega arith) ∙ word-at (a ∷ b ∷ []) (64 + i) 1 i hi (omega arith)))
 
-  pub placed-number : (s : Word) (start : ℕ) → 1 ≤ m → Holds v (from start s)
-      → Placed s start m (wbit d) (64 * to) (wbit (set (set d to a) (to + 1) b))
-  placed-number s start some hv = record {
+  pub placed-number : (z : Word) (start : ℕ) → 1 ≤ m → Holds v (from start z)
+      → Placed z start m (wbit d) (64 * to) (wbit (set (set d to a) (to + 1) b))
+  placed-number z start some hv = record {
     before = λ n h.
         ap (λ (y : Word). y n) (filled .bits) ∙ joined-below (64 * (to + 1 + 1)) n x (wbit d) (omega arith)
         ∙ joined-below (64 * to) n (wbit d) (λ i. two (i - 64 * to)) h;
@@ -79,12 +79,12 @@ module _ (d : List ℕ) (v m to a b : ℕ) (small : m ≤ 64) (inside : to + 2 �
   }
 
 -- A row more.
-pub twice-more : (sh : Shape) (s d d′ : Word) (r : ℕ) → 2 * sh .size ≤ 1024 → Twice sh r s d
-    → Placed s (64 * (r * sh .words)) (sh .size) d (64 * (16 * r)) d′ → Twice sh (r + 1) s d′
-twice-more sh s d d′ r fits was new q n hq hn = go (ℕ-discrete q r)
+pub twice-more : (sh : Shape) (z d d′ : Word) (r : ℕ) → 2 * sh .size ≤ 1024 → Twice sh r z d
+    → Placed z (64 * (r * sh .words)) (sh .size) d (64 * (16 * r)) d′ → Twice sh (r + 1) z d′
+twice-more sh z d d′ r fits was new q n hq hn = go (ℕ-discrete q r)
   where
-    go : Dec (q ≡ r) → d′ (1024 * q + n) ≡ s (64 * (q * sh .words) + n % sh .size)
+    go : Dec (q ≡ r) → d′ (1024 * q + n) ≡ z (64 * (q * sh .words) + n % sh .size)
     go (yes e) =
         let at : 1024 * q + n ≡ 64 * (16 * r) + n = omega arith in
-        ap d′ at ∙ new .here n hn ∙ ap (λ k. s (64 * (k * sh .words) + n % sh .size)) (sym e)
+        ap d′ at ∙ new .here n hn ∙ ap (λ k. z (64 * (k * sh .words) + n % sh .size)) (sym e)
     go (no u) = new .before (1024 * q + n) (omega arith) ∙ was q n (omega arith) hn

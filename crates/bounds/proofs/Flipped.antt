@@ -26,18 +26,18 @@ use Rattle.bounds.specs.Reading.{Twice, other, Starts, Gathered}
 use Rattle.bounds.specs.Keeping.{Under, Ready, Kept}
 use Rattle.bounds.proofs.Turned.{degree-is}
 
--- ---- the checks that are turned over, one start after the other
+-- ---- the checks that are flipped, one start after the other
 
-pub turned-none : (b : Bool) (f : Word) → b ≡ b ⊕ sum 0 f
+pub flipped-none : (b : Bool) (f : Word) → b ≡ b ⊕ sum 0 f
 unfolding sum
-turned-none b f = sym (⊕-false b)
+flipped-none b f = sym (⊕-false b)
 
 sum-more : (n : ℕ) (f : Word) → sum (n + 1) f ≡ sum n f ⊕ f n
 unfolding sum
 sum-more n f = ap (λ k. sum k f) (add-one n)
 
-pub turned-more : (f : Word) (e : ℕ) (a b x y : Bool) → f e ≡ x ⊕ y → a ≡ b ⊕ sum e f → a ⊕ x ⊕ y ≡ b ⊕ sum (e + 1) f
-turned-more f e a b x y here was =
+pub flipped-more : (f : Word) (e : ℕ) (a b x y : Bool) → f e ≡ x ⊕ y → a ≡ b ⊕ sum e f → a ⊕ x ⊕ y ≡ b ⊕ sum (e + 1) f
+flipped-more f e a b x y here was =
     ⊕-assoc a x y ∙ ap (λ z. z ⊕ (x ⊕ y)) was ∙ ⊕-assoc b (sum e f) (x ⊕ y) ∙ ap (λ z. b ⊕ (sum e f ⊕ z)) (sym here)
     ∙ ap (λ z. b ⊕ z) (sym (sum-more e f))
 
@@ -203,11 +203,11 @@ module _ (h : List ℕ) (sh : Shape) (b k : ℕ) (hk : k < sh .size) (small : sh
 
   module _ (c : Code) (lent : Lent c h sh) (hb : b < sh .blocks) (fits : M ≤ 64 * sh .words) (x d d′ : Word)
       (two : Twice sh (sh .rows) (laid c sh x) d)
-      (turned : (p : ℕ) → d′ p ≡ d p ⊕ sum n
+      (changed : (p : ℕ) → d′ p ≡ d p ⊕ sum n
       (λ e. eqb p (getD starts (8 * b + e) 0 + k) ⊕ eqb p (other M (getD starts (8 * b + e) 0 + k)))) where
     pub flipped-twice : Twice sh (sh .rows) (laid c sh (flipped x (b * M + k))) d′
     flipped-twice r i hr hi =
-        turned (1024 * r + i)
+        changed (1024 * r + i)
         ∙ ap₂ _⊕_ (two r i hr hi ∙ laid-at c sh x r (i % M) hr low fits)
         (sum-same n _ _ (λ e he. places M r i (getD starts (8 * b + e) 0 + k) (omega arith) small hi (start-near e he .1))
         ∙ sum-odd n (λ e. there (getD starts (8 * b + e) 0)) ∙ ap odd (are .each there ∙ total-one (sh .rows) _ r hr elsewhere
@@ -312,7 +312,7 @@ pub kept-flip : (sh : Shape) (starts counts met met′ : List ℕ) (d d′ : Lis
     (other (sh .size) (getD starts (8 * (bit / sh .size) + e) 0 + bit % sh .size))))
     → (c : Code) (h : List ℕ) (from : ℕ) (x : Word) → Lent c h sh → Gathered h sh starts counts (sh .blocks) → Kept c sh from x d counts met
     → metOf c x bit ≡ getD met (bit / sh .size) 0 → Kept c sh from (flipped x bit) d′ counts met′
-kept-flip sh starts counts met met′ d d′ bit r hbit raised turned c h from x lent g was is =
+kept-flip sh starts counts met met′ d d′ bit r hbit raised changed c h from x lent g was is =
     let M = sh .size in
     let b = bit / M in
     let k = bit % M in
@@ -323,7 +323,7 @@ kept-flip sh starts counts met met′ d d′ bit r hbit raised turned c h from x
     record {
       twice = subst (λ n. Twice sh (sh .rows) (laid c sh (flipped x n)) (wbit d′)) e
           (flipped-twice h sh b k hk (omega (arith, r .held, r .words)) starts (getD counts b 0) (g b hb .1) c lent hb (r .held) x (wbit d)
-          (wbit d′) (was .twice) turned);
+          (wbit d′) (was .twice) changed);
       under = raised-under c h sh lent from starts counts g x bit met met′ (subst (λ n. bit < n) (sym (lent .bits-are)) hbit) (r .blocks)
           (r .few)
           (λ j hj. raised j hj ∙ ap (λ n. getD met j 0 - n) (sym is)) (was .under);

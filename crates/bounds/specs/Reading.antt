@@ -9,14 +9,14 @@ use Rattle.bits.specs.Bits.{Word, count, tally, if_then_else_, countOf}
 use Rattle.layout.specs.declared.Shape.{Shape}
 use Rattle.layout.specs.Lent.{total, shiftsOf}
 
--- Each of the first rows of the syndrome s stands twice over in 1024 bits of d that are its own.
+-- Each of the first rows of the syndrome z stands twice over in 1024 bits of d that are its own.
 abbrev pub Twice : Shape → ℕ → Word → Word → Type 0
-Twice sh rows s d = (r n : ℕ) → r < rows → n < 2 * sh .size → d (1024 * r + n) ≡ s (64 * (r * sh .words) + n % sh .size)
+Twice sh rows z d = (r n : ℕ) → r < rows → n < 2 * sh .size → d (1024 * r + n) ≡ z (64 * (r * sh .words) + n % sh .size)
 
--- The m bits of s from bit `from` on stand twice over in d′ from bit `to` on; what stood in d before that is still there.
-pub record Placed (s : Word) (from m : ℕ) (d : Word) (to : ℕ) (d′ : Word) : Type 0 where
+-- The m bits of z from bit `from` on stand twice over in d′ from bit `to` on; what stood in d before that is still there.
+pub record Placed (z : Word) (from m : ℕ) (d : Word) (to : ℕ) (d′ : Word) : Type 0 where
   pub before : (n : ℕ) → n < to → d′ n ≡ d n
-  pub here : (n : ℕ) → n < 2 * m → d′ (to + n) ≡ s (from + n % m)
+  pub here : (n : ℕ) → n < 2 * m → d′ (to + n) ≡ z (from + n % m)
 
 -- Where the check that stands at p in a doubled row of M bits stands once more.
 abbrev pub other : ℕ → ℕ → ℕ

@@ -20,9 +20,9 @@ use planes::all;
 use planes::spread;
 use vectors::double;
 use vectors::double_word;
+use vectors::flip_bit;
 use vectors::front;
 use vectors::trim;
-use vectors::turn_over;
 use vectors::window;
 
 // Writes one start more, if place `at` of h has an entry, and says how many there are then.
@@ -70,13 +70,13 @@ fn gather_all(h: &[u16], sh: Shape, starts: &mut [u16], counts: &mut [u8])
 }
 
 // The m bits of a row that begins with word `at`.
-fn row(s: &[u64], at: usize, words: usize, m: usize, v: &mut [u64])
-    requires { ⌜ (at + words ≤ length (now s)) × (words ≤ length (now v)) × (m ≤ 64 * words) ⌝ }
-    ensures { λ r. ⌜ wbit (now (v .exit)) ≡ upTo m (from (64 * at) (wbit (now (s .entry)))) ⌝ }
+fn row(z: &[u64], at: usize, words: usize, m: usize, v: &mut [u64])
+    requires { ⌜ (at + words ≤ length (now z)) × (words ≤ length (now v)) × (m ≤ 64 * words) ⌝ }
+    ensures { λ r. ⌜ wbit (now (v .exit)) ≡ upTo m (from (64 * at) (wbit (now (z .entry)))) ⌝ }
 {
     let mut k = 0;
     while k < words {
-        v[k] = s[at + k];
+        v[k] = z[at + k];
         k += 1;
     }
     trim(v, m);
@@ -85,8 +85,8 @@ fn row(s: &[u64], at: usize, words: usize, m: usize, v: &mut [u64])
 // The first m bits of v, twice over from word `to` of d on.
 fn double_narrow_row(v: u64, m: usize, d: &mut [u64], to: usize)
     requires { ⌜ (1 ≤ m) × (m ≤ 64) × (to + 2 ≤ length (now d)) × (length (now d) < 2 ^ 32) ⌝ }
-    ensures { λ r. ⌜ ((s : Word) → (start : ℕ) → Holds v (from start s)
-        → Placed s start m (wbit (now (d .entry))) (64 * to) (wbit (now (d .exit)))) ⌝ }
+    ensures { λ r. ⌜ ((z : Word) → (start : ℕ) → Holds v (from start z)
+        → Placed z start m (wbit (now (d .entry))) (64 * to) (wbit (now (d .exit)))) ⌝ }
 {
     let p = double_word(front(v, m), m);
     d[to] = p.first;
@@ -94,44 +94,44 @@ fn double_narrow_row(v: u64, m: usize, d: &mut [u64], to: usize)
 }
 
 // The m bits of a row that begins with word `at`, twice over from word `to` of d on.
-fn double_row(s: &[u64], at: usize, words: usize, m: usize, v: &mut [u64], d: &mut [u64], to: usize)
-    requires { ⌜ (at + words ≤ length (now s)) × (words ≤ length (now v)) × (1 ≤ m) × (m ≤ 64 * words) × (to + 2 * words ≤ length (now d))
+fn double_row(z: &[u64], at: usize, words: usize, m: usize, v: &mut [u64], d: &mut [u64], to: usize)
+    requires { ⌜ (at + words ≤ length (now z)) × (words ≤ length (now v)) × (1 ≤ m) × (m ≤ 64 * words) × (to + 2 * words ≤ length (now d))
         × (length (now d) < 2 ^ 32) ⌝ }
-    ensures { λ r. ⌜ Placed (wbit (now (s .entry))) (64 * at) m (wbit (now (d .entry))) (64 * to) (wbit (now (d .exit))) ⌝ }
+    ensures { λ r. ⌜ Placed (wbit (now (z .entry))) (64 * at) m (wbit (now (d .entry))) (64 * to) (wbit (now (d .exit))) ⌝ }
 {
     if words == 1 {
-        double_narrow_row(s[at], m, d, to);
+        double_narrow_row(z[at], m, d, to);
         return;
     }
-    row(s, at, words, m, v);
+    row(z, at, words, m, v);
     let end = to + 2 * words;
     double(v, m, &mut d[to..end]);
 }
 
 // Every row of the syndrome twice over.
-fn double_rows(s: &[u64], sh: Shape, v: &mut [u64], d: &mut [u64])
+fn double_rows(z: &[u64], sh: Shape, v: &mut [u64], d: &mut [u64])
     requires { ⌜ (1 ≤ sh .size) × (sh .size ≤ 64 * sh .words) × (sh .words ≤ 8) × (sh .rows ≤ 4) × (sh .rows * sh .words ≤ 16)
-        × (length (now s) ≡ syndromeRoom) × (length (now v) ≡ 8) × (length (now d) ≡ rowsRoom) ⌝ }
-    ensures { λ r. ⌜ Twice sh (sh .rows) (wbit (now (s .entry))) (wbit (now (d .exit))) ⌝ }
+        × (length (now z) ≡ syndromeRoom) × (length (now v) ≡ 8) × (length (now d) ≡ rowsRoom) ⌝ }
+    ensures { λ r. ⌜ Twice sh (sh .rows) (wbit (now (z .entry))) (wbit (now (d .exit))) ⌝ }
 {
     let words = sh.words;
     let m = sh.size;
     let mut r = 0;
     while r < sh.rows {
-        double_row(s, r * words, words, m, v, d, 16 * r);
+        double_row(z, r * words, words, m, v, d, 16 * r);
         r += 1;
     }
 }
 
-// The doubled rows of the syndrome s, and the starts of every block. The bounds begin with no met check.
-pub fn begin(s: &[u64], h: &[u16], sh: Shape, d: &mut [u64], starts: &mut [u16], counts: &mut [u8])
-    requires { ⌜ Fit (now h) sh × (length (now s) ≡ syndromeRoom) × (length (now d) ≡ rowsRoom) × (length (now starts) ≡ startsRoom)
+// The doubled rows of the syndrome z, and the starts of every block. The bounds begin with no met check.
+pub fn begin(z: &[u64], h: &[u16], sh: Shape, d: &mut [u64], starts: &mut [u16], counts: &mut [u8])
+    requires { ⌜ Fit (now h) sh × (length (now z) ≡ syndromeRoom) × (length (now d) ≡ rowsRoom) × (length (now starts) ≡ startsRoom)
         × (length (now counts) ≡ blocksRoom) ⌝ }
-    ensures { λ r. ⌜ Twice sh (sh .rows) (wbit (now (s .entry))) (wbit (now (d .exit)))
+    ensures { λ r. ⌜ Twice sh (sh .rows) (wbit (now (z .entry))) (wbit (now (d .exit)))
         × Gathered (now (h .entry)) sh (now (starts .exit)) (now (counts .exit)) (sh .blocks) ⌝ }
 {
     let mut v = [0u64; BLOCK];
-    double_rows(s, sh, &mut v, d);
+    double_rows(z, sh, &mut v, d);
     gather_all(h, sh, starts, counts);
 }
 
@@ -231,21 +231,21 @@ pub fn weigh(
     between(found, at, begin, m)
 }
 
-// Turns the check at p over, in both places.
-fn turn_check(d: &mut [u64], p: usize, m: usize)
+// Flips the check at p, in both places.
+fn flip_check(d: &mut [u64], p: usize, m: usize)
     requires { ⌜ (1 ≤ m) × (m ≤ 512) × (p % 1024 < 2 * m) × (p < 4096) × (length (now d) ≡ rowsRoom) ⌝ }
     ensures { λ r. ⌜ wbit (now (d .exit)) ≡ flipped (flipped (wbit (now (d .entry))) p) (other m p) ⌝ }
 {
-    turn_over(d, p);
+    flip_bit(d, p);
     if p % 1024 < m {
-        turn_over(d, p + m);
+        flip_bit(d, p + m);
     } else {
-        turn_over(d, p - m);
+        flip_bit(d, p - m);
     }
 }
 
-// Turns the checks of bit k of a block over.
-pub fn turn_checks(d: &mut [u64], starts: &[u16], first: usize, n: usize, k: usize, m: usize)
+// Flips the checks of bit k of a block.
+pub fn flip_checks(d: &mut [u64], starts: &[u16], first: usize, n: usize, k: usize, m: usize)
     requires { ⌜ (1 ≤ m) × (m ≤ 512) × (first + n ≤ length (now starts)) × (length (now starts) < 2 ^ 32) × (length (now d) ≡ rowsRoom)
         × ((e : ℕ) → e < n → (getD (now starts) (first + e) 0 + k < 4096) × ((getD (now starts) (first + e) 0 + k) % 1024 < 2 * m)) ⌝ }
     ensures { λ r. ⌜ ((p : ℕ) → wbit (now (d .exit)) p ≡ wbit (now (d .entry)) p
@@ -254,7 +254,7 @@ pub fn turn_checks(d: &mut [u64], starts: &[u16], first: usize, n: usize, k: usi
 {
     let mut e = 0;
     while e < n {
-        turn_check(d, starts[first + e] as usize + k, m);
+        flip_check(d, starts[first + e] as usize + k, m);
         e += 1;
     }
 }
@@ -281,7 +281,7 @@ fn raise(met: &mut [u8], by: u8)
     }
 }
 
-// Turns the checks of a bit over and raises the bounds; the bit has as many met checks as the bound of its block says.
+// Flips the checks of a bit and raises the bounds; the bit has as many met checks as the bound of its block says.
 pub fn flip(d: &mut [u64], starts: &[u16], counts: &[u8], met: &mut [u8], sh: Shape, bit: usize)
     requires { ⌜ Ready sh (now starts) (now counts) (now met) × (length (now d) ≡ rowsRoom) × (bit < sh .blocks * sh .size) ⌝ }
     ensures { λ r. ⌜ Ready sh (now (starts .entry)) (now (counts .entry)) (now (met .exit))
@@ -293,7 +293,7 @@ pub fn flip(d: &mut [u64], starts: &[u16], counts: &[u8], met: &mut [u8], sh: Sh
 {
     let b = bit / sh.size;
     let n = counts[b] as usize;
-    turn_checks(d, starts, 8 * b, n, bit % sh.size, sh.size);
+    flip_checks(d, starts, 8 * b, n, bit % sh.size, sh.size);
     let by = met[b];
     raise(met, by);
 }

@@ -37,13 +37,13 @@ fn entry(code: u8, size: usize, blocks: usize, place: usize, shift: u16)
     text(b"\n");
 }
 
-fn entries(code: u8, size: usize, blocks: usize, t: &[u16])
-    requires { ⌜ (0 < blocks) × (length (now t) ≡ tableRoom) ⌝ }
+fn entries(code: u8, size: usize, blocks: usize, h: &[u16])
+    requires { ⌜ (0 < blocks) × (length (now h) ≡ tableRoom) ⌝ }
 {
     let mut i: usize = 0;
-    while i < t.len() {
-        if is_entry(t[i], size) {
-            entry(code, size, blocks, i, t[i]);
+    while i < h.len() {
+        if is_entry(h[i], size) {
+            entry(code, size, blocks, i, h[i]);
         }
         i += 1;
     }
@@ -52,11 +52,11 @@ fn entries(code: u8, size: usize, blocks: usize, t: &[u16])
 fn table(code: u8)
     requires { ⌜ (1 ≤ code) × (code ≤ 5) ⌝ }
 {
-    let mut t = [0u16; TABLE];
+    let mut h = [0u16; TABLE];
     let o = offer::of(code);
     let sh = o.shape;
-    let lent = tables::lend(sh.size, &mut t);
-    entries(code, sh.size, sh.blocks, &t);
+    let lent = tables::lend(sh.size, &mut h);
+    entries(code, sh.size, sh.blocks, &h);
 }
 
 fn is_set(octet: u8, n: u32) -> bool
@@ -116,9 +116,9 @@ fn two_flips(code: u8, word: &mut [u8], other: &mut [u8]) -> bool {
 }
 
 fn flips(code: u8, word: &mut [u8], other: &mut [u8]) {
-    let mut turns: usize = 1022;
-    while 0 < turns && two_flips(code, word, other) {
-        turns -= 1;
+    let mut passes: usize = 1022;
+    while 0 < passes && two_flips(code, word, other) {
+        passes -= 1;
     }
 }
 

@@ -24,7 +24,7 @@ use Rattle.layout.specs.Lent.{Fit, Lent, laid}
 use Rattle.measured.specs.Measured.{Measured}
 use Rattle.runs.specs.declared.Ran.{Ran}
 use Rattle.runs.specs.declared.Next.{Next}
-use Rattle.runs.specs.Turns.{Holding, Begins, Beginning, RunsTo, comesNext}
+use Rattle.runs.specs.Passes.{Holding, Begins, Beginning, RunsTo, comesNext}
 use Rattle.codes.specs.Ends.{EndsAt}
 
 -- correct's numbers and the output, one by one
@@ -52,27 +52,27 @@ ends-at c some received end limit flips e f =
       unsent = λ k h. ap (λ z. z k) e ∙ unsent-stay c (by-excess c some) limit x (lifted-unsent c received) k h;
     }
 
-module _ (n : ℕ) (word t : List ℕ) (y s : Word) (sh : Shape) (m : Measured n word t y s sh) where
-  pub holding : Holding t sh s
+module _ (n : ℕ) (word h : List ℕ) (y z : Word) (sh : Shape) (m : Measured n word h y z sh) where
+  pub holding : Holding h sh z
   holding = record { code = code n; word = y; lent = m .lends .lent; held = m .held }
 
   -- ---- correct
 
-  module _ (first : ℕ) (counted : (c : Code) (h : List ℕ) (sh : Shape) (x : Word) → Fit h sh → Lent c h sh → s ≡ laid c sh x
+  module _ (first : ℕ) (counted : (c : Code) (h : List ℕ) (sh : Shape) (x : Word) → Fit h sh → Lent c h sh → z ≡ laid c sh x
       → first ≡ broken c x) where
-    pub begins : (from : ℕ) → code n .unsent ≡ from → Begins (code n) t sh from first y s
+    pub begins : (from : ℕ) → code n .unsent ≡ from → Begins (code n) h sh from first y z
     begins from e = record {
       lent = m .lends .lent;
       unsent = e;
       held = m .held;
-      broken = counted (code n) t sh y (m .lends .fit)
+      broken = counted (code n) h sh y (m .lends .fit)
           (m .lends .lent) (m .held);
     }
 
-    pub beginning : (from : ℕ) → code n .unsent ≡ from → Beginning t sh from first y s
+    pub beginning : (from : ℕ) → code n .unsent ≡ from → Beginning h sh from first y z
     beginning from e = record { code = code n; begins = begins from e }
 
-  module _ (limit : ℕ) (ran : Ran) (y′ s′ : Word) (to : RunsTo (byExcess (code n)) (code n) sh limit y ran y′ s′) where
+  module _ (limit : ℕ) (ran : Ran) (y′ z′ : Word) (to : RunsTo (byExcess (code n)) (code n) sh limit y ran y′ z′) where
     same-run : run (byExcess (code n)) limit y ≡ run (byExcess (code n)) limit (lifted (code n) (bit word))
     same-run = ap (run (byExcess (code n)) limit) (m .bits)
 
@@ -89,16 +89,16 @@ module _ (n : ℕ) (word t : List ℕ) (y s : Word) (sh : Shape) (m : Measured n
     -- no bit that is not sent is set
     pub ran-unsent : code n .unsent < bits (code n) → (k : ℕ) → k < code n .unsent → y′ k ≡ false
     ran-unsent some k h =
-        ap (λ z. z k) (sym ran-word)
+        ap (λ w. w k) (sym ran-word)
         ∙ unsent-stay (code n) (by-excess (code n) some) limit (lifted (code n) (bit word)) (lifted-unsent (code n) (bit word)) k h
 
     pub ran-ends : code n .unsent < bits (code n) → EndsAt (code n) (bit word) y′ (ran .flips)
     ran-ends some = ends-at (code n) some (bit word) y′ limit (ran .flips) (sym ran-word) (to .flips ∙ ap (λ r. length (r .flips)) same-run)
 
     module _ (first last number unlike low : ℕ)
-        (at-first : (c : Code) (h : List ℕ) (sh : Shape) (x : Word) → Fit h sh → Lent c h sh → s ≡ laid c sh x → first ≡ broken c x)
+        (at-first : (c : Code) (h : List ℕ) (sh : Shape) (x : Word) → Fit h sh → Lent c h sh → z ≡ laid c sh x → first ≡ broken c x)
         (at-last : last ≡ broken (code n) y′)
-        (at-lowest : (c : Code) (h : List ℕ) (x : Word) → Fit h sh → Lent c h sh → s ≡ laid c sh x → low ≡ lowest c x)
+        (at-lowest : (c : Code) (h : List ℕ) (x : Word) → Fit h sh → Lent c h sh → z ≡ laid c sh x → low ≡ lowest c x)
         (judge : number ≡ judged (code n) (run (byExcess (code n)) limit (lifted (code n) (bit word))))
         (differs : unlike ≡ differing (code n) (lifted (code n) (bit word)) y′) (out out′ : List ℕ)
         (wrote : out′ ≡ (if eqb number 0 then written (code n) y′ else out)) where
@@ -106,17 +106,17 @@ module _ (n : ℕ) (word t : List ℕ) (y s : Word) (sh : Shape) (m : Measured n
       unfolding ranCorrect
       corrected-is =
           numbers-same judge (to .flips ∙ ap (λ r. length (r .flips)) same-run)
-          (at-first (code n) t sh y (m .lends .fit) (m .lends .lent) (m .held) ∙ ap (broken (code n)) (m .bits))
+          (at-first (code n) h sh y (m .lends .fit) (m .lends .lent) (m .held) ∙ ap (broken (code n)) (m .bits))
           (at-last ∙ ap (broken (code n)) (sym ran-word))
           (differs ∙ ap (differing (code n) (lifted (code n) (bit word))) (sym ran-word))
-          (at-lowest (code n) t y (m .lends .fit) (m .lends .lent) (m .held) ∙ ap (lowest (code n)) (m .bits))
-          (wrote ∙ ap₂ (λ k z. if eqb k 0 then written (code n) z else out) judge (sym ran-word))
+          (at-lowest (code n) h y (m .lends .fit) (m .lends .lent) (m .held) ∙ ap (lowest (code n)) (m .bits))
+          (wrote ∙ ap₂ (λ k w. if eqb k 0 then written (code n) w else out) judge (sym ran-word))
 
   -- ---- step
 
-  module _ (out : List ℕ) (turn : Next) (nx : NextOf) (from : ℕ) (from-is : code n .unsent ≡ from)
-      (next : (c : Code) → Lent c t sh → c .unsent ≡ from → (x : Word) → s ≡ laid c sh x → byExcess c x ≡ comesNext turn)
-      (is : comesNext turn ≡ nx) where
+  module _ (out : List ℕ) (coming : Next) (nx : NextOf) (from : ℕ) (from-is : code n .unsent ≡ from)
+      (next : (c : Code) → Lent c h sh → c .unsent ≡ from → (x : Word) → z ≡ laid c sh x → byExcess c x ≡ comesNext coming)
+      (is : comesNext coming ≡ nx) where
     comes : byExcess (code n) (lifted (code n) (bit word)) ≡ nx
     comes = ap (byExcess (code n)) (sym (m .bits)) ∙ next (code n) (m .lends .lent) from-is y (m .held) ∙ is
 

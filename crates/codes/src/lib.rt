@@ -129,14 +129,14 @@ pub fn check(code: u8, word: &[u8]) -> Checked
     if number != 0 {
         return refused_check(number);
     }
-    let mut t = [0u16; TABLE];
+    let mut h = [0u16; TABLE];
     let mut y = [0u64; WORD];
-    let mut s = [0u64; SYNDROME];
-    let sh = measured::measure(o, word, &mut t, &mut y, &mut s);
+    let mut z = [0u64; SYNDROME];
+    let sh = measured::measure(o, word, &mut h, &mut y, &mut z);
     Checked {
         number: 0,
-        broken: syndromes::broken(&s),
-        lowest: syndromes::lowest(&s, sh),
+        broken: syndromes::broken(&z),
+        lowest: syndromes::lowest(&z, sh),
     }
 }
 
@@ -146,13 +146,13 @@ fn fault_of(o: Offer, word: &[u8]) -> Found
     ensures { λ r. ⌜ ((n : ℕ) → offered n ≡ true → o ≡ offerOf n → (r .number ≡ fault n (now (word .entry)))
         × (r .lowest ≡ lowest (codeOf n) (lifted (codeOf n) (bit (now (word .entry)))))) ⌝ }
 {
-    let mut t = [0u16; TABLE];
+    let mut h = [0u16; TABLE];
     let mut y = [0u64; WORD];
-    let mut s = [0u64; SYNDROME];
-    let sh = measured::measure(o, word, &mut t, &mut y, &mut s);
+    let mut z = [0u64; SYNDROME];
+    let sh = measured::measure(o, word, &mut h, &mut y, &mut z);
     Found {
-        number: judging::fault(o, &y, &s),
-        lowest: syndromes::lowest(&s, sh),
+        number: judging::fault(o, &y, &z),
+        lowest: syndromes::lowest(&z, sh),
     }
 }
 
@@ -177,7 +177,7 @@ pub fn open<'a>(code: u8, word: &'a [u8], number: &mut u8, lowest: &mut u32) -> 
     &word[..end]
 }
 
-// In how many bits the word at the end of a run differs from the received one: no flip leaves it, and one turns one bit over.
+// In how many bits the word at the end of a run differs from the received one: no flip leaves it, and one flips one bit.
 pub fn unlike_after(o: Offer, word: &[u8], y: &[u64], flips: u32) -> u32
     requires { ⌜ Known o × (length (now word) ≡ o .word) × (length (now y) ≡ wordRoom) ⌝ }
     ensures { λ r. ⌜ ((n : ℕ) → offered n ≡ true → o ≡ offerOf n → EndsAt (codeOf n) (bit (now (word .entry))) (wbit (now (y .entry))) flips
@@ -195,13 +195,13 @@ fn correct_taken(o: Offer, word: &[u8], limit: u16, out: &mut [u8]) -> Corrected
     ensures { λ r. ⌜ ((n : ℕ) → offered n ≡ true → o ≡ offerOf n
         → asCorrected r (now (out .exit)) ≡ ranFrom n (now (word .entry)) limit (now (out .entry))) ⌝ }
 {
-    let mut t = [0u16; TABLE];
+    let mut h = [0u16; TABLE];
     let mut y = [0u64; WORD];
-    let mut s = [0u64; SYNDROME];
-    let sh = measured::measure(o, word, &mut t, &mut y, &mut s);
-    let first = syndromes::broken(&s);
-    let lowest = syndromes::lowest(&s, sh);
-    let ended = runs::run(&mut y, &s, &t, sh, o.unsent, limit, first);
+    let mut z = [0u64; SYNDROME];
+    let sh = measured::measure(o, word, &mut h, &mut y, &mut z);
+    let first = syndromes::broken(&z);
+    let lowest = syndromes::lowest(&z, sh);
+    let ended = runs::run(&mut y, &z, &h, sh, o.unsent, limit, first);
     let ran = ended.ran;
     let unlike = unlike_after(o, word, &y, ran.flips);
     let number = judging::judge(o, &y, ran.number);
@@ -236,11 +236,11 @@ fn step_taken(o: Offer, word: &[u8], out: &mut [u8]) -> Stepped
     ensures { λ r. ⌜ ((n : ℕ) → offered n ≡ true → o ≡ offerOf n
         → asStepped r (now (out .exit)) ≡ steppedFrom n (now (word .entry)) (now (out .entry))) ⌝ }
 {
-    let mut t = [0u16; TABLE];
+    let mut h = [0u16; TABLE];
     let mut y = [0u64; WORD];
-    let mut s = [0u64; SYNDROME];
-    let sh = measured::measure(o, word, &mut t, &mut y, &mut s);
-    let next = runs::comes_next(&s, &t, sh, o.unsent);
+    let mut z = [0u64; SYNDROME];
+    let sh = measured::measure(o, word, &mut h, &mut y, &mut z);
+    let next = runs::comes_next(&z, &h, sh, o.unsent);
     match next {
         Next::Quiet => {
             received::copy(word, out);
@@ -253,7 +253,7 @@ fn step_taken(o: Offer, word: &[u8], out: &mut [u8]) -> Stepped
         }
         Next::Stuck(_, _) => refused_step(5),
         Next::Flip(bit, excess) => {
-            vectors::turn_over(&mut y, bit);
+            vectors::flip_bit(&mut y, bit);
             received::write(&mut y, o.unsent, o.bits, out);
             Stepped {
                 number: 0,

@@ -199,11 +199,11 @@ module _ (n : ℕ) (frame other : List ℕ) (all : Octets frame) (all′ : Octet
       same i d = ap (λ w. w i) e ∙ ap (λ b. bit frame i ⊕ b) (ne-eqb i k d) ∙ ⊕-false (bit frame i)
 
       unlike : bit frame k ≡ bit frame k ⊕ eqb k k → ⊥
-      unlike q = turn-over (bit frame k) (q ∙ ap (λ b. bit frame k ⊕ b) (eq-eqb k k refl))
+      unlike q = not-flipped (bit frame k) (q ∙ ap (λ b. bit frame k ⊕ b) (eq-eqb k k refl))
         where
-          turn-over : (b : Bool) → b ≡ b ⊕ true → ⊥
-          turn-over true q = absurd (subst T q tt)
-          turn-over false q = absurd (subst T (sym q) tt)
+          not-flipped : (b : Bool) → b ≡ b ⊕ true → ⊥
+          not-flipped true q = absurd (subst T q tt)
+          not-flipped false q = absurd (subst T (sym q) tt)
 
   -- two wrong bits, in frames of up to 512 octets
   pub two-noticed : n + 2 ≤ 512 → (i j : ℕ) → i < j → j < 8 * (n + 2) → bit other ≡ flipped (flipped (bit frame) i) j

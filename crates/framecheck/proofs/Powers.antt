@@ -19,66 +19,66 @@ use Rattle.framecheck.proofs.Polynomials.{coefficients-plus, coefficien
 use Rattle.framecheck.proofs.Division.{remainder-plus, length-remainder}
 
 -- A remainder times x, divided again.
-abbrev pub turned : List Bool → List Bool
-turned r = remainder 1 (r ++ (false ∷ []))
+abbrev pub moved : List Bool → List Bool
+moved r = remainder 1 (r ++ (false ∷ []))
 
-pub turns : ℕ → List Bool → List Bool
-turns zero r = r
-turns (suc n) r = turns n (turned r)
+pub moves : ℕ → List Bool → List Bool
+moves zero r = r
+moves (suc n) r = moves n (moved r)
 
-pub length-turned : (r : List Bool) → length r ≡ 16 → length (turned r) ≡ 16
-length-turned r e = length-remainder 1 16 (r ++ (false ∷ [])) (lit< tt) (length-append r (false ∷ []) ∙ omega arith)
+pub length-moved : (r : List Bool) → length r ≡ 16 → length (moved r) ≡ 16
+length-moved r e = length-remainder 1 16 (r ++ (false ∷ [])) (lit< tt) (length-append r (false ∷ []) ∙ omega arith)
 
-pub length-turns : (n : ℕ) (r : List Bool) → length r ≡ 16 → length (turns n r) ≡ 16
-unfolding turns
-length-turns zero r e = e
-length-turns (suc n) r e = length-turns n (turned r) (length-turned r e)
+pub length-moves : (n : ℕ) (r : List Bool) → length r ≡ 16 → length (moves n r) ≡ 16
+unfolding moves
+length-moves zero r e = e
+length-moves (suc n) r e = length-moves n (moved r) (length-moved r e)
 
--- dividing zeros behind a remainder turns it once for each
-pub turns-divide : (n : ℕ) (r : List Bool) → length r ≡ 16 → remainder n (r ++ zeros n) ≡ turns n r
-unfolding remainder turns
-turns-divide zero r e = append-nil r
-turns-divide (suc n) [] e = absurd (omega arith)
-turns-divide (suc n) (false ∷ r) e =
+-- dividing zeros behind a remainder moves it once for each
+pub moves-divide : (n : ℕ) (r : List Bool) → length r ≡ 16 → remainder n (r ++ zeros n) ≡ moves n r
+unfolding remainder moves
+moves-divide zero r e = append-nil r
+moves-divide (suc n) [] e = absurd (omega arith)
+moves-divide (suc n) (false ∷ r) e =
     ap (remainder n) (sym (append-assoc r (false ∷ []) (zeros n)))
-    ∙ turns-divide n (r ++ (false ∷ [])) (length-append r (false ∷ []) ∙ omega arith)
-turns-divide (suc n) (true ∷ r) e =
+    ∙ moves-divide n (r ++ (false ∷ [])) (length-append r (false ∷ []) ∙ omega arith)
+moves-divide (suc n) (true ∷ r) e =
     ap (remainder n)
     (ap (plus generator) (sym (append-assoc r (false ∷ []) (zeros n)))
     ∙ plus-front generator (r ++ (false ∷ [])) (zeros n) (omega (arith, long)))
-    ∙ turns-divide n (plus generator (r ++ (false ∷ []))) (plus-longer generator (r ++ (false ∷ [])) (omega (arith, long)) ∙ long)
+    ∙ moves-divide n (plus generator (r ++ (false ∷ []))) (plus-longer generator (r ++ (false ∷ [])) (omega (arith, long)) ∙ long)
   where
     long : length (r ++ (false ∷ [])) ≡ 16
     long = length-append r (false ∷ []) ∙ omega arith
 
-turned-plus : (r s : List Bool) → length r ≡ 16 → length s ≡ 16 → turned (plus r s) ≡ plus (turned r) (turned s)
+moved-plus : (r s : List Bool) → length r ≡ 16 → length s ≡ 16 → moved (plus r s) ≡ plus (moved r) (moved s)
 unfolding plus
-turned-plus r s e f =
+moved-plus r s e f =
     ap (remainder 1) (sym (plus-append r (false ∷ []) s (false ∷ []) (e ∙ sym f)))
     ∙ remainder-plus 1 (r ++ (false ∷ [])) (s ++ (false ∷ [])) (omega (arith, length-append r (false ∷ [])))
     (omega (arith, length-append s (false ∷ [])))
 
-pub turns-plus : (n : ℕ) (r s : List Bool) → length r ≡ 16 → length s ≡ 16 → turns n (plus r s) ≡ plus (turns n r) (turns n s)
-unfolding turns
-turns-plus zero r s e f = refl
-turns-plus (suc n) r s e f = ap (turns n) (turned-plus r s e f) ∙ turns-plus n (turned r) (turned s) (length-turned r e) (length-turned s f)
+pub moves-plus : (n : ℕ) (r s : List Bool) → length r ≡ 16 → length s ≡ 16 → moves n (plus r s) ≡ plus (moves n r) (moves n s)
+unfolding moves
+moves-plus zero r s e f = refl
+moves-plus (suc n) r s e f = ap (moves n) (moved-plus r s e f) ∙ moves-plus n (moved r) (moved s) (length-moved r e) (length-moved s f)
 
--- x divides no generator that ends in 1: what turns to zero is zero
-turned-zero : (r : List Bool) → length r ≡ 16 → turned r ≡ zeros 16 → r ≡ zeros 16
+-- x divides no generator that ends in 1: what moves to zero is zero
+moved-zero : (r : List Bool) → length r ≡ 16 → moved r ≡ zeros 16 → r ≡ zeros 16
 unfolding remainder
-turned-zero [] e z = absurd (omega arith)
-turned-zero (false ∷ t) e z = ap (λ l. false ∷ l) (sym (take-at t (false ∷ []) 15 (omega arith)) ∙ ap (take 15) z)
-turned-zero (true ∷ t) e z =
+moved-zero [] e z = absurd (omega arith)
+moved-zero (false ∷ t) e z = ap (λ l. false ∷ l) (sym (take-at t (false ∷ []) 15 (omega arith)) ∙ ap (take 15) z)
+moved-zero (true ∷ t) e z =
     absurd
     (subst T
     (ap (λ l. getD l 15 false) (plus-equal generator (t ++ (false ∷ [])) (sym (length-append t (false ∷ []) ∙ omega arith)) z)
     ∙ getD-at t false [] false 15 (omega arith))
     tt)
 
-pub turns-zero : (n : ℕ) (r : List Bool) → length r ≡ 16 → turns n r ≡ zeros 16 → r ≡ zeros 16
-unfolding turns
-turns-zero zero r e z = z
-turns-zero (suc n) r e z = turned-zero r e (turns-zero n (turned r) (length-turned r e) z)
+pub moves-zero : (n : ℕ) (r : List Bool) → length r ≡ 16 → moves n r ≡ zeros 16 → r ≡ zeros 16
+unfolding moves
+moves-zero zero r e z = z
+moves-zero (suc n) r e z = moved-zero r e (moves-zero n (moved r) (length-moved r e) z)
 
 -- ---- the powers of x
 
@@ -86,12 +86,12 @@ one : List Bool
 one = zeros 15 ++ (true ∷ [])
 
 pub power : ℕ → List Bool
-power e = turns e one
+power e = moves e one
 
-turns-add : (m n : ℕ) (r : List Bool) → turns (m + n) r ≡ turns n (turns m r)
-unfolding turns
-turns-add zero n r = ap (λ z. turns z r) (zero-add n)
-turns-add (suc m) n r = ap (λ z. turns z r) (suc-add m n) ∙ turns-add m n (turned r)
+moves-add : (m n : ℕ) (r : List Bool) → moves (m + n) r ≡ moves n (moves m r)
+unfolding moves
+moves-add zero n r = ap (λ z. moves z r) (zero-add n)
+moves-add (suc m) n r = ap (λ z. moves z r) (suc-add m n) ∙ moves-add m n (moved r)
 
 same : List Bool → List Bool → Bool
 same [] [] = true
@@ -113,20 +113,20 @@ same-self [] = tt
 same-self (true ∷ p) = same-self p
 same-self (false ∷ p) = same-self p
 
--- whether none of the next n turns of r is 1
+-- whether none of the next n moves of r is 1
 apart : ℕ → List Bool → Bool
 apart zero r = true
-apart (suc n) r = not (same r one) && apart n (turned r)
+apart (suc n) r = not (same r one) && apart n (moved r)
 
-order : T (apart 4095 (turned one))
+order : T (apart 4095 (moved one))
 unfolding apart same one remainder plus
 order = tt
 
-apart-at : (n : ℕ) (r : List Bool) → T (apart n r) → (d : ℕ) → d < n → same (turns d r) one ≡ false
-unfolding apart turns
+apart-at : (n : ℕ) (r : List Bool) → T (apart n r) → (d : ℕ) → d < n → same (moves d r) one ≡ false
+unfolding apart moves
 apart-at zero r t d h = absurd (not-suc-le-zero h)
-apart-at (suc n) r t zero h = not-true (same r one) (and-l (not (same r one)) (apart n (turned r)) t)
-apart-at (suc n) r t (suc d) h = apart-at n (turned r) (and-r (not (same r one)) (apart n (turned r)) t) d (omega arith)
+apart-at (suc n) r t zero h = not-true (same r one) (and-l (not (same r one)) (apart n (moved r)) t)
+apart-at (suc n) r t (suc d) h = apart-at n (moved r) (and-r (not (same r one)) (apart n (moved r)) t) d (omega arith)
 
 -- ---- one coefficient alone
 
@@ -134,7 +134,7 @@ low : ℕ → Bool
 low i = same (coefficients 16 (λ k. eqb k i)) (power (15 - i))
 
 pub single : (n i : ℕ) → i < n + 16 → remainder n (coefficients (n + 16) (λ k. eqb k i)) ≡ power (n + 15 - i)
-unfolding remainder coefficients plus low power one turns same
+unfolding remainder coefficients plus low power one moves same
 single zero i h = same-eq (coefficients 16 (λ k. eqb k i)) (power (15 - i)) (below-at 16 low tt i h)
 single (suc n) zero h =
     ap (λ z. remainder (suc n) (coefficients z (λ k. eqb k 0))) more
@@ -143,8 +143,8 @@ single (suc n) zero h =
     ∙ ap (λ l. (true ∷ zeros 15) ++ l)
     (coefficients-same (suc n) (λ k. eqb (16 + k) 0) (λ k. false) (λ k l. ne-eqb (16 + k) 0 (λ e. omega arith))
     ∙ coefficients-zeros (suc n)))
-    ∙ turns-divide (suc n) (true ∷ zeros 15) refl
-    ∙ sym (turns-add 15 (suc n) one)
+    ∙ moves-divide (suc n) (true ∷ zeros 15) refl
+    ∙ sym (moves-add 15 (suc n) one)
     ∙ ap power places
   where
     more : suc n + 16 ≡ 16 + suc n
@@ -187,8 +187,8 @@ burst (suc n) e zero before behind z k h = ⊎-elim past within (le-or-lt 16 k)
 
     none : coefficients 16 e ≡ zeros 16
     none =
-        turns-zero (suc n) (coefficients 16 e) (length-coefficients 16 e)
-        (sym (turns-divide (suc n) (coefficients 16 e) (length-coefficients 16 e)) ∙ ap (remainder (suc n)) (sym split) ∙ z)
+        moves-zero (suc n) (coefficients 16 e) (length-coefficients 16 e)
+        (sym (moves-divide (suc n) (coefficients 16 e) (length-coefficients 16 e)) ∙ ap (remainder (suc n)) (sym split) ∙ z)
 
     within : k < 16 → e k ≡ false
     within l = sym (coefficient 16 e k l) ∙ ap (λ p. getD p k false) none ∙ getD-replicate 16 k false false l
@@ -208,8 +208,8 @@ burst (suc n) e (suc a) before behind z k h =
 
 -- two places of 4,096 or fewer are never divided to zero
 pub two : (n i j : ℕ) → n + 16 ≤ 4096 → i < j → j < n + 16 → remainder n (coefficients (n + 16) (λ k. eqb k i ⊕ eqb k j)) ≡ zeros 16 → ⊥
-unfolding power one turns
-two n i j small h l z = absurd (subst T (apart-at 4095 (turned one) order (d - 1) (omega arith))
+unfolding power one moves
+two n i j small h l z = absurd (subst T (apart-at 4095 (moved one) order (d - 1) (omega arith))
     (subst (λ r. T (same r one)) (sym back ∙ ap power first) (same-self one)))
   where
     d : ℕ
@@ -233,13 +233,13 @@ two n i j small h l z = absurd (subst T (apart-at 4095 (turned one) order (d - 1
         ∙ z
 
     long : length (power d) ≡ 16
-    long = length-turns d one refl
+    long = length-moves d one refl
 
-    turned-back : turns e (plus (power d) one) ≡ zeros 16
-    turned-back = turns-plus e (power d) one long refl ∙ ap (λ r. plus r (power e)) (sym (turns-add d e one)) ∙ sum
+    moved-back : moves e (plus (power d) one) ≡ zeros 16
+    moved-back = moves-plus e (power d) one long refl ∙ ap (λ r. plus r (power e)) (sym (moves-add d e one)) ∙ sum
 
     none : plus (power d) one ≡ zeros 16
-    none = turns-zero e (plus (power d) one) (plus-longer (power d) one (omega (arith, long))) turned-back
+    none = moves-zero e (plus (power d) one) (plus-longer (power d) one (omega (arith, long))) moved-back
 
     back : power d ≡ one
     back = plus-equal (power d) one long (none ∙ ap zeros (sym long))

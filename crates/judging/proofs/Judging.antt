@@ -183,13 +183,13 @@ module _ (n : ℕ) (off : offered n ≡ true) (o : Offer) (is : o ≡ offerOf n)
 
 -- ---- a measured word, by what is found of it
 
-module _ (n : ℕ) (off : offered n ≡ true) (o : Offer) (is : o ≡ offerOf n) (y s : Word) (word t : List ℕ) (sh : Shape)
+module _ (n : ℕ) (off : offered n ≡ true) (o : Offer) (is : o ≡ offerOf n) (y z : Word) (word h : List ℕ) (sh : Shape)
     (long : length word ≡ code n .wordOctets)
-    (m : Measured n word t y s sh) (q : Bool)
-    (tells-quiet : (c : Code) (h : List ℕ) (sh : Shape) (x : Word) → Fit h sh → Lent c h sh → s ≡ laid c sh x
+    (m : Measured n word h y z sh) (q : Bool)
+    (tells-quiet : (c : Code) (h : List ℕ) (sh : Shape) (x : Word) → Fit h sh → Lent c h sh → z ≡ laid c sh x
     → q ≡ eqb (broken c x) 0) where
   found : q ≡ eqb (broken (code n) (lifted (code n) (bit word))) 0
-  found = tells-quiet (code n) t sh y (m .lends .fit) (m .lends .lent) (m .held) ∙ ap (λ x. eqb (broken (code n) x) 0) (m .bits)
+  found = tells-quiet (code n) h sh y (m .lends .fit) (m .lends .lent) (m .held) ∙ ap (λ x. eqb (broken (code n) x) 0) (m .bits)
 
   met : q ≡ true → broken (code n) (lifted (code n) (bit word)) ≡ 0
   met e = eqb-true (broken (code n) (lifted (code n) (bit word))) 0 (sym found ∙ e)
@@ -210,10 +210,10 @@ module _ (n : ℕ) (off : offered n ≡ true) (o : Offer) (is : o ≡ offerOf n)
       ∙ lifted-sent-bit (code n) (bit word) (bits (code n) + i - code n .unsent)
 
   here : o .bits ≡ bits (code n)
-  here = ap (λ z. z .bits) is ∙ fixed n off .bits-are
+  here = ap (λ v. v .bits) is ∙ fixed n off .bits-are
 
   filled : o .bits + o .fill ≡ 8 * code n .wordOctets + code n .unsent
-  filled = ap₂ (λ a b. a + b) here (ap (λ z. z .fill) is) ∙ fixed n off .fill
+  filled = ap₂ (λ a b. a + b) here (ap (λ v. v .fill) is) ∙ fixed n off .fill
 
   -- the bits that are sent after the parity, as they are found, are code 5's last two
   two-found : o .asked ≡ true → ltb 0 (count (o .fill) (from (o .bits) y)) ≡ lastTwoSet n word
@@ -221,14 +221,14 @@ module _ (n : ℕ) (off : offered n ≡ true) (o : Offer) (is : o ≡ offerOf n)
     where
       go : Dec (n ≡ 4) → ltb 0 (count (o .fill) (from (o .bits) y)) ≡ lastTwoSet n word
       go (yes e) =
-          ap (λ k. ltb 0 (count k (from (o .bits) y))) (ap (λ z. z .fill) is ∙ ap (λ k. offerOf k .fill) e)
+          ap (λ k. ltb 0 (count k (from (o .bits) y))) (ap (λ v. v .fill) is ∙ ap (λ k. offerOf k .fill) e)
           ∙ le-ltb 0 (count 0 (from (o .bits) y)) (le-of-eq (sym (count-start (from (o .bits) y))))
           ∙ sym (ap (λ k. lastTwoSet k word) e)
       go (no d) =
           let e : n ≡ 5 = omega (arith, near n off is asked, offered-high n off) in
           let u : code n .unsent ≡ 18 = sym (fixed n off .unsent) ∙ ap (λ k. offerOf k .unsent) e in
           let m : bits (code n) ≡ 8176 = sym (fixed n off .bits-are) ∙ ap (λ k. offerOf k .bits) e in
-          ap₂ (λ k p. ltb 0 (count k (from p y))) (ap (λ z. z .fill) is ∙ ap (λ k. offerOf k .fill) e) (here ∙ m)
+          ap₂ (λ k p. ltb 0 (count k (from p y))) (ap (λ v. v .fill) is ∙ ap (λ k. offerOf k .fill) e) (here ∙ m)
           ∙ two-bits (from 8176 y) (bit word 8158) (bit word 8159) (at u m 0) (at u m 1)
           ∙ sym (ap (λ b. b && (bit word 8158 || bit word 8159)) (eq-eqb n 5 e))
         where
@@ -252,7 +252,7 @@ module _ (n : ℕ) (off : offered n ≡ true) (o : Offer) (is : o ≡ offerOf n)
     zeros i l h =
         let k = i + code n .unsent - bits (code n) in
         let e : bits (code n) + k - code n .unsent ≡ i = omega (arith, pb n off .before, pb n off .after) in
-        ap (bit word) (sym e) ∙ sym (after k) ∙ ap (λ z. y (z + k)) (sym here)
+        ap (bit word) (sym e) ∙ sym (after k) ∙ ap (λ v. y (v + k)) (sym here)
         ∙ none-counted (o .fill) (from (o .bits) y) (zero-of (count (o .fill) (from (o .bits) y)) none) k
         (omega (arith, filled, here, pb n off .before, pb n off .after))
 

@@ -44,12 +44,12 @@ pub fn judge(o: Offer, y: &[u64], number: u8) -> u8
 }
 
 // What is wrong with a measured word: a broken check, a bit set after the parity, or parity unlike the encoder's; 0 for a codeword.
-pub fn fault(o: Offer, y: &[u64], s: &[u64]) -> u8
-    requires { ⌜ Known o × (length (now y) ≡ wordRoom) × (length (now s) ≡ syndromeRoom) ⌝ }
-    ensures { λ r. ⌜ ((n : ℕ) → offered n ≡ true → o ≡ offerOf n → (word t : List ℕ) (sh : Shape) → length word ≡ codeOf n .wordOctets
-        → Measured n word t (wbit (now (y .entry))) (wbit (now (s .entry))) sh → r ≡ faultOf n word) ⌝ }
+pub fn fault(o: Offer, y: &[u64], z: &[u64]) -> u8
+    requires { ⌜ Known o × (length (now y) ≡ wordRoom) × (length (now z) ≡ syndromeRoom) ⌝ }
+    ensures { λ r. ⌜ ((n : ℕ) → offered n ≡ true → o ≡ offerOf n → (word h : List ℕ) (sh : Shape) → length word ≡ codeOf n .wordOctets
+        → Measured n word h (wbit (now (y .entry))) (wbit (now (z .entry))) sh → r ≡ faultOf n word) ⌝ }
 {
-    if !syndromes::is_quiet(s) {
+    if !syndromes::is_quiet(z) {
         return 9;
     }
     if !o.asked {

@@ -33,8 +33,8 @@ use Rattle.codes.proofs.Admitted.{word-long}
 use Rattle.codes.proofs.Correcting.{ends-at}
 use Rattle.tables.specs.Flat.{Lends}
 use Rattle.measured.specs.Measured.{Measured}
-use Rattle.runs.specs.Turns.{Going, RunsTo}
-use Rattle.runs.proofs.Turning.{going-start, ends-quiet, ends-stuck, ends-limit, goes-on}
+use Rattle.runs.specs.Passes.{Going, RunsTo}
+use Rattle.runs.proofs.Passing.{going-start, ends-quiet, ends-stuck, ends-limit, goes-on}
 use Rattle.lists.specs.declared.FlipRecord.{FlipRecord}
 use Rattle.lists.specs.declared.Listing.{Listing}
 use Rattle.lists.specs.Answers.{asEntry, asEntries, listedAs}
@@ -78,8 +78,8 @@ map-set f (x ∷ l) (suc k) a = ap (λ z. f x ∷ z) (map-set f l k a)
 
 -- ---- the table
 
-module _ (n : ℕ) (word : List ℕ) (limit room : ℕ) (table : List Entry) (now : List FlipRecord) (l : Listing) (t y s : List ℕ)
-    (is : Lists n word limit room l t y s) (on : l .goes ≡ true) (long : length table ≡ room)
+module _ (n : ℕ) (word : List ℕ) (limit room : ℕ) (table : List Entry) (now : List FlipRecord) (l : Listing) (h y z : List ℕ)
+    (is : Lists n word limit room l h y z) (on : l .goes ≡ true) (long : length table ≡ room)
     (so : asEntries now ≡ soFar (listOf n word limit) (l .place) table) where
   -- the place of a list that goes on is one of the table's
   pub in-table : l .place + 1 ≤ room
@@ -89,7 +89,7 @@ module _ (n : ℕ) (word : List ℕ) (limit room : ℕ) (table : List Entry) (no
   pub put-next : asEntries (set now (l .place) (l .record)) ≡ soFar (listOf n word limit) (l .place + 1) table
   put-next =
       map-set asEntry now (l .place) (l .record)
-      ∙ ap₂ (λ z e. set z (l .place) e) so (sym (is .record-is on (asEntry (l .record))))
+      ∙ ap₂ (λ w e. set w (l .place) e) so (sym (is .record-is on (asEntry (l .record))))
       ∙ one-more (l .place) (listOf n word limit) table (asEntry (l .record))
       (omega (arith, list-long (code n) (wordOf n word) (runOf n word limit .flips), is .goes on .going .count)) (omega (
         arith,
@@ -98,11 +98,11 @@ module _ (n : ℕ) (word : List ℕ) (limit room : ℕ) (table : List Entry) (no
       ))
 
 -- a list that is refused: nothing is written
-pub refused-lists : (n : ℕ) (word : List ℕ) (limit room : ℕ) (l : Listing) (t y s : List ℕ) (number : ℕ) → l .goes ≡ false
+pub refused-lists : (n : ℕ) (word : List ℕ) (limit room : ℕ) (l : Listing) (h y z : List ℕ) (number : ℕ) → l .goes ≡ false
     → l .place ≡ 0 → ((table : List Entry) → listedAs (l .answer) table ≡ refusedList table number)
     → ((table : List Entry) → length table ≡ room → refusedList table number ≡ listAnswer n word limit table)
-    → Lists n word limit room l t y s
-refused-lists n word limit room l t y s number off at is told = record {
+    → Lists n word limit room l h y z
+refused-lists n word limit room l h y z number off at is told = record {
   goes = λ on. absurd (subst T (sym on ∙ off) tt);
   record-is = λ on. absurd (subst T (sym on ∙ off) tt);
   ends = λ _ table long. ap (λ k. listedAs (l .answer) (soFar (listOf n word limit) k table)) at ∙ is table ∙ told table long;
@@ -147,33 +147,33 @@ module _ (n : ℕ) (off : offered n ≡ true) (word : List ℕ) (o : Offer) (is 
         )))
 
     -- a run that is begun
-    pub starts : (t y s : List ℕ) (sh : Shape) → Measured n word t (wbit y) (wbit s) sh → sh ≡ o .shape → length y ≡ 130 → length s ≡ 16
+    pub starts : (h y z : List ℕ) (sh : Shape) → Measured n word h (wbit y) (wbit z) sh → sh ≡ o .shape → length y ≡ 130 → length z ≡ 16
         → (first low : ℕ) → first ≡ broken (code n) (wbit y) → low ≡ lowest (code n) (wbit y)
         → leb (length (runOf n word limit .flips)) room ≡ true → (l : Listing) → l .offer ≡ o → l .limit ≡ limit → l .answer .first ≡ first
-        → l .answer .lowest ≡ low → l .record .left ≡ first → Stands n word limit room l 0 t y s
-    starts t y s sh m shape ly ls first low f lo some l offers lim at-first at-low left = record {
+        → l .answer .lowest ≡ low → l .record .left ≡ first → Stands n word limit room l 0 h y z
+    starts h y z sh m shape ly ls first low f lo some l offers lim at-first at-low left = record {
       measures = record {
         offers = off;
         is = offers ∙ is;
-        long = long ∙ sym (ap (λ z. z .word) offers);
+        long = long ∙ sym (ap (λ w. w .word) offers);
         under = lim;
         first = at-first ∙ f ∙ ap (broken (code n)) (m .bits);
         lowest = at-low ∙ lo ∙ ap (lowest (code n)) (m .bits);
       };
       y-long = ly;
-      s-long = ls;
-      lends = subst (Lends n t) same (m .lends);
+      z-long = ls;
+      lends = subst (Lends n h) same (m .lends);
       left = left ∙ f;
-      going = subst (λ z. Going (byExcess (code n)) (code n) z limit (wordOf n word) 0 (wbit y) (wbit s)) same
-          (subst (λ x. Going (byExcess (code n)) (code n) sh limit x 0 (wbit y) (wbit s)) (m .bits)
-          (going-start (byExcess (code n)) (code n) sh limit (wbit y) (wbit s) (m .held)));
+      going = subst (λ w. Going (byExcess (code n)) (code n) w limit (wordOf n word) 0 (wbit y) (wbit z)) same
+          (subst (λ x. Going (byExcess (code n)) (code n) sh limit x 0 (wbit y) (wbit z)) (m .bits)
+          (going-start (byExcess (code n)) (code n) sh limit (wbit y) (wbit z) (m .held)));
       list = ap (λ x. entries (code n) x (run (byExcess (code n)) limit x .flips)) (sym (m .bits))
           ∙ ap (λ k. entries (code n) (wbit y) (run (byExcess (code n)) k (wbit y) .flips)) none;
       serves = leb-true _ _ some;
     }
       where
         same : sh ≡ l .offer .shape
-        same = shape ∙ sym (ap (λ z. z .shape) offers)
+        same = shape ∙ sym (ap (λ w. w .shape) offers)
 
         none : limit ≡ limit - 0
         none = omega arith
@@ -227,19 +227,19 @@ module _ (n : ℕ) (word : List ℕ) (limit : ℕ) (l : Listing) (flips : ℕ) (
       ∙ ap (λ f. numbers (judged (code n) r) (length (r .flips)) (broken (code n) (wordOf n word)) (broken (code n) (r .word))
       (differing (code n) (wordOf n word) (r .word)) (lowest (code n) (wordOf n word)) (f .bit) (f .excess) table) (sym (e .why))
 
--- ---- a turn
+-- ---- a pass
 
-module _ (n : ℕ) (word : List ℕ) (limit room : ℕ) (l : Listing) (flips : ℕ) (t y s : List ℕ) (st : Stands n word limit room l flips t y s)
+module _ (n : ℕ) (word : List ℕ) (limit room : ℕ) (l : Listing) (flips : ℕ) (h y z : List ℕ) (st : Stands n word limit room l flips h y z)
   where
     abbrev r : Run
     r = runOf n word limit
 
     unlike-five : (number : ℕ) → (number ≡ 5 → ⊥) → number ≡ r .number → reason (code n) r ≡ record { bit = 0; excess = pos 0 }
-    unlike-five number d e = reason-none (code n) r (λ z. d (e ∙ z))
+    unlike-five number d e = reason-none (code n) r (λ u. d (e ∙ u))
 
     ends-as : (number why : ℕ) (ex : ℤ)
         → RunsTo (byExcess (code n)) (code n) (l .offer .shape) limit (wordOf n word) (record { number = number; flips = flips }) (wbit y)
-        (wbit s) → reason (code n) r ≡ record { bit = why; excess = ex } → Ends n word limit l flips (wbit y) number why ex
+        (wbit z) → reason (code n) r ≡ record { bit = why; excess = ex } → Ends n word limit l flips (wbit y) number why ex
     ends-as number why ex to reasoned = record {
       measures = st .measures;
       number-is = to .number;
@@ -251,27 +251,27 @@ module _ (n : ℕ) (word : List ℕ) (limit room : ℕ) (l : Listing) (flips : �
 
     pub ends-by-quiet : byExcess (code n) (wbit y) ≡ quiet → Ends n word limit l flips (wbit y) 0 0 (pos 0)
     ends-by-quiet e =
-        let to = ends-quiet (byExcess (code n)) (code n) _ limit (wordOf n word) flips (wbit y) (wbit s) (st .going) e in
-        ends-as 0 0 (pos 0) to (unlike-five 0 (λ z. omega arith) (to .number))
+        let to = ends-quiet (byExcess (code n)) (code n) _ limit (wordOf n word) flips (wbit y) (wbit z) (st .going) e in
+        ends-as 0 0 (pos 0) to (unlike-five 0 (λ u. omega arith) (to .number))
 
     pub ends-by-stuck : (k : ℕ) (ex ex′ : ℤ) → ex′ ≡ ex → byExcess (code n) (wbit y) ≡ stuck k ex
         → Ends n word limit l flips (wbit y) 5 k ex′
     ends-by-stuck k ex ex′ same e =
-        let to = ends-stuck (byExcess (code n)) (code n) _ limit (wordOf n word) flips (wbit y) (wbit s) (st .going) k ex e in
+        let to = ends-stuck (byExcess (code n)) (code n) _ limit (wordOf n word) flips (wbit y) (wbit z) (st .going) k ex e in
         ends-as 5 k ex′ to (reason-stuck (code n) r (sym (to .number)) k ex (ap (byExcess (code n)) (sym (to .word)) ∙ e)
-        ∙ ap (λ z. record { bit = k; excess = z }) (sym same))
+        ∙ ap (λ u. record { bit = k; excess = u }) (sym same))
 
     pub ends-by-limit : (k : ℕ) (ex : ℤ) → byExcess (code n) (wbit y) ≡ flip k ex → limit ≤ flips
         → Ends n word limit l flips (wbit y) 6 0 (pos 0)
-    ends-by-limit k ex e h =
-        let to = ends-limit (byExcess (code n)) (code n) _ limit (wordOf n word) flips (wbit y) (wbit s) (st .going) k ex e h in
-        ends-as 6 0 (pos 0) to (unlike-five 6 (λ z. omega arith) (to .number))
+    ends-by-limit k ex e q =
+        let to = ends-limit (byExcess (code n)) (code n) _ limit (wordOf n word) flips (wbit y) (wbit z) (st .going) k ex e q in
+        ends-as 6 0 (pos 0) to (unlike-five 6 (λ u. omega arith) (to .number))
 
     -- the answer of a list that has ended
-    pub ended-lists : (number why : ℕ) (ex : ℤ) → Ends n word limit l flips (wbit y) number why ex → (l′ : Listing) (t′ y′ s′ : List ℕ)
+    pub ended-lists : (number why : ℕ) (ex : ℤ) → Ends n word limit l flips (wbit y) number why ex → (l′ : Listing) (h′ y′ z′ : List ℕ)
         → l′ .goes ≡ false → l′ .place ≡ flips → ((table : List Entry) → listedAs (l′ .answer) table ≡ endsWith n word limit table)
-        → Lists n word limit room l′ t′ y′ s′
-    ended-lists number why ex e l′ t′ y′ s′ off at is = record {
+        → Lists n word limit room l′ h′ y′ z′
+    ended-lists number why ex e l′ h′ y′ z′ off at is = record {
       goes = λ on. never (sym on ∙ off);
       record-is = λ on. never (sym on ∙ off);
       ends = λ _ table long.
@@ -285,46 +285,46 @@ module _ (n : ℕ) (word : List ℕ) (limit room : ℕ) (l : Listing) (flips : �
         m = st .measures
 
         never : {P : Type 0} → true ≡ false → P
-        never z = absurd (subst T z tt)
+        never u = absurd (subst T u tt)
 
         entered : (table : List Entry) → soFar (listOf n word limit) (l′ .place) table ≡ enteredIn table (listOf n word limit)
         entered table =
-            let z : l′ .place ≡ length (listOf n word limit)
+            let u : l′ .place ≡ length (listOf n word limit)
             = at ∙ e .flips-are ∙ sym (list-long (code n) (wordOf n word) (r .flips)) in
-            ap₂ (λ a k. a ++ drop k table) (whole (l′ .place) (listOf n word limit) z) z
+            ap₂ (λ a k. a ++ drop k table) (whole (l′ .place) (listOf n word limit) u) u
 
     -- one flip more
-    pub went-lists : (k : ℕ) (ex ex′ : ℤ) → ex′ ≡ ex → byExcess (code n) (wbit y) ≡ flip k ex → flips < limit → (left : ℕ) (y′ s′ : List ℕ)
-        → length y′ ≡ 130 → length s′ ≡ 16 → wbit y′ ≡ flipped (wbit y) k → wbit s′ ≡ laid (code n) (l .offer .shape) (flipped (wbit y) k)
+    pub went-lists : (k : ℕ) (ex ex′ : ℤ) → ex′ ≡ ex → byExcess (code n) (wbit y) ≡ flip k ex → flips < limit → (left : ℕ) (y′ z′ : List ℕ)
+        → length y′ ≡ 130 → length z′ ≡ 16 → wbit y′ ≡ flipped (wbit y) k → wbit z′ ≡ laid (code n) (l .offer .shape) (flipped (wbit y) k)
         → left ≡ broken (code n) (flipped (wbit y) k) → (l′ : Listing) → l′ .goes ≡ true → l′ .place ≡ flips
         → l′ .record ≡ record { bit = k; excess = ex′; left = left } → l′ .answer ≡ l .answer → l′ .limit ≡ l .limit
-        → l′ .offer ≡ l .offer → Lists n word limit room l′ t y′ s′
+        → l′ .offer ≡ l .offer → Lists n word limit room l′ h y′ z′
     unfolding entries
-    went-lists k ex ex′ same e h left y′ s′ ly ls here held lf l′ on at rec ans lim off = record {
+    went-lists k ex ex′ same e q left y′ z′ ly ls here held lf l′ on at rec ans lim off = record {
       goes = λ _. record {
         measures = record {
           offers = m .offers;
           is = off ∙ m .is;
-          long = m .long ∙ sym (ap (λ z. z .word) off);
+          long = m .long ∙ sym (ap (λ u. u .word) off);
           under = lim ∙ m .under;
-          first = ap (λ z. z .first) ans ∙ m .first;
-          lowest = ap (λ z. z .lowest) ans ∙ m .lowest;
+          first = ap (λ u. u .first) ans ∙ m .first;
+          lowest = ap (λ u. u .lowest) ans ∙ m .lowest;
         };
         y-long = ly;
-        s-long = ls;
-        lends = subst (λ z. Lends n t (z .shape)) (sym off) (st .lends);
-        left = ap (λ z. z .left) rec ∙ lf ∙ ap (broken (code n)) (sym here);
-        going = subst (λ z. Going (byExcess (code n)) (code n) (z .shape) limit (wordOf n word) (l′ .place + 1) (wbit y′) (wbit s′)) (sym
+        z-long = ls;
+        lends = subst (λ u. Lends n h (u .shape)) (sym off) (st .lends);
+        left = ap (λ u. u .left) rec ∙ lf ∙ ap (broken (code n)) (sym here);
+        going = subst (λ u. Going (byExcess (code n)) (code n) (u .shape) limit (wordOf n word) (l′ .place + 1) (wbit y′) (wbit z′)) (sym
             off)
-            (subst (λ z. Going (byExcess (code n)) (code n) (l .offer .shape) limit (wordOf n word) (z + 1) (wbit y′) (wbit s′)) (sym at)
-            (goes-on (byExcess (code n)) (code n) _ limit (wordOf n word) flips (wbit y) (wbit s) (st .going) k ex e h (wbit y′) (wbit s′)
+            (subst (λ u. Going (byExcess (code n)) (code n) (l .offer .shape) limit (wordOf n word) (u + 1) (wbit y′) (wbit z′)) (sym at)
+            (goes-on (byExcess (code n)) (code n) _ limit (wordOf n word) flips (wbit y) (wbit z) (st .going) k ex e q (wbit y′) (wbit z′)
             here held));
-        list = subst (λ z. listOf n word limit ≡ take (z + 1) (listOf n word limit) ++ rest (z + 1)) (sym at) (split (asEntry (l′
+        list = subst (λ u. listOf n word limit ≡ take (u + 1) (listOf n word limit) ++ rest (u + 1)) (sym at) (split (asEntry (l′
             .record)) .1);
         serves = st .serves;
       };
-      record-is = λ _ d. ap (λ z. getD (listOf n word limit) z d) at ∙ split d .0
-          ∙ ap₂ (λ v z. record { bit = k; excess = v; left = z }) (sym same) (sym lf) ∙ sym (ap asEntry rec);
+      record-is = λ _ d. ap (λ u. getD (listOf n word limit) u d) at ∙ split d .0
+          ∙ ap₂ (λ v u. record { bit = k; excess = v; left = u }) (sym same) (sym lf) ∙ sym (ap asEntry rec);
       ends = λ off. absurd (subst T (sym on ∙ off) tt);
     }
       where
@@ -343,7 +343,7 @@ module _ (n : ℕ) (word : List ℕ) (limit room : ℕ) (l : Listing) (flips : �
         goes-so : listOf n word limit ≡ take flips (listOf n word limit) ++ (first ∷ rest (flips + 1))
         goes-so =
             st .list
-            ∙ ap (λ z. take flips (listOf n word limit) ++ entries (code n) (wbit y) (z .flips))
+            ∙ ap (λ u. take flips (listOf n word limit) ++ entries (code n) (wbit y) (u .flips))
             (ap (λ i. run (byExcess (code n)) i (wbit y)) less ∙ run-flip (byExcess (code n)) (limit - (flips + 1)) (wbit y) k ex e)
             ∙ ap (λ w. take flips (listOf n word limit) ++
             (first ∷ entries (code n) w (run (byExcess (code n)) (limit - (flips + 1)) w .flips))) (sym here)
@@ -352,5 +352,5 @@ module _ (n : ℕ) (word : List ℕ) (limit room : ℕ) (l : Listing) (flips : �
             × (listOf n word limit ≡ take (flips + 1) (listOf n word limit) ++ rest (flips + 1))
         split d =
             let w = goes-with flips (listOf n word limit) (rest (flips + 1)) first d goes-so in
-            let z : suc flips ≡ flips + 1 = omega arith in
-            (w .0, w .1 ∙ ap (λ i. take i (listOf n word limit) ++ rest (flips + 1)) z)
+            let u : suc flips ≡ flips + 1 = omega arith in
+            (w .0, w .1 ∙ ap (λ i. take i (listOf n word limit) ++ rest (flips + 1)) u)

@@ -16,7 +16,7 @@ use Rattle.vectors.specs.Vectors.{wbit}
 use Rattle.layout.specs.Rooms.{syndromeRoom, tableRoom, wordRoom}
 use Rattle.offer.specs.Offers.{offerOf}
 use Rattle.tables.specs.Flat.{Lends}
-use Rattle.runs.specs.Turns.{Going}
+use Rattle.runs.specs.Passes.{Going}
 use Rattle.lists.specs.declared.Listing.{Listing}
 use Rattle.lists.specs.Answers.{asEntry, listedAs}
 
@@ -41,7 +41,7 @@ endsWith n word limit table =
 
 -- Room for what is measured of a word, as zeros.
 abbrev pub Blank : List ℕ → List ℕ → List ℕ → Type 0
-Blank t y s = (length t ≡ tableRoom) × (length y ≡ wordRoom) × (length s ≡ syndromeRoom) × (wbit y ≡ (λ n. false)) × (wbit s ≡ (λ n. false))
+Blank h y z = (length h ≡ tableRoom) × (length y ≡ wordRoom) × (length z ≡ syndromeRoom) × (wbit y ≡ (λ n. false)) × (wbit z ≡ (λ n. false))
 
 -- The list is of this code, word and limit, and knows what was measured of the word.
 pub record Measures (n : ℕ) (word : List ℕ) (limit : ℕ) (l : Listing) : Type 0 where
@@ -62,35 +62,35 @@ pub record Ends (n : ℕ) (word : List ℕ) (limit : ℕ) (l : Listing) (flips :
   pub why : reason (code n) (runOf n word limit) ≡ record { bit = bit; excess = excess }
 
 -- The run has come to y after so many flips, and its list goes on from there; a table of this room serves.
-pub record Stands (n : ℕ) (word : List ℕ) (limit room : ℕ) (l : Listing) (flips : ℕ) (t y s : List ℕ) : Type 0 where
+pub record Stands (n : ℕ) (word : List ℕ) (limit room : ℕ) (l : Listing) (flips : ℕ) (h y z : List ℕ) : Type 0 where
   pub measures : Measures n word limit l
   pub y-long : length y ≡ wordRoom
-  pub s-long : length s ≡ syndromeRoom
-  pub lends : Lends n t (l .offer .shape)
+  pub z-long : length z ≡ syndromeRoom
+  pub lends : Lends n h (l .offer .shape)
   pub left : l .record .left ≡ broken (code n) (wbit y)
-  pub going : Going (byExcess (code n)) (code n) (l .offer .shape) limit (wordOf n word) flips (wbit y) (wbit s)
+  pub going : Going (byExcess (code n)) (code n) (l .offer .shape) limit (wordOf n word) flips (wbit y) (wbit z)
   pub list : listOf n word limit ≡ take flips (listOf n word limit) ++ entries (code n) (wbit y) (run (byExcess (code n)) (limit - flips)
       (wbit y) .flips)
   pub serves : length (runOf n word limit .flips) ≤ room
 
 -- The same of some code, limit and room.
-pub record Standing (word : List ℕ) (l : Listing) (flips : ℕ) (t y s : List ℕ) : Type 0 where
+pub record Standing (word : List ℕ) (l : Listing) (flips : ℕ) (h y z : List ℕ) : Type 0 where
   pub number : ℕ
   pub limit : ℕ
   pub room : ℕ
-  pub stands : Stands number word limit room l flips t y s
+  pub stands : Stands number word limit room l flips h y z
 
 -- A list that goes on has the record of its place at hand; one that has ended has the answer, for the table with the records so far.
-pub record Lists (n : ℕ) (word : List ℕ) (limit room : ℕ) (l : Listing) (t y s : List ℕ) : Type 0 where
-  pub goes : l .goes ≡ true → Stands n word limit room l (l .place + 1) t y s
+pub record Lists (n : ℕ) (word : List ℕ) (limit room : ℕ) (l : Listing) (h y z : List ℕ) : Type 0 where
+  pub goes : l .goes ≡ true → Stands n word limit room l (l .place + 1) h y z
   pub record-is : l .goes ≡ true → (d : Entry) → getD (listOf n word limit) (l .place) d ≡ asEntry (l .record)
   pub ends : l .goes ≡ false → (table : List Entry) → length table ≡ room
       → listedAs (l .answer) (soFar (listOf n word limit) (l .place) table) ≡ listAnswer n word limit table
 
 -- Some list that goes on.
-pub record Goes (word : List ℕ) (l : Listing) (t y s : List ℕ) : Type 0 where
+pub record Goes (word : List ℕ) (l : Listing) (h y z : List ℕ) : Type 0 where
   pub number : ℕ
   pub limit : ℕ
   pub room : ℕ
   pub on : l .goes ≡ true
-  pub lists : Lists number word limit room l t y s
+  pub lists : Lists number word limit room l h y z

@@ -143,22 +143,22 @@ fn went(l: Listing, flips: usize, bit: u32, excess: i8, left: u32) -> Listing
 }
 
 // What comes after so many flips: one more, or the end.
-fn turn(
+fn pass(
     l: Listing,
     flips: usize,
     word: &[u8],
-    t: &mut [u16],
+    h: &mut [u16],
     y: &mut [u64],
-    s: &mut [u64],
+    z: &mut [u64],
 ) -> Listing
-    requires { ⌜ Standing (now word) l flips (now t) (now y) (now s) ⌝ }
+    requires { ⌜ Standing (now word) l flips (now h) (now y) (now z) ⌝ }
     ensures { λ r. ⌜ (r .place ≡ flips) × ((n limit room : ℕ)
-        → Stands n (now (word .entry)) limit room l flips (now (t .entry)) (now (y .entry)) (now (s .entry))
-        → Lists n (now (word .entry)) limit room r (now (t .exit)) (now (y .exit)) (now (s .exit))) ⌝ }
+        → Stands n (now (word .entry)) limit room l flips (now (h .entry)) (now (y .entry)) (now (z .entry))
+        → Lists n (now (word .entry)) limit room r (now (h .exit)) (now (y .exit)) (now (z .exit))) ⌝ }
 {
     let o = l.offer;
     let sh = o.shape;
-    let next = runs::comes_next(s, t, sh, o.unsent);
+    let next = runs::comes_next(z, h, sh, o.unsent);
     match next {
         Next::Quiet => ended(l, flips, word, y, 0, 0, 0),
         Next::Stuck(bit, excess) => ended(l, flips, word, y, 5, bit as u32, excess),
@@ -166,21 +166,21 @@ fn turn(
             if flips >= l.limit as usize {
                 return ended(l, flips, word, y, 6, 0, 0);
             }
-            syndromes::flip(y, s, t, sh, bit);
-            let left = syndromes::broken(s);
+            syndromes::flip(y, z, h, sh, bit);
+            let left = syndromes::broken(z);
             went(l, flips, bit as u32, excess, left)
         }
     }
 }
 
 // The next record of the list, or its end.
-pub fn next(l: Listing, word: &[u8], t: &mut [u16], y: &mut [u64], s: &mut [u64]) -> Listing
-    requires { ⌜ Goes (now word) l (now t) (now y) (now s) ⌝ }
+pub fn next(l: Listing, word: &[u8], h: &mut [u16], y: &mut [u64], z: &mut [u64]) -> Listing
+    requires { ⌜ Goes (now word) l (now h) (now y) (now z) ⌝ }
     ensures { λ r. ⌜ (r .place ≡ l .place + 1) × ((n limit room : ℕ)
-        → Lists n (now (word .entry)) limit room l (now (t .entry)) (now (y .entry)) (now (s .entry))
-        → Lists n (now (word .entry)) limit room r (now (t .exit)) (now (y .exit)) (now (s .exit))) ⌝ }
+        → Lists n (now (word .entry)) limit room l (now (h .entry)) (now (y .entry)) (now (z .entry))
+        → Lists n (now (word .entry)) limit room r (now (h .exit)) (now (y .exit)) (now (z .exit))) ⌝ }
 {
-    turn(l, l.place + 1, word, t, y, s)
+    pass(l, l.place + 1, word, h, y, z)
 }
 
 // No run has more flips than checks are broken at its start; for the near-Earth codes than half as many.
@@ -199,12 +199,12 @@ fn count_flips(o: Offer, word: &[u8], limit: u16) -> usize
     requires { ⌜ Known o × (length (now word) ≡ o .word) ⌝ }
     ensures { λ r. ⌜ ((n : ℕ) → offered n ≡ true → o ≡ offerOf n → r ≡ length (runOf n (now (word .entry)) limit .flips)) ⌝ }
 {
-    let mut t = [0u16; TABLE];
+    let mut h = [0u16; TABLE];
     let mut y = [0u64; WORD];
-    let mut s = [0u64; SYNDROME];
-    let sh = measured::measure(o, word, &mut t, &mut y, &mut s);
-    let first = syndromes::broken(&s);
-    let ended = runs::run(&mut y, &s, &t, sh, o.unsent, limit, first);
+    let mut z = [0u64; SYNDROME];
+    let sh = measured::measure(o, word, &mut h, &mut y, &mut z);
+    let first = syndromes::broken(&z);
+    let ended = runs::run(&mut y, &z, &h, sh, o.unsent, limit, first);
     ended.ran.flips as usize
 }
 
@@ -229,17 +229,17 @@ fn begin_taken(
     word: &[u8],
     limit: u16,
     room: usize,
-    t: &mut [u16],
+    h: &mut [u16],
     y: &mut [u64],
-    s: &mut [u64],
+    z: &mut [u64],
 ) -> Listing
-    requires { ⌜ Known o × (length (now word) ≡ o .word) × Blank (now t) (now y) (now s) ⌝ }
+    requires { ⌜ Known o × (length (now word) ≡ o .word) × Blank (now h) (now y) (now z) ⌝ }
     ensures { λ r. ⌜ (r .place ≡ 0) × ((n : ℕ) → offered n ≡ true → o ≡ offerOf n
-        → Lists n (now (word .entry)) limit room r (now (t .exit)) (now (y .exit)) (now (s .exit))) ⌝ }
+        → Lists n (now (word .entry)) limit room r (now (h .exit)) (now (y .exit)) (now (z .exit))) ⌝ }
 {
-    let sh = measured::measure(o, word, t, y, s);
-    let first = syndromes::broken(s);
-    let lowest = syndromes::lowest(s, sh);
+    let sh = measured::measure(o, word, h, y, z);
+    let first = syndromes::broken(z);
+    let lowest = syndromes::lowest(z, sh);
     if !serves(o, word, limit, first, room) {
         return refused(10);
     }
@@ -264,41 +264,41 @@ fn begin_taken(
         limit: limit,
         offer: o,
     };
-    turn(l, 0, word, t, y, s)
+    pass(l, 0, word, h, y, z)
 }
 
-// The list of the run on a received word, under a limit, for a table of so many places; t, y and s are handed over as zeros.
+// The list of the run on a received word, under a limit, for a table of so many places; h, y and z are handed over as zeros.
 pub fn begin(
     code: u8,
     word: &[u8],
     limit: u16,
     room: usize,
-    t: &mut [u16],
+    h: &mut [u16],
     y: &mut [u64],
-    s: &mut [u64],
+    z: &mut [u64],
 ) -> Listing
-    requires { ⌜ Blank (now t) (now y) (now s) ⌝ }
-    ensures { λ r. ⌜ (r .place ≡ 0) × Lists code (now (word .entry)) limit room r (now (t .exit)) (now (y .exit)) (now (s .exit)) ⌝ }
+    requires { ⌜ Blank (now h) (now y) (now z) ⌝ }
+    ensures { λ r. ⌜ (r .place ≡ 0) × Lists code (now (word .entry)) limit room r (now (h .exit)) (now (y .exit)) (now (z .exit)) ⌝ }
 {
     let o = offer::of(code);
     let number = ladder::refusal(o.offered, word.len(), o.word, 0, 0);
     if number != 0 {
         return refused(number);
     }
-    begin_taken(o, word, limit, room, t, y, s)
+    begin_taken(o, word, limit, room, h, y, z)
 }
 
 // The list of the run on a received word, under a limit, into the caller's table.
 pub fn list(code: u8, word: &[u8], limit: u16, table: &mut [FlipRecord]) -> Listed
     ensures { λ r. ⌜ asListed r (now (table .exit)) ≡ listAnswer code (now (word .entry)) limit (asEntries (now (table .entry))) ⌝ }
 {
-    let mut t = [0u16; TABLE];
+    let mut h = [0u16; TABLE];
     let mut y = [0u64; WORD];
-    let mut s = [0u64; SYNDROME];
-    let mut l = begin(code, word, limit, table.len(), &mut t, &mut y, &mut s);
+    let mut z = [0u64; SYNDROME];
+    let mut l = begin(code, word, limit, table.len(), &mut h, &mut y, &mut z);
     while l.goes {
         table[l.place] = l.record;
-        l = next(l, word, &mut t, &mut y, &mut s);
+        l = next(l, word, &mut h, &mut y, &mut z);
     }
     l.answer
 }

@@ -17,8 +17,8 @@ pub record Size (size : ℕ) : Type 0 where
   pub offers : offered number ≡ true
   pub is : size ≡ offerOf number .shape .size
 
--- The places t and the shape are the code's, y is the word, and s its syndrome.
-pub record Measured (n : ℕ) (word t : List ℕ) (y s : Word) (sh : Shape) : Type 0 where
-  pub lends : Lends n t sh
+-- The places h and the shape are the code's, y is the word, and z its syndrome.
+pub record Measured (n : ℕ) (word h : List ℕ) (y z : Word) (sh : Shape) : Type 0 where
+  pub lends : Lends n h sh
   pub bits : y ≡ lifted (code n) (bit word)
-  pub held : s ≡ laid (code n) sh y
+  pub held : z ≡ laid (code n) sh y

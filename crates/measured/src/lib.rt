@@ -14,16 +14,16 @@ ghost use Rattle.layout.specs.Rooms.{syndromeRoom, tableRoom, wordRoom};
 use layout::Shape;
 use offer::Offer;
 
-// The parity table of blocks of this size into t, its shape, and the syndrome of the bits that y holds into s, which is handed over
+// The parity table of blocks of this size into h, its shape, and the syndrome of the bits that y holds into z, which is handed over
 // as zeros.
-pub fn checks(size: usize, y: &[u64], t: &mut [u16], s: &mut [u64]) -> Shape
-    requires { ⌜ Size size × (length (now y) ≡ wordRoom) × (length (now t) ≡ tableRoom) × (length (now s) ≡ syndromeRoom)
-        × (wbit (now s) ≡ (λ n. false)) ⌝ }
-    ensures { λ r. ⌜ ((n : ℕ) → offered n ≡ true → size ≡ offerOf n .shape .size → (r ≡ offerOf n .shape) × Lends n (now (t .exit)) r
-        × (wbit (now (s .exit)) ≡ laid (codeOf n) r (wbit (now (y .entry))))) ⌝ }
+pub fn checks(size: usize, y: &[u64], h: &mut [u16], z: &mut [u64]) -> Shape
+    requires { ⌜ Size size × (length (now y) ≡ wordRoom) × (length (now h) ≡ tableRoom) × (length (now z) ≡ syndromeRoom)
+        × (wbit (now z) ≡ (λ n. false)) ⌝ }
+    ensures { λ r. ⌜ ((n : ℕ) → offered n ≡ true → size ≡ offerOf n .shape .size → (r ≡ offerOf n .shape) × Lends n (now (h .exit)) r
+        × (wbit (now (z .exit)) ≡ laid (codeOf n) r (wbit (now (y .entry))))) ⌝ }
 {
-    let sh = tables::lend(size, t);
-    syndromes::syndrome(y, t, sh, s);
+    let sh = tables::lend(size, h);
+    syndromes::syndrome(y, h, sh, z);
     sh
 }
 
@@ -32,26 +32,26 @@ fn measure_by(
     unsent: usize,
     size: usize,
     word: &[u8],
-    t: &mut [u16],
+    h: &mut [u16],
     y: &mut [u64],
-    s: &mut [u64],
+    z: &mut [u64],
 ) -> Shape
-    requires { ⌜ Size size × (unsent ≤ 18) × (length (now word) ≤ 1022) × (length (now t) ≡ tableRoom) × (length (now y) ≡ wordRoom)
-        × (length (now s) ≡ syndromeRoom) × (wbit (now y) ≡ (λ n. false)) × (wbit (now s) ≡ (λ n. false)) ⌝ }
+    requires { ⌜ Size size × (unsent ≤ 18) × (length (now word) ≤ 1022) × (length (now h) ≡ tableRoom) × (length (now y) ≡ wordRoom)
+        × (length (now z) ≡ syndromeRoom) × (wbit (now y) ≡ (λ n. false)) × (wbit (now z) ≡ (λ n. false)) ⌝ }
     ensures { λ r. ⌜ ((n : ℕ) → offered n ≡ true → unsent ≡ offerOf n .unsent → size ≡ offerOf n .shape .size → (r ≡ offerOf n .shape)
-        × Measured n (now (word .entry)) (now (t .exit)) (wbit (now (y .exit))) (wbit (now (s .exit))) r) ⌝ }
+        × Measured n (now (word .entry)) (now (h .exit)) (wbit (now (y .exit))) (wbit (now (z .exit))) r) ⌝ }
 {
     received::take(word, unsent, y);
-    checks(size, y, t, s)
+    checks(size, y, h, z)
 }
 
-// The parity table into t, its shape, the word's bits into y, and its syndrome into s; y and s are handed over as zeros.
-pub fn measure(o: Offer, word: &[u8], t: &mut [u16], y: &mut [u64], s: &mut [u64]) -> Shape
-    requires { ⌜ Known o × (length (now word) ≡ o .word) × (length (now t) ≡ tableRoom) × (length (now y) ≡ wordRoom)
-        × (length (now s) ≡ syndromeRoom) × (wbit (now y) ≡ (λ n. false)) × (wbit (now s) ≡ (λ n. false)) ⌝ }
+// The parity table into h, its shape, the word's bits into y, and its syndrome into z; y and z are handed over as zeros.
+pub fn measure(o: Offer, word: &[u8], h: &mut [u16], y: &mut [u64], z: &mut [u64]) -> Shape
+    requires { ⌜ Known o × (length (now word) ≡ o .word) × (length (now h) ≡ tableRoom) × (length (now y) ≡ wordRoom)
+        × (length (now z) ≡ syndromeRoom) × (wbit (now y) ≡ (λ n. false)) × (wbit (now z) ≡ (λ n. false)) ⌝ }
     ensures { λ r. ⌜ (r ≡ o .shape) × ((n : ℕ) → offered n ≡ true → o ≡ offerOf n
-        → Measured n (now (word .entry)) (now (t .exit)) (wbit (now (y .exit))) (wbit (now (s .exit))) r) ⌝ }
+        → Measured n (now (word .entry)) (now (h .exit)) (wbit (now (y .exit))) (wbit (now (z .exit))) r) ⌝ }
 {
     let of = o.shape;
-    measure_by(o.unsent, of.size, word, t, y, s)
+    measure_by(o.unsent, of.size, word, h, y, z)
 }

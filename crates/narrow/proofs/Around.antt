@@ -106,26 +106,26 @@ module _ (m : ℕ) (some : 1 ≤ m) (even : 64 % m ≡ 0) where
           let s : b ≡ a + q * m = omega (arith, suc-mul q m) in
           ap (λ z. z % m) s ∙ add-mul-mod-self-right a q m
 
-  pub turned-back : (v r e : ℕ) (f : Word) → e < m → m ≤ 64 → Holds v (around m f)
-      → Holds r (from ((64 - e) % 64) (wbit (v ∷ v ∷ []))) → Holds r (λ k. f ((k + (m - e)) % m))
-  turned-back v r e f l fits is turned k hk =
-      turned-at v r (64 - e) k f hk is turned ∙ ap f (off (k + (m - e)) (64 - e + k) (omega arith))
+  pub turned-back : (v r s : ℕ) (f : Word) → s < m → m ≤ 64 → Holds v (around m f)
+      → Holds r (from ((64 - s) % 64) (wbit (v ∷ v ∷ []))) → Holds r (λ k. f ((k + (m - s)) % m))
+  turned-back v r s f l fits is turned k hk =
+      turned-at v r (64 - s) k f hk is turned ∙ ap f (off (k + (m - s)) (64 - s + k) (omega arith))
 
   -- Which bit is the first of a row, after a turn.
-  module _ (e k i : ℕ) (he : e < m) (hk : k < m) (fits : m ≤ 64) where
+  module _ (s k i : ℕ) (hs : s < m) (hk : k < m) (fits : m ≤ 64) where
     abbrev z : ℕ
-    z = (i % m + e) % m
+    z = (i % m + s) % m
 
     near : z < m
-    near = mod-lt (i % m + e) some
+    near = mod-lt (i % m + s) some
 
     meets : eqb 0 ((m - k + z) % m) ≡ eqb z k
     meets = ⊎-elim up down (le-or-lt k z)
       where
         up : k ≤ z → eqb 0 ((m - k + z) % m) ≡ eqb z k
         up l =
-            let s : m - k + z ≡ m + (z - k) = omega (arith, near) in
-            let w : (m - k + z) % m ≡ z - k = ap (λ q. q % m) s ∙ add-mod-left m (z - k) ∙ mod-eq-of-lt (omega (arith, near)) in
+            let u : m - k + z ≡ m + (z - k) = omega (arith, near) in
+            let w : (m - k + z) % m ≡ z - k = ap (λ q. q % m) u ∙ add-mod-left m (z - k) ∙ mod-eq-of-lt (omega (arith, near)) in
             eqb-iff 0 ((m - k + z) % m) z k (λ p. omega (arith, w)) (λ p. omega (arith, w))
 
         down : z < k → eqb 0 ((m - k + z) % m) ≡ eqb z k
@@ -133,21 +133,21 @@ module _ (m : ℕ) (some : 1 ≤ m) (even : 64 % m ≡ 0) where
             let w : (m - k + z) % m ≡ m - k + z = mod-eq-of-lt (omega arith) in
             eqb-iff 0 ((m - k + z) % m) z k (λ p. omega (arith, w)) (λ p. omega (arith, w))
 
-    shifted : eqb z k ≡ eqb (i % m) ((k + (m - e)) % m)
+    shifted : eqb z k ≡ eqb (i % m) ((k + (m - s)) % m)
     shifted =
         let p : suc (m - 1) ≡ m = omega arith in
-        subst (λ M. e < M → k < M → i % m < M → eqb ((i % m + e) % M) k ≡ eqb (i % m) ((k + (M - e)) % M)) p
-        (λ a b c. at-shift (m - 1) k e (i % m) b a c) he hk (mod-lt i some)
+        subst (λ M. s < M → k < M → i % m < M → eqb ((i % m + s) % M) k ≡ eqb (i % m) ((k + (M - s)) % M)) p
+        (λ a b c. at-shift (m - 1) k s (i % m) b a c) hs hk (mod-lt i some)
 
-    pub turned-one : eqb 0 ((64 + e - k + i) % m) ≡ eqb (i % m) ((k + (m - e)) % m)
+    pub turned-one : eqb 0 ((64 + s - k + i) % m) ≡ eqb (i % m) ((k + (m - s)) % m)
     turned-one =
-        let inner : (m - k + z) % m ≡ (64 + e - k + i) % m =
-        add-mod-mod (m - k) (i % m + e) m
+        let inner : (m - k + z) % m ≡ (64 + s - k + i) % m =
+        add-mod-mod (m - k) (i % m + s) m
         ∙ ap (λ q. q % m) (omega arith)
-        ∙ add-mod-mod (m - k + e) i m
-        ∙ sym (off (m - k + e + i) (64 + e - k + i) (omega arith)) in
+        ∙ add-mod-mod (m - k + s) i m
+        ∙ sym (off (m - k + s + i) (64 + s - k + i) (omega arith)) in
         ap (eqb 0) (sym inner) ∙ meets ∙ shifted
 
-  pub turned-first : (v r e k : ℕ) → e < m → k < m → m ≤ 64 → Holds v (around m (eqb 0))
-      → Holds r (from ((64 + e - k) % 64) (wbit (v ∷ v ∷ []))) → Holds r (λ i. eqb (i % m) ((k + (m - e)) % m))
-  turned-first v r e k he hk fits is turned i hi = turned-at v r (64 + e - k) i (eqb 0) hi is turned ∙ turned-one e k i he hk fits
+  pub turned-first : (v r s k : ℕ) → s < m → k < m → m ≤ 64 → Holds v (around m (eqb 0))
+      → Holds r (from ((64 + s - k) % 64) (wbit (v ∷ v ∷ []))) → Holds r (λ i. eqb (i % m) ((k + (m - s)) % m))
+  turned-first v r s k hs hk fits is turned i hi = turned-at v r (64 + s - k) i (eqb 0) hi is turned ∙ turned-one s k i hs hk fits

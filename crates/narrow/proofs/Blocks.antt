@@ -45,12 +45,12 @@ module _ (c : Code) (sh : Shape) (x : Word) (words : sh .words ≡ 1) (fits : sh
       (le-ltb (n % (64 * sh .words)) (sh .size) (omega arith))
       ∙ and-false (ltb (n / (64 * sh .words)) (sh .rows))
 
-  pub laid-row : (s : List ℕ) → wbit s ≡ laid c sh x → (r : ℕ) → r < sh .rows
-      → Holds (getD s r 0) (upTo (sh .size) (λ i. check c x (r * sh .size + i)))
-  laid-row s e r hr i hi =
+  pub laid-row : (z : List ℕ) → wbit z ≡ laid c sh x → (r : ℕ) → r < sh .rows
+      → Holds (getD z r 0) (upTo (sh .size) (λ i. check c x (r * sh .size + i)))
+  laid-row z e r hr i hi =
       let f : Word = λ j. check c x (r * sh .size + j) in
       let at : 64 * r + i ≡ 64 * (r * sh .words) + i = ap (λ w. 64 * w + i) (omega (arith, ap (λ w. r * w) words)) in
-      word-holds s r i hi
+      word-holds z r i hi
       ∙ ap (λ w. w (64 * r + i)) e
       ∙ ⊎-elim
       (λ (l : sh .size ≤ i). laid-past r i hi l ∙ sym (upTo-above (sh .size) i f l))
@@ -83,8 +83,8 @@ module _ (c : Code) (h : List ℕ) (sh : Shape) (lent : Lent c h sh) (fit : Fit 
       → ((f : Word) → Holds v f → Holds v′ (λ i. f i ⊕ over (shiftsOf sh h r b) (λ s. eqb (i % sh .size) ((k + (sh .size - s)) % sh
       .size))))
       → Holds v′ (around (sh .size) (λ i. check c (flipped x (b * sh .size + k)) (r * sh .size + i)))
-  row-flipped b k r v v′ hb hk hr is turned i hi =
-      turned (around (sh .size) (λ j. check c x (r * sh .size + j))) is i hi
+  row-flipped b k r v v′ hb hk hr is changed i hi =
+      changed (around (sh .size) (λ j. check c x (r * sh .size + j))) is i hi
       ∙ sym (lent .flip-by x b k r (i % sh .size) hb hk hr (mod-lt i (fit .some)))
 
   -- ---- a block's scores

@@ -52,15 +52,15 @@ fn repeated(v: u64, m: usize) -> u64
     all
 }
 
-// The rows of the syndrome s.
-pub fn begin(s: &[u64], sh: Shape, rows: &mut [u64])
-    requires { ⌜ (1 ≤ sh .size) × (sh .size ≤ 64) × (sh .words ≡ 1) × (sh .rows ≡ 4) × (length (now s) ≡ syndromeRoom)
+// The rows of the syndrome z.
+pub fn begin(z: &[u64], sh: Shape, rows: &mut [u64])
+    requires { ⌜ (1 ≤ sh .size) × (sh .size ≤ 64) × (sh .words ≡ 1) × (sh .rows ≡ 4) × (length (now z) ≡ syndromeRoom)
         × (length (now rows) ≡ 4) ⌝ }
-    ensures { λ _. ⌜ ((c : Code) (x : Word) → wbit (now (s .entry)) ≡ laid c sh x → Rows c sh x (now (rows .exit))) ⌝ }
+    ensures { λ _. ⌜ ((c : Code) (x : Word) → wbit (now (z .entry)) ≡ laid c sh x → Rows c sh x (now (rows .exit))) ⌝ }
 {
     let mut r = 0;
     while r < 4 {
-        rows[r] = repeated(s[r], sh.size);
+        rows[r] = repeated(z[r], sh.size);
         r += 1;
     }
 }
@@ -83,13 +83,13 @@ fn with_check(w: Weights, x: u64) -> Weights
 }
 
 // The checks of one place of the table, in this row, if it has an entry.
-fn with_place(w: Weights, row: u64, e: usize, m: usize) -> Weights
+fn with_place(w: Weights, row: u64, s: usize, m: usize) -> Weights
     requires { ⌜ (w .checks < 8) × (1 ≤ m) × (m ≤ 64) × (64 % m ≡ 0) ⌝ }
-    ensures { λ r. ⌜ (r .checks ≡ w .checks + tally (ltb e m)) × ((counts f : Word) (hits : ℕ → ℕ) → Weighs counts hits w
-        → Holds row (around m f) → Weighs counts (λ k. hits k + tally (ltb e m && f ((k + (m - e)) % m))) r) ⌝ }
+    ensures { λ r. ⌜ (r .checks ≡ w .checks + tally (ltb s m)) × ((counts f : Word) (hits : ℕ → ℕ) → Weighs counts hits w
+        → Holds row (around m f) → Weighs counts (λ k. hits k + tally (ltb s m && f ((k + (m - s)) % m))) r) ⌝ }
 {
-    if e < m {
-        return with_check(w, vectors::funnel(row, row, (64 - e) % 64));
+    if s < m {
+        return with_check(w, vectors::funnel(row, row, (64 - s) % 64));
     }
     w
 }
@@ -293,29 +293,29 @@ pub fn choose(samples: &[f32], rows: &[u64], h: &[u16], sh: Shape, from: usize) 
     }
 }
 
-// Turns the check of a row over that covers bit k by the shift e; a number that is m or more is no shift. `each` has the first bit of
+// Flips the check of a row that covers bit k by the shift s; a number that is m or more is no shift. `each` has the first bit of
 // every m set.
-fn turn_place(row: u64, each: u64, e: usize, k: usize, m: usize) -> u64
+fn flip_place(row: u64, each: u64, s: usize, k: usize, m: usize) -> u64
     requires { ⌜ (1 ≤ m) × (m ≤ 64) × (64 % m ≡ 0) × (k < m) × Holds each (around m (eqb 0)) ⌝ }
-    ensures { λ r. ⌜ ((f : Word) → Holds row f → Holds r (λ i. f i ⊕ (ltb e m && eqb (i % m) ((k + (m - e)) % m)))) ⌝ }
+    ensures { λ r. ⌜ ((f : Word) → Holds row f → Holds r (λ i. f i ⊕ (ltb s m && eqb (i % m) ((k + (m - s)) % m)))) ⌝ }
 {
-    if e < m {
-        return row ^ vectors::funnel(each, each, (64 + e - k) % 64);
+    if s < m {
+        return row ^ vectors::funnel(each, each, (64 + s - k) % 64);
     }
     row
 }
 
-// Turns the checks of a row over that cover bit k by the shifts of two places.
-fn turn_row(row: u64, each: u64, h: &[u16], at: usize, k: usize, m: usize) -> u64
+// Flips the checks of a row that cover bit k by the shifts of two places.
+fn flip_row(row: u64, each: u64, h: &[u16], at: usize, k: usize, m: usize) -> u64
     requires { ⌜ (1 ≤ m) × (m ≤ 64) × (64 % m ≡ 0) × (k < m) × Holds each (around m (eqb 0)) × (at + 1 < length (now h)) ⌝ }
     ensures { λ r. ⌜ ((f : Word) → Holds row f
         → Holds r (λ i. f i ⊕ over (entries m (now (h .entry)) at) (λ s. eqb (i % m) ((k + (m - s)) % m)))) ⌝ }
 {
-    let v = turn_place(row, each, h[at] as usize, k, m);
-    turn_place(v, each, h[at + 1] as usize, k, m)
+    let v = flip_place(row, each, h[at] as usize, k, m);
+    flip_place(v, each, h[at + 1] as usize, k, m)
 }
 
-// Turns a bit of a word over, and its checks with it.
+// Flips a bit of a word, and its checks with it.
 pub fn flip(y: &mut [u64], rows: &mut [u64], h: &[u16], sh: Shape, bit: usize)
     requires { ⌜ Fit (now h) sh × (sh .words ≡ 1) × (length (now y) ≡ wordRoom) × (length (now rows) ≡ 4)
         × (bit < sh .blocks * sh .size) ⌝ }
@@ -323,13 +323,13 @@ pub fn flip(y: &mut [u64], rows: &mut [u64], h: &[u16], sh: Shape, bit: usize)
     ensures checks { λ _. ⌜ ((c : Code) (x : Word) → Lent c (now (h .entry)) sh → Rows c sh x (now (rows .entry))
         → Rows c sh (flipped x bit) (now (rows .exit))) ⌝ }
 {
-    vectors::turn_over(y, bit);
+    vectors::flip_bit(y, bit);
     let each = repeated(1u64 << 63, sh.size);
     let b = bit / sh.size;
     let k = bit % sh.size;
     let mut r = 0;
     while r < 4 {
-        rows[r] = turn_row(rows[r], each, h, 2 * (r * sh.blocks + b), k, sh.size);
+        rows[r] = flip_row(rows[r], each, h, 2 * (r * sh.blocks + b), k, sh.size);
         r += 1;
     }
 }

@@ -189,22 +189,22 @@ module _ (w : Word) (is : codeword (code 1) w ≡ true) (b d e f : ℕ) (hb : b 
       fourth : (p q r s : Bool) → p ⊕ q ⊕ r ⊕ s ≡ false → s ⊕ p ⊕ q ⊕ r ≡ false
       fourth p q r s z = ap (λ u. u ⊕ r) (⊕-assoc s p q) ∙ ⊕-assoc s (p ⊕ q) r ∙ ⊕-comm s (p ⊕ q ⊕ r) ∙ z
 
-      turn : {m n : ℕ} → (m ≡ n → ⊥) → n ≡ m → ⊥
-      turn h q = h (sym q)
+      other-way : {m n : ℕ} → (m ≡ n → ⊥) → n ≡ m → ⊥
+      other-way h q = h (sym q)
 
       after-b : 64 ≤ b
       after-b = parity-bit b d e f hb hd he hf bd be bf zero-sum
 
       after-d : 64 ≤ d
-      after-d = parity-bit d b e f hd hb he hf (turn bd) de df (λ k l.
+      after-d = parity-bit d b e f hd hb he hf (other-way bd) de df (λ k l.
           second (covers (code 1) k b) (covers (code 1) k d) (covers (code 1) k e) (covers (code 1) k f) (zero-sum k l))
 
       after-e : 64 ≤ e
-      after-e = parity-bit e b d f he hb hd hf (turn be) (turn de) ef (λ k l.
+      after-e = parity-bit e b d f he hb hd hf (other-way be) (other-way de) ef (λ k l.
           third (covers (code 1) k b) (covers (code 1) k d) (covers (code 1) k e) (covers (code 1) k f) (zero-sum k l))
 
       after-f : 64 ≤ f
-      after-f = parity-bit f b d e hf hb hd he (turn bf) (turn df) (turn ef) (λ k l.
+      after-f = parity-bit f b d e hf hb hd he (other-way bf) (other-way df) (other-way ef) (λ k l.
           fourth (covers (code 1) k b) (covers (code 1) k d) (covers (code 1) k e) (covers (code 1) k f) (zero-sum k l))
 
       kept : (x : Word) (n i : ℕ) → (i ≡ n → ⊥) → flipped x n i ≡ x i

@@ -1,4 +1,4 @@
--- Words and lists: what differs from a word in some bits is the word with the list of these bits turned over. Assumes nothing.
+-- Words and lists: what differs from a word in some bits is the word with the list of these bits flipped. Assumes nothing.
 use mathlib.Core.Path.{_≡_, refl, sym, ap, ap₂, _∙_, fun-ext}
 use mathlib.Core.Bool.{Bool, true, false, _&&_, and-true}
 use mathlib.Core.Logic.{_⊎_, inl, inr, ⊎-elim}
@@ -18,7 +18,7 @@ use Rattle.bits.proofs.Counting.{count-none, count-same, count-pick, count-apar
 use Rattle.rules.specs.Codes.{code}
 use Rattle.rules.specs.Encoding.{codeword}
 use Rattle.answers.specs.Calls.{differing}
-use Rattle.nearest.specs.Nearest.{turned}
+use Rattle.nearest.specs.Nearest.{flips}
 use Rattle.nearest.specs.Lists.{Rising, Mends}
 use Rattle.nearest.proofs.Quiet.{bits-are, codeword-same}
 use Rattle.nearest.proofs.Lists.{rising-from}
@@ -29,10 +29,10 @@ abbrev pub among : List ℕ → Word
 among [] i = false
 among (b ∷ bits) i = eqb i b ⊕ among bits i
 
-pub turned-among : (bits : List ℕ) (x : Word) (i : ℕ) → turned bits x i ≡ x i ⊕ among bits i
-unfolding turned
-turned-among [] x i = sym (⊕-false (x i))
-turned-among (b ∷ bits) x i = turned-among bits (flipped x b) i ∙ ⊕-assoc (x i) (eqb i b) (among bits i)
+pub flipped-among : (bits : List ℕ) (x : Word) (i : ℕ) → flips bits x i ≡ x i ⊕ among bits i
+unfolding flips
+flipped-among [] x i = sym (⊕-false (x i))
+flipped-among (b ∷ bits) x i = flipped-among bits (flipped x b) i ∙ ⊕-assoc (x i) (eqb i b) (among bits i)
 
 among-before : (b e : ℕ) (bits : List ℕ) → Rising b e bits → (i : ℕ) → i < b → among bits i ≡ false
 among-before b e [] r i h = refl
@@ -64,11 +64,11 @@ back : (a b : Bool) → a ⊕ (a ⊕ b) ≡ b
 back a b = sym (⊕-assoc a a b) ∙ ap (λ c. c ⊕ b) (⊕-self a)
 
 -- so its flips give a word at that distance
-pub turned-far : (bits : List ℕ) (x : Word) → Rising 0 128 bits → differing (code 1) x (turned bits x) ≡ length bits
-turned-far bits x r =
-    ap (λ n. count n (λ i. x i ⊕ turned bits x i)) bits-are
-    ∙ count-same 128 (λ i. x i ⊕ turned bits x i) (among bits) (λ i l.
-    ap (λ p. x i ⊕ p) (turned-among bits x i) ∙ back (x i) (among bits i))
+pub flipped-far : (bits : List ℕ) (x : Word) → Rising 0 128 bits → differing (code 1) x (flips bits x) ≡ length bits
+flipped-far bits x r =
+    ap (λ n. count n (λ i. x i ⊕ flips bits x i)) bits-are
+    ∙ count-same 128 (λ i. x i ⊕ flips bits x i) (among bits) (λ i l.
+    ap (λ p. x i ⊕ p) (flipped-among bits x i) ∙ back (x i) (among bits i))
     ∙ among-many 128 0 bits r
 
 -- ---- the list of the bits that are set in a word
@@ -121,15 +121,15 @@ set-among (suc n) b e f q i l h =
     go false t r ih (inl e′) = among-before (suc b) e (setFrom n (suc b) f) r i (omega arith) ∙ sym (ap f e′ ∙ t)
     go false t r ih (inr d) = ih (omega arith) h
 
--- a codeword is a word with the bits turned over in which it differs
+-- a codeword is a word with the bits flipped in which it differs
 pub codeword-mends : (x y : Word) → codeword (code 1) y ≡ true → Mends (differing (code 1) x y) 0 128 x (setFrom 128 0 (λ i. x i ⊕ y i))
 codeword-mends x y is =
     let f : Word = λ i. x i ⊕ y i in
     record {
       many = set-many 128 0 f ∙ ap (count 128) (fun-ext (λ i. ap f (zero-add i))) ∙ ap (λ n. count n f) (sym bits-are);
       rising = set-rising 128 0 128 f refl;
-      gives = codeword-same y (turned (setFrom 128 0 f) x) (λ i l.
-          sym (turned-among (setFrom 128 0 f) x i ∙ ap (λ p. x i ⊕ p) (set-among 128 0 128 f refl i zero-le l) ∙ back (x i) (y i))) is;
+      gives = codeword-same y (flips (setFrom 128 0 f) x) (λ i l.
+          sym (flipped-among (setFrom 128 0 f) x i ∙ ap (λ p. x i ⊕ p) (set-among 128 0 128 f refl i zero-le l) ∙ back (x i) (y i))) is;
     }
 
 -- ---- sixteen octets

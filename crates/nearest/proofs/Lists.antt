@@ -11,7 +11,7 @@ use Rattle.bits.specs.Bits.{Word, flipped, if_then_else_}
 use Rattle.bits.proofs.Orders.{eq-or-not}
 use Rattle.rules.specs.Codes.{code}
 use Rattle.rules.specs.Encoding.{codeword}
-use Rattle.nearest.specs.Nearest.{Found, none, list, chosen, _orElse_, firstList, fewest, turned}
+use Rattle.nearest.specs.Nearest.{Found, none, list, chosen, _orElse_, firstList, fewest, flips}
 use Rattle.nearest.specs.Lists.{Rising, NotAfter, Mends}
 
 -- ---- the order of the search
@@ -46,7 +46,7 @@ module _ (k b e : ℕ) (x : Word) where
   Begins bits = (rest : List ℕ) × (bits ≡ b ∷ rest) × Mends k (suc b) e (flipped x b) rest
 
   begins : (bits : List ℕ) → Mends (suc k) b e x bits → Begins bits ⊎ Mends (suc k) (suc b) e x bits
-  unfolding turned
+  unfolding flips
   begins [] m = absurd (omega (arith, m .many))
   begins (i ∷ bits) m = ⊎-elim
       (λ (q : i ≡ b). inl (
@@ -55,7 +55,7 @@ module _ (k b e : ℕ) (x : Word) where
         record {
           many = omega (arith, m .many);
           rising = subst (λ n. Rising (suc n) e bits) q (m .rising .2);
-          gives = subst (λ n. codeword (code 1) (turned bits (flipped x n)) ≡ true) q (m .gives);
+          gives = subst (λ n. codeword (code 1) (flips bits (flipped x n)) ≡ true) q (m .gives);
         },
       ))
       (λ (d : i ≡ b → ⊥).
@@ -63,7 +63,7 @@ module _ (k b e : ℕ) (x : Word) where
       (eq-or-not i b)
 
   begin : (bits : List ℕ) → b < e → Mends k (suc b) e (flipped x b) bits → Mends (suc k) b e x (b ∷ bits)
-  unfolding turned
+  unfolding flips
   begin bits h m = record { many = ap suc (m .many); rising = (le-refl b, h, m .rising); gives = m .gives }
 
   behind : (bits : List ℕ) → Mends (suc k) (suc b) e x bits → Mends (suc k) b e x bits
@@ -81,7 +81,7 @@ Says k b e x none = (bits : List ℕ) → Mends k b e x bits → ⊥
 Says k b e x (list bits) = Mends k b e x bits × ((others : List ℕ) → Mends k b e x others → NotAfter bits others)
 
 pub says : (k n b e : ℕ) (x : Word) → b + n ≡ e → Says k b e x (firstList k n b x)
-unfolding firstList turned
+unfolding firstList flips
 says zero n b e x q = go (codeword (code 1) x) refl
   where
     go : (c : Bool) → codeword (code 1) x ≡ c → Says 0 b e x (if c then list [] else none)

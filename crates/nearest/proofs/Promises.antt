@@ -12,13 +12,13 @@ use Rattle.bits.proofs.Octets.{Octets, octets-bit}
 use Rattle.rules.specs.Codes.{code}
 use Rattle.rules.specs.Encoding.{codeword}
 use Rattle.answers.specs.Calls.{differing}
-use Rattle.nearest.specs.Nearest.{Found, none, list, _orElse_, firstList, fewest, turned, places}
+use Rattle.nearest.specs.Nearest.{Found, none, list, _orElse_, firstList, fewest, flips, places}
 use Rattle.nearest.specs.Nearest.{Reached, refused, found, nearestAnswer}
 use Rattle.nearest.specs.Lists.{NotAfter, Mends}
 use Rattle.nearest.proofs.Quiet.{codeword-same}
 use Rattle.nearest.proofs.Lists.{Within, within}
 use Rattle.nearest.proofs.Reaching.{nearest-two, nearest-three, nearest-eighteen, nearest-searched}
-use Rattle.nearest.proofs.Distances.{turned-far, codeword-mends, differing-same, sixteen-bits}
+use Rattle.nearest.proofs.Distances.{flipped-far, codeword-mends, differing-same, sixteen-bits}
 
 -- ---- the three places of a list
 
@@ -56,7 +56,7 @@ pub record Near (word : List ℕ) (reach : ℕ) (a : Reached) : Type 0 where
   pub nearest : (y : Word) → codeword (code 1) y ≡ true → a .least ≤ differing (code 1) (bit word) y
   -- the list given has that many bits, in increasing order, and its flips give the output, with 0 in the places that are not used;
   pub mends : Mends (a .least) 0 128 (bit word) (listOf a)
-  pub made : a .out ≡ octets 16 (turned (listOf a) (bit word))
+  pub made : a .out ≡ octets 16 (flips (listOf a) (bit word))
   pub unused : (k : ℕ) → a .least ≤ k → getD (a .bits) k 0 ≡ 0
   -- and of all lists of that length whose flips give a codeword it is the first.
   pub first : (others : List ℕ) → Mends (a .least) 0 128 (bit word) others → NotAfter (listOf a) others
@@ -69,7 +69,7 @@ module _ (word : List ℕ) (reach : ℕ) (out : List ℕ) (lw : length word ≡ 
   x = bit word
 
   abbrev listed : List ℕ → Reached
-  listed bits = record { number = 0; least = length bits; bits = places bits; out = octets 16 (turned bits x) }
+  listed bits = record { number = 0; least = length bits; bits = places bits; out = octets 16 (flips bits x) }
 
   answer-cases : (P : Reached → Type 0) → (Within reach x none → P (refused 17 out))
       → ((bits : List ℕ) → Within reach x (list bits) → P (listed bits)) → P answer
@@ -86,14 +86,14 @@ module _ (word : List ℕ) (reach : ℕ) (out : List ℕ) (lw : length word ≡ 
       let is : take (length bits) (places bits) ≡ bits = take-places bits three in
       record {
         reached = w .0;
-        sound = codeword-same (turned bits x) (bit (octets 16 (turned bits x))) (λ i l. sym (sixteen-bits (turned bits x) i l))
+        sound = codeword-same (flips bits x) (bit (octets 16 (flips bits x))) (λ i l. sym (sixteen-bits (flips bits x) i l))
             (w .1 .0 .gives);
-        apart = differing-same x (bit (octets 16 (turned bits x))) (turned bits x) (λ i l. sixteen-bits (turned bits x) i l)
-            ∙ turned-far bits x (w .1 .0 .rising);
+        apart = differing-same x (bit (octets 16 (flips bits x))) (flips bits x) (λ i l. sixteen-bits (flips bits x) i l)
+            ∙ flipped-far bits x (w .1 .0 .rising);
         nearest = λ y is′. ⊎-elim (λ l. l) (λ l. absurd (w .2 (differing (code 1) x y) l _ (codeword-mends x y is′)))
             (le-or-lt (length bits) (differing (code 1) x y));
         mends = subst (Mends (length bits) 0 128 x) (sym is) (w .1 .0);
-        made = ap (λ b. octets 16 (turned b x)) (sym is);
+        made = ap (λ b. octets 16 (flips b x)) (sym is);
         unused = places-past bits;
         first = λ others m. subst (λ b. NotAfter b others) (sym is) (w .1 .1 others m);
       }
@@ -111,7 +111,7 @@ module _ (word : List ℕ) (reach : ℕ) (out : List ℕ) (lw : length word ≡ 
   pub none-seventeen : ((y : Word) → codeword (code 1) y ≡ true → differing (code 1) x y ≤ reach → ⊥) → answer ≡ refused 17 out
   none-seventeen far =
       answer-cases (λ a. a ≡ refused 17 out) (λ w. refl)
-      (λ bits w. absurd (far (turned bits x) (w .1 .0 .gives) (subst (λ n. n ≤ reach) (sym (turned-far bits x (w .1 .0 .rising))) (w .0))))
+      (λ bits w. absurd (far (flips bits x) (w .1 .0 .gives) (subst (λ n. n ≤ reach) (sym (flipped-far bits x (w .1 .0 .rising))) (w .0))))
 
   -- A codeword that lies within the reach is found, or one that is no farther.
   pub within-found : (y : Word) → codeword (code 1) y ≡ true → differing (code 1) x y ≤ reach → answer .number ≡ 0
@@ -151,7 +151,7 @@ fewest-codeword x is (suc reach) = ap (λ f. f orElse firstList (suc reach) 128 
 -- A codeword is found with least number 0 and an empty list, and is copied.
 pub codeword-found : (word : List ℕ) (reach : ℕ) (out : List ℕ) → length word ≡ 16 → length out ≡ 16 → reach ≤ 3 → Octets word
     → codeword (code 1) (bit word) ≡ true → nearestAnswer word reach out ≡ record { number = 0; least = 0; bits = places []; out = word }
-unfolding found turned
+unfolding found flips
 codeword-found word reach out lw lo hr small is =
     nearest-searched word reach out lw lo hr
     ∙ ap (found (bit word) out) (fewest-codeword (bit word) is reach)

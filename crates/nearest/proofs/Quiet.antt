@@ -87,37 +87,37 @@ column-small n h = ltb→lt (getD columnList n 0) (2 ^ 64) (below-at 128 (λ n. 
 
 -- ---- the broken checks in one number
 
-module _ (s : ℕ) (x : Word) (h : Broken s x) where
+module _ (z : ℕ) (x : Word) (h : Broken z x) where
   -- a flip adds the bit's column
-  pub broken-turned : (n : ℕ) → n < 128 → Broken (bitXor s (getD columnList n 0)) (flipped x n)
-  broken-turned n l k hk =
-      digit-xor 64 s (getD columnList n 0) k ∙ ap₂ (λ a b. a ⊕ b) (h k hk) (column-covers n k l hk)
+  pub broken-flipped : (n : ℕ) → n < 128 → Broken (bitXor z (getD columnList n 0)) (flipped x n)
+  broken-flipped n l k hk =
+      digit-xor 64 z (getD columnList n 0) k ∙ ap₂ (λ a b. a ⊕ b) (h k hk) (column-covers n k l hk)
       ∙ sym (check-flip (code 1) x n (omega (arith, bits-are)) k)
 
   -- 0 for a codeword
-  pub broken-none : s < 2 ^ 64 → eqb s 0 ≡ codeword (code 1) x
+  pub broken-none : z < 2 ^ 64 → eqb z 0 ≡ codeword (code 1) x
   broken-none small = go (codeword (code 1) x) refl
     where
-      go : (b : Bool) → codeword (code 1) x ≡ b → eqb s 0 ≡ b
-      go true is = eq-eqb s 0 (same-digits 64 s 0 small (lit< tt) (λ k l. h k l ∙ codeword-met x is k l ∙ sym (digit-zero 64 k)))
-      go false is = ne-eqb s 0 (λ q.
-          true≢false (sym (met-codeword x (λ k l. sym (h k l) ∙ ap (λ z. digit 64 z k) q ∙ digit-zero 64 k)) ∙ is))
+      go : (b : Bool) → codeword (code 1) x ≡ b → eqb z 0 ≡ b
+      go true is = eq-eqb z 0 (same-digits 64 z 0 small (lit< tt) (λ k l. h k l ∙ codeword-met x is k l ∙ sym (digit-zero 64 k)))
+      go false is = ne-eqb z 0 (λ q.
+          true≢false (sym (met-codeword x (λ k l. sym (h k l) ∙ ap (λ w. digit 64 w k) q ∙ digit-zero 64 k)) ∙ is))
 
   -- the column of the bit whose flip gives a codeword
-  pub broken-column : s < 2 ^ 64 → (n : ℕ) → n < 128 → eqb (getD columnList n 0) s ≡ codeword (code 1) (flipped x n)
+  pub broken-column : z < 2 ^ 64 → (n : ℕ) → n < 128 → eqb (getD columnList n 0) z ≡ codeword (code 1) (flipped x n)
   broken-column small n l = go (codeword (code 1) (flipped x n)) refl
     where
-      turned : (k : ℕ) → k < 64 → check (code 1) (flipped x n) k ≡ digit 64 s k ⊕ digit 64 (getD columnList n 0) k
-      turned k hk = check-flip (code 1) x n (omega (arith, bits-are)) k ∙ ap₂ (λ a b. a ⊕ b) (sym (h k hk)) (sym (column-covers n k l hk))
+      differs : (k : ℕ) → k < 64 → check (code 1) (flipped x n) k ≡ digit 64 z k ⊕ digit 64 (getD columnList n 0) k
+      differs k hk = check-flip (code 1) x n (omega (arith, bits-are)) k ∙ ap₂ (λ a b. a ⊕ b) (sym (h k hk)) (sym (column-covers n k l hk))
 
-      go : (b : Bool) → codeword (code 1) (flipped x n) ≡ b → eqb (getD columnList n 0) s ≡ b
+      go : (b : Bool) → codeword (code 1) (flipped x n) ≡ b → eqb (getD columnList n 0) z ≡ b
       go true is =
-          eq-eqb (getD columnList n 0) s (sym (same-digits 64 s (getD columnList n 0) small (column-small n l) (λ k hk.
-          ⊕-eq (digit 64 s k) (digit 64 (getD columnList n 0) k) (sym (turned k hk) ∙ codeword-met (flipped x n) is k hk))))
+          eq-eqb (getD columnList n 0) z (sym (same-digits 64 z (getD columnList n 0) small (column-small n l) (λ k hk.
+          ⊕-eq (digit 64 z k) (digit 64 (getD columnList n 0) k) (sym (differs k hk) ∙ codeword-met (flipped x n) is k hk))))
       go false is =
-          ne-eqb (getD columnList n 0) s (λ q.
+          ne-eqb (getD columnList n 0) z (λ q.
           true≢false (sym (met-codeword (flipped x n) (λ k hk.
-          turned k hk ∙ ap (λ z. digit 64 s k ⊕ digit 64 z k) q ∙ ⊕-self (digit 64 s k))) ∙ is))
+          differs k hk ∙ ap (λ w. digit 64 z k ⊕ digit 64 w k) q ∙ ⊕-self (digit 64 z k))) ∙ is))
 
 -- ---- the checks summed over the first bits
 
@@ -128,23 +128,23 @@ pub partly-none : (x : Word) → Holds 0 (Partly x 0)
 unfolding sum
 partly-none x k h = digit-zero 64 k
 
-module _ (x : Word) (n s : ℕ) (h : n < 128) (part : Holds s (Partly x n)) where
-  pub partly-set : (cs : List ℕ) → cs ≡ columnList → x n ≡ true → Holds (bitXor s (getD cs n 0)) (Partly x (n + 1))
+module _ (x : Word) (n z : ℕ) (h : n < 128) (part : Holds z (Partly x n)) where
+  pub partly-set : (cs : List ℕ) → cs ≡ columnList → x n ≡ true → Holds (bitXor z (getD cs n 0)) (Partly x (n + 1))
   unfolding sum
   partly-set cs e set k l =
-      ap (λ z. digit 64 (bitXor s (getD z n 0)) k) e
-      ∙ digit-xor 64 s (getD columnList n 0) k
+      ap (λ w. digit 64 (bitXor z (getD w n 0)) k) e
+      ∙ digit-xor 64 z (getD columnList n 0) k
       ∙ ap₂ (λ a b. a ⊕ b) (part k l)
       (column-covers n k h l ∙ sym (ap (λ b. covers (code 1) k n && b) set ∙ and-true (covers (code 1) k n)))
       ∙ ap (λ m. Partly x m k) (sym (add-one n))
 
-  pub partly-clear : x n ≡ false → Holds s (Partly x (n + 1))
+  pub partly-clear : x n ≡ false → Holds z (Partly x (n + 1))
   unfolding sum
   partly-clear clear k l =
       part k l ∙ sym (⊕-false (Partly x n k))
       ∙ ap (λ b. Partly x n k ⊕ b) (sym (ap (λ b. covers (code 1) k n && b) clear ∙ and-false (covers (code 1) k n)))
       ∙ ap (λ m. Partly x m k) (sym (add-one n))
 
-pub partly-all : (x : Word) (n s : ℕ) → n ≡ 128 → Holds s (Partly x n) → Broken s x
+pub partly-all : (x : Word) (n z : ℕ) → n ≡ 128 → Holds z (Partly x n) → Broken z x
 unfolding check
-partly-all x n s e part k l = part k l ∙ ap (λ m. Partly x m k) (e ∙ sym bits-are)
+partly-all x n z e part k l = part k l ∙ ap (λ m. Partly x m k) (e ∙ sym bits-are)

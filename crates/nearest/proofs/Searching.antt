@@ -12,19 +12,19 @@ use borrow.Author.Tests.{eq-eqb, ne-eqb}
 use Rattle.bits.specs.Bits.{Word, flipped, if_then_else_}
 use Rattle.rules.specs.Codes.{code}
 use Rattle.rules.specs.Encoding.{codeword}
-use Rattle.nearest.specs.Nearest.{Found, none, list, chosen, _orElse_, firstList, fewest, turned, places}
+use Rattle.nearest.specs.Nearest.{Found, none, list, chosen, _orElse_, firstList, fewest, flips, places}
 use Rattle.nearest.specs.Answers.{columnList, Broken, lowestFrom, held}
 use Rattle.nearest.specs.declared.Listed.{Listed}
-use Rattle.nearest.proofs.Quiet.{broken-none, broken-column, broken-turned}
+use Rattle.nearest.proofs.Quiet.{broken-none, broken-column, broken-flipped}
 use Rattle.nearest.proofs.Lists.{rising-lt, Long, Within, within}
 
 -- ---- no bits left to choose
 
-pub search-none : (left s n b : ℕ) (x : Word) → left ≡ 0 → s < 2 ^ 64 → Broken s x
-    → record { found = eqb s 0; count = 0; bits = places [] } ≡ held (firstList left n b x)
+pub search-none : (left z n b : ℕ) (x : Word) → left ≡ 0 → z < 2 ^ 64 → Broken z x
+    → record { found = eqb z 0; count = 0; bits = places [] } ≡ held (firstList left n b x)
 unfolding firstList held
-search-none left s n b x e small h =
-    ap (λ t. record { found = t; count = 0; bits = places [] }) (broken-none s x h small)
+search-none left z n b x e small h =
+    ap (λ t. record { found = t; count = 0; bits = places [] }) (broken-none z x h small)
     ∙ go (codeword (code 1) x)
     ∙ ap (λ l. held (firstList l n b x)) (sym e)
   where
@@ -34,44 +34,44 @@ search-none left s n b x e small h =
 
 -- ---- one bit: the lowest whose column is the broken checks
 
-pub lowest-turn : (n s : ℕ) → n < 128 → lowestFrom (128 - n) n s
-    ≡ (if eqb (getD columnList n 0) s then n else lowestFrom (128 - (n + 1)) (n + 1) s)
+pub lowest-pass : (n z : ℕ) → n < 128 → lowestFrom (128 - n) n z
+    ≡ (if eqb (getD columnList n 0) z then n else lowestFrom (128 - (n + 1)) (n + 1) z)
 unfolding lowestFrom
-lowest-turn n s h =
+lowest-pass n z h =
     let e : 128 - n ≡ suc (128 - (n + 1)) = omega arith in
-    ap (λ k. lowestFrom k n s) e ∙ ap (λ m. if eqb (getD columnList n 0) s then n else lowestFrom (128 - (n + 1)) m s) (sym (add-one n))
+    ap (λ k. lowestFrom k n z) e ∙ ap (λ m. if eqb (getD columnList n 0) z then n else lowestFrom (128 - (n + 1)) m z) (sym (add-one n))
 
-pub lowest-end : (n s : ℕ) → n ≡ 128 → 128 ≡ lowestFrom (128 - n) n s
+pub lowest-end : (n z : ℕ) → n ≡ 128 → 128 ≡ lowestFrom (128 - n) n z
 unfolding lowestFrom
-lowest-end n s e = ap (λ k. lowestFrom (128 - k) k s) (sym e)
+lowest-end n z e = ap (λ k. lowestFrom (128 - k) k z) (sym e)
 
-pub one-bit : (n b s : ℕ) (x : Word) → s < 2 ^ 64 → b + n ≡ 128 → Broken s x
-    → firstList 1 n b x ≡ (if eqb (lowestFrom n b s) 128 then none else list (lowestFrom n b s ∷ []))
+pub one-bit : (n b z : ℕ) (x : Word) → z < 2 ^ 64 → b + n ≡ 128 → Broken z x
+    → firstList 1 n b x ≡ (if eqb (lowestFrom n b z) 128 then none else list (lowestFrom n b z ∷ []))
 unfolding firstList lowestFrom
-one-bit zero b s x small q h =
+one-bit zero b z x small q h =
     sym (ap (λ t. if t then none else list (b ∷ [])) (eq-eqb b 128 (omega arith)))
-one-bit (suc n) b s x small q h =
-    go (codeword (code 1) (flipped x b)) (broken-column s x h small b (omega arith)) (one-bit n (suc b) s x small (omega arith) h)
+one-bit (suc n) b z x small q h =
+    go (codeword (code 1) (flipped x b)) (broken-column z x h small b (omega arith)) (one-bit n (suc b) z x small (omega arith) h)
   where
-    go : (t : Bool) → eqb (getD columnList b 0) s ≡ t
-        → firstList 1 n (suc b) x ≡ (if eqb (lowestFrom n (suc b) s) 128 then none else list (lowestFrom n (suc b) s ∷ []))
+    go : (t : Bool) → eqb (getD columnList b 0) z ≡ t
+        → firstList 1 n (suc b) x ≡ (if eqb (lowestFrom n (suc b) z) 128 then none else list (lowestFrom n (suc b) z ∷ []))
         → (chosen b (if t then list [] else none) orElse firstList 1 n (suc b) x)
-        ≡ (if eqb (if eqb (getD columnList b 0) s then b else lowestFrom n (suc b) s) 128 then none
-        else list ((if eqb (getD columnList b 0) s then b else lowestFrom n (suc b) s) ∷ []))
+        ≡ (if eqb (if eqb (getD columnList b 0) z then b else lowestFrom n (suc b) z) 128 then none
+        else list ((if eqb (getD columnList b 0) z then b else lowestFrom n (suc b) z) ∷ []))
     go true e ih =
-        sym (ap (λ t. if eqb (if t then b else lowestFrom n (suc b) s) 128 then none else
-        list ((if t then b else lowestFrom n (suc b) s) ∷ [])) e
+        sym (ap (λ t. if eqb (if t then b else lowestFrom n (suc b) z) 128 then none else
+        list ((if t then b else lowestFrom n (suc b) z) ∷ [])) e
         ∙ ap (λ t. if t then none else list (b ∷ [])) (ne-eqb b 128 (λ p. omega arith)))
     go false e ih =
-        ih ∙ sym (ap (λ t. if eqb (if t then b else lowestFrom n (suc b) s) 128 then none else
-        list ((if t then b else lowestFrom n (suc b) s) ∷ [])) e)
+        ih ∙ sym (ap (λ t. if eqb (if t then b else lowestFrom n (suc b) z) 128 then none else
+        list ((if t then b else lowestFrom n (suc b) z) ∷ [])) e)
 
-module _ (left s from n : ℕ) (x : Word) (one : left ≡ 1) (under : from ≤ 128) (small : s < 2 ^ 64)
-    (lowest : n ≡ lowestFrom (128 - from) from s) (h : Broken s x) where
+module _ (left z from n : ℕ) (x : Word) (one : left ≡ 1) (under : from ≤ 128) (small : z < 2 ^ 64)
+    (lowest : n ≡ lowestFrom (128 - from) from z) (h : Broken z x) where
   alone : firstList left (128 - from) from x ≡ (if eqb n 128 then none else list (n ∷ []))
   alone =
       ap (λ l. firstList l (128 - from) from x) one
-      ∙ one-bit (128 - from) from s x small (omega arith) h
+      ∙ one-bit (128 - from) from z x small (omega arith) h
       ∙ ap (λ m. if eqb m 128 then none else list (m ∷ [])) (sym lowest)
 
   pub alone-none : n ≡ 128 → held none ≡ held (firstList left (128 - from) from x)
@@ -83,12 +83,12 @@ module _ (left s from n : ℕ) (x : Word) (one : left ≡ 1) (under : from ≤ 1
 
 -- ---- a bit chosen, and the rest searched with one flip fewer left
 
-pub search-turn : (left b : ℕ) (x : Word) → (left ≡ 0 → ⊥) → b < 128
+pub search-pass : (left b : ℕ) (x : Word) → (left ≡ 0 → ⊥) → b < 128
     → firstList left (128 - b) b x
     ≡ (chosen b (firstList (left - 1) (128 - (b + 1)) (b + 1) (flipped x b)) orElse firstList left (128 - (b + 1)) (b + 1) x)
 unfolding firstList
-search-turn zero b x d h = absurd (d refl)
-search-turn (suc l) b x d h =
+search-pass zero b x d h = absurd (d refl)
+search-pass (suc l) b x d h =
     let e : 128 - b ≡ suc (128 - (b + 1)) = omega arith in
     let p : suc l - 1 ≡ l = omega arith in
     ap (λ k. firstList (suc l) k b x) e
@@ -180,23 +180,23 @@ held-small reach x l h e = subst Small (sym e) (go (fewest reach x) (within reac
         three (suc (suc zero)) = rising-lt 0 128 bits (lit< tt) (w .1 .0 .rising) 2
         three (suc (suc (suc k))) = lit< tt
 
--- the bits that are still to be turned over, of a list
-pub turn-next : (bits : List ℕ) (k : ℕ) (x : Word) → k < length bits
-    → turned (drop k bits) x ≡ turned (drop (k + 1) bits) (flipped x (getD bits k 0))
-unfolding turned
-turn-next bits k x h = go bits k h ∙ ap (λ m. turned (drop m bits) (flipped x (getD bits k 0))) (sym (add-one k))
+-- the bits that are still to be flipped, of a list
+pub flip-next : (bits : List ℕ) (k : ℕ) (x : Word) → k < length bits
+    → flips (drop k bits) x ≡ flips (drop (k + 1) bits) (flipped x (getD bits k 0))
+unfolding flips
+flip-next bits k x h = go bits k h ∙ ap (λ m. flips (drop m bits) (flipped x (getD bits k 0))) (sym (add-one k))
   where
-    go : (bits : List ℕ) (k : ℕ) → k < length bits → turned (drop k bits) x ≡ turned (drop (suc k) bits) (flipped x (getD bits k 0))
+    go : (bits : List ℕ) (k : ℕ) → k < length bits → flips (drop k bits) x ≡ flips (drop (suc k) bits) (flipped x (getD bits k 0))
     go [] k h = absurd (omega arith)
     go (b ∷ bits) zero h = refl
     go (b ∷ bits) (suc k) h = go bits k (omega arith)
 
-pub turn-end : (bits : List ℕ) (k : ℕ) (x : Word) → length bits ≤ k → x ≡ turned (drop k bits) x
-unfolding turned
-turn-end [] zero x h = refl
-turn-end [] (suc k) x h = refl
-turn-end (b ∷ bits) zero x h = absurd (omega arith)
-turn-end (b ∷ bits) (suc k) x h = turn-end bits k x (omega arith)
+pub flip-end : (bits : List ℕ) (k : ℕ) (x : Word) → length bits ≤ k → x ≡ flips (drop k bits) x
+unfolding flips
+flip-end [] zero x h = refl
+flip-end [] (suc k) x h = refl
+flip-end (b ∷ bits) zero x h = absurd (omega arith)
+flip-end (b ∷ bits) (suc k) x h = flip-end bits k x (omega arith)
 
 pub places-at : (bits : List ℕ) (k : ℕ) → k < 3 → getD (places bits) k 0 ≡ getD bits k 0
 places-at bits zero h = refl
@@ -209,32 +209,32 @@ unfolding held
 held-are l bits e = (ap (λ (z : Listed). z .count) e, ap (λ (z : Listed). z .bits) e)
 
 module _ (l : Listed) (bits : List ℕ) (is : l ≡ held (list bits)) (few : l .count ≤ 3) (k : ℕ) (y : Word) where
-  pub turn-more : (y′ : Word) → k < l .count → y′ ≡ flipped y (getD (l .bits) k 0) → turned (drop k bits) y ≡ turned (drop (k + 1) bits) y′
-  turn-more y′ h e =
+  pub flip-more : (y′ : Word) → k < l .count → y′ ≡ flipped y (getD (l .bits) k 0) → flips (drop k bits) y ≡ flips (drop (k + 1) bits) y′
+  flip-more y′ h e =
       let m = held-are l bits is in
-      turn-next bits k y (omega (arith, m .0))
-      ∙ ap (turned (drop (k + 1) bits)) (sym (e ∙ ap (flipped y) (ap (λ z. getD z k 0) (m .1) ∙ places-at bits k (omega arith))))
+      flip-next bits k y (omega (arith, m .0))
+      ∙ ap (flips (drop (k + 1) bits)) (sym (e ∙ ap (flipped y) (ap (λ z. getD z k 0) (m .1) ∙ places-at bits k (omega arith))))
 
-  pub turn-all : l .count ≤ k → y ≡ turned (drop k bits) y
-  turn-all h = turn-end bits k y (omega (arith, held-are l bits is .0))
+  pub flip-all : l .count ≤ k → y ≡ flips (drop k bits) y
+  flip-all h = flip-end bits k y (omega (arith, held-are l bits is .0))
 
 -- ---- the columns that are lent
 
 pub lent-long : (cs : List ℕ) (n : ℕ) → cs ≡ columnList → n < 128 → n < length cs
 lent-long cs n e h = subst (λ z. n < length z) (sym e) h
 
-module _ (cs : List ℕ) (n s : ℕ) (e : cs ≡ columnList) (h : n < 128) where
-  pub lowest-here : getD cs n 0 ≡ s → lowestFrom (128 - n) n s ≡ n
+module _ (cs : List ℕ) (n z : ℕ) (e : cs ≡ columnList) (h : n < 128) where
+  pub lowest-here : getD cs n 0 ≡ z → lowestFrom (128 - n) n z ≡ n
   lowest-here q =
-      lowest-turn n s h
-      ∙ ap (λ t. if t then n else lowestFrom (128 - (n + 1)) (n + 1) s) (eq-eqb (getD columnList n 0) s (ap (λ z. getD z n 0) (sym e) ∙ q))
+      lowest-pass n z h
+      ∙ ap (λ t. if t then n else lowestFrom (128 - (n + 1)) (n + 1) z) (eq-eqb (getD columnList n 0) z (ap (λ w. getD w n 0) (sym e) ∙ q))
 
-  pub lowest-later : (getD cs n 0 ≡ s → ⊥) → lowestFrom (128 - n) n s ≡ lowestFrom (128 - (n + 1)) (n + 1) s
+  pub lowest-later : (getD cs n 0 ≡ z → ⊥) → lowestFrom (128 - n) n z ≡ lowestFrom (128 - (n + 1)) (n + 1) z
   lowest-later d =
-      lowest-turn n s h
-      ∙ ap (λ t. if t then n else lowestFrom (128 - (n + 1)) (n + 1) s)
-      (ne-eqb (getD columnList n 0) s (λ q. d (ap (λ z. getD z n 0) e ∙ q)))
+      lowest-pass n z h
+      ∙ ap (λ t. if t then n else lowestFrom (128 - (n + 1)) (n + 1) z)
+      (ne-eqb (getD columnList n 0) z (λ q. d (ap (λ w. getD w n 0) e ∙ q)))
 
-pub broken-lent : (cs : List ℕ) (s n : ℕ) (x : Word) → cs ≡ columnList → n < 128 → Broken s x
-    → Broken (bitXor s (getD cs n 0)) (flipped x n)
-broken-lent cs s n x e h k = subst (λ z. Broken (bitXor s (getD z n 0)) (flipped x n)) (sym e) (broken-turned s x k n h)
+pub broken-lent : (cs : List ℕ) (z n : ℕ) (x : Word) → cs ≡ columnList → n < 128 → Broken z x
+    → Broken (bitXor z (getD cs n 0)) (flipped x n)
+broken-lent cs z n x e h k = subst (λ w. Broken (bitXor z (getD w n 0)) (flipped x n)) (sym e) (broken-flipped z x k n h)

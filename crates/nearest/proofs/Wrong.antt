@@ -17,7 +17,7 @@ use Rattle.rules.proofs.Flips.{flip-back}
 use Rattle.answers.specs.Calls.{differing, correctAnswer}
 use Rattle.answers.proofs.Corrections.{oneWrong, bit-one-wrong, one-back}
 use Rattle.answers.proofs.Wrong.{twoWrong}
-use Rattle.nearest.specs.Nearest.{Found, none, list, fewest, turned, found, nearestAnswer}
+use Rattle.nearest.specs.Nearest.{Found, none, list, fewest, flips, found, nearestAnswer}
 use Rattle.nearest.specs.Lists.{Mends}
 use Rattle.nearest.proofs.Quiet.{bits-are, octets-are, unsent-are}
 use Rattle.nearest.proofs.Lists.{Within, within}
@@ -29,7 +29,7 @@ use Rattle.nearest.proofs.Distances.{setFrom, codeword-mends}
 
 pub codewords-apart : (x y : Word) → codeword (code 1) x ≡ true → codeword (code 1) y ≡ true → (differing (code 1) x y ≡ 0 → ⊥)
     → 6 ≤ differing (code 1) x y
-unfolding turned
+unfolding flips
 codewords-apart x y isx isy other = go (setFrom 128 0 (λ i. x i ⊕ y i)) (codeword-mends x y isy)
   where
     go : (bits : List ℕ) → Mends (differing (code 1) x y) 0 128 x bits → 6 ≤ differing (code 1) x y
@@ -61,11 +61,11 @@ module _ (w : Word) (is : codeword (code 1) w ≡ true) (b : ℕ) (hb : b < 128)
   once = flipped w b
 
   once-mends : Mends 1 0 128 once (b ∷ [])
-  unfolding turned
+  unfolding flips
   once-mends = record { many = refl; rising = (zero-le, hb, tt); gives = ap (codeword (code 1)) (flip-back w b) ∙ is }
 
   pub once-fewest : (reach : ℕ) → 1 ≤ reach → fewest reach once ≡ list (b ∷ [])
-  unfolding turned
+  unfolding flips
   once-fewest reach hr = go (fewest reach once) (within reach once)
     where
       go : (f : Found) → Within reach once f → f ≡ list (b ∷ [])
@@ -100,7 +100,7 @@ module _ (w : Word) (is : codeword (code 1) w ≡ true) (b d : ℕ) (hb : b < d)
   back-first = ap (λ y. flipped y b) (flips-swap w b d) ∙ flip-back (flipped w d) b
 
   twice-mends : Mends 2 0 128 twice (b ∷ d ∷ [])
-  unfolding turned
+  unfolding flips
   twice-mends = record {
     many = refl;
     rising = (zero-le, hb′, (hb, hd, tt));
@@ -108,7 +108,7 @@ module _ (w : Word) (is : codeword (code 1) w ≡ true) (b d : ℕ) (hb : b < d)
   }
 
   pub twice-fewest : (reach : ℕ) → 2 ≤ reach → fewest reach twice ≡ list (b ∷ d ∷ [])
-  unfolding turned
+  unfolding flips
   twice-fewest reach hr = go (fewest reach twice) (within reach twice)
     where
       is-pair : (e f : ℕ) → e < f → f < 128 → codeword (code 1) (flipped (flipped twice e) f) ≡ true → (b ≡ e) × (d ≡ f)
@@ -168,7 +168,7 @@ module _ (word out : List ℕ) (lw : length word ≡ 16) (lo : length out ≡ 16
   module _ (reach b : ℕ) (some : 1 ≤ reach) (few : reach ≤ 3) (hb : b < 128) where
     -- A codeword with one wrong bit and a reach of at least 1: that bit alone, and the codeword.
     pub one-found : nearestAnswer (oneWrong (code 1) word b) reach out ≡ record { number = 0; least = 1; bits = b ∷ 0 ∷ 0 ∷ []; out = word }
-    unfolding found turned
+    unfolding found flips
     one-found =
         nearest-searched (oneWrong (code 1) word b) reach out (one-long b) lo few
         ∙ ap (λ z. found z out (fewest reach z)) (one-bits b hb)
@@ -194,7 +194,7 @@ module _ (word out : List ℕ) (lw : length word ≡ 16) (lo : length out ≡ 16
   -- may lie as near as the one sent, is not settled here.
   pub two-found : (reach b d : ℕ) → 2 ≤ reach → reach ≤ 3 → b < d → d < 128
       → nearestAnswer (twoWrong (code 1) word b d) reach out ≡ record { number = 0; least = 2; bits = b ∷ d ∷ 0 ∷ []; out = word }
-  unfolding found turned
+  unfolding found flips
   two-found reach b d some few hb hd =
       let w = bit word in
       let hb′ : b < 128 = omega arith in

@@ -9,7 +9,7 @@ use Rattle.bits.specs.Bits.{Word, if_then_else_}
 use Rattle.rules.specs.Codes.{code}
 use Rattle.rules.specs.Checks.{check}
 use Rattle.vectors.specs.Vectors.{Holds}
-use Rattle.nearest.specs.Nearest.{Found, none, list, places, turned, Reached as ReachedAnswer}
+use Rattle.nearest.specs.Nearest.{Found, none, list, places, flips, Reached as ReachedAnswer}
 use Rattle.nearest.specs.declared.Reached.{Reached}
 use Rattle.nearest.specs.declared.Listed.{Listed}
 
@@ -51,12 +51,12 @@ columnList =
 
 -- The 64 checks of a word in one number: a one for each that is broken.
 abbrev pub Broken : ℕ → Word → Type 0
-Broken s x = Holds s (check (code 1) x)
+Broken z x = Holds z (check (code 1) x)
 
--- The lowest of the n bits from bit b on whose column is s; the bit behind them if there is none.
+-- The lowest of the n bits from bit b on whose column is z; the bit behind them if there is none.
 unfoldable pub lowestFrom : ℕ → ℕ → ℕ → ℕ
-lowestFrom zero b s = b
-lowestFrom (suc n) b s = if eqb (getD columnList b 0) s then b else lowestFrom n (suc b) s
+lowestFrom zero b z = b
+lowestFrom (suc n) b z = if eqb (getD columnList b 0) z then b else lowestFrom n (suc b) z
 
 -- A list as the functions hold it.
 unfoldable pub held : Found → Listed
@@ -64,8 +64,8 @@ held none = record { found = false; count = 0; bits = places [] }
 held (list bits) = record { found = true; count = length bits; bits = places bits }
 
 -- The word that a list which is held makes of a word.
-abbrev pub heldTurned : Listed → Word → Word → Type 0
-heldTurned l x y = (bits : List ℕ) → l ≡ held (list bits) → y ≡ turned bits x
+abbrev pub heldFlipped : Listed → Word → Word → Type 0
+heldFlipped l x y = (bits : List ℕ) → l ≡ held (list bits) → y ≡ flips bits x
 
 -- the output octets afterwards are part of the answer
 abbrev pub asReached : Reached → List ℕ → ReachedAnswer

@@ -8,7 +8,7 @@ use lib.ListN.{length}
 use Rattle.bits.specs.Bits.{Word}
 use Rattle.rules.specs.Codes.{code}
 use Rattle.rules.specs.Encoding.{codeword}
-use Rattle.nearest.specs.Nearest.{turned}
+use Rattle.nearest.specs.Nearest.{flips}
 
 -- The bits of a list are in increasing order, from one bit on and before another.
 abbrev pub Rising : ℕ → ℕ → List ℕ → Type 0
@@ -25,4 +25,4 @@ NotAfter (b ∷ bits) (o ∷ others) = (b < o) ⊎ ((b ≡ o) × NotAfter bits o
 pub record Mends (k from end : ℕ) (x : Word) (bits : List ℕ) : Type 0 where
   pub many : length bits ≡ k
   pub rising : Rising from end bits
-  pub gives : codeword (code 1) (turned bits x) ≡ true
+  pub gives : codeword (code 1) (flips bits x) ≡ true

@@ -36,10 +36,10 @@ unfoldable pub fewest : ℕ → Word → Found
 fewest zero x = firstList zero 128 0 x
 fewest (suc reach) x = fewest reach x orElse firstList (suc reach) 128 0 x
 
--- A word with the bits of a list turned over.
-unfoldable pub turned : List ℕ → Word → Word
-turned [] x = x
-turned (b ∷ bits) x = turned bits (flipped x b)
+-- A word with the bits of a list flipped.
+unfoldable pub flips : List ℕ → Word → Word
+flips [] x = x
+flips (b ∷ bits) x = flips bits (flipped x b)
 
 -- The call gives that least number and the first such list of bits in increasing order, with the mended word. A list has three places,
 -- of which the unused ones are 0.
@@ -59,7 +59,7 @@ refused number out = record { number = number; least = 0; bits = places []; out 
 -- What was found, or 17 if no codeword lies within the reach.
 unfoldable pub found : Word → List ℕ → Found → Reached
 found x out none = refused 17 out
-found x out (list bits) = record { number = 0; least = length bits; bits = places bits; out = octets 16 (turned bits x) }
+found x out (list bits) = record { number = 0; least = length bits; bits = places bits; out = octets 16 (flips bits x) }
 
 -- A word and an output of 16 octets, and a reach that is offered.
 abbrev pub searched : ℕ → Word → List ℕ → Reached

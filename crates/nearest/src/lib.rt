@@ -1,4 +1,4 @@
-// The nearest command of code 1, by plain search: which few bits, turned over, give a codeword. The search carries the broken checks in one
+// The nearest command of code 1, by plain search: which few bits, flipped, give a codeword. The search carries the broken checks in one
 // word, and a flip adds the bit's column to it.
 ghost use mathlib.Core.Path.{_≡_};
 ghost use mathlib.Core.List.{List};
@@ -7,7 +7,7 @@ ghost use lib.ListN.{length, getD};
 ghost use Rattle.bits.specs.Bits.{Word, bit};
 ghost use Rattle.vectors.specs.Vectors.{wbit};
 ghost use Rattle.nearest.specs.Nearest.{none, firstList, fewest, refused, searched as searchedFor, nearestAnswer};
-ghost use Rattle.nearest.specs.Answers.{columnList, Broken, lowestFrom, held, heldTurned, asReached};
+ghost use Rattle.nearest.specs.Answers.{columnList, Broken, lowestFrom, held, heldFlipped, asReached};
 
 // The places of bits that are not used are 0.
 #[repr(C)]
@@ -159,27 +159,27 @@ const COLUMNS: [u64; 128] = [
 // The broken checks of a word.
 fn syndrome(columns: &[u64], y: &[u64]) -> u64
     requires { ⌜ (now columns ≡ columnList) × (length (now y) ≡ 3) ⌝ }
-    ensures { λ s. ⌜ Broken s (wbit (now (y .entry))) ⌝ }
+    ensures { λ z. ⌜ Broken z (wbit (now (y .entry))) ⌝ }
 {
-    let mut s: u64 = 0;
+    let mut z: u64 = 0;
     let mut n: usize = 0;
     while n < 128 {
         if vectors::is_set(y, n) {
-            s ^= columns[n];
+            z ^= columns[n];
         }
         n += 1;
     }
-    s
+    z
 }
 
 // The lowest bit from a bit on that is covered by just these checks; 128 if none is. Most of a search's time goes here.
-fn only(columns: &[u64], s: u64, from: usize) -> usize
+fn only(columns: &[u64], z: u64, from: usize) -> usize
     requires { ⌜ (now columns ≡ columnList) × (from ≤ 128) ⌝ }
-    ensures { λ r. ⌜ (r ≤ 128) × (r ≡ lowestFrom (128 - from) from s) ⌝ }
+    ensures { λ r. ⌜ (r ≤ 128) × (r ≡ lowestFrom (128 - from) from z) ⌝ }
 {
     let mut n = from;
     while n < 128 {
-        if columns[n] == s {
+        if columns[n] == z {
             return n;
         }
         n += 1;
@@ -198,21 +198,21 @@ fn no_list() -> Listed
     }
 }
 
-// The first list of so many bits from a bit on that, turned over, leave no check broken: by choosing a bit, and searching behind it with
+// The first list of so many bits from a bit on that, flipped, leave no check broken: by choosing a bit, and searching behind it with
 // one flip fewer left.
-fn search(columns: &[u64], s: u64, from: usize, left: u8) -> Listed
+fn search(columns: &[u64], z: u64, from: usize, left: u8) -> Listed
     requires { ⌜ (now columns ≡ columnList) × (from ≤ 128) × (left ≤ 3) ⌝ }
-    ensures { λ r. ⌜ ((x : Word) → Broken s x → r ≡ held (firstList left (128 - from) from x)) ⌝ }
+    ensures { λ r. ⌜ ((x : Word) → Broken z x → r ≡ held (firstList left (128 - from) from x)) ⌝ }
 {
     if left == 0 {
         return Listed {
-            found: s == 0,
+            found: z == 0,
             count: 0,
             bits: [0; 3],
         };
     }
     if left == 1 {
-        let n = only(columns, s, from);
+        let n = only(columns, z, from);
         if n == 128 {
             return no_list();
         }
@@ -224,7 +224,7 @@ fn search(columns: &[u64], s: u64, from: usize, left: u8) -> Listed
     }
     let mut n = from;
     while n < 128 {
-        let r = search(columns, s ^ columns[n], n + 1, left - 1);
+        let r = search(columns, z ^ columns[n], n + 1, left - 1);
         if r.found {
             let b = r.bits;
             return Listed {
@@ -239,29 +239,29 @@ fn search(columns: &[u64], s: u64, from: usize, left: u8) -> Listed
 }
 
 // Lists of no bits, then of one more each time, up to the reach.
-fn fewest_of(columns: &[u64], s: u64, reach: u8) -> Listed
+fn fewest_of(columns: &[u64], z: u64, reach: u8) -> Listed
     requires { ⌜ (now columns ≡ columnList) × (reach ≤ 3) ⌝ }
-    ensures { λ r. ⌜ ((x : Word) → Broken s x → r ≡ held (fewest reach x)) ⌝ }
+    ensures { λ r. ⌜ ((x : Word) → Broken z x → r ≡ held (fewest reach x)) ⌝ }
 {
     if reach == 0 {
-        return search(columns, s, 0, 0);
+        return search(columns, z, 0, 0);
     }
-    let r = fewest_of(columns, s, reach - 1);
+    let r = fewest_of(columns, z, reach - 1);
     if r.found {
         return r;
     }
-    search(columns, s, 0, reach)
+    search(columns, z, 0, reach)
 }
 
-// Turns the bits of a list over.
-fn turn(y: &mut [u64], l: Listed)
+// Flips the bits of a list.
+fn flip_listed(y: &mut [u64], l: Listed)
     requires { ⌜ (length (now y) ≡ 3) × (l .count ≤ 3) × ((k : ℕ) → getD (l .bits) k 0 < 128) ⌝ }
-    ensures { λ _. ⌜ heldTurned l (wbit (now (y .entry))) (wbit (now (y .exit))) ⌝ }
+    ensures { λ _. ⌜ heldFlipped l (wbit (now (y .entry))) (wbit (now (y .exit))) ⌝ }
 {
     let bits = l.bits;
     let mut k: usize = 0;
     while k < l.count as usize {
-        vectors::turn_over(y, bits[k] as usize);
+        vectors::flip_bit(y, bits[k] as usize);
         k += 1;
     }
 }
@@ -286,12 +286,12 @@ fn searched(word: &[u8], reach: u8, out: &mut [u8]) -> Reached
     let columns = COLUMNS;
     let mut y = [0u64; 3];
     vectors::load(word, &mut y);
-    let s = syndrome(&columns, &y);
-    let l = fewest_of(&columns, s, reach);
+    let z = syndrome(&columns, &y);
+    let l = fewest_of(&columns, z, reach);
     if !l.found {
         return refused_by(17);
     }
-    turn(&mut y, l);
+    flip_listed(&mut y, l);
     vectors::store(&y, 0, out);
     let b = l.bits;
     Reached {

@@ -8,10 +8,10 @@ use Rattle.tables.specs.Flat.{listed}
 
 -- Place i of three for each block, where the list has two for each; the third holds no shift.
 abbrev pub thirdNone : List ℕ → ℕ → ℕ
-thirdNone t i = if eqb (i % 3) 2 then 65535 else getD t (i / 3 * 2 + i % 3) 0
+thirdNone h i = if eqb (i % 3) 2 then 65535 else getD h (i / 3 * 2 + i % 3) 0
 
 unfoldable pub threes : List ℕ → List ℕ
-threes t = listed 96 (thirdNone t)
+threes h = listed 96 (thirdNone h)
 
 -- The words of rows of four numbers, and of rows of two numbers of eight words.
 unfoldable pub words4 : List (List ℕ) → List ℕ

@@ -13,8 +13,8 @@ fn number(n: u64) {
     io::print_decimal(STDOUT_FILENO, n);
 }
 
-// Turns bit n over; bit 0 is the most significant bit of octet 0.
-fn turn(word: &mut [u8], n: usize)
+// Flips bit n; bit 0 is the most significant bit of octet 0.
+fn flip(word: &mut [u8], n: usize)
     requires { ⌜ n < 8 * length (now word) ⌝ }
     ensures { λ _. ⌜ length (now (word .exit)) ≡ length (now (word .entry)) ⌝ }
 {
@@ -76,14 +76,14 @@ fn with_later(code: u8, a: usize, word: &mut [u8], out: &mut [u8]) -> u64
     let end = 8 * word.len();
     let mut mended: u64 = 0;
     let mut b = a + 1;
-    turn(word, a);
+    flip(word, a);
     while b < end {
-        turn(word, b);
+        flip(word, b);
         mended += attempt(code, a, b, word, out);
-        turn(word, b);
+        flip(word, b);
         b += 1;
     }
-    turn(word, a);
+    flip(word, a);
     mended
 }
 

@@ -249,19 +249,19 @@ fn wide_lowest(o: Offer, word: &[u8]) -> u32
     ensures { λ r. ⌜ ((n : ℕ) → offered n ≡ true → o ≡ offerOf n
         → r ≡ lowestOf (codeOf n) (lifted (codeOf n) (bit (now (word .entry))))) ⌝ }
 {
-    let mut t = [0u16; TABLE];
-    tables::lend511(&mut t);
+    let mut h = [0u16; TABLE];
+    tables::lend511(&mut h);
     let sh = Shape {
         size: 511,
         words: 8,
         blocks: 16,
         rows: 2,
     };
-    let v = first_group(word, o.unsent, &t, sh);
+    let v = first_group(word, o.unsent, &h, sh);
     if v != 0 {
         return u64::leading_zeros(v);
     }
-    whole_lowest(word, o.unsent, &t, sh)
+    whole_lowest(word, o.unsent, &h, sh)
 }
 
 // What the shift s adds to the checks of a row, where one word holds the block of m bits; d is the block twice over.
@@ -318,12 +318,12 @@ fn rows_lowest(y: &[u64], h: &[u16], sh: Shape) -> u32
 }
 
 // The table of a code whose rows one word holds, lent. `lend` has the one caller that its speed rests on.
-fn lend_narrow(size: usize, t: &mut [u16]) -> Shape
-    requires { ⌜ (length (now t) ≡ tableRoom) × (size ≡ 511 → ⊥) ⌝ }
-    ensures { λ r. ⌜ ((n : ℕ) → offered n ≡ true → size ≡ offerOf n .shape .size → Lends n (now (t .exit)) r) × (r .size ≤ 64) ⌝ }
+fn lend_narrow(size: usize, h: &mut [u16]) -> Shape
+    requires { ⌜ (length (now h) ≡ tableRoom) × (size ≡ 511 → ⊥) ⌝ }
+    ensures { λ r. ⌜ ((n : ℕ) → offered n ≡ true → size ≡ offerOf n .shape .size → Lends n (now (h .exit)) r) × (r .size ≤ 64) ⌝ }
 {
     if size == 16 {
-        tables::lend16(t);
+        tables::lend16(h);
         return Shape {
             size: 16,
             words: 1,
@@ -332,7 +332,7 @@ fn lend_narrow(size: usize, t: &mut [u16]) -> Shape
         };
     }
     if size == 32 {
-        tables::lend32(t);
+        tables::lend32(h);
         return Shape {
             size: 32,
             words: 1,
@@ -340,7 +340,7 @@ fn lend_narrow(size: usize, t: &mut [u16]) -> Shape
             rows: 4,
         };
     }
-    tables::lend64(t);
+    tables::lend64(h);
     Shape {
         size: 64,
         words: 1,
@@ -356,11 +356,11 @@ fn narrow_lowest(o: Offer, word: &[u8]) -> u32
         → r ≡ lowestOf (codeOf n) (lifted (codeOf n) (bit (now (word .entry))))) ⌝ }
 {
     let of = o.shape;
-    let mut t = [0u16; TABLE];
-    let sh = lend_narrow(of.size, &mut t);
+    let mut h = [0u16; TABLE];
+    let sh = lend_narrow(of.size, &mut h);
     let mut y = [0u64; 17];
     vectors::load(word, &mut y);
-    rows_lowest(&y, &t, sh)
+    rows_lowest(&y, &h, sh)
 }
 
 // The lowest broken check, or the number of checks if none is broken.

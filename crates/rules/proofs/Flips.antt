@@ -28,7 +28,7 @@ module _ (c : Code) (x : Word) (n : ℕ) where
   unfolding excess
   excess-is = refl
 
-  -- the checks that cover the bit are turned over, no others
+  -- the checks that cover the bit are flipped, no others
   pub check-flip : n < bits c → (k : ℕ) → check c (flipped x n) k ≡ check c x k ⊕ covers c k n
   unfolding check
   check-flip h k =
@@ -39,9 +39,9 @@ module _ (c : Code) (x : Word) (n : ℕ) where
   pub broken-flip : n < bits c → broken c (flipped x n) + brokenOf c x n ≡ broken c x + metOf c x n
   unfolding broken brokenOf metOf degreeOf
   broken-flip h =
-      let turned : count (checks c) (check c (flipped x n)) ≡ count (checks c) (λ k. check c x k ⊕ covers c k n) =
+      let changed : count (checks c) (check c (flipped x n)) ≡ count (checks c) (λ k. check c x k ⊕ covers c k n) =
       count-same (checks c) _ _ (λ k l. check-flip h k) in
-      omega (arith, turned, count-xor (checks c) (check c x) (λ k. covers c k n), count-split (checks c) (check c x) (λ k. covers c k n))
+      omega (arith, changed, count-xor (checks c) (check c x) (λ k. covers c k n), count-split (checks c) (check c x) (λ k. covers c k n))
 
 -- ---- the met checks of a bit after another was flipped
 

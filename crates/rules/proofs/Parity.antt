@@ -17,7 +17,7 @@ use Rattle.bits.proofs.Sums.{⊕-self, ⊕-assoc, sum-same, sum-front}
 use Rattle.bits.proofs.Counting.{count-none, none-counted}
 use Rattle.rules.proofs.Blocks.{blk, checkIn, shaped, withTables, check-in, sum-blocks}
 use Rattle.rules.proofs.Quiet.{drawn, shiftedSum, parityIn, drops, sized, quiet-all, differ}
-use Rattle.rules.proofs.Unique.{Invertible, unique, constant, turned, evens}
+use Rattle.rules.proofs.Unique.{Invertible, unique, constant, flipped-blocks, evens}
 
 -- the row of information bit 1 is the printed row shifted right: it begins with the last bit of 0E69
 pub shifted-right : rowBit code1 1 0 ≡ true
@@ -125,7 +125,7 @@ module _ (wordOctets informationOctets unsent m : ℕ) (H : List (List (List ℕ
       → ((p : ℕ) → p < bits c - information c → x (information c + p) ≡ parityBit c x p ⊕ f (p / suc m)) → broken c x ≡ 0
   unfolding differ
   inverted-met tied size ev x f h =
-      met-all x (λ r i hr. turned m printed C H gs (blk (suc m) x) f tied size ev (λ b k hb hk.
+      met-all x (λ r i hr. flipped-blocks m printed C H gs (blk (suc m) x) f tied size ev (λ b k hb hk.
       ap (λ z. parityIn (suc m) printed gs 0 (blk (suc m) x) b k ⊕ z)
       (place b k x ∙ h (b * suc m + k) (subst (λ z. b * suc m + k < z) (sym room) (digits-lt hb hk))
       ∙ ap₂ (λ q r. q ⊕ f r) (parity-in x (b * suc m + k)

@@ -218,11 +218,11 @@ module _ (m printed : ℕ) where
   evens-at (P ∷ Ps) t zero = and-l (even P) (evens Ps) t
   evens-at (P ∷ Ps) t (suc a) = evens-at Ps (and-r (even P) (evens Ps) t) a
 
-  pub turned : (C : ℕ) (H : List (List (List ℕ))) (gs : List (List ℕ)) (w : ℕ → ℕ → Bool) (f : ℕ → Bool)
+  pub flipped-blocks : (C : ℕ) (H : List (List (List ℕ))) (gs : List (List ℕ)) (w : ℕ → ℕ → Bool) (f : ℕ → Bool)
       → T (rowsTied (suc m) printed H gs) → T (sized C (drops (length gs) H)) → T (evens (drops (length gs) H))
       → ((c k : ℕ) → c < C → k < suc m → differ m printed gs w c k ≡ f c)
       → (r i : ℕ) → r < length H → checkIn (suc m) (getD H r []) w i ≡ false
-  turned C H gs w f t sz ev d r i h =
+  flipped-blocks C H gs w f t sz ev d r i h =
       reduce-all m printed H gs w t r i h
       ∙ blocks-same (getD (drops (length gs) H) r []) _ (λ c s. f c) (λ c s l. d c ((i + s) % suc m)
       (subst (λ z. c < z) (sized-at C (drops (length gs) H) sz r (subst (λ z. r < z) (sym (length-drops (length gs) H)) h)) l)

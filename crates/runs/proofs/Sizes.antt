@@ -30,10 +30,10 @@ use Rattle.sizes.specs.Sizes.{smallest, reaching, instead, smallestSent, bySize
 use Rattle.sizes.proofs.Smallest.{Is, smallest-one, smallest-same}
 use Rattle.sizes.proofs.Choosing.{equal-sizes}
 use Rattle.runs.specs.declared.Ran.{Ran}
-use Rattle.runs.specs.Turns.{RunsTo}
+use Rattle.runs.specs.Passes.{RunsTo}
 use Rattle.narrow.specs.Weighing.{Chosen}
 use Rattle.narrow.proofs.Peaks.{no-samples}
-use Rattle.runs.proofs.Turning.{next-flip, none-flip, top-small}
+use Rattle.runs.proofs.Passing.{next-flip, none-flip, top-small}
 
 pub sized-quiet : (less : ℕ → ℕ → Bool) (c : Code) (x : Word) → broken c x ≡ 0 → bySize less c x ≡ quiet
 unfolding bySize
@@ -124,6 +124,6 @@ module _ (samples : List Float) {c : Code} {h : List ℕ} {sh : Shape} (lent : L
 pub sized-equal : (samples : List Float) → length samples ≡ 0 → (c : Code) → bySize (smaller samples) c ≡ byExcess c
 sized-equal samples e = equal-sizes (smaller samples) (no-samples samples e)
 
-pub equal-runs : {c : Code} {sh : Shape} {limit : ℕ} {x y s : Word} {r : Ran} → RunsTo (bySize (smaller []) c) c sh limit x r y s
-    → RunsTo (byExcess c) c sh limit x r y s
-equal-runs {c} {sh} {limit} {x} {y} {s} {r} to = subst (λ way. RunsTo way c sh limit x r y s) (sized-equal [] refl c) to
+pub equal-runs : {c : Code} {sh : Shape} {limit : ℕ} {x y z : Word} {r : Ran} → RunsTo (bySize (smaller []) c) c sh limit x r y z
+    → RunsTo (byExcess c) c sh limit x r y z
+equal-runs {c} {sh} {limit} {x} {y} {z} {r} to = subst (λ way. RunsTo way c sh limit x r y z) (sized-equal [] refl c) to

@@ -12,8 +12,8 @@ ghost use Rattle.bounds.specs.Reading.{Gathered};
 ghost use Rattle.sizes.specs.Samples.{smaller};
 ghost use Rattle.sizes.specs.Sizes.{bySize};
 ghost use Rattle.bounds.specs.Keeping.{Ready};
-ghost use Rattle.runs.specs.Turns.{Holding, Begins, Beginning, Carried, Continuing, CarriedNarrow, ContinuingNarrow};
-ghost use Rattle.runs.specs.Turns.{Within, comesNext, RunsTo};
+ghost use Rattle.runs.specs.Passes.{Holding, Begins, Beginning, Carried, Continuing, CarriedNarrow, ContinuingNarrow};
+ghost use Rattle.runs.specs.Passes.{Within, comesNext, RunsTo};
 ghost use Rattle.layout.specs.Rooms.{rowsRoom, syndromeRoom, wordRoom};
 use layout::BLOCKS;
 use layout::ROWS;
@@ -38,19 +38,19 @@ pub struct Ended {
     pub last: u32,
 }
 
-// What comes next for a word that has a broken check and the syndrome s, by the bounds of its blocks; bits before bit `from` are not sent.
-fn next_bounded(s: &[u64], h: &[u16], sh: Shape, from: usize) -> Next
-    requires { ⌜ Fit (now h) sh × (length (now s) ≡ syndromeRoom) × (1 ≤ sh .blocks) × (from < sh .size)
-        × Holding (now h) sh (wbit (now s)) ⌝ }
+// What comes next for a word that has a broken check and the syndrome z, by the bounds of its blocks; bits before bit `from` are not sent.
+fn next_bounded(z: &[u64], h: &[u16], sh: Shape, from: usize) -> Next
+    requires { ⌜ Fit (now h) sh × (length (now z) ≡ syndromeRoom) × (1 ≤ sh .blocks) × (from < sh .size)
+        × Holding (now h) sh (wbit (now z)) ⌝ }
     ensures { λ r. ⌜ Within (sh .blocks * sh .size) r
-        × ((c : Code) → Lent c (now (h .entry)) sh → c .unsent ≡ from → (x : Word) → wbit (now (s .entry)) ≡ laid c sh x
+        × ((c : Code) → Lent c (now (h .entry)) sh → c .unsent ≡ from → (x : Word) → wbit (now (z .entry)) ≡ laid c sh x
         → (broken c x ≡ 0 → ⊥) → byExcess c x ≡ comesNext r) ⌝ }
 {
     let mut d = [0u64; ROWS];
     let mut starts = [0u16; STARTS];
     let mut counts = [0u8; BLOCKS];
     let mut met = [0u8; BLOCKS];
-    bounds::begin(s, h, sh, &mut d, &mut starts, &mut counts);
+    bounds::begin(z, h, sh, &mut d, &mut starts, &mut counts);
     let best = choice::choose(&d, &starts, &counts, &mut met, sh, from);
     let excess = best.score as i8 - 8;
     if best.score <= 8 {
@@ -60,37 +60,37 @@ fn next_bounded(s: &[u64], h: &[u16], sh: Shape, from: usize) -> Next
 }
 
 // The same where one word holds a block: a bit that is to be flipped shows at once. All bits have equal sizes.
-fn next_narrow(s: &[u64], h: &[u16], sh: Shape, from: usize) -> Next
-    requires { ⌜ Fit (now h) sh × (length (now s) ≡ syndromeRoom) × (1 ≤ sh .blocks) × (from < sh .size)
-        × Holding (now h) sh (wbit (now s)) × (sh .words ≡ 1) ⌝ }
+fn next_narrow(z: &[u64], h: &[u16], sh: Shape, from: usize) -> Next
+    requires { ⌜ Fit (now h) sh × (length (now z) ≡ syndromeRoom) × (1 ≤ sh .blocks) × (from < sh .size)
+        × Holding (now h) sh (wbit (now z)) × (sh .words ≡ 1) ⌝ }
     ensures { λ r. ⌜ Within (sh .blocks * sh .size) r
-        × ((c : Code) → Lent c (now (h .entry)) sh → c .unsent ≡ from → (x : Word) → wbit (now (s .entry)) ≡ laid c sh x
+        × ((c : Code) → Lent c (now (h .entry)) sh → c .unsent ≡ from → (x : Word) → wbit (now (z .entry)) ≡ laid c sh x
         → (broken c x ≡ 0 → ⊥) → byExcess c x ≡ comesNext r) ⌝ }
 {
     let equal = [0f32; 0];
     let mut rows = [0u64; 4];
-    narrow::begin(s, sh, &mut rows);
+    narrow::begin(z, sh, &mut rows);
     let best = narrow::choose(&equal, &rows, h, sh, from);
     if best.score > 8 {
         return Next::Flip(best.bit, best.score as i8 - 8);
     }
-    next_bounded(s, h, sh, from)
+    next_bounded(z, h, sh, from)
 }
 
-// What comes next for the word whose syndrome is s; bits before bit `from` are not sent.
-pub fn comes_next(s: &[u64], h: &[u16], sh: Shape, from: usize) -> Next
-    requires { ⌜ Fit (now h) sh × (length (now s) ≡ syndromeRoom) × (1 ≤ sh .blocks) × (from < sh .size)
-        × Holding (now h) sh (wbit (now s)) ⌝ }
+// What comes next for the word whose syndrome is z; bits before bit `from` are not sent.
+pub fn comes_next(z: &[u64], h: &[u16], sh: Shape, from: usize) -> Next
+    requires { ⌜ Fit (now h) sh × (length (now z) ≡ syndromeRoom) × (1 ≤ sh .blocks) × (from < sh .size)
+        × Holding (now h) sh (wbit (now z)) ⌝ }
     ensures { λ r. ⌜ Within (sh .blocks * sh .size) r × ((c : Code) → Lent c (now (h .entry)) sh → c .unsent ≡ from → (x : Word)
-        → wbit (now (s .entry)) ≡ laid c sh x → byExcess c x ≡ comesNext r) ⌝ }
+        → wbit (now (z .entry)) ≡ laid c sh x → byExcess c x ≡ comesNext r) ⌝ }
 {
-    if syndromes::is_quiet(s) {
+    if syndromes::is_quiet(z) {
         return Next::Quiet;
     }
     if sh.words == 1 {
-        return next_narrow(s, h, sh, from);
+        return next_narrow(z, h, sh, from);
     }
-    next_bounded(s, h, sh, from)
+    next_bounded(z, h, sh, from)
 }
 
 // A run that ends.
@@ -138,7 +138,7 @@ fn go_on(
         if flips >= most {
             return at_end(6, flips, left); // no flip more
         }
-        vectors::turn_over(y, best.bit);
+        vectors::flip_bit(y, best.bit);
         bounds::flip(d, starts, counts, met, sh, best.bit);
         left -= best.score - 8;
         flips += 1;
@@ -184,19 +184,19 @@ fn go_on_narrow(
     at_end(0, flips, 0)
 }
 
-// The run from the word y with the syndrome s, of which so many checks are broken, by the bounds of its blocks.
+// The run from the word y with the syndrome z, of which so many checks are broken, by the bounds of its blocks.
 fn run_bounded(
     y: &mut [u64],
-    s: &[u64],
+    z: &[u64],
     h: &[u16],
     sh: Shape,
     from: usize,
     limit: u16,
     first: u32,
 ) -> Ended
-    requires { ⌜ Fit (now h) sh × (length (now y) ≡ wordRoom) × (length (now s) ≡ syndromeRoom) × (1 ≤ sh .blocks) × (from < sh .size)
-        × Beginning (now h) sh from first (wbit (now y)) (wbit (now s)) ⌝ }
-    ensures { λ r. ⌜ ((c : Code) → Begins c (now (h .entry)) sh from first (wbit (now (y .entry))) (wbit (now (s .entry)))
+    requires { ⌜ Fit (now h) sh × (length (now y) ≡ wordRoom) × (length (now z) ≡ syndromeRoom) × (1 ≤ sh .blocks) × (from < sh .size)
+        × Beginning (now h) sh from first (wbit (now y)) (wbit (now z)) ⌝ }
+    ensures { λ r. ⌜ ((c : Code) → Begins c (now (h .entry)) sh from first (wbit (now (y .entry))) (wbit (now (z .entry)))
         → RunsTo (byExcess c) c sh limit (wbit (now (y .entry))) (r .ran) (wbit (now (y .exit))) (laid c sh (wbit (now (y .exit))))
         × (r .last ≡ broken c (wbit (now (y .exit))))) ⌝ }
 {
@@ -204,7 +204,7 @@ fn run_bounded(
     let mut starts = [0u16; STARTS];
     let mut counts = [0u8; BLOCKS];
     let mut met = [0u8; BLOCKS]; // begun anew
-    bounds::begin(s, h, sh, &mut d, &mut starts, &mut counts);
+    bounds::begin(z, h, sh, &mut d, &mut starts, &mut counts);
     go_on(
         y,
         &mut d,
@@ -223,38 +223,38 @@ fn run_bounded(
 pub fn run_narrow(
     samples: &[f32],
     y: &mut [u64],
-    s: &[u64],
+    z: &[u64],
     h: &[u16],
     sh: Shape,
     from: usize,
     limit: u16,
     first: u32,
 ) -> Ended
-    requires { ⌜ Fit (now h) sh × (length (now y) ≡ wordRoom) × (length (now s) ≡ syndromeRoom) × (1 ≤ sh .blocks) × (from < sh .size)
+    requires { ⌜ Fit (now h) sh × (length (now y) ≡ wordRoom) × (length (now z) ≡ syndromeRoom) × (1 ≤ sh .blocks) × (from < sh .size)
         × (0 < length (now samples) → (length (now samples) ≡ sh .blocks * sh .size) × (from ≡ 0))
-        × Beginning (now h) sh from first (wbit (now y)) (wbit (now s)) × (sh .words ≡ 1) ⌝ }
-    ensures { λ r. ⌜ ((c : Code) → Begins c (now (h .entry)) sh from first (wbit (now (y .entry))) (wbit (now (s .entry)))
+        × Beginning (now h) sh from first (wbit (now y)) (wbit (now z)) × (sh .words ≡ 1) ⌝ }
+    ensures { λ r. ⌜ ((c : Code) → Begins c (now (h .entry)) sh from first (wbit (now (y .entry))) (wbit (now (z .entry)))
         → RunsTo (bySize (smaller (now (samples .entry))) c) c sh limit (wbit (now (y .entry))) (r .ran) (wbit (now (y .exit)))
         (laid c sh (wbit (now (y .exit)))) × (r .last ≡ broken c (wbit (now (y .exit))))) ⌝ }
 {
     let mut rows = [0u64; 4];
-    narrow::begin(s, sh, &mut rows);
+    narrow::begin(z, sh, &mut rows);
     go_on_narrow(samples, y, &mut rows, h, sh, from, limit, first)
 }
 
-// The run from the word y with the syndrome s, of which so many checks are broken, under a limit: flips until it ends.
+// The run from the word y with the syndrome z, of which so many checks are broken, under a limit: flips until it ends.
 pub fn run(
     y: &mut [u64],
-    s: &[u64],
+    z: &[u64],
     h: &[u16],
     sh: Shape,
     from: usize,
     limit: u16,
     first: u32,
 ) -> Ended
-    requires { ⌜ Fit (now h) sh × (length (now y) ≡ wordRoom) × (length (now s) ≡ syndromeRoom) × (1 ≤ sh .blocks) × (from < sh .size)
-        × Beginning (now h) sh from first (wbit (now y)) (wbit (now s)) ⌝ }
-    ensures { λ r. ⌜ ((c : Code) → Begins c (now (h .entry)) sh from first (wbit (now (y .entry))) (wbit (now (s .entry)))
+    requires { ⌜ Fit (now h) sh × (length (now y) ≡ wordRoom) × (length (now z) ≡ syndromeRoom) × (1 ≤ sh .blocks) × (from < sh .size)
+        × Beginning (now h) sh from first (wbit (now y)) (wbit (now z)) ⌝ }
+    ensures { λ r. ⌜ ((c : Code) → Begins c (now (h .entry)) sh from first (wbit (now (y .entry))) (wbit (now (z .entry)))
         → RunsTo (byExcess c) c sh limit (wbit (now (y .entry))) (r .ran) (wbit (now (y .exit))) (laid c sh (wbit (now (y .exit))))
         × (r .last ≡ broken c (wbit (now (y .exit))))) ⌝ }
 {
@@ -263,7 +263,7 @@ pub fn run(
     }
     if sh.words == 1 {
         let equal = [0f32; 0];
-        return run_narrow(&equal, y, s, h, sh, from, limit, first);
+        return run_narrow(&equal, y, z, h, sh, from, limit, first);
     }
-    run_bounded(y, s, h, sh, from, limit, first)
+    run_bounded(y, z, h, sh, from, limit, first)
 }

@@ -25,7 +25,7 @@ use Rattle.codes.proofs.Admitted.{steps-by, bits-are, word-long}
 use Rattle.sizes.specs.Samples.{read, smaller}
 use Rattle.sizes.specs.Sizes.{bySize}
 use Rattle.sizing.specs.declared.Ended.{Ended}
-use Rattle.sizing.specs.Turning.{SizesTo}
+use Rattle.sizing.specs.Passing.{SizesTo}
 use Rattle.samples.specs.Answers.{ranSamples}
 use Rattle.samples.proofs.Promises.{sizes-choose}
 

@@ -22,13 +22,13 @@ fn correct_read(o: Offer, samples: &[f32], limit: u16, y: &mut [u64], out: &mut 
     ensures { λ r. ⌜ ((n : ℕ) → offered n ≡ true → o ≡ offerOf n
         → asCorrected r (now (out .exit)) ≡ ranSamples n (now (samples .entry)) limit (now (out .entry))) ⌝ }
 {
-    let mut t = [0u16; TABLE];
-    let mut s = [0u64; SYNDROME];
+    let mut h = [0u16; TABLE];
+    let mut z = [0u64; SYNDROME];
     let of = o.shape;
-    let sh = measured::checks(of.size, y, &mut t, &mut s);
-    let first = syndromes::broken(&s);
-    let lowest = syndromes::lowest(&s, sh);
-    let end = sizing::run(samples, y, &s, &t, sh, limit, first);
+    let sh = measured::checks(of.size, y, &mut h, &mut z);
+    let first = syndromes::broken(&z);
+    let lowest = syndromes::lowest(&z, sh);
+    let end = sizing::run(samples, y, &z, &h, sh, limit, first);
     let ran = end.ran;
     let number = judging::judge(o, y, ran.number);
     if number == 0 {

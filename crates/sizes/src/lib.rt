@@ -138,8 +138,8 @@ pub fn first_set(v: u64) -> usize
     u64::leading_zeros(v) as usize
 }
 
-// v with bit n turned over.
-fn turned(v: u64, n: usize) -> u64
+// v with bit n flipped.
+fn with_flipped(v: u64, n: usize) -> u64
     requires { ⌜ n < 64 ⌝ }
     ensures { λ r. ⌜ ((i : ℕ) → i < 64 → digit 64 r i ≡ digit 64 v i ⊕ eqb i n) ⌝ }
 {
@@ -158,7 +158,7 @@ pub fn smallest_of(samples: &[f32], mask: u64, first: usize, bit: usize) -> usiz
     while left != 0 {
         let i = first_set(left);
         best = smaller(samples, best, first + i);
-        left = turned(left, i);
+        left = with_flipped(left, i);
     }
     best
 }

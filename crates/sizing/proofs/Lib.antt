@@ -1,4 +1,4 @@
 pub mod Sized
 pub mod Unlikes
-pub mod Turns
+pub mod Passes
 pub mod Beside

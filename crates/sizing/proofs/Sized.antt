@@ -25,7 +25,7 @@ use Rattle.layout.specs.Lent.{Lent, score}
 use Rattle.planes.specs.Ranges.{Top}
 use Rattle.planes.proofs.Ranges.{top-ends}
 use Rattle.choice.proofs.Excesses.{score-excess, degree-le}
-use Rattle.runs.proofs.Turning.{next-stuck}
+use Rattle.runs.proofs.Passing.{next-stuck}
 use Rattle.runs.proofs.Sizes.{score-left, sized-next}
 use Rattle.sizes.specs.Samples.{smaller, allFinite}
 use Rattle.sizes.specs.Sizes.{smallest, reaching, instead, smallestSent, bySize}

@@ -12,8 +12,8 @@ ghost use Rattle.layout.specs.Lent.{Fit, Lent};
 ghost use Rattle.bounds.specs.Reading.{Gathered};
 ghost use Rattle.bounds.specs.Keeping.{Ready};
 ghost use Rattle.sizes.specs.Samples.{read as readOf, allFinite};
-ghost use Rattle.sizing.specs.Turning.{Stands, Starting, SizesTo};
-ghost use Rattle.runs.specs.Turns.{Begins, Beginning};
+ghost use Rattle.sizing.specs.Passing.{Stands, Starting, SizesTo};
+ghost use Rattle.runs.specs.Passes.{Begins, Beginning};
 use layout::BLOCKS;
 use layout::ROWS;
 use layout::STARTS;
@@ -28,7 +28,7 @@ pub struct Ended {
     pub unlike: u32,
 }
 
-// In how many bits the word y differs from the one that was read, once bit `bit` is turned over; before that in so many.
+// In how many bits the word y differs from the one that was read, once bit `bit` is flipped; before that in so many.
 fn counted(samples: &[f32], y: &[u64], bit: usize, unlike: u32) -> u32
     requires { ⌜ (bit < length (now samples)) × (bit < 64 * length (now y)) × (unlike < 65536) ⌝ }
     ensures { λ r. ⌜ (r ≤ unlike + 1) × (tally (readOf (now (samples .entry)) bit ⊕ wbit (now (y .entry)) bit) ≤ unlike
@@ -45,7 +45,7 @@ fn counted(samples: &[f32], y: &[u64], bit: usize, unlike: u32) -> u32
 
 // Flips a bit in y, and in what is kept if `left` checks, one or more, are broken then; and says in how many bits y differs from what
 // was read.
-fn turn(
+fn pass(
     samples: &[f32],
     y: &mut [u64],
     d: &mut [u64],
@@ -72,7 +72,7 @@ fn turn(
         (now (counts .entry)) (now (met .exit)) (now (kept .exit))) ⌝ }
 {
     let r = counted(samples, y, bit, unlike);
-    vectors::turn_over(y, bit);
+    vectors::flip_bit(y, bit);
     if left > 0 {
         smallest::flip(samples, d, starts, counts, met, kept, sh, bit);
     }
@@ -130,7 +130,7 @@ fn go_on(
             return at_end(6, flips, left, unlike);
         }
         left -= best.score - 8;
-        unlike = turn(
+        unlike = pass(
             samples,
             y,
             d,
@@ -148,20 +148,20 @@ fn go_on(
     at_end(0, flips, 0, unlike)
 }
 
-// The run from the word y that was read, with the syndrome s, of which so many checks are broken, by the bounds of its blocks.
+// The run from the word y that was read, with the syndrome z, of which so many checks are broken, by the bounds of its blocks.
 fn run_bounded(
     samples: &[f32],
     y: &mut [u64],
-    s: &[u64],
+    z: &[u64],
     h: &[u16],
     sh: Shape,
     limit: u16,
     first: u32,
 ) -> Ended
-    requires { ⌜ Fit (now h) sh × (length (now y) ≡ 130) × (length (now s) ≡ 16) × (1 ≤ sh .blocks)
+    requires { ⌜ Fit (now h) sh × (length (now y) ≡ 130) × (length (now z) ≡ 16) × (1 ≤ sh .blocks)
         × (length (now samples) ≡ sh .blocks * sh .size) × (allFinite (now samples) ≡ true) × (wbit (now y) ≡ readOf (now samples))
-        × Beginning (now h) sh 0 first (wbit (now y)) (wbit (now s)) ⌝ }
-    ensures { λ r. ⌜ ((c : Code) → Begins c (now (h .entry)) sh 0 first (wbit (now (y .entry))) (wbit (now (s .entry)))
+        × Beginning (now h) sh 0 first (wbit (now y)) (wbit (now z)) ⌝ }
+    ensures { λ r. ⌜ ((c : Code) → Begins c (now (h .entry)) sh 0 first (wbit (now (y .entry))) (wbit (now (z .entry)))
         → SizesTo c sh (now (samples .entry)) limit (wbit (now (y .entry))) r (wbit (now (y .exit)))) ⌝ }
 {
     let mut d = [0u64; ROWS];
@@ -169,7 +169,7 @@ fn run_bounded(
     let mut counts = [0u8; BLOCKS];
     let mut met = [0u8; BLOCKS];
     let mut kept = [UNKNOWN; BLOCKS];
-    bounds::begin(s, h, sh, &mut d, &mut starts, &mut counts);
+    bounds::begin(z, h, sh, &mut d, &mut starts, &mut counts);
     go_on(
         samples,
         y,
@@ -201,46 +201,46 @@ fn keep(y: &[u64], x: &mut [u64])
 fn run_narrow(
     samples: &[f32],
     y: &mut [u64],
-    s: &[u64],
+    z: &[u64],
     h: &[u16],
     sh: Shape,
     limit: u16,
     first: u32,
 ) -> Ended
-    requires { ⌜ Fit (now h) sh × (length (now y) ≡ 130) × (length (now s) ≡ 16) × (1 ≤ sh .blocks)
-        × (length (now samples) ≡ sh .blocks * sh .size) × Beginning (now h) sh 0 first (wbit (now y)) (wbit (now s)) × (sh .words ≡ 1) ⌝ }
-    ensures { λ r. ⌜ ((c : Code) → Begins c (now (h .entry)) sh 0 first (wbit (now (y .entry))) (wbit (now (s .entry)))
+    requires { ⌜ Fit (now h) sh × (length (now y) ≡ 130) × (length (now z) ≡ 16) × (1 ≤ sh .blocks)
+        × (length (now samples) ≡ sh .blocks * sh .size) × Beginning (now h) sh 0 first (wbit (now y)) (wbit (now z)) × (sh .words ≡ 1) ⌝ }
+    ensures { λ r. ⌜ ((c : Code) → Begins c (now (h .entry)) sh 0 first (wbit (now (y .entry))) (wbit (now (z .entry)))
         → SizesTo c sh (now (samples .entry)) limit (wbit (now (y .entry))) r (wbit (now (y .exit)))) ⌝ }
 {
     let mut x = [0u64; 16];
     keep(y, &mut x);
-    let end = runs::run_narrow(samples, y, s, h, sh, 0, limit, first);
+    let end = runs::run_narrow(samples, y, z, h, sh, 0, limit, first);
     let ran = end.ran;
     let unlike = unlike::unlike_words(&x, y, (samples.len() + 63) / 64);
     at_end(ran.number, ran.flips, end.last, unlike as u32)
 }
 
-// The run from the word y that was read, with the syndrome s, of which so many checks are broken, under a limit: flips until it ends.
+// The run from the word y that was read, with the syndrome z, of which so many checks are broken, under a limit: flips until it ends.
 pub fn run(
     samples: &[f32],
     y: &mut [u64],
-    s: &[u64],
+    z: &[u64],
     h: &[u16],
     sh: Shape,
     limit: u16,
     first: u32,
 ) -> Ended
-    requires { ⌜ Fit (now h) sh × (length (now y) ≡ 130) × (length (now s) ≡ 16) × (1 ≤ sh .blocks)
+    requires { ⌜ Fit (now h) sh × (length (now y) ≡ 130) × (length (now z) ≡ 16) × (1 ≤ sh .blocks)
         × (length (now samples) ≡ sh .blocks * sh .size) × (allFinite (now samples) ≡ true) × (wbit (now y) ≡ readOf (now samples))
-        × Beginning (now h) sh 0 first (wbit (now y)) (wbit (now s)) ⌝ }
-    ensures { λ r. ⌜ ((c : Code) → Begins c (now (h .entry)) sh 0 first (wbit (now (y .entry))) (wbit (now (s .entry)))
+        × Beginning (now h) sh 0 first (wbit (now y)) (wbit (now z)) ⌝ }
+    ensures { λ r. ⌜ ((c : Code) → Begins c (now (h .entry)) sh 0 first (wbit (now (y .entry))) (wbit (now (z .entry)))
         → SizesTo c sh (now (samples .entry)) limit (wbit (now (y .entry))) r (wbit (now (y .exit)))) ⌝ }
 {
     if first == 0 {
         return at_end(0, 0, 0, 0);
     }
     if sh.words == 1 {
-        return run_narrow(samples, y, s, h, sh, limit, first);
+        return run_narrow(samples, y, z, h, sh, limit, first);
     }
-    run_bounded(samples, y, s, h, sh, limit, first)
+    run_bounded(samples, y, z, h, sh, limit, first)
 }

@@ -125,19 +125,19 @@ module _ (M p q : ℕ) (small : M ≤ 512) (hp : p % 1024 < 2 * M) (is : (q ≡ 
           ∙ sym (ap (λ t. if t then p else p - M) (le-ltb (p % 1024) M l)))
 
   -- a doubled row has the same there
-  pub same-there : (sh : Shape) (s d : Word) → sh .size ≡ M → 1 ≤ M → p / 1024 < sh .rows → Twice sh (sh .rows) s d → d q ≡ d p
-  same-there sh s d size some hr two = go (decLt (p % 1024) M) is
+  pub same-there : (sh : Shape) (z d : Word) → sh .size ≡ M → 1 ≤ M → p / 1024 < sh .rows → Twice sh (sh .rows) z d → d q ≡ d p
+  same-there sh z d size some hr two = go (decLt (p % 1024) M) is
     where
       r : ℕ
       r = p / 1024
 
-      at : (n : ℕ) → n < 2 * M → d (1024 * r + n) ≡ s (64 * (r * sh .words) + n % M)
-      at n l = two r n hr (subst (λ z. n < 2 * z) (sym size) l) ∙ ap (λ z. s (64 * (r * sh .words) + n % z)) size
+      at : (n : ℕ) → n < 2 * M → d (1024 * r + n) ≡ z (64 * (r * sh .words) + n % M)
+      at n l = two r n hr (subst (λ v. n < 2 * v) (sym size) l) ∙ ap (λ v. z (64 * (r * sh .words) + n % v)) size
 
       low : (n : ℕ) → n < M → n % M ≡ (n + M) % M
       low n l =
           let e : n + M ≡ M + n = omega arith in
-          sym (ap (λ z. z % M) e ∙ add-mod-left M n)
+          sym (ap (λ v. v % M) e ∙ add-mod-left M n)
 
       go : Dec (p % 1024 < M) → (q ≡ p) ⊎ (q ≡ other M p) → d q ≡ d p
       go w (inl e) = ap d e
@@ -145,13 +145,13 @@ module _ (M p q : ℕ) (small : M ≤ 512) (hp : p % 1024 < 2 * M) (is : (q ≡ 
           let n = p % 1024 in
           let here : p ≡ 1024 * r + n = omega arith in
           let there : q ≡ 1024 * r + (n + M) = omega (arith, e ∙ ap (λ t. if t then p + M else p - M) (lt-ltb n M l)) in
-          ap d there ∙ at (n + M) (omega arith) ∙ ap (λ z. s (64 * (r * sh .words) + z)) (sym (low n l)) ∙ sym (at n hp) ∙ ap d (sym here)
+          ap d there ∙ at (n + M) (omega arith) ∙ ap (λ v. z (64 * (r * sh .words) + v)) (sym (low n l)) ∙ sym (at n hp) ∙ ap d (sym here)
       go (no u) (inr e) =
           let n = p % 1024 in
           let l : M ≤ n = omega (arith, lt-of-not-le u) in
           let here : p ≡ 1024 * r + (n - M + M) = omega arith in
           let there : q ≡ 1024 * r + (n - M) = omega (arith, e ∙ ap (λ t. if t then p + M else p - M) (le-ltb n M l)) in
-          ap d there ∙ at (n - M) (omega arith) ∙ ap (λ z. s (64 * (r * sh .words) + z)) (low (n - M) (omega arith))
+          ap d there ∙ at (n - M) (omega arith) ∙ ap (λ v. z (64 * (r * sh .words) + v)) (low (n - M) (omega arith))
           ∙ sym (at (n - M + M) (omega arith)) ∙ ap d (sym here)
 
 -- ---- a flip of bit k of block b
@@ -174,7 +174,7 @@ module _ (samples : List Float) (sh : Shape) (starts counts met kept : List ℕ)
   abbrev place : ℕ → ℕ
   place e = getD starts (8 * b + e) 0 + k
 
-  module _ (turned : (p : ℕ) → wbit d′ p ≡ wbit d p ⊕ sum N (λ e. eqb p (place e) ⊕ eqb p (other M (place e)))) (c : Code) (h : List ℕ) (x
+  module _ (changed : (p : ℕ) → wbit d′ p ≡ wbit d p ⊕ sum N (λ e. eqb p (place e) ⊕ eqb p (other M (place e)))) (c : Code) (h : List ℕ) (x
       : Word)
       (lent : Lent c h sh) (g : Gathered h sh starts counts (sh .blocks)) (two : Twice sh (sh .rows) (laid c sh x) (wbit d)) where
     hb : b < sh .blocks
@@ -188,7 +188,7 @@ module _ (samples : List Float) (sh : Shape) (starts counts met kept : List ℕ)
 
     pub twice-flip : Twice sh (sh .rows) (laid c sh (flipped x bit)) (wbit d′)
     twice-flip = subst (λ n. Twice sh (sh .rows) (laid c sh (flipped x n)) (wbit d′)) (div-add-mod' bit M)
-        (flipped-twice h sh b k hk small starts N (g b hb .1) c lent hb (r .held) x (wbit d) (wbit d′) two turned)
+        (flipped-twice h sh b k hk small starts N (g b hb .1) c lent hb (r .held) x (wbit d) (wbit d′) two changed)
 
     -- how many checks of bit i of block j are broken, before and after
     abbrev before : ℕ → ℕ → ℕ
@@ -220,7 +220,7 @@ module _ (samples : List Float) (sh : Shape) (starts counts met kept : List ℕ)
         let q = getD starts (8 * j + o .at) 0 + i in
         let u = unlike-is (wbit d q) (wbit d′ q) (o .holds) in
         let t : sum N (λ e. eqb q (place e) ⊕ eqb q (other M (place e))) ≡ true
-        = sym (ap (λ z. z ⊕ sum N (λ e. eqb q (place e) ⊕ eqb q (other M (place e)))) (u .0)) ∙ sym (turned q) ∙ u .1 in
+        = sym (ap (λ z. z ⊕ sum N (λ e. eqb q (place e) ⊕ eqb q (other M (place e)))) (u .0)) ∙ sym (changed q) ∙ u .1 in
         let w = one-summed N (λ e. eqb q (place e) ⊕ eqb q (other M (place e))) t in
         let p = place (w .at) in
         let is : (q ≡ p) ⊎ (q ≡ other M p) = equal q p (either-is (eqb q p) (eqb q (other M p)) (w .holds)) in

@@ -278,7 +278,7 @@ fn raise(
     }
 }
 
-// Turns the checks of a bit over. Only the bits that a check covers which is broken then have fewer checks met than before: these are
+// Flips the checks of a bit. Only the bits that a check covers which is broken then have fewer checks met than before: these are
 // seen anew.
 pub fn flip(
     samples: &[f32],
@@ -304,7 +304,7 @@ pub fn flip(
     let b = bit / sh.size;
     let k = bit % sh.size;
     let n = counts[b] as usize;
-    bounds::turn_checks(d, starts, 8 * b, n, k, sh.size);
+    bounds::flip_checks(d, starts, 8 * b, n, k, sh.size);
     raise(samples, d, starts, counts, met, kept, sh, 8 * b, n, k);
 }
 

@@ -73,17 +73,17 @@ odd-all x none =
 
 -- ---- the checks, by the information blocks alone
 
-pub laid-informed : (n : ℕ) (sh : Shape) (t : List ℕ) (J : ℕ) (x : Word) → Lends n t sh → J ≤ sh .blocks
+pub laid-informed : (n : ℕ) (sh : Shape) (h : List ℕ) (J : ℕ) (x : Word) → Lends n h sh → J ≤ sh .blocks
     → ((i : ℕ) → J * sh .size ≤ i → x i ≡ false)
-    → within (wide sh) (sh .size) (sh .rows) (rowed (wide sh) (sh .rows) (summed sh t x J)) ≡ laid (code n) sh x
-laid-informed n sh t J x lends l none =
-    ap (λ f. within (wide sh) (sh .size) (sh .rows) (rowed (wide sh) (sh .rows) f)) (summed-short sh t x J none l)
-    ∙ within-rowed (wide sh) (sh .size) (sh .rows) (wide-some t sh (lends .fit)) (summed sh t x (sh .blocks))
-    ∙ laid-summed t sh (lends .fit) (code n) (lends .lent) x
+    → within (wide sh) (sh .size) (sh .rows) (rowed (wide sh) (sh .rows) (summed sh h x J)) ≡ laid (code n) sh x
+laid-informed n sh h J x lends l none =
+    ap (λ f. within (wide sh) (sh .size) (sh .rows) (rowed (wide sh) (sh .rows) f)) (summed-short sh h x J none l)
+    ∙ within-rowed (wide sh) (sh .size) (sh .rows) (wide-some h sh (lends .fit)) (summed sh h x (sh .blocks))
+    ∙ laid-summed h sh (lends .fit) (code n) (lends .lent) x
 
 -- the near-Earth table, as it is lent
-pub wide-lends : (n : ℕ) (t : List ℕ) → t ≡ flat16 (pairs parity511) → offered n ≡ true → wideShape ≡ offerOf n .shape → Lends n t wideShape
-wide-lends n t e off is = by-size 511 t wideShape (record {
+pub wide-lends : (n : ℕ) (h : List ℕ) → h ≡ flat16 (pairs parity511) → offered n ≡ true → wideShape ≡ offerOf n .shape → Lends n h wideShape
+wide-lends n h e off is = by-size 511 h wideShape (record {
   small = λ z. absurd (omega arith);
   middle = λ z. absurd (omega arith);
   large = λ z. absurd (omega arith);

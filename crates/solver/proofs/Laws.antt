@@ -229,28 +229,28 @@ held-kept sh some f x e =
     sym (ap (λ z. ltb i (sh .size) && z) (held-at sh some f x e r i hr hi) ∙ cut-twice (sh .size) i (f r)))
 
 -- the words of a slice
-slice-at : (s : List ℕ) (a n m : ℕ) → m < 64 * n → wbit (take n (drop a s)) m ≡ wbit s (64 * a + m)
-slice-at s a n m h =
-    word-at (take n (drop a s)) m (m / 64) (m % 64) (omega arith) (omega arith)
-    ∙ ap (λ z. digit 64 z (m % 64)) (getD-take n (drop a s) (m / 64) 0 (omega arith) ∙ getD-drop a s (m / 64) 0)
-    ∙ sym (word-at s (64 * a + m) (a + m / 64) (m % 64) (omega arith) (omega arith))
+slice-at : (z : List ℕ) (a n m : ℕ) → m < 64 * n → wbit (take n (drop a z)) m ≡ wbit z (64 * a + m)
+slice-at z a n m h =
+    word-at (take n (drop a z)) m (m / 64) (m % 64) (omega arith) (omega arith)
+    ∙ ap (λ w. digit 64 w (m % 64)) (getD-take n (drop a z) (m / 64) 0 (omega arith) ∙ getD-drop a z (m / 64) 0)
+    ∙ sym (word-at z (64 * a + m) (a + m / 64) (m % 64) (omega arith) (omega arith))
 
-slice-past : (s : List ℕ) (a n m : ℕ) → 64 * n ≤ m → wbit (take n (drop a s)) m ≡ false
-slice-past s a n m h = word-past (take n (drop a s)) m (omega (arith, length-take n (drop a s)))
+slice-past : (z : List ℕ) (a n m : ℕ) → 64 * n ≤ m → wbit (take n (drop a z)) m ≡ false
+slice-past z a n m h = word-past (take n (drop a z)) m (omega (arith, length-take n (drop a z)))
 
 -- a row, as the words that hold it
-pub row-slice : (sh : Shape) → 0 < wide sh → sh .size ≤ wide sh → (f : ℕ → Word) (s : List ℕ) → wbit s ≡ held sh f → (r n : ℕ)
+pub row-slice : (sh : Shape) → 0 < wide sh → sh .size ≤ wide sh → (f : ℕ → Word) (z : List ℕ) → wbit z ≡ held sh f → (r n : ℕ)
     → r < sh .rows → n ≡ sh .words
-    → wbit (take n (drop (r * sh .words) s)) ≡ upTo (sh .size) (f r)
-row-slice sh some size f s e r n hr en = fun-ext (λ m. ⊎-elim (past m) (inside m) (le-or-lt (64 * n) m))
+    → wbit (take n (drop (r * sh .words) z)) ≡ upTo (sh .size) (f r)
+row-slice sh some size f z e r n hr en = fun-ext (λ m. ⊎-elim (past m) (inside m) (le-or-lt (64 * n) m))
   where
-    past : (m : ℕ) → 64 * n ≤ m → wbit (take n (drop (r * sh .words) s)) m ≡ upTo (sh .size) (f r) m
-    past m h = slice-past s (r * sh .words) n m h ∙ sym (upTo-above (sh .size) m (f r) (omega arith))
+    past : (m : ℕ) → 64 * n ≤ m → wbit (take n (drop (r * sh .words) z)) m ≡ upTo (sh .size) (f r) m
+    past m h = slice-past z (r * sh .words) n m h ∙ sym (upTo-above (sh .size) m (f r) (omega arith))
 
-    inside : (m : ℕ) → m < 64 * n → wbit (take n (drop (r * sh .words) s)) m ≡ upTo (sh .size) (f r) m
+    inside : (m : ℕ) → m < 64 * n → wbit (take n (drop (r * sh .words) z)) m ≡ upTo (sh .size) (f r) m
     inside m h =
         let same : 64 * (r * sh .words) + m ≡ wide sh * r + m = omega arith in
-        slice-at s (r * sh .words) n m h ∙ ap (wbit s) same ∙ held-at sh some f (wbit s) e r m hr (omega arith)
+        slice-at z (r * sh .words) n m h ∙ ap (wbit z) same ∙ held-at sh some f (wbit z) e r m hr (omega arith)
 
 -- ---- adding piece by piece
 
@@ -471,8 +471,8 @@ module _ (f : ℕ → Word) (q : ℕ → Bool) where
       ∙ row-added 512 (lit< tt) 2 1 (lit< tt) (λ r i. upTo 511 (f r) i ⊕ (eqb r 0 && upTo 511 (λ i. q 0) i)) (upTo 511 (λ i. q 1))
       ∙ rowed-same 512 (lit< tt) 2 _ (λ r. upTo 511 (λ i. f r i ⊕ q r)) (λ r i hr hi. both-rows r i hr (ltb i 511))
 
-pub slice-long : (s : List ℕ) (a n : ℕ) → a + n ≤ length s → length (take n (drop a s)) ≡ n
-slice-long s a n h = length-take-le n (drop a s) (omega (arith, length-drop a s))
+pub slice-long : (z : List ℕ) (a n : ℕ) → a + n ≤ length z → length (take n (drop a z)) ≡ n
+slice-long z a n h = length-take-le n (drop a z) (omega (arith, length-drop a z))
 
 -- ---- steps one after the other
 

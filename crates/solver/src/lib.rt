@@ -123,47 +123,47 @@ fn turns(d: Pair, step: &[u16], size: usize) -> u64
 }
 
 // A step where one word holds a row.
-fn step_narrow(step: &[u16], sh: Shape, s: &mut [u64])
+fn step_narrow(step: &[u16], sh: Shape, z: &mut [u64])
     requires { ⌜ Fits sh × (sh .words ≡ 1) × (length (now step) ≡ 10) × T (rowsIn (sh .rows) (now step))
-        × (length (now s) ≡ syndromeRoom) ⌝ }
-    ensures { λ _. ⌜ ((f : ℕ → Word) → wbit (now (s .entry)) ≡ held sh f
-        → wbit (now (s .exit)) ≡ held sh (stepped (sh .size) (now (step .entry)) f)) ⌝ }
+        × (length (now z) ≡ syndromeRoom) ⌝ }
+    ensures { λ _. ⌜ ((f : ℕ → Word) → wbit (now (z .entry)) ≡ held sh f
+        → wbit (now (z .exit)) ≡ held sh (stepped (sh .size) (now (step .entry)) f)) ⌝ }
 {
-    let d = vectors::double_word(s[step[1] as usize], sh.size);
+    let d = vectors::double_word(z[step[1] as usize], sh.size);
     vectors::add_word(
         vectors::front(turns(d, step, sh.size), sh.size),
-        s,
+        z,
         step[0] as usize,
     );
 }
 
 // Adds a doubled row to the row of a step, turned by each of its shifts.
-fn add_turns(d: &[u64], step: &[u16], sh: Shape, s: &mut [u64])
+fn add_turns(d: &[u64], step: &[u16], sh: Shape, z: &mut [u64])
     requires { ⌜ Fits sh × (length (now d) ≡ doubledRoom) × (length (now step) ≡ 10) × T (rowsIn (sh .rows) (now step))
-        × (length (now s) ≡ syndromeRoom) ⌝ }
-    ensures { λ _. ⌜ wbit (now (s .exit)) ≡ added (wbit (now (s .entry))) (wide sh * target (now (step .entry)))
+        × (length (now z) ≡ syndromeRoom) ⌝ }
+    ensures { λ _. ⌜ wbit (now (z .exit)) ≡ added (wbit (now (z .entry))) (wide sh * target (now (step .entry)))
         (wide sh * (target (now (step .entry)) + 1)) (copies (sh .size) (now (step .entry)) (wbit (now (d .entry)))) ⌝ }
 {
     let at = step[0] as usize * sh.words;
     let mut k: usize = 2;
     while k < 10 && (step[k] as usize) < sh.size {
-        vectors::add_turned(d, step[k] as usize, s, at, sh.words);
+        vectors::add_turned(d, step[k] as usize, z, at, sh.words);
         k += 1;
     }
 }
 
 // A step where more words hold a row; d has room for a doubled one.
-fn step_wide(step: &[u16], sh: Shape, d: &mut [u64], s: &mut [u64])
+fn step_wide(step: &[u16], sh: Shape, d: &mut [u64], z: &mut [u64])
     requires { ⌜ Fits sh × (length (now d) ≡ doubledRoom) × (length (now step) ≡ 10) × T (rowsIn (sh .rows) (now step))
-        × (length (now s) ≡ syndromeRoom) × Kept sh (wbit (now s)) ⌝ }
-    ensures { λ _. ⌜ ((f : ℕ → Word) → wbit (now (s .entry)) ≡ held sh f
-        → wbit (now (s .exit)) ≡ held sh (stepped (sh .size) (now (step .entry)) f)) ⌝ }
+        × (length (now z) ≡ syndromeRoom) × Kept sh (wbit (now z)) ⌝ }
+    ensures { λ _. ⌜ ((f : ℕ → Word) → wbit (now (z .entry)) ≡ held sh f
+        → wbit (now (z .exit)) ≡ held sh (stepped (sh .size) (now (step .entry)) f)) ⌝ }
 {
     let at = step[1] as usize * sh.words;
     let end = at + sh.words;
-    vectors::double(&s[at..end], sh.size, d);
-    add_turns(d, step, sh, s);
-    syndromes::trim_rows(s, sh);
+    vectors::double(&z[at..end], sh.size, d);
+    add_turns(d, step, sh, z);
+    syndromes::trim_rows(z, sh);
 }
 
 // The list of steps for M, where one word holds a row.
@@ -181,32 +181,32 @@ fn narrow_steps(size: usize) -> [[u16; 10]; 15]
 }
 
 // The steps, one after the other, where one word holds a row.
-fn walk_narrow(sh: Shape, s: &mut [u64])
-    requires { ⌜ Fits sh × (sh .words ≡ 1) × Within (sh .rows) (stepsOf (sh .size)) × (length (now s) ≡ syndromeRoom)
+fn walk_narrow(sh: Shape, z: &mut [u64])
+    requires { ⌜ Fits sh × (sh .words ≡ 1) × Within (sh .rows) (stepsOf (sh .size)) × (length (now z) ≡ syndromeRoom)
         × ((sh .size ≡ 16 → ⊥) → (sh .size ≡ 32 → ⊥) → sh .size ≡ 64) ⌝ }
-    ensures { λ _. ⌜ ((f : ℕ → Word) → wbit (now (s .entry)) ≡ held sh f
-        → wbit (now (s .exit)) ≡ held sh (walked (sh .size) (stepsOf (sh .size)) 15 f)) ⌝ }
+    ensures { λ _. ⌜ ((f : ℕ → Word) → wbit (now (z .entry)) ≡ held sh f
+        → wbit (now (z .exit)) ≡ held sh (walked (sh .size) (stepsOf (sh .size)) 15 f)) ⌝ }
 {
     let steps = narrow_steps(sh.size);
     let mut k: usize = 0;
     while k < 15 {
-        step_narrow(&steps[k], sh, s);
+        step_narrow(&steps[k], sh, z);
         k += 1;
     }
 }
 
 // The same where more words hold it, for M = 511.
-fn walk_wide(sh: Shape, s: &mut [u64])
-    requires { ⌜ Fits sh × (sh .size ≡ 511) × Within (sh .rows) (stepsOf (sh .size)) × (length (now s) ≡ syndromeRoom)
-        × Kept sh (wbit (now s)) ⌝ }
-    ensures { λ _. ⌜ ((f : ℕ → Word) → wbit (now (s .entry)) ≡ held sh f
-        → wbit (now (s .exit)) ≡ held sh (walked (sh .size) (stepsOf (sh .size)) 15 f)) ⌝ }
+fn walk_wide(sh: Shape, z: &mut [u64])
+    requires { ⌜ Fits sh × (sh .size ≡ 511) × Within (sh .rows) (stepsOf (sh .size)) × (length (now z) ≡ syndromeRoom)
+        × Kept sh (wbit (now z)) ⌝ }
+    ensures { λ _. ⌜ ((f : ℕ → Word) → wbit (now (z .entry)) ≡ held sh f
+        → wbit (now (z .exit)) ≡ held sh (walked (sh .size) (stepsOf (sh .size)) 15 f)) ⌝ }
 {
     let steps = STEPS511;
     let mut d = [0u64; DOUBLED];
     let mut k: usize = 0;
     while k < 15 {
-        step_wide(&steps[k], sh, &mut d, s);
+        step_wide(&steps[k], sh, &mut d, z);
         k += 1;
     }
 }
@@ -219,28 +219,28 @@ fn ones_if(odd: u64) -> u64
 }
 
 // Adds a word of 64 equal bits to each word of row r, of 511 bits.
-fn invert_row(s: &mut [u64], r: usize, v: u64)
-    requires { ⌜ (length (now s) ≡ syndromeRoom) × (r < 2) ⌝ }
+fn invert_row(z: &mut [u64], r: usize, v: u64)
+    requires { ⌜ (length (now z) ≡ syndromeRoom) × (r < 2) ⌝ }
     ensures { λ _. ⌜ ((b : Bool) → Holds v (λ i. b)
-        → wbit (now (s .exit)) ≡ added (wbit (now (s .entry))) (512 * r) (512 * (r + 1)) (upTo 511 (λ i. b))) ⌝ }
+        → wbit (now (z .exit)) ≡ added (wbit (now (z .entry))) (512 * r) (512 * (r + 1)) (upTo 511 (λ i. b))) ⌝ }
 {
     let mut k: usize = 8 * r;
     while k < 8 * r + 7 {
-        vectors::add_word(v, s, k);
+        vectors::add_word(v, z, k);
         k += 1;
     }
-    vectors::add_word(vectors::front(v, 63), s, k);
+    vectors::add_word(vectors::front(v, 63), z, k);
 }
 
 // Inverts the rows that end with every bit the other way, by a number that has a bit for each block, set where its bits are odd in number.
-fn invert(odd: u64, s: &mut [u64])
-    requires { ⌜ length (now s) ≡ syndromeRoom ⌝ }
-    ensures { λ _. ⌜ ((x : Word) (f : ℕ → Word) → odd ≡ number 16 (oddBlock x) → wbit (now (s .entry)) ≡ twoRows f
-        → wbit (now (s .exit)) ≡ twoRows (λ r i. f r i ⊕ oddTogether x r)) ⌝ }
+fn invert(odd: u64, z: &mut [u64])
+    requires { ⌜ length (now z) ≡ syndromeRoom ⌝ }
+    ensures { λ _. ⌜ ((x : Word) (f : ℕ → Word) → odd ≡ number 16 (oddBlock x) → wbit (now (z .entry)) ≡ twoRows f
+        → wbit (now (z .exit)) ≡ twoRows (λ r i. f r i ⊕ oddTogether x r)) ⌝ }
 {
     let together = ownparity::odd_together(odd);
-    invert_row(s, 0, ones_if(together.first));
-    invert_row(s, 1, ones_if(together.second));
+    invert_row(z, 0, ones_if(together.first));
+    invert_row(z, 1, ones_if(together.second));
 }
 
 // Adds the 64 bits of v to those of y from bit p on.
@@ -252,28 +252,28 @@ fn put_word(v: u64, y: &mut [u64], p: usize)
     vectors::add_turned(&u, 64 - p % 64, y, p / 64, 2);
 }
 
-// Adds row r of s to the bits of y from bit p on.
-fn put_row(s: &[u64], sh: Shape, r: usize, y: &mut [u64], p: usize)
-    requires { ⌜ Fits sh × (r < sh .rows) × (length (now s) ≡ syndromeRoom) × (length (now y) ≡ tailRoom) × (p + sh .size ≤ 1029) ⌝ }
-    ensures { λ _. ⌜ ((f : ℕ → Word) → wbit (now (s .entry)) ≡ held sh f
+// Adds row r of z to the bits of y from bit p on.
+fn put_row(z: &[u64], sh: Shape, r: usize, y: &mut [u64], p: usize)
+    requires { ⌜ Fits sh × (r < sh .rows) × (length (now z) ≡ syndromeRoom) × (length (now y) ≡ tailRoom) × (p + sh .size ≤ 1029) ⌝ }
+    ensures { λ _. ⌜ ((f : ℕ → Word) → wbit (now (z .entry)) ≡ held sh f
         → wbit (now (y .exit)) ≡ added (wbit (now (y .entry))) p (p + sh .size) (f r)) ⌝ }
 {
     let mut j: usize = 0;
     while j < sh.words {
-        put_word(s[r * sh.words + j], y, p + 64 * j);
+        put_word(z[r * sh.words + j], y, p + 64 * j);
         j += 1;
     }
 }
 
 // Puts the rows behind the first bits of y, as parity block a the row (a + first) mod R.
-fn put_rows(s: &[u64], sh: Shape, first: usize, y: &mut [u64], at: usize)
-    requires { ⌜ Fits sh × (first ≤ 1) × (length (now s) ≡ syndromeRoom) × (length (now y) ≡ tailRoom) × (at ≤ 7) ⌝ }
-    ensures { λ _. ⌜ ((f : ℕ → Word) (x : Word) → wbit (now (s .entry)) ≡ held sh f → wbit (now (y .entry)) ≡ upTo at x
+fn put_rows(z: &[u64], sh: Shape, first: usize, y: &mut [u64], at: usize)
+    requires { ⌜ Fits sh × (first ≤ 1) × (length (now z) ≡ syndromeRoom) × (length (now y) ≡ tailRoom) × (at ≤ 7) ⌝ }
+    ensures { λ _. ⌜ ((f : ℕ → Word) (x : Word) → wbit (now (z .entry)) ≡ held sh f → wbit (now (y .entry)) ≡ upTo at x
         → wbit (now (y .exit)) ≡ completed sh first f at x) ⌝ }
 {
     let mut a: usize = 0;
     while a < sh.rows {
-        put_row(s, sh, (a + first) % sh.rows, y, at + a * sh.size);
+        put_row(z, sh, (a + first) % sh.rows, y, at + a * sh.size);
         a += 1;
     }
 }
@@ -289,14 +289,14 @@ fn spare(octets: &[u8], at: usize) -> u64
 }
 
 // What is sent from octet n / 8 on, where n bits of the information are: the last of them, and the rows. y is handed over as zeros.
-fn lay_tail(information: &[u8], n: usize, s: &[u64], sh: Shape, first: usize, y: &mut [u64])
-    requires { ⌜ Fits sh × (first ≤ 1) × (length (now s) ≡ syndromeRoom) × (length (now y) ≡ tailRoom) × (wbit (now y) ≡ (λ i. false)) ⌝ }
-    ensures { λ _. ⌜ ((f : ℕ → Word) → wbit (now (s .entry)) ≡ held sh f
+fn lay_tail(information: &[u8], n: usize, z: &[u64], sh: Shape, first: usize, y: &mut [u64])
+    requires { ⌜ Fits sh × (first ≤ 1) × (length (now z) ≡ syndromeRoom) × (length (now y) ≡ tailRoom) × (wbit (now y) ≡ (λ i. false)) ⌝ }
+    ensures { λ _. ⌜ ((f : ℕ → Word) → wbit (now (z .entry)) ≡ held sh f
         → bit (now (information .entry)) ≡ upTo n (bit (now (information .entry)))
         → wbit (now (y .exit)) ≡ completed sh first f (n % 8) (from (8 * (n / 8)) (bit (now (information .entry))))) ⌝ }
 {
     y[0] = spare(information, n / 8);
-    put_rows(s, sh, first, y, n % 8);
+    put_rows(z, sh, first, y, n % 8);
 }
 
 // Writes octets, and behind them those of y.
@@ -311,26 +311,26 @@ fn write_both(front: &[u8], y: &[u64], word: &mut [u8])
 }
 
 // Writes the word: the octets that n bits of the information fill, and behind them what is laid from there on.
-fn write(information: &[u8], n: usize, s: &[u64], sh: Shape, first: usize, word: &mut [u8])
-    requires { ⌜ Fits sh × (first ≤ 1) × (length (now s) ≡ syndromeRoom) × (n / 8 ≤ length (now information))
+fn write(information: &[u8], n: usize, z: &[u64], sh: Shape, first: usize, word: &mut [u8])
+    requires { ⌜ Fits sh × (first ≤ 1) × (length (now z) ≡ syndromeRoom) × (n / 8 ≤ length (now information))
         × (n / 8 ≤ length (now word)) × (length (now word) ≤ n / 8 + 128) ⌝ }
-    ensures { λ _. ⌜ ((f : ℕ → Word) → wbit (now (s .entry)) ≡ held sh f
+    ensures { λ _. ⌜ ((f : ℕ → Word) → wbit (now (z .entry)) ≡ held sh f
         → bit (now (information .entry)) ≡ upTo n (bit (now (information .entry)))
         → now (word .exit) ≡ octets (length (now (word .entry))) (completed sh first f n (bit (now (information .entry))))) ⌝ }
 {
     let mut y = [0u64; TAIL];
-    lay_tail(information, n, s, sh, first, &mut y);
+    lay_tail(information, n, z, sh, first, &mut y);
     let at = n / 8;
     write_both(&information[..at], &y, word);
 }
 
 // Adds the information blocks to the rows, each cut straight from the octets. The number has a bit for each block, set where its bits
 // are odd in number.
-fn add_wide(octets: &[u8], unsent: usize, h: &[u16], sh: Shape, s: &mut [u64]) -> u64
+fn add_wide(octets: &[u8], unsent: usize, h: &[u16], sh: Shape, z: &mut [u64]) -> u64
     requires { ⌜ Fit (now h) sh × (sh .size ≡ 511) × (sh .words ≡ 8) × (sh .blocks ≡ 16) × (7154 ≤ 8 * length (now octets) + unsent)
-        × (length (now octets) ≤ 1022) × (unsent ≤ 18) × (length (now s) ≡ syndromeRoom) × (wbit (now s) ≡ (λ i. false)) ⌝ }
+        × (length (now octets) ≤ 1022) × (unsent ≤ 18) × (length (now z) ≡ syndromeRoom) × (wbit (now z) ≡ (λ i. false)) ⌝ }
     ensures odd { λ r. ⌜ (r < 2 ^ 14) × (r ≡ number 14 (oddBlock (later unsent (bit (now (octets .entry)))))) ⌝ }
-    ensures rows { λ r. ⌜ wbit (now (s .exit)) ≡ rowed (wide sh) (sh .rows)
+    ensures rows { λ r. ⌜ wbit (now (z .exit)) ≡ rowed (wide sh) (sh .rows)
         (summed sh (now (h .entry)) (later unsent (bit (now (octets .entry)))) 14) ⌝ }
 {
     let mut part = [0u64; BLOCK];
@@ -341,71 +341,71 @@ fn add_wide(octets: &[u8], unsent: usize, h: &[u16], sh: Shape, s: &mut [u64]) -
         received::cut_block(octets, unsent, b, &mut part);
         odd = 2 * odd + ownparity::odd_of(&part);
         vectors::double(&part, sh.size, &mut d);
-        syndromes::add_block(&d, h, sh, b, s);
+        syndromes::add_block(&d, h, sh, b, z);
         b += 1;
     }
     odd
 }
 
-// The checks that the information breaks while the parity is 0, into s, which is handed over as zeros; and the number for all 16 blocks.
-fn lay_wide(octets: &[u8], unsent: usize, sh: Shape, s: &mut [u64]) -> u64
+// The checks that the information breaks while the parity is 0, into z, which is handed over as zeros; and the number for all 16 blocks.
+fn lay_wide(octets: &[u8], unsent: usize, sh: Shape, z: &mut [u64]) -> u64
     requires { ⌜ Shaped sh × (sh ≡ wideShape) × (7154 ≤ 8 * length (now octets) + unsent) × (length (now octets) ≤ 1022)
-        × (unsent ≤ 18) × (length (now s) ≡ syndromeRoom) × (wbit (now s) ≡ (λ i. false)) ⌝ }
-    ensures kept { λ r. ⌜ Kept sh (wbit (now (s .exit))) ⌝ }
+        × (unsent ≤ 18) × (length (now z) ≡ syndromeRoom) × (wbit (now z) ≡ (λ i. false)) ⌝ }
+    ensures kept { λ r. ⌜ Kept sh (wbit (now (z .exit))) ⌝ }
     ensures checks { λ r. ⌜ ((n : ℕ) (x : Word) → offered n ≡ true → sh ≡ offerOf n .shape → x ≡ later unsent (bit (now (octets .entry)))
-        → x ≡ upTo (information (codeOf n)) x → (r ≡ number 16 (oddBlock x)) × (wbit (now (s .exit)) ≡ laid (codeOf n) sh x)) ⌝ }
+        → x ≡ upTo (information (codeOf n)) x → (r ≡ number 16 (oddBlock x)) × (wbit (now (z .exit)) ≡ laid (codeOf n) sh x)) ⌝ }
 {
-    let mut t = [0u16; TABLE];
-    tables::lend511(&mut t);
-    let odd = add_wide(octets, unsent, &t, sh, s);
-    syndromes::trim_rows(s, sh);
+    let mut h = [0u16; TABLE];
+    tables::lend511(&mut h);
+    let odd = add_wide(octets, unsent, &h, sh, z);
+    syndromes::trim_rows(z, sh);
     4 * odd
 }
 
 // Adds the information blocks to the rows, where one word holds a block.
-fn add_narrow(octets: &[u8], h: &[u16], sh: Shape, s: &mut [u64])
-    requires { ⌜ Fit (now h) sh × (sh .words ≡ 1) × (sh .blocks ≡ 8) × (length (now octets) ≤ 32) × (length (now s) ≡ syndromeRoom)
-        × (wbit (now s) ≡ (λ i. false)) ⌝ }
-    ensures { λ _. ⌜ wbit (now (s .exit)) ≡ rowed (wide sh) (sh .rows) (summed sh (now (h .entry)) (bit (now (octets .entry))) 4) ⌝ }
+fn add_narrow(octets: &[u8], h: &[u16], sh: Shape, z: &mut [u64])
+    requires { ⌜ Fit (now h) sh × (sh .words ≡ 1) × (sh .blocks ≡ 8) × (length (now octets) ≤ 32) × (length (now z) ≡ syndromeRoom)
+        × (wbit (now z) ≡ (λ i. false)) ⌝ }
+    ensures { λ _. ⌜ wbit (now (z .exit)) ≡ rowed (wide sh) (sh .rows) (summed sh (now (h .entry)) (bit (now (octets .entry))) 4) ⌝ }
 {
     let mut y = [0u64; 5];
     vectors::load(octets, &mut y);
     let mut b: usize = 0;
     while b < 4 {
         let v = vectors::front(vectors::window(&y, b * sh.size), sh.size);
-        syndromes::add_narrow_block(vectors::double_word(v, sh.size), h, sh, b, s);
+        syndromes::add_narrow_block(vectors::double_word(v, sh.size), h, sh, b, z);
         b += 1;
     }
 }
 
 // The parity table for M, where one word holds a row.
-fn lend_narrow(size: usize, t: &mut [u16])
-    requires { ⌜ ((size ≡ 16 → ⊥) → (size ≡ 32 → ⊥) → size ≡ 64) × (length (now t) ≡ tableRoom) ⌝ }
-    ensures { λ _. ⌜ ((n : ℕ) → offered n ≡ true → size ≡ offerOf n .shape .size → Lends n (now (t .exit)) (offerOf n .shape)) ⌝ }
+fn lend_narrow(size: usize, h: &mut [u16])
+    requires { ⌜ ((size ≡ 16 → ⊥) → (size ≡ 32 → ⊥) → size ≡ 64) × (length (now h) ≡ tableRoom) ⌝ }
+    ensures { λ _. ⌜ ((n : ℕ) → offered n ≡ true → size ≡ offerOf n .shape .size → Lends n (now (h .exit)) (offerOf n .shape)) ⌝ }
 {
     if size == 16 {
-        tables::lend16(t);
+        tables::lend16(h);
         return;
     }
     if size == 32 {
-        tables::lend32(t);
+        tables::lend32(h);
         return;
     }
-    tables::lend64(t);
+    tables::lend64(h);
 }
 
-// The checks that the information breaks while the parity is 0, into s, which is handed over as zeros, where one word holds a row.
-fn lay_narrow(octets: &[u8], sh: Shape, s: &mut [u64])
+// The checks that the information breaks while the parity is 0, into z, which is handed over as zeros, where one word holds a row.
+fn lay_narrow(octets: &[u8], sh: Shape, z: &mut [u64])
     requires { ⌜ Shaped sh × (sh ≡ narrowShape (sh .size)) × ((sh .size ≡ 16 → ⊥) → (sh .size ≡ 32 → ⊥) → sh .size ≡ 64)
-        × (length (now octets) ≤ 32) × (length (now s) ≡ syndromeRoom) × (wbit (now s) ≡ (λ i. false)) ⌝ }
+        × (length (now octets) ≤ 32) × (length (now z) ≡ syndromeRoom) × (wbit (now z) ≡ (λ i. false)) ⌝ }
     ensures { λ _. ⌜ ((n : ℕ) → offered n ≡ true → sh ≡ offerOf n .shape
         → bit (now (octets .entry)) ≡ upTo (information (codeOf n)) (bit (now (octets .entry)))
-        → wbit (now (s .exit)) ≡ laid (codeOf n) sh (bit (now (octets .entry)))) ⌝ }
+        → wbit (now (z .exit)) ≡ laid (codeOf n) sh (bit (now (octets .entry)))) ⌝ }
 {
-    let mut t = [0u16; TABLE];
-    lend_narrow(sh.size, &mut t);
-    add_narrow(octets, &t, sh, s);
-    syndromes::trim_rows(s, sh);
+    let mut h = [0u16; TABLE];
+    lend_narrow(sh.size, &mut h);
+    add_narrow(octets, &h, sh, z);
+    syndromes::trim_rows(z, sh);
 }
 
 // The word of a near-Earth code. The shape stands in numbers, so that a compiler sees them in the walk.
@@ -420,11 +420,11 @@ fn encode_wide(o: Offer, information: &[u8], word: &mut [u8])
         blocks: 16,
         rows: 2,
     };
-    let mut s = [0u64; SYNDROME];
-    let odd = lay_wide(information, o.unsent, sh, &mut s);
-    walk_wide(sh, &mut s);
-    invert(odd, &mut s);
-    write(information, 7154 - o.unsent, &s, sh, 0, word);
+    let mut z = [0u64; SYNDROME];
+    let odd = lay_wide(information, o.unsent, sh, &mut z);
+    walk_wide(sh, &mut z);
+    invert(odd, &mut z);
+    write(information, 7154 - o.unsent, &z, sh, 0, word);
 }
 
 // The word of a telecommand code.
@@ -440,10 +440,10 @@ fn encode_narrow(o: Offer, information: &[u8], word: &mut [u8])
         blocks: 8,
         rows: 4,
     };
-    let mut s = [0u64; SYNDROME];
-    lay_narrow(information, sh, &mut s);
-    walk_narrow(sh, &mut s);
-    write(information, 4 * of.size, &s, sh, 1, word);
+    let mut z = [0u64; SYNDROME];
+    lay_narrow(information, sh, &mut z);
+    walk_narrow(sh, &mut z);
+    write(information, 4 * of.size, &z, sh, 1, word);
 }
 
 // The word of information of the right length whose spare bits are 0, into an output of the right length.

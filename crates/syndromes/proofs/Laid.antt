@@ -79,7 +79,7 @@ module _ (h : List ℕ) (sh : Shape) (fit : Fit h sh) where
             ∙ sym (upTo-below (sh .size) i (checkOf c sh x r) l))
             (le-or-lt (sh .size) i)
 
-    -- the checks of one bit turned over
+    -- the checks of one bit flipped
     pub laid-flipped : (x : Word) (b k : ℕ) → b < sh .blocks → k < sh .size
         → plus (laid c sh x) (rowed (wide sh) (sh .rows) (spread sh h b (covering (sh .size) k))) ≡ laid c sh (flipped x (b * sh .size + k))
     laid-flipped x b k hb hk =

@@ -88,7 +88,7 @@ once-around M a h l =
     let k : a - M < M = omega arith in
     mod-eq-sub-mod h ∙ mod-eq-of-lt k
 
--- one bit of a row turned over
+-- one bit of a row flipped
 pub flipped-row : (x : Word) (a e j : ℕ) → a + j < e → flipped x (a + j) ≡ added x a e (λ i. eqb i j)
 flipped-row x a e j h = fun-ext (λ n. ⊎-elim (λ l. ⊎-elim (after n l) (inside n l) (le-or-lt e n)) (before n) (le-or-lt a n))
   where

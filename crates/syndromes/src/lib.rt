@@ -155,64 +155,64 @@ fn add_all(y: &[u64], h: &[u16], sh: Shape, acc: &mut [u64])
 }
 
 // Clears what is past bit M of row r, where it does not fill its last word.
-fn trim_row(s: &mut [u64], sh: Shape, r: usize)
-    requires { ⌜ (1 ≤ sh .size) × (sh .size ≤ wide sh) × (wide sh < sh .size + 64) × ((r + 1) * sh .words ≤ length (now s)) ⌝ }
-    ensures { λ q. ⌜ ((x : Word) → wbit (now (s .entry)) ≡ within (wide sh) (sh .size) r x
-        → wbit (now (s .exit)) ≡ within (wide sh) (sh .size) (r + 1) x) ⌝ }
+fn trim_row(z: &mut [u64], sh: Shape, r: usize)
+    requires { ⌜ (1 ≤ sh .size) × (sh .size ≤ wide sh) × (wide sh < sh .size + 64) × ((r + 1) * sh .words ≤ length (now z)) ⌝ }
+    ensures { λ q. ⌜ ((x : Word) → wbit (now (z .entry)) ≡ within (wide sh) (sh .size) r x
+        → wbit (now (z .exit)) ≡ within (wide sh) (sh .size) (r + 1) x) ⌝ }
 {
     let t = sh.size % 64;
     if t > 0 {
         let last = r * sh.words + sh.words - 1;
-        s[last] = vectors::front(s[last], t);
+        z[last] = vectors::front(z[last], t);
     }
 }
 
 // Clears what is past bit M of every row.
-pub fn trim_rows(s: &mut [u64], sh: Shape)
-    requires { ⌜ (1 ≤ sh .size) × (sh .size ≤ wide sh) × (wide sh < sh .size + 64) × (sh .rows * sh .words ≤ length (now s)) ⌝ }
-    ensures { λ q. ⌜ wbit (now (s .exit)) ≡ within (wide sh) (sh .size) (sh .rows) (wbit (now (s .entry))) ⌝ }
+pub fn trim_rows(z: &mut [u64], sh: Shape)
+    requires { ⌜ (1 ≤ sh .size) × (sh .size ≤ wide sh) × (wide sh < sh .size + 64) × (sh .rows * sh .words ≤ length (now z)) ⌝ }
+    ensures { λ q. ⌜ wbit (now (z .exit)) ≡ within (wide sh) (sh .size) (sh .rows) (wbit (now (z .entry))) ⌝ }
 {
     let mut r = 0;
     while r < sh.rows {
-        trim_row(s, sh, r);
+        trim_row(z, sh, r);
         r += 1;
     }
 }
 
 // The syndrome of y, made from zeros.
-pub fn syndrome(y: &[u64], h: &[u16], sh: Shape, s: &mut [u64])
-    requires { ⌜ Fit (now h) sh × (length (now y) ≡ wordRoom) × (length (now s) ≡ syndromeRoom) × (wbit (now s) ≡ (λ n. false)) ⌝ }
-    ensures { λ q. ⌜ ((c : Code) → Lent c (now (h .entry)) sh → wbit (now (s .exit)) ≡ laid c sh (wbit (now (y .entry)))) ⌝ }
+pub fn syndrome(y: &[u64], h: &[u16], sh: Shape, z: &mut [u64])
+    requires { ⌜ Fit (now h) sh × (length (now y) ≡ wordRoom) × (length (now z) ≡ syndromeRoom) × (wbit (now z) ≡ (λ n. false)) ⌝ }
+    ensures { λ q. ⌜ ((c : Code) → Lent c (now (h .entry)) sh → wbit (now (z .exit)) ≡ laid c sh (wbit (now (y .entry)))) ⌝ }
 {
-    add_all(y, h, sh, s);
-    trim_rows(s, sh);
+    add_all(y, h, sh, z);
+    trim_rows(z, sh);
 }
 
 // How many checks are broken.
-pub fn broken(s: &[u64]) -> u32
-    requires { ⌜ length (now s) ≡ syndromeRoom ⌝ }
-    ensures { λ n. ⌜ ((c : Code) (h : List ℕ) (sh : Shape) (x : Word) → Fit h sh → Lent c h sh → wbit (now (s .entry)) ≡ laid c sh x
+pub fn broken(z: &[u64]) -> u32
+    requires { ⌜ length (now z) ≡ syndromeRoom ⌝ }
+    ensures { λ n. ⌜ ((c : Code) (h : List ℕ) (sh : Shape) (x : Word) → Fit h sh → Lent c h sh → wbit (now (z .entry)) ≡ laid c sh x
         → n ≡ broken c x) ⌝ }
 {
-    vectors::ones(s) as u32
+    vectors::ones(z) as u32
 }
 
 // Whether no check is broken.
-pub fn is_quiet(s: &[u64]) -> bool
-    requires { ⌜ length (now s) ≡ syndromeRoom ⌝ }
-    ensures { λ n. ⌜ ((c : Code) (h : List ℕ) (sh : Shape) (x : Word) → Fit h sh → Lent c h sh → wbit (now (s .entry)) ≡ laid c sh x
+pub fn is_quiet(z: &[u64]) -> bool
+    requires { ⌜ length (now z) ≡ syndromeRoom ⌝ }
+    ensures { λ n. ⌜ ((c : Code) (h : List ℕ) (sh : Shape) (x : Word) → Fit h sh → Lent c h sh → wbit (now (z .entry)) ≡ laid c sh x
         → n ≡ eqb (broken c x) 0) ⌝ }
 {
-    !vectors::any(s)
+    !vectors::any(z)
 }
 
 // The lowest broken check, or the number of checks if none is broken.
-pub fn lowest(s: &[u64], sh: Shape) -> u32
-    requires { ⌜ (length (now s) ≡ syndromeRoom) × (1 ≤ sh .words) × (sh .words ≤ 8) × (sh .rows ≤ 4) × (sh .size ≤ 64 * sh .words) ⌝ }
-    ensures { λ n. ⌜ ((c : Code) (h : List ℕ) (x : Word) → Fit h sh → Lent c h sh → wbit (now (s .entry)) ≡ laid c sh x
+pub fn lowest(z: &[u64], sh: Shape) -> u32
+    requires { ⌜ (length (now z) ≡ syndromeRoom) × (1 ≤ sh .words) × (sh .words ≤ 8) × (sh .rows ≤ 4) × (sh .size ≤ 64 * sh .words) ⌝ }
+    ensures { λ n. ⌜ ((c : Code) (h : List ℕ) (x : Word) → Fit h sh → Lent c h sh → wbit (now (z .entry)) ≡ laid c sh x
         → n ≡ lowest c x) ⌝ }
 {
-    let place = vectors::first(s);
+    let place = vectors::first(z);
     if place >= 1024 {
         return (sh.rows * sh.size) as u32;
     }
@@ -220,52 +220,52 @@ pub fn lowest(s: &[u64], sh: Shape) -> u32
     (place / wide * sh.size + place % wide) as u32
 }
 
-// Turns the check of row r over that covers bit k by the shift e; a number that is M or more is no shift.
-fn flip_entry(s: &mut [u64], e: usize, sh: Shape, k: usize, r: usize)
-    requires { ⌜ (sh .size ≤ wide sh) × (k < sh .size) × ((r + 1) * sh .words ≤ length (now s)) × (length (now s) ≡ syndromeRoom) ⌝ }
-    ensures { λ q. ⌜ wbit (now (s .exit)) ≡ added (wbit (now (s .entry))) (wide sh * r) (wide sh * (r + 1))
-        (entry (sh .size) (covering (sh .size) k) e) ⌝ }
+// Flips the check of row r that covers bit k by the shift s; a number that is M or more is no shift.
+fn flip_entry(z: &mut [u64], s: usize, sh: Shape, k: usize, r: usize)
+    requires { ⌜ (sh .size ≤ wide sh) × (k < sh .size) × ((r + 1) * sh .words ≤ length (now z)) × (length (now z) ≡ syndromeRoom) ⌝ }
+    ensures { λ q. ⌜ wbit (now (z .exit)) ≡ added (wbit (now (z .entry))) (wide sh * r) (wide sh * (r + 1))
+        (entry (sh .size) (covering (sh .size) k) s) ⌝ }
 {
-    if e < sh.size {
-        let mut i = k + (sh.size - e);
+    if s < sh.size {
+        let mut i = k + (sh.size - s);
         if i >= sh.size {
             i -= sh.size;
         }
-        vectors::turn_over(s, 64 * sh.words * r + i);
+        vectors::flip_bit(z, 64 * sh.words * r + i);
     }
 }
 
-// Turns the checks of row r over that cover bit k of block b.
-fn flip_row(s: &mut [u64], h: &[u16], sh: Shape, b: usize, k: usize, r: usize)
-    requires { ⌜ Fit (now h) sh × (b < sh .blocks) × (k < sh .size) × (r < sh .rows) × (length (now s) ≡ syndromeRoom) ⌝ }
-    ensures { λ q. ⌜ wbit (now (s .exit)) ≡ added (wbit (now (s .entry))) (wide sh * r) (wide sh * (r + 1))
+// Flips the checks of row r that cover bit k of block b.
+fn flip_row(z: &mut [u64], h: &[u16], sh: Shape, b: usize, k: usize, r: usize)
+    requires { ⌜ Fit (now h) sh × (b < sh .blocks) × (k < sh .size) × (r < sh .rows) × (length (now z) ≡ syndromeRoom) ⌝ }
+    ensures { λ q. ⌜ wbit (now (z .exit)) ≡ added (wbit (now (z .entry))) (wide sh * r) (wide sh * (r + 1))
         (spread sh (now (h .entry)) b (covering (sh .size) k) r) ⌝ }
 {
     let p = read_places(h, sh, b, r);
-    flip_entry(s, p.first, sh, k, r);
-    flip_entry(s, p.second, sh, k, r);
+    flip_entry(z, p.first, sh, k, r);
+    flip_entry(z, p.second, sh, k, r);
 }
 
-// Turns the checks over that cover bit k of block b.
-fn flip_checks(s: &mut [u64], h: &[u16], sh: Shape, b: usize, k: usize)
-    requires { ⌜ Fit (now h) sh × (b < sh .blocks) × (k < sh .size) × (length (now s) ≡ syndromeRoom) ⌝ }
-    ensures { λ q. ⌜ wbit (now (s .exit)) ≡ plus (wbit (now (s .entry)))
+// Flips the checks that cover bit k of block b.
+fn flip_checks(z: &mut [u64], h: &[u16], sh: Shape, b: usize, k: usize)
+    requires { ⌜ Fit (now h) sh × (b < sh .blocks) × (k < sh .size) × (length (now z) ≡ syndromeRoom) ⌝ }
+    ensures { λ q. ⌜ wbit (now (z .exit)) ≡ plus (wbit (now (z .entry)))
         (rowed (wide sh) (sh .rows) (spread sh (now (h .entry)) b (covering (sh .size) k))) ⌝ }
 {
     let mut r = 0;
     while r < sh.rows {
-        flip_row(s, h, sh, b, k, r);
+        flip_row(z, h, sh, b, k, r);
         r += 1;
     }
 }
 
-// Turns bit n of a word over, and its checks with it.
-pub fn flip(y: &mut [u64], s: &mut [u64], h: &[u16], sh: Shape, n: usize)
-    requires { ⌜ Fit (now h) sh × (length (now y) ≡ wordRoom) × (length (now s) ≡ syndromeRoom) × (n < sh .blocks * sh .size) ⌝ }
+// Flips bit n of a word, and its checks with it.
+pub fn flip(y: &mut [u64], z: &mut [u64], h: &[u16], sh: Shape, n: usize)
+    requires { ⌜ Fit (now h) sh × (length (now y) ≡ wordRoom) × (length (now z) ≡ syndromeRoom) × (n < sh .blocks * sh .size) ⌝ }
     ensures word { λ q. ⌜ wbit (now (y .exit)) ≡ flipped (wbit (now (y .entry))) n ⌝ }
-    ensures checks { λ q. ⌜ ((c : Code) → Lent c (now (h .entry)) sh → (x : Word) → wbit (now (s .entry)) ≡ laid c sh x
-        → wbit (now (s .exit)) ≡ laid c sh (flipped x n)) ⌝ }
+    ensures checks { λ q. ⌜ ((c : Code) → Lent c (now (h .entry)) sh → (x : Word) → wbit (now (z .entry)) ≡ laid c sh x
+        → wbit (now (z .exit)) ≡ laid c sh (flipped x n)) ⌝ }
 {
-    vectors::turn_over(y, n);
-    flip_checks(s, h, sh, n / sh.size, n % sh.size);
+    vectors::flip_bit(y, n);
+    flip_checks(z, h, sh, n / sh.size, n % sh.size);
 }

@@ -95,22 +95,22 @@ lends5 = record {
 }
 
 -- the places of the table whose blocks have this size are those of every code that has them
-pub record Chosen (size : ℕ) (t : List ℕ) (sh : Shape) : Type 0 where
-  pub small : size ≡ 16 → (t ≡ flat8 (pairs parity16)) × (sh ≡ offerOf 1 .shape)
-  pub middle : size ≡ 32 → (t ≡ flat8 (pairs parity32)) × (sh ≡ offerOf 2 .shape)
-  pub large : size ≡ 64 → (t ≡ flat8 (pairs parity64)) × (sh ≡ offerOf 3 .shape)
-  pub near : size ≡ 511 → (t ≡ flat16 (pairs parity511)) × (sh ≡ offerOf 4 .shape)
+pub record Chosen (size : ℕ) (h : List ℕ) (sh : Shape) : Type 0 where
+  pub small : size ≡ 16 → (h ≡ flat8 (pairs parity16)) × (sh ≡ offerOf 1 .shape)
+  pub middle : size ≡ 32 → (h ≡ flat8 (pairs parity32)) × (sh ≡ offerOf 2 .shape)
+  pub large : size ≡ 64 → (h ≡ flat8 (pairs parity64)) × (sh ≡ offerOf 3 .shape)
+  pub near : size ≡ 511 → (h ≡ flat16 (pairs parity511)) × (sh ≡ offerOf 4 .shape)
 
 abbrev Given : ℕ → List ℕ → Shape → Type 0
-Given n t sh = (sh ≡ offerOf n .shape) × Lends n t sh
+Given n h sh = (sh ≡ offerOf n .shape) × Lends n h sh
 
-given : (n : ℕ) {t : List ℕ} {sh : Shape} (t′ : List ℕ) → (t ≡ t′) × (sh ≡ offerOf n .shape) → Lends n t′ (offerOf n .shape) → Given n t sh
-given n {t} {sh} t′ p l = (p .1, subst (λ z. Lends n t z) (sym (p .1)) (subst (λ z. Lends n z (offerOf n .shape)) (sym (p .0)) l))
+given : (n : ℕ) {h : List ℕ} {sh : Shape} (h′ : List ℕ) → (h ≡ h′) × (sh ≡ offerOf n .shape) → Lends n h′ (offerOf n .shape) → Given n h sh
+given n {h} {sh} h′ p l = (p .1, subst (λ z. Lends n h z) (sym (p .1)) (subst (λ z. Lends n z (offerOf n .shape)) (sym (p .0)) l))
 
-pub by-size : (size : ℕ) (t : List ℕ) (sh : Shape) → Chosen size t sh → (n : ℕ) → offered n ≡ true → size ≡ offerOf n .shape .size
-    → (sh ≡ offerOf n .shape) × Lends n t sh
-by-size size t sh ch n o =
-    five (λ n. size ≡ offerOf n .shape .size → Given n t sh)
+pub by-size : (size : ℕ) (h : List ℕ) (sh : Shape) → Chosen size h sh → (n : ℕ) → offered n ≡ true → size ≡ offerOf n .shape .size
+    → (sh ≡ offerOf n .shape) × Lends n h sh
+by-size size h sh ch n o =
+    five (λ n. size ≡ offerOf n .shape .size → Given n h sh)
     (λ e. given 1 (flat8 (pairs parity16)) (ch .small e) lends1)
     (λ e. given 2 (flat8 (pairs parity32)) (ch .middle e) lends2)
     (λ e. given 3 (flat8 (pairs parity64)) (ch .large e) lends3)

@@ -28,25 +28,25 @@ listed zero f = []
 listed (suc n) f = f 0 ∷ listed n (λ i. f (suc i))
 
 abbrev pub placeAt : List (List (List ℕ)) → ℕ → ℕ → ℕ → ℕ
-placeAt h r b k = getD (getD (getD h r []) b []) k 0
+placeAt nested r b k = getD (getD (getD nested r []) b []) k 0
 
 -- The places of a row, block after block.
 abbrev pub rowPlace : List (List ℕ) → ℕ → ℕ
-rowPlace h i = getD (getD h (i / 2) []) (i % 2) 0
+rowPlace nested i = getD (getD nested (i / 2) []) (i % 2) 0
 
--- t′ is t with the first n places of a row from place `at` on.
-pub record RowLaid (h : List (List ℕ)) (n at : ℕ) (t t′ : List ℕ) : Type 0 where
-  pub before : (j : ℕ) → j < at → getD t′ j 0 ≡ getD t j 0
-  pub row : (j : ℕ) → j < n → getD t′ (at + j) 0 ≡ rowPlace h j
-  pub after : (j : ℕ) → at + n ≤ j → getD t′ j 0 ≡ getD t j 0
+-- h′ is h with the first n places of a row from place `at` on.
+pub record RowLaid (nested : List (List ℕ)) (n at : ℕ) (h h′ : List ℕ) : Type 0 where
+  pub before : (j : ℕ) → j < at → getD h′ j 0 ≡ getD h j 0
+  pub row : (j : ℕ) → j < n → getD h′ (at + j) 0 ≡ rowPlace nested j
+  pub after : (j : ℕ) → at + n ≤ j → getD h′ j 0 ≡ getD h j 0
 
 unfoldable pub flat8 : List (List (List ℕ)) → List ℕ
-flat8 h = listed 64 (λ i. placeAt h (i / 16) (i / 2 % 8) (i % 2))
+flat8 nested = listed 64 (λ i. placeAt nested (i / 16) (i / 2 % 8) (i % 2))
 
 unfoldable pub flat16 : List (List (List ℕ)) → List ℕ
-flat16 h = listed 64 (λ i. placeAt h (i / 32) (i / 2 % 16) (i % 2))
+flat16 nested = listed 64 (λ i. placeAt nested (i / 32) (i / 2 % 16) (i % 2))
 
--- The places t, in this shape, are those of the code with number n.
-pub record Lends (n : ℕ) (t : List ℕ) (sh : Shape) : Type 0 where
-  pub fit : Fit t sh
-  pub lent : Lent (code n) t sh
+-- The places h, in this shape, are those of the code with number n.
+pub record Lends (n : ℕ) (h : List ℕ) (sh : Shape) : Type 0 where
+  pub fit : Fit h sh
+  pub lent : Lent (code n) h sh

@@ -186,82 +186,82 @@ const PARITY511: [[[u16; 2]; 16]; 2] = [
 ];
 
 // The blocks of a row, one place after another from place at on.
-fn flatten_row(h: &[[u16; 2]], t: &mut [u16], at: usize)
-    requires { ⌜ (at + 2 * length (now h) ≤ length (now t)) × (length (now t) ≡ tableRoom) ⌝ }
-    ensures { λ _. ⌜ RowLaid (now (h .entry)) (2 * length (now (h .entry))) at (now (t .entry)) (now (t .exit)) ⌝ }
+fn flatten_row(nested: &[[u16; 2]], h: &mut [u16], at: usize)
+    requires { ⌜ (at + 2 * length (now nested) ≤ length (now h)) × (length (now h) ≡ tableRoom) ⌝ }
+    ensures { λ _. ⌜ RowLaid (now (nested .entry)) (2 * length (now (nested .entry))) at (now (h .entry)) (now (h .exit)) ⌝ }
 {
     let mut b: usize = 0;
-    while b < h.len() {
-        t[at + 2 * b] = h[b][0];
-        t[at + 2 * b + 1] = h[b][1];
+    while b < nested.len() {
+        h[at + 2 * b] = nested[b][0];
+        h[at + 2 * b + 1] = nested[b][1];
         b += 1;
     }
 }
 
 // Four rows of eight blocks, one place after another.
-fn flatten8(h: &[[[u16; 2]; 8]; 4], t: &mut [u16])
-    requires { ⌜ length (now t) ≡ tableRoom ⌝ }
-    ensures { λ _. ⌜ now (t .exit) ≡ flat8 (now (h .entry)) ⌝ }
+fn flatten8(nested: &[[[u16; 2]; 8]; 4], h: &mut [u16])
+    requires { ⌜ length (now h) ≡ tableRoom ⌝ }
+    ensures { λ _. ⌜ now (h .exit) ≡ flat8 (now (nested .entry)) ⌝ }
 {
     let mut r: usize = 0;
     while r < 4 {
-        flatten_row(&h[r], t, 16 * r);
+        flatten_row(&nested[r], h, 16 * r);
         r += 1;
     }
 }
 
 // Two rows of 16 blocks, one place after another.
-fn flatten16(h: &[[[u16; 2]; 16]; 2], t: &mut [u16])
-    requires { ⌜ length (now t) ≡ tableRoom ⌝ }
-    ensures { λ _. ⌜ now (t .exit) ≡ flat16 (now (h .entry)) ⌝ }
+fn flatten16(nested: &[[[u16; 2]; 16]; 2], h: &mut [u16])
+    requires { ⌜ length (now h) ≡ tableRoom ⌝ }
+    ensures { λ _. ⌜ now (h .exit) ≡ flat16 (now (nested .entry)) ⌝ }
 {
     let mut r: usize = 0;
     while r < 2 {
-        flatten_row(&h[r], t, 32 * r);
+        flatten_row(&nested[r], h, 32 * r);
         r += 1;
     }
 }
 
 // The places of each table, laid flat.
-pub fn lend16(t: &mut [u16])
-    requires { ⌜ length (now t) ≡ tableRoom ⌝ }
-    ensures { λ _. ⌜ now (t .exit) ≡ flat8 (pairs parity16) ⌝ }
+pub fn lend16(h: &mut [u16])
+    requires { ⌜ length (now h) ≡ tableRoom ⌝ }
+    ensures { λ _. ⌜ now (h .exit) ≡ flat8 (pairs parity16) ⌝ }
 {
-    let h = PARITY16;
-    flatten8(&h, t);
+    let nested = PARITY16;
+    flatten8(&nested, h);
 }
 
-pub fn lend32(t: &mut [u16])
-    requires { ⌜ length (now t) ≡ tableRoom ⌝ }
-    ensures { λ _. ⌜ now (t .exit) ≡ flat8 (pairs parity32) ⌝ }
+pub fn lend32(h: &mut [u16])
+    requires { ⌜ length (now h) ≡ tableRoom ⌝ }
+    ensures { λ _. ⌜ now (h .exit) ≡ flat8 (pairs parity32) ⌝ }
 {
-    let h = PARITY32;
-    flatten8(&h, t);
+    let nested = PARITY32;
+    flatten8(&nested, h);
 }
 
-pub fn lend64(t: &mut [u16])
-    requires { ⌜ length (now t) ≡ tableRoom ⌝ }
-    ensures { λ _. ⌜ now (t .exit) ≡ flat8 (pairs parity64) ⌝ }
+pub fn lend64(h: &mut [u16])
+    requires { ⌜ length (now h) ≡ tableRoom ⌝ }
+    ensures { λ _. ⌜ now (h .exit) ≡ flat8 (pairs parity64) ⌝ }
 {
-    let h = PARITY64;
-    flatten8(&h, t);
+    let nested = PARITY64;
+    flatten8(&nested, h);
 }
 
-pub fn lend511(t: &mut [u16])
-    requires { ⌜ length (now t) ≡ tableRoom ⌝ }
-    ensures { λ _. ⌜ now (t .exit) ≡ flat16 (pairs parity511) ⌝ }
+pub fn lend511(h: &mut [u16])
+    requires { ⌜ length (now h) ≡ tableRoom ⌝ }
+    ensures { λ _. ⌜ now (h .exit) ≡ flat16 (pairs parity511) ⌝ }
 {
-    let h = PARITY511;
-    flatten16(&h, t);
+    let nested = PARITY511;
+    flatten16(&nested, h);
 }
 
-// The parity table whose blocks have this size, lent: its places into t, and its shape, in numbers that a compiler sees.
-pub fn lend(size: usize, t: &mut [u16]) -> Shape
-    requires { ⌜ length (now t) ≡ tableRoom ⌝ }
-    ensures { λ r. ⌜ ((n : ℕ) → offered n ≡ true → size ≡ offerOf n .shape .size → (r ≡ offerOf n .shape) × Lends n (now (t .exit)) r) ⌝ }
+// The parity table whose blocks have this size, lent: its places into h, and its shape, in numbers that a compiler sees.
+pub fn lend(size: usize, h: &mut [u16]) -> Shape
+    requires { ⌜ length (now h) ≡ tableRoom ⌝ }
+    ensures { λ r. ⌜ ((n : ℕ) → offered n ≡ true → size ≡ offerOf n .shape .size → (r ≡ offerOf n .shape) × Lends n (now (h .exit)) r) ⌝ }
 {
     if size == 16 {
-        lend16(t);
+        lend16(h);
         return Shape {
             size: 16,
             words: 1,
@@ -270,7 +270,7 @@ pub fn lend(size: usize, t: &mut [u16]) -> Shape
         };
     }
     if size == 32 {
-        lend32(t);
+        lend32(h);
         return Shape {
             size: 32,
             words: 1,
@@ -279,7 +279,7 @@ pub fn lend(size: usize, t: &mut [u16]) -> Shape
         };
     }
     if size == 64 {
-        lend64(t);
+        lend64(h);
         return Shape {
             size: 64,
             words: 1,
@@ -287,7 +287,7 @@ pub fn lend(size: usize, t: &mut [u16]) -> Shape
             rows: 4,
         };
     }
-    lend511(t);
+    lend511(h);
     Shape {
         size: 511,
         words: 8,

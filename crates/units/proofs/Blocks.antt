@@ -153,7 +153,7 @@ module _ (rest copied fill : List ℕ) (size I : ℕ) (ec : copied ≡ rest) (ef
 pub lent-rest : (information : List ℕ) (from : ℕ) → take (length information - from) (drop from information) ≡ drop from information
 lent-rest information from = take-all (length information - from) (drop from information) (omega (arith, length-drop from information))
 
--- ---- turn by turn
+-- ---- pass by pass
 
 pub record Goes (long k at word room blocks I : ℕ) : Type 0 where
   pub next : at + word ≤ room

@@ -165,7 +165,7 @@ module _ (n : ℕ) (u : unitCode n ≡ true) (p : List ℕ) (oct : Octets p) (lp
 
 -- ---- a written unit, read back
 
--- a codeblock as it was sent, or with one bit of it turned over
+-- a codeblock as it was sent, or with one bit of it flipped
 pub data Near (n : ℕ) (block got : List ℕ) : Type 0 where
   right : got ≡ block → Near n block got
   wrong : (b : ℕ) → b < 8 * code n .wordOctets → got ≡ oneWrong (code n) block b → Near n block got

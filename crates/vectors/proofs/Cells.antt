@@ -68,7 +68,7 @@ module _ (w : ℕ) (some : 0 < w) where
     unread i hi =
         sym (cell-at xs k i hi) ∙ ap (λ (z : Word). z (w * k + i)) so-far ∙ joined-above (w * k) (w * k + i) x y (omega arith)
 
-    -- a turn of a loop stores the next number
+    -- a pass of a loop stores the next number
     pub stored : (v : ℕ) → k < length xs → ((i : ℕ) → i < w → digit w v i ≡ x (w * k + i)) → cell w (set xs k v) ≡ joined (w * (k + 1)) x y
     stored v hk hv = fun-ext (λ n. ⊎-elim (here n) (other n) (eq-or-not (n / w) k))
       where

@@ -17,7 +17,7 @@ use Rattle.vectors.proofs.Cells.{joined-above}
 use Rattle.vectors.proofs.Filling.{word-at, word-holds, word-past}
 use Rattle.vectors.proofs.Spans.{upTo-below, upTo-above, neighbours, twice-before, twice-at, twice-past}
 
--- A turn of the loop: word k, and the word n places behind it.
+-- A pass of the loop: word k, and the word n places behind it.
 module _ (v d : List ℕ) (n t k a u : ℕ) (was : Doubled v n t k d) (inside : k + 1 < n) (room : n + k < length d) where
   pub doubled-more : a ≡ getD v k 0 → Holds u (from (64 * k + t) (wbit v)) → Doubled v n t (k + 1) (set (set d k a) (n + k) u)
   doubled-more ea hu j h = go (ℕ-discrete j k)
@@ -87,13 +87,13 @@ module _ (v d : List ℕ) (m n t : ℕ) (short : wbit v ≡ upTo m (wbit v)) (so
       whole : 1 + (63 - t) ≡ 64 - t
       whole = omega arith
 
-      turned : getD v 0 0 / 2 / 2 ^ (63 - t) ≡ getD v 0 0 / 2 ^ (64 - t)
-      turned = shr-shr (getD v 0 0) 1 (63 - t) ∙ ap (λ s. getD v 0 0 / 2 ^ s) whole
+      shifted : getD v 0 0 / 2 / 2 ^ (63 - t) ≡ getD v 0 0 / 2 ^ (64 - t)
+      shifted = shr-shr (getD v 0 0) 1 (63 - t) ∙ ap (λ s. getD v 0 0 / 2 ^ s) whole
 
       go : Dec (k ≡ n - 1) → Holds (getD at k 0) (from (64 * k) x)
       go (yes q) i hi =
           ap (λ j. digit 64 (getD at j 0) i) q
-          ∙ ap (λ w. digit 64 w i) (getD-set-same d (n - 1) p 0 (omega arith) ∙ ap (bitOr (getD v (n - 1) 0)) turned)
+          ∙ ap (λ w. digit 64 w i) (getD-set-same d (n - 1) p 0 (omega arith) ∙ ap (bitOr (getD v (n - 1) 0)) shifted)
           ∙ twice-at v m (n - 1) short (getD v (n - 1) 0) (getD v 0 0) (64 - t) refl refl hb (omega arith) (omega arith) i hi
           ∙ ap (λ j. x (64 * j + i)) (sym q)
       go (no o) i hi =

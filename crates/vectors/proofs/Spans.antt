@@ -307,7 +307,7 @@ added-one ws v at x h hv =
         ∙ ap (λ (n : ℕ). z (64 * at + i) ⊕ x n) e
         ∙ sym (added-inside z x (64 * at) (64 * (at + 1)) (64 * at + i) (omega arith) (omega arith))
 
--- ---- one bit turned over
+-- ---- one bit flipped
 
 module _ (ws : List ℕ) (n : ℕ) (inside : n < 64 * length ws) where
   abbrev y : Word
@@ -324,8 +324,8 @@ module _ (ws : List ℕ) (n : ℕ) (inside : n < 64 * length ws) where
       ∙ digit-power 64 (n % 64) i (omega arith) hi
       ∙ eqb-iff i (n % 64) (64 * (n / 64) + i) n (λ e. omega arith) (λ e. omega arith)
 
-  pub turned-over : wbit (set ws (n / 64) (bitXor (getD ws (n / 64) 0) ((1 * 2 ^ (63 - n % 64)) % 2 ^ 64))) ≡ flipped y n
-  turned-over =
+  pub flipped-bit : wbit (set ws (n / 64) (bitXor (getD ws (n / 64) 0) ((1 * 2 ^ (63 - n % 64)) % 2 ^ 64))) ≡ flipped y n
+  flipped-bit =
       let q = n / 64 in
       let one = (1 * 2 ^ (63 - n % 64)) % 2 ^ 64 in
       word-stored ws q (flipped y n) y (joined-start (64 * q) (flipped y n) y (λ k h. other k (λ e. omega arith)))

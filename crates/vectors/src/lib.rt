@@ -303,8 +303,8 @@ pub fn first(ws: &[u64]) -> usize
     64 * k
 }
 
-// Turns bit n over.
-pub fn turn_over(ws: &mut [u64], n: usize)
+// Flips bit n.
+pub fn flip_bit(ws: &mut [u64], n: usize)
     requires { ⌜ n < 64 * length (now ws) ⌝ }
     ensures { λ r. ⌜ wbit (now (ws .exit)) ≡ flipped (wbit (now (ws .entry))) n ⌝ }
 {

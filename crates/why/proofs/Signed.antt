@@ -24,8 +24,8 @@ widens n f = subst (SFits w64) (sym (toZ-ofZ w8 n f)) (wide n f)
 abbrev less : ℤ → ℤ
 less n = pos 0 -ℤ n
 
-turned : (n : ℤ) → SFits w8 n → toZ w64 (ofZ w64 (held n)) ≡ n
-turned n f = toZ-ofZ w64 (held n) (widens n f) ∙ toZ-ofZ w8 n f
+widened : (n : ℤ) → SFits w8 n → toZ w64 (ofZ w64 (held n)) ≡ n
+widened n f = toZ-ofZ w64 (held n) (widens n f) ∙ toZ-ofZ w8 n f
 
 module _ (n : ℤ) (f : SFits w8 n) (held-below : ltZ (held n) (pos 0) ≡ true) where
   below : ltZ n (pos 0) ≡ true
@@ -39,11 +39,11 @@ module _ (n : ℤ) (f : SFits w8 n) (held-below : ltZ (held n) (pos 0) ≡ true)
       go (negsuc a) f e = record { sfits = omega (arith, f .sfits) }
 
   pub negated-fits : SFits w64 (less (toZ w64 (ofZ w64 (held n))))
-  negated-fits = subst (λ z. SFits w64 (less z)) (sym (turned n f)) fits
+  negated-fits = subst (λ z. SFits w64 (less z)) (sym (widened n f)) fits
 
   pub negated : T (nonNeg (toZ w64 (ofZ w64 (less (toZ w64 (ofZ w64 (held n))))))) × Fits w64
       (natAbs (toZ w64 (ofZ w64 (less (toZ w64 (ofZ w64 (held n)))))))
-  negated = subst (λ z. T (nonNeg (toZ w64 (ofZ w64 (less z)))) × Fits w64 (natAbs (toZ w64 (ofZ w64 (less z))))) (sym (turned n f))
+  negated = subst (λ z. T (nonNeg (toZ w64 (ofZ w64 (less z)))) × Fits w64 (natAbs (toZ w64 (ofZ w64 (less z))))) (sym (widened n f))
       (subst (λ z. T (nonNeg z) × Fits w64 (natAbs z)) (sym (toZ-ofZ w64 (less n) fits)) (go n f below))
     where
       go : (n : ℤ) → SFits w8 n → ltZ n (pos 0) ≡ true → T (nonNeg (less n)) × Fits w64 (natAbs (less n))

@@ -70,15 +70,15 @@ fn put_flip(r: lists::FlipRecord) -> bool {
 
 // The list of a word, to its end; where the flips are shown, to one that could not be written.
 fn follow(code: u8, limit: u16, word: &[u8], shown: bool) -> lists::Listing {
-    let mut t = [0u16; 64];
+    let mut h = [0u16; 64];
     let mut y = [0u64; 130];
-    let mut s = [0u64; 16];
-    let mut l = lists::begin(code, word, limit, PLACES, &mut t, &mut y, &mut s);
+    let mut z = [0u64; 16];
+    let mut l = lists::begin(code, word, limit, PLACES, &mut h, &mut y, &mut z);
     while l.goes {
         if shown && !put_flip(l.record) {
             return l;
         }
-        l = lists::next(l, word, &mut t, &mut y, &mut s);
+        l = lists::next(l, word, &mut h, &mut y, &mut z);
     }
     l
 }

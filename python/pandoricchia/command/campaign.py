@@ -47,7 +47,7 @@ def try_piece(seed: str, limit: int, piece: Piece) -> Counts[str]:
     for index in range(piece.start, piece.end):
         draws = spoiling.chance(seed, piece.code, piece.wrong, index)
         calls.encode(piece.code, spoiling.information(draws, piece.code), word)
-        heard = spoiling.turned(word, spoiling.places(draws, piece.wrong, spoiling.bits(piece.code)))
+        heard = spoiling.flipped(word, spoiling.places(draws, piece.wrong, spoiling.bits(piece.code)))
         number = calls.correct(piece.code, heard, limit, out).number
         found[refused(int(number)) if number else RIGHT if out == word else OTHER] += 1
     return found
@@ -103,7 +103,7 @@ def drawn(found: Dict[int, Rows], options: Namespace) -> str:
     colours = [charts.INK, charts.AMBER, charts.RED, "#e39a92", "#777"]
     kinds = _kinds()
     sections = [
-        "<p>Random information was encoded, so many bits of the word were turned over, and the word was corrected. <i>Right</i>:"
+        "<p>Random information was encoded, so many bits of the word were flipped, and the word was corrected. <i>Right</i>:"
         " the run ended at the word that was sent. <i>Another codeword</i>: it ended at one that was not sent, and nothing in the"
         " received word tells."
         " <i>Refused</i>, with the number of the refusal: "

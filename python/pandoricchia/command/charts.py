@@ -256,7 +256,7 @@ def run(first: int, flips: Sequence[Flip], title: str) -> str:
     field.foot("flips made")
     if again:
         picture.dot(field.left + 6, 308, 5, "#fff", RED)
-        picture.text(field.left + 18, 312, "a bit turned back", 12, "start")
+        picture.text(field.left + 18, 312, "a bit flipped back", 12, "start")
     return picture.drawn()
 
 

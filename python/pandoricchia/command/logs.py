@@ -56,7 +56,7 @@ class Entry(NamedTuple):
         if not self.taken:
             found.append(REFUSED)
         if self.flips > self.unlike:
-            found.append("a bit turned back")
+            found.append("a bit flipped back")
         if self.taken and self.unlike > PROMISED:
             found.append(f"more than {PROMISED} bits changed")
         return found

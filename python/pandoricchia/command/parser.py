@@ -152,7 +152,7 @@ def _words(verbs: Verbs) -> None:
     _jobs(encode)
 
     spoil = verbs.add(
-        "spoil", words.spoil, "turn bits of words over",
+        "spoil", words.spoil, "flip bits of words",
         f"{RECORDING} What is written is the same with wrong bits, drawn from the seed and the word's index. Of code 5 the last two"
         " bits, which are filling, stay as they are; so does a last word that is cut short.",
         "pandoricchia spoil --wrong 2 --seed 7 sent.bin --output heard.bin",
@@ -308,8 +308,8 @@ def _pictures(verbs: Verbs) -> None:
     short = verbs.add(
         "summary", summary.summary, "say what a log holds as a whole",
         "The input is a log of correct, why, frames or unit read, or of the program of that kind. How many words have each answer,"
-        " flips and unlike by how many, and the words that need a look: those that are refused, those in which a bit was turned and"
-        " turned back, and those that were taken with more than two bits changed, which is more than is promised for any code."
+        " flips and unlike by how many, and the words that need a look: those that are refused, those in which a bit was flipped and"
+        " flipped back, and those that were taken with more than two bits changed, which is more than is promised for any code."
         " The status is 1 if a word was refused.",
         "pandoricchia summary heard.log",
     )

@@ -15,7 +15,7 @@ def chance(*what: object) -> random.Random:
 
 
 def bits(code: int) -> int:
-    """The bits of a word that may be turned. Of code 5 not the last two: they are filling, and no check covers them."""
+    """The bits of a word that may be flipped. Of code 5 not the last two: they are filling, and no check covers them."""
     return 8 * calls.word_octets(code) - (2 if code == 5 else 0)
 
 
@@ -42,8 +42,8 @@ def places_at(draws: random.Random, rate: float, below: int) -> Iterator[int]:
         yield place
 
 
-def turned(word: Iterable[int], at: Iterable[int]) -> bytes:
-    """The word with these bits turned over; bit 0 is the most significant bit of octet 0."""
+def flipped(word: Iterable[int], at: Iterable[int]) -> bytes:
+    """The word with these bits flipped; bit 0 is the most significant bit of octet 0."""
     octets = bytearray(word)
     for bit in at:
         octets[bit // 8] ^= 0x80 >> bit % 8

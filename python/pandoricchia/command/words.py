@@ -156,7 +156,7 @@ def spoil_part(ask: Ask, part: Part) -> Done:
     for index, word in part.words(length):
         draws = spoiling.chance(ask.seed, index)
         at = spoiling.places_at(draws, ask.rate, below) if ask.wrong is None else spoiling.places(draws, ask.wrong, below)
-        octets.append(spoiling.turned(word, at) if len(word) == length else bytes(word))
+        octets.append(spoiling.flipped(word, at) if len(word) == length else bytes(word))
     return Done([], octets, True)
 
 

@@ -1,4 +1,4 @@
--- `bch::divide` meets its contract: after j turns r has the first j coefficients of the remainder. Assumes nothing.
+-- `bch::divide` meets its contract: after j passes r has the first j coefficients of the remainder. Assumes nothing.
 use mathlib.Core.Path.{_≡_, sym, ap, _∙_, subst}
 use Prim.Native.Nat.{ℕ, _+_, _-_, _*_, _^_, _≤_, _<_}
 use native.Mathlib.Omega.{arith}

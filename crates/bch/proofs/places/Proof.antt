@@ -1,4 +1,4 @@
--- `bch::places` meets its contract: after j turns the bits are left whose first j coefficients are r's. Assumes nothing.
+-- `bch::places` meets its contract: after j passes the bits are left whose first j coefficients are r's. Assumes nothing.
 use mathlib.Core.Path.{_≡_, sym, ap, _∙_}
 use mathlib.Core.Logic.{⊎-elim}
 use Prim.Native.Nat.{ℕ, suc, _-_, _/_, _%_, _^_, _≤_, _<_}

@@ -32,11 +32,11 @@ same-length : tie.Need-same-length
 same-length c = search needs
 
 returns : tie.Need-returns
-returns c s start hv =
+returns c z start hv =
     let a = c .before .before .before .args in
     let twofold = c .double-word .ensures (digit 64 (a .v)) (c .before .front .ensures) in
     placed-number (a .d .now) (a .v) (a .m) (a .to) (c .double-word .result .first) (c .double-word .result .second) (omega arith)
-    (omega arith) twofold s start (omega arith) hv
+    (omega arith) twofold z start (omega arith) hv
 
 pub double-narrow-row-spec : {M : Type 1} → statement M
 double-narrow-row-spec =

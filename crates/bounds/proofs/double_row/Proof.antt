@@ -26,7 +26,7 @@ same-length c = search needs
 returns : tie.Need-returns
 returns c =
     let a = c .before .before .before .before .before .before .before .before .before .args in
-    c .before .before .double-narrow-row .ensures (wbit (a .s .now)) (64 * a .at) (word-holds (a .s .now) (a .at))
+    c .before .before .double-narrow-row .ensures (wbit (a .z .now)) (64 * a .at) (word-holds (a .z .now) (a .at))
 
 row-requires : tie.Need-row-requires
 row-requires c κs = search needs
@@ -52,7 +52,7 @@ part-double-end c = search needs
 double-requires : tie.Need-double-requires
 double-requires c κs =
     let a = c .before .before .before .before .before .before .before .before .before .before .args in
-    let clean = upTo-again (a .m) (from (64 * a .at) (wbit (a .s .now))) _ (c .before .before .before .before .row .ensures) in
+    let clean = upTo-again (a .m) (from (64 * a .at) (wbit (a .z .now))) _ (c .before .before .before .before .row .ensures) in
     (clean, omega arith, omega arith, simp (length-take, length-drop) (omega arith), simp (length-take, length-drop) (omega arith))
 
 same-length-2 : tie.Need-same-length-2
@@ -66,7 +66,7 @@ returns-2 c =
     let a = c .before .before .before .before .before .before .before .before .before .before .before .before .before .args in
     let row = c .before .before .before .before .before .before .before .row .ensures in
     let twofold = c .before .before .double .ensures in
-    placed (a .d .now) _ _ (a .to) (omega arith) (wbit (a .s .now)) (64 * a .at) (a .m)
+    placed (a .d .now) _ _ (a .to) (omega arith) (wbit (a .z .now)) (64 * a .at) (a .m)
     (omega (
       arith,
       c .before .d2 .given,

@@ -1,4 +1,4 @@
--- `bounds::double_rows` meets its contract: after r turns the first r rows stand twice over. Assumes nothing.
+-- `bounds::double_rows` meets its contract: after r passes the first r rows stand twice over. Assumes nothing.
 use mathlib.Core.Path.{_≡_}
 use Prim.Native.Nat.{_-_, _≤_}
 use native.Mathlib.Omega.{arith}
@@ -12,10 +12,10 @@ use Rattle.bounds.proofs.double_rows.Statement.{statement}
 use Rattle.bounds.proofs.double_rows.Tie as tie
 
 abbrev Inv-loop : tie.InvT-loop
-Inv-loop s sh v₀ d₀ words m r₀ v d r = (r ≤ sh .rows) × (length v ≡ 8) × (length d ≡ 65) × Twice sh r (wbit s) (wbit d)
+Inv-loop z sh v₀ d₀ words m r₀ v d r = (r ≤ sh .rows) × (length v ≡ 8) × (length d ≡ 65) × Twice sh r (wbit z) (wbit d)
 
 abbrev μ-loop : tie.MeasureT-loop
-μ-loop s sh v₀ d₀ words m r₀ v d r = sh .rows - r
+μ-loop z sh v₀ d₀ words m r₀ v d r = sh .rows - r
 
 loop-holds : tie.Need-loop-holds Inv-loop μ-loop
 loop-holds c = (omega arith, omega arith, omega arith, λ q n hq. absurd (omega arith))
@@ -52,7 +52,7 @@ loop-again c =
       omega arith,
       omega arith,
       omega arith,
-      twice-more (a .sh) (wbit (a .s .now)) (wbit (l .d)) _ (l .r) (omega arith) (l .inv .3)
+      twice-more (a .sh) (wbit (a .z .now)) (wbit (l .d)) _ (l .r) (omega arith) (l .inv .3)
           (c .before .before .before .before .double-row .ensures),
     )
 

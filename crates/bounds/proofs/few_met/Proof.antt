@@ -1,4 +1,4 @@
--- `bounds::few_met` meets its contract: after e turns, those of which at most so many of the first e checks are met, and those of which
+-- `bounds::few_met` meets its contract: after e passes, those of which at most so many of the first e checks are met, and those of which
 -- none is. Assumes nothing.
 use mathlib.Core.Path.{_≡_, sym, ap, _∙_}
 use mathlib.Core.Bool.{_&&_}

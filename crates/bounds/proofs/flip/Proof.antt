@@ -25,18 +25,18 @@ cast-n c =
     let hb : a .bit / a .sh .size < a .sh .blocks = div-lt-iff-lt-mul (s .pre .0 .some) .1 (s .pre .2) in
     omega (arith, s .pre .0 .low (a .bit / a .sh .size) hb)
 
-mul-turn-checks : tie.Need-mul-turn-checks
-mul-turn-checks c =
+mul-flip-checks : tie.Need-mul-flip-checks
+mul-flip-checks c =
     let s = c .before .before .before .before .before .before .before in
     let a = s .args in
     let hb : a .bit / a .sh .size < a .sh .blocks = div-lt-iff-lt-mul (s .pre .0 .some) .1 (s .pre .2) in
     omega (arith, s .pre .0 .blocks)
 
-rem-turn-checks : tie.Need-rem-turn-checks
-rem-turn-checks c = search needs
+rem-flip-checks : tie.Need-rem-flip-checks
+rem-flip-checks c = search needs
 
-turn-checks-requires : tie.Need-turn-checks-requires
-turn-checks-requires c κs =
+flip-checks-requires : tie.Need-flip-checks-requires
+flip-checks-requires c κs =
     let s = c .before .before .before .before .before .before .before .before in
     let a = s .args in
     let r = s .pre .0 in
@@ -73,7 +73,7 @@ returns c =
     .before in
     let a = s .args in
     let r = c .before .before .raise in
-    let t = c .before .before .before .before .before .before .before .turn-checks in (
+    let t = c .before .before .before .before .before .before .before .flip-checks in (
       ready-fewer (getD (a .met .now) (a .bit / a .sh .size) 0) (s .pre .0) (search needs) (r .ensures),
       kept-flip (a .sh) (a .starts .now) (a .counts .now) (a .met .now) _ (a .d .now) _ (a .bit) (s .pre .0) (s .pre .2) (r .ensures)
           (t .ensures),
@@ -86,9 +86,9 @@ flip-spec =
     div-b
     shared-slice-read-n
     cast-n
-    mul-turn-checks
-    rem-turn-checks
-    turn-checks-requires
+    mul-flip-checks
+    rem-flip-checks
+    flip-checks-requires
     slice-read-by
     raise-requires
     same-length

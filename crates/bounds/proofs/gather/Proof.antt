@@ -1,4 +1,4 @@
--- `bounds::gather` meets its contract: after r turns the starts are those of the first r rows. Assumes nothing.
+-- `bounds::gather` meets its contract: after r passes the starts are those of the first r rows. Assumes nothing.
 use mathlib.Core.Path.{_≡_, refl, _∙_, subst}
 use Prim.Native.Nat.{ℕ, _+_, _-_, _*_, _≤_, _<_}
 use native.Mathlib.Omega.{arith}

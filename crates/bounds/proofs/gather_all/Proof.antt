@@ -1,4 +1,4 @@
--- `bounds::gather_all` meets its contract: after b turns the starts of the first b blocks are there. Assumes nothing.
+-- `bounds::gather_all` meets its contract: after b passes the starts of the first b blocks are there. Assumes nothing.
 use mathlib.Core.Path.{_≡_, _∙_}
 use Prim.Native.Nat.{_-_, _≤_}
 use native.Mathlib.Omega.{arith}

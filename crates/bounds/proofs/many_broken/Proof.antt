@@ -1,4 +1,4 @@
--- `bounds::many_broken` meets its contract: after e turns, the counts and what they carried over. Assumes nothing.
+-- `bounds::many_broken` meets its contract: after e passes, the counts and what they carried over. Assumes nothing.
 use mathlib.Core.Path.{_≡_, ap, _∙_}
 use Prim.Native.Nat.{ℕ, _+_, _-_, _*_, _≤_, _<_}
 use native.Mathlib.Omega.{arith}

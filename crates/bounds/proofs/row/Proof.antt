@@ -1,4 +1,4 @@
--- `bounds::row` meets its contract: after k turns the first k words are those of the row, and what is past bit m is cleared at the end.
+-- `bounds::row` meets its contract: after k passes the first k words are those of the row, and what is past bit m is cleared at the end.
 -- Assumes nothing.
 use mathlib.Core.Path.{ap, _∙_}
 use Prim.Native.Nat.{_+_, _-_, _*_, _≤_}
@@ -12,15 +12,15 @@ use Rattle.bounds.proofs.row.Statement.{statement}
 use Rattle.bounds.proofs.row.Tie as tie
 
 abbrev Inv-loop : tie.InvT-loop
-Inv-loop s at words m v₀ k₀ v k = (k ≤ words) × Filled v₀ (from (64 * at) (wbit s)) v k
+Inv-loop z at words m v₀ k₀ v k = (k ≤ words) × Filled v₀ (from (64 * at) (wbit z)) v k
 
 abbrev μ-loop : tie.MeasureT-loop
-μ-loop s at words m v₀ k₀ v k = words - k
+μ-loop z at words m v₀ k₀ v k = words - k
 
 loop-holds : tie.Need-loop-holds Inv-loop μ-loop
 loop-holds c =
     let a = c .before .before .args in
-    (omega arith, filled-start (a .v .now) (from (64 * a .at) (wbit (a .s .now))))
+    (omega arith, filled-start (a .v .now) (from (64 * a .at) (wbit (a .z .now))))
 
 add-v : tie.Need-add-v Inv-loop μ-loop
 add-v c = omega arith
@@ -47,10 +47,10 @@ loop-again : tie.Need-loop-again Inv-loop μ-loop
 loop-again c =
     let a = c .before .before .before .before .before .args in
     let l = c .before .before .loop in
-    let y = wbit (a .s .now) in (
+    let y = wbit (a .z .now) in (
       omega arith,
-      filled-more (a .v .now) (from (64 * a .at) y) (l .v) (l .k) (l .inv .1) (getD (a .s .now) (a .at + l .k) 0) (omega arith)
-          (λ i hi. word-holds (a .s .now) (a .at + l .k) i hi ∙ ap y (omega arith)),
+      filled-more (a .v .now) (from (64 * a .at) y) (l .v) (l .k) (l .inv .1) (getD (a .z .now) (a .at + l .k) 0) (omega arith)
+          (λ i hi. word-holds (a .z .now) (a .at + l .k) i hi ∙ ap y (omega arith)),
     )
 
 trim-requires : tie.Need-trim-requires Inv-loop μ-loop
@@ -65,7 +65,7 @@ returns c =
     let l = c .before .before .before .before .before .loop in
     c .before .before .trim .ensures
     ∙ ap (upTo (a .m)) (l .inv .1 .bits)
-    ∙ upTo-joined (a .m) (64 * l .k) (from (64 * a .at) (wbit (a .s .now))) (wbit (a .v .now)) (omega arith)
+    ∙ upTo-joined (a .m) (64 * l .k) (from (64 * a .at) (wbit (a .z .now))) (wbit (a .v .now)) (omega arith)
 
 pub row-spec : {M : Type 1} → statement M
 row-spec =

@@ -5,10 +5,10 @@ use Rattle.charts.proofs.entries.Statement.{statement}
 use Rattle.charts.proofs.entries.Tie as tie
 
 abbrev Inv-loop : tie.InvT-loop
-Inv-loop code size blocks t i₀ i = Unit {0}
+Inv-loop code size blocks h i₀ i = Unit {0}
 
 abbrev μ-loop : tie.MeasureT-loop
-μ-loop code size blocks t i₀ i = 64 - i
+μ-loop code size blocks h i₀ i = 64 - i
 
 loop-holds : tie.Need-loop-holds Inv-loop μ-loop
 loop-holds c = tt

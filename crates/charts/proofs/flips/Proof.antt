@@ -1,4 +1,4 @@
--- `charts::flips`: the turns left fall.
+-- `charts::flips`: the passes left fall.
 use mathlib.Core.Path.{_≡_, refl}
 use native.Mathlib.Omega.{arith}
 use lib.ListN.{length}
@@ -6,10 +6,10 @@ use Rattle.charts.proofs.flips.Statement.{statement}
 use Rattle.charts.proofs.flips.Tie as tie
 
 abbrev Inv-loop : tie.InvT-loop
-Inv-loop code word₀ other₀ turns₀ word other turns = (length word ≡ length word₀) × (length other ≡ length other₀)
+Inv-loop code word₀ other₀ passes₀ word other passes = (length word ≡ length word₀) × (length other ≡ length other₀)
 
 abbrev μ-loop : tie.MeasureT-loop
-μ-loop code word₀ other₀ turns₀ word other turns = turns
+μ-loop code word₀ other₀ passes₀ word other passes = passes
 
 loop-holds : tie.Need-loop-holds Inv-loop μ-loop
 loop-holds c = (refl, refl)
@@ -17,8 +17,8 @@ loop-holds c = (refl, refl)
 two-flips-requires : tie.Need-two-flips-requires Inv-loop μ-loop
 two-flips-requires c κs = tt
 
-sub-turns : tie.Need-sub-turns Inv-loop μ-loop
-sub-turns c = omega arith
+sub-passes : tie.Need-sub-passes Inv-loop μ-loop
+sub-passes c = omega arith
 
 loop-less : tie.Need-loop-less Inv-loop μ-loop
 loop-less c = omega arith
@@ -52,7 +52,7 @@ flips-spec =
     μ-loop
     loop-holds
     two-flips-requires
-    sub-turns
+    sub-passes
     loop-less
     loop-again
     same-length

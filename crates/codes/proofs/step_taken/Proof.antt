@@ -11,7 +11,7 @@ use Rattle.bits.specs.Bits.{flipped}
 use Rattle.rules.specs.Codes.{code}
 use Rattle.rules.specs.Encoding.{written}
 use Rattle.answers.specs.Calls.{nextStep}
-use Rattle.runs.specs.Turns.{comesNext, Within}
+use Rattle.runs.specs.Passes.{comesNext, Within}
 use Rattle.offer.proofs.Offers.{small}
 use Rattle.codes.proofs.Admitted.{shaped, word-long, unsent-is, bits-are}
 use Rattle.codes.proofs.Correcting.{holding, stepped-is}
@@ -67,11 +67,11 @@ enum-told-2 c = search needs
 enum-known-next : tie.Need-enum-known-next
 enum-known-next c = search needs
 
-slice-aggregate-turn-over : tie.Need-slice-aggregate-turn-over
-slice-aggregate-turn-over c = search needs
+slice-aggregate-flip-bit : tie.Need-slice-aggregate-flip-bit
+slice-aggregate-flip-bit c = search needs
 
-turn-over-requires : tie.Need-turn-over-requires
-turn-over-requires c κs =
+flip-bit-requires : tie.Need-flip-bit-requires
+flip-bit-requires c κs =
     let f = c .before .before in
     let x = f .before .before in
     let m = x .before .before .before .before .before .before in
@@ -153,7 +153,7 @@ returns-3 c =
     let fits : SFits w8 ex = search (needs, known) in
     ap₂ (λ z o. record { number = 0; quiet = false; bit = b; excess = z; out = o }) (toZ-ofZ w8 ex fits)
     (c .before .before .before .write .ensures (code n) (unsent-is n is off) (bits-are n is off) (word-long n is off (a .pre .2))
-    ∙ ap (written (code n)) (c .before .before .before .before .before .before .before .turn-over .ensures
+    ∙ ap (written (code n)) (c .before .before .before .before .before .before .before .flip-bit .ensures
     ∙ ap (λ z. flipped z b) (e .bits)))
     ∙ stepped-is n (a .args .word .now) _ _ _ _ e (a .args .out .now) (x .comes-next .result) _ _ (sym (unsent-is n is off))
     (x .comes-next .ensures .1) (ap comesNext (f .next .given .1))
@@ -177,8 +177,8 @@ step-taken-spec =
     enum-told-2
     refused-step-requires
     enum-known-next
-    slice-aggregate-turn-over
-    turn-over-requires
+    slice-aggregate-flip-bit
+    flip-bit-requires
     slice-aggregate-write
     write-requires
     cast-t32

@@ -16,8 +16,8 @@ returns : tie.Need-returns
 returns c =
     let q = c .before in
     let a = q .before .before .before in
-    λ n off is word t sh long m.
-    finds-broken n off (a .args .o) is (wbit (a .args .y .now)) (wbit (a .args .s .now)) word t sh long m _ (q .is-quiet .ensures)
+    λ n off is word h sh long m.
+    finds-broken n off (a .args .o) is (wbit (a .args .y .now)) (wbit (a .args .z .now)) word h sh long m _ (q .is-quiet .ensures)
     (not-true _ (c .if1 .taken))
 
 returns-2 : tie.Need-returns-2
@@ -25,8 +25,8 @@ returns-2 c =
     let i = c .before .before in
     let q = i .before in
     let a = q .before .before .before in
-    λ n off is word t sh long m.
-    finds-telecommand n off (a .args .o) is (wbit (a .args .y .now)) (wbit (a .args .s .now)) word t sh long m _ (q .is-quiet .ensures)
+    λ n off is word h sh long m.
+    finds-telecommand n off (a .args .o) is (wbit (a .args .y .now)) (wbit (a .args .z .now)) word h sh long m _ (q .is-quiet .ensures)
     (not-false _ (i .if1 .left)) (not-true _ (c .if2 .taken))
 
 some-set-requires : tie.Need-some-set-requires
@@ -41,8 +41,8 @@ returns-3 c =
     let i = u .before .before .before in
     let q = i .before in
     let a = q .before .before .before in
-    λ n off is word t sh long m.
-    finds-fill n off (a .args .o) is (wbit (a .args .y .now)) (wbit (a .args .s .now)) word t sh long m _ (q .is-quiet .ensures)
+    λ n off is word h sh long m.
+    finds-fill n off (a .args .o) is (wbit (a .args .y .now)) (wbit (a .args .z .now)) word h sh long m _ (q .is-quiet .ensures)
     (not-false _ (i .if1 .left)) (not-false _ (u .before .if2 .left)) (sym (c .if3 .taken) ∙ u .some-set .ensures)
 
 own-parity-requires : tie.Need-own-parity-requires
@@ -56,8 +56,8 @@ returns-4 c =
     let i = u .before .before .before in
     let q = i .before in
     let a = q .before .before .before in
-    λ n off is word t sh long m.
-    finds-own n off (a .args .o) is (wbit (a .args .y .now)) (wbit (a .args .s .now)) word t sh long m _ (q .is-quiet .ensures)
+    λ n off is word h sh long m.
+    finds-own n off (a .args .o) is (wbit (a .args .y .now)) (wbit (a .args .z .now)) word h sh long m _ (q .is-quiet .ensures)
     (not-false _ (i .if1 .left)) (not-false _ (u .before .if2 .left)) (sym (j .if3 .left) ∙ u .some-set .ensures) _
     (w .own-parity .ensures) (c .if4 .taken)
 
@@ -69,8 +69,8 @@ returns-5 c =
     let i = u .before .before .before in
     let q = i .before in
     let a = q .before .before .before in
-    λ n off is word t sh long m.
-    finds-other n off (a .args .o) is (wbit (a .args .y .now)) (wbit (a .args .s .now)) word t sh long m _ (q .is-quiet .ensures)
+    λ n off is word h sh long m.
+    finds-other n off (a .args .o) is (wbit (a .args .y .now)) (wbit (a .args .z .now)) word h sh long m _ (q .is-quiet .ensures)
     (not-false _ (i .if1 .left)) (not-false _ (u .before .if2 .left)) (sym (j .if3 .left) ∙ u .some-set .ensures) _
     (w .own-parity .ensures) (c .if4 .left)
 

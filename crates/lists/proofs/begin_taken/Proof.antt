@@ -1,4 +1,4 @@
--- `lists::begin_taken`: what is measured, whether the table serves, and the first turn. Assumes nothing.
+-- `lists::begin_taken`: what is measured, whether the table serves, and the first pass. Assumes nothing.
 use mathlib.Core.Path.{refl, sym, ap, _∙_}
 use borrow.Author.Tests.{not-true, not-false}
 use Rattle.rules.specs.Codes.{code}
@@ -54,8 +54,8 @@ returns c =
           (short-lists n off (a .args .word .now) _ is (a .pre .1) (a .args .limit) (a .args .room) none),
     )
 
-turn-requires : tie.Need-turn-requires
-turn-requires c κs =
+pass-requires : tie.Need-pass-requires
+pass-requires c κs =
     let a = c .before .before .before .before .before .before .before .before .before .before .before .before .before .before .before
     .before .before .before .before .before .before .before .before in
     let m = c .before .before .before .before .before .before .before .before .before .before .before .before .before .before .before
@@ -79,8 +79,8 @@ turn-requires c κs =
     }
 
 same-length-4 : tie.Need-same-length-4
-same-length-4 c = c .before .before .before .before .before .t2 .given ∙ c .before .before .before .before .before .before .before .before
-    .before .before .before .before .before .before .before .before .before .before .before .before .before .t .given
+same-length-4 c = c .before .before .before .before .before .h2 .given ∙ c .before .before .before .before .before .before .before .before
+    .before .before .before .before .before .before .before .before .before .before .before .before .before .h .given
 
 same-length-5 : tie.Need-same-length-5
 same-length-5 c = c .before .before .before .y2 .given ∙ c .before .before .before .before .before .before .before .before .before .before
@@ -95,7 +95,7 @@ returns-2 c =
     .before .before .before .before .before .before .before .before .before .before .before .before .before .before .before in
     let m = c .before .before .before .before .before .before .before .before .before .before .before .before .before .before .before
     .before .before .before .before .before .before .before .measure .ensures in
-    let t = c .before .before .before .before .before .before .turn .ensures in (
+    let t = c .before .before .before .before .before .before .pass .ensures in (
       t .0,
       λ n off is.
           let e = m .1 n off is in
@@ -110,7 +110,7 @@ returns-2 c =
           (starts n off (a .args .word .now) _ is (a .pre .1) (a .args .limit) (a .args .room) _ _ _ _ e (m .0)
           (c .before .before .before .before .before .before .before .before .before .before .before .before .before .before .before
           .before .before .before .before .y .given ∙ a .pre .2 .1) (c .before .before .before .before .before .before .before .before
-          .before .before .before .before .before .before .before .before .before .s .given ∙ a .pre .2 .2) _ _ broke low some _ refl refl
+          .before .before .before .before .before .before .before .before .before .z .given ∙ a .pre .2 .2) _ _ broke low some _ refl refl
           refl refl refl),
     )
 
@@ -127,7 +127,7 @@ begin-taken-spec =
     same-length-2
     same-length-3
     returns
-    turn-requires
+    pass-requires
     same-length-4
     same-length-5
     same-length-6

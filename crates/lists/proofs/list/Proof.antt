@@ -1,5 +1,5 @@
--- `lists::list` meets its contract: a walk of its MIR, by hand. The three arrays are lent to `begin`, and then to `next` in each turn of
--- the loop, and come back. A turn puts one record into the table: the borrow is opened, one element is taken out of the row and stored to,
+-- `lists::list` meets its contract: a walk of its MIR, by hand. The three arrays are lent to `begin`, and then to `next` in each pass of
+-- the loop, and come back. A pass puts one record into the table: the borrow is opened, one element is taken out of the row and stored to,
 -- and the borrow is closed at the list with the record in it.
 -- Of `begin` and of `next` it knows only that each meets its contract. Assumes nothing.
 use mathlib.Core.Path.{_≡_, refl, sym, ap, _∙_, subst}
@@ -260,7 +260,7 @@ module _ {M : Type 1} (𝓤 : URA M) (H : Heap 𝓤) (A : Atoms 𝓤) (W : Given
         ‵ (MutSlice (named 3) (νs ∷ []) u64 .own (record { ptr = (l₇, 0); name = γs; now = a .1 .1 }) (sliceVal (l₇, 0) 16 ∷ []))
         ⊛ ‵ (flent (νs ∷ []) (Held u64 16 l₇ 0 γs)))))
         (lends-array 𝓤 H A W u64 tt 16 (lit< tt, lit< tt) l₇ 0 (named 3) (νs ∷ []) (a .1 .1)) $ await ! tt $ pick ! (λ γs. split ! $
-        -- [s; its loan; y; its loan; t; its loan; the tokens of t, y and s]
+        -- [z; its loan; y; its loan; h; its loan; the tokens of h, y and z]
         move ! (7 ∷ 8 ∷ []) $ join ! $ move ! (7 ∷ 0 ∷ []) $ join ! $ move ! (3 ∷ 1 ∷ []) $ join ! $ move ! (4 ∷ 0 ∷ []) $ join ! $
         move ! (3 ∷ 2 ∷ []) $ join ! $ move ! (3 ∷ 0 ∷ []) $ join ! $ move ! (2 ∷ 1 ∷ 0 ∷ []) $ join ! $ at-once ! $
         show ! (λ (q : Loan). sep 𝓤 (sep 𝓤 (mean 𝓤 H A (tokens q)) (mean 𝓤 H A (slices q a))) (mean 𝓤 H A (keeps q)))
@@ -272,7 +272,7 @@ module _ {M : Type 1} (𝓤 : URA M) (H : Heap 𝓤) (A : Atoms 𝓤) (W : Given
         qed W (tokens q ∷ keeps q ∷ ‵ (fins q a) ∷ []) ∵ updating ! $ split ! $ move ! (1 ∷ []) $ split ! $
         lft-end ! tt $ move ! (1 ∷ []) $ lft-end ! tt $ move ! (2 ∷ []) $ lft-end ! tt $
         move ! (3 ∷ []) $ split ! $ move ! (1 ∷ []) $ split ! $ move ! (6 ∷ []) $ fsplit ! $ move ! (1 ∷ []) $ fsplit ! $
-        -- [last y, s, t; the loans of y, s, t; t, s and y are over]
+        -- [last y, z, h; the loans of y, z, h; h, z and y are over]
         move ! (8 ∷ 3 ∷ 0 ∷ []) $ use3 W (later (‵ (partAt (Array u64 130) fullShare (a .1 .0) l₆ 0)))
         (array-back 𝓤 H A W u64 tt 130 (lit< tt, lit< tt) l₆ 0 (q .0 .1 .0 ∷ []) (q .1 .1 .0) (a .1 .0)) $ await ! tt $
         move ! (6 ∷ 3 ∷ 1 ∷ []) $ use3 W (later (‵ (partAt (Array u64 16) fullShare (a .1 .1) l₇ 0)))
@@ -446,7 +446,7 @@ module _ {M : Type 1} (𝓤 : URA M) (H : Heap 𝓤) (A : Atoms 𝓤) (W : Given
         (ref64 16, l₂₃) ∷
         (slice64, l₂₄) ∷ []
 
-    -- what no turn touches
+    -- what no pass touches
     abbrev Frame : List (Item 𝓤)
     Frame = ‵ (froom tyBool l₁₆ 0) ∷ ‵ (froom wide l₁₇ 0) ∷ ‵ (froom tyPtr l₁₈ 0) ∷ ‵ (froom (ref16 64) l₁₉ 0)
         ∷ ‵ (froom slice16 l₂₀ 0) ∷ ‵ (froom (ref64 130) l₂₁ 0) ∷ ‵ (froom slice64 l₂₂ 0) ∷ ‵ (froom (ref64 16) l₂₃ 0)
@@ -488,7 +488,7 @@ module _ {M : Type 1} (𝓤 : URA M) (H : Heap 𝓤) (A : Atoms 𝓤) (W : Given
     abbrev put : Listing → List FlipRecord → List FlipRecord
     put l zs = set zs (l .place) (l .record)
 
-    -- a turn that puts one record
+    -- a pass that puts one record
     module _ (l : Listing) (a : Three) (zs : List FlipRecord) (good : Good l a zs) (on : l .goes ≡ true) where
       gl : Is L.the-row l (mach l ∷ [])
       gl = good .0
@@ -512,7 +512,7 @@ module _ {M : Type 1} (𝓤 : URA M) (H : Heap 𝓤) (A : Atoms 𝓤) (W : Given
       goes : Goes (now w) l (a .0) (a .1 .0) (a .1 .1)
       goes = record { number = cd; limit = lim; room = length ys; on = on; lists = good .1 .0 }
 
-      -- what holds after the turn
+      -- what holds after the pass
       after : (g : Got) → Told l a g → Is L.the-row (g .0) (mach (g .0) ∷ []) → Good (g .0) (g .1) (put l zs)
       after g told gr = (
         gr,
@@ -589,7 +589,7 @@ module _ {M : Type 1} (𝓤 : URA M) (H : Heap 𝓤) (A : Atoms 𝓤) (W : Given
           26 ∷ 27 ∷ 28 ∷ 29 ∷ 30 ∷ 31 ∷ 32 ∷ 33 ∷ 34 ∷ 35 ∷ 36 ∷ 37 ∷ 38 ∷ 39 ∷ 40 ∷ 41 ∷ 42 ∷ 43 ∷ 44 ∷ 45 ∷ 46 ∷ 47 ∷ 48 ∷ 49 ∷ 50 ∷ 51
           ∷ 52 ∷ []) $ by ! (k g told gr)))))))
 
-    -- the turn that leaves the loop, and the rest of the body
+    -- the pass that leaves the loop, and the rest of the body
     ends : (l : Listing) (a : Three) (zs : List FlipRecord) → Good l a zs → l .goes ≡ false → (X : SProp 𝓤)
         → ent 𝓤 (⋆ 𝓤 H A (At l a zs)) (Wp 𝓤 H C Λ En m.turn-1 (afterTurn 𝓤 H X Left))
     unfolding afterTurn
@@ -631,10 +631,10 @@ module _ {M : Type 1} (𝓤 : URA M) (H : Heap 𝓤) (A : Atoms 𝓤) (W : Given
         (length ys - σ .0 .place)) less)
         (exI 𝓤 (λ (u : ℕ). guard 𝓤 (u < t) (Inv u)) (length ys - σ .0 .place)))
 
-    -- a turn from the invariant at t leaves the loop, or ends in the invariant below t
-    turn-at : (t : ℕ) (σ : State) → Good (σ .0) (σ .1 .0) (σ .1 .1) → length ys - σ .0 .place ≡ t
+    -- a pass from the invariant at t leaves the loop, or ends in the invariant below t
+    pass-at : (t : ℕ) (σ : State) → Good (σ .0) (σ .1 .0) (σ .1 .1) → length ys - σ .0 .place ≡ t
         → ent 𝓤 (⋆ 𝓤 H A (At (σ .0) (σ .1 .0) (σ .1 .1))) (Wp 𝓤 H C Λ En m.turn-1 (afterTurn 𝓤 H (Below t) Left))
-    turn-at t σ good e = go (σ .0 .goes) refl
+    pass-at t σ good e = go (σ .0 .goes) refl
       where
         go : (g : Bool) → σ .0 .goes ≡ g
             → ent 𝓤 (⋆ 𝓤 H A (At (σ .0) (σ .1 .0) (σ .1 .1))) (Wp 𝓤 H C Λ En m.turn-1 (afterTurn 𝓤 H (Below t) Left))
@@ -643,11 +643,11 @@ module _ {M : Type 1} (𝓤 : URA M) (H : Heap 𝓤) (A : Atoms 𝓤) (W : Given
             (omega (arith, told .0, e, place-in (σ .0) (σ .1 .0) (σ .1 .1) good on)))
         go false off = ends (σ .0) (σ .1 .0) (σ .1 .1) good off (Below t)
 
-    turns : (t : ℕ) → ent 𝓤 (Inv t) (Wp 𝓤 H C Λ En m.turn-1 (afterTurn 𝓤 H (Below t) Left))
-    turns t = exE 𝓤 (λ (σ : State). guard 𝓤 (Good (σ .0) (σ .1 .0) (σ .1 .1) × (length ys - σ .0 .place ≡ t)) (⋆ 𝓤 H A (At (σ .0) (σ .1
+    passes : (t : ℕ) → ent 𝓤 (Inv t) (Wp 𝓤 H C Λ En m.turn-1 (afterTurn 𝓤 H (Below t) Left))
+    passes t = exE 𝓤 (λ (σ : State). guard 𝓤 (Good (σ .0) (σ .1 .0) (σ .1 .1) × (length ys - σ .0 .place ≡ t)) (⋆ 𝓤 H A (At (σ .0) (σ .1
         .0) (σ .1 .1))))
         (λ σ. guardE 𝓤 (Good (σ .0) (σ .1 .0) (σ .1 .1) × (length ys - σ .0 .place ≡ t)) (⋆ 𝓤 H A (At (σ .0) (σ .1 .0) (σ .1 .1)))
-        (λ e. turn-at t σ (e .0) (e .1)))
+        (λ e. pass-at t σ (e .0) (e .1)))
 
     loops : (g : Got) → Began g → Is L.the-row (g .0) (mach (g .0) ∷ []) → ent 𝓤 (⋆ 𝓤 H A (At (g .0) (g .1) ys)) (Wp 𝓤 H C Λ En (loop
         m.turn-1) Left)
@@ -660,7 +660,7 @@ module _ {M : Type 1} (𝓤 : URA M) (H : Heap 𝓤) (A : Atoms 𝓤) (W : Given
         ((gr, (told .1, (sym (ap (λ k. soFar (listOf cd (now w) lim) k (asEntries ys)) (told .0)), refl))), refl))
         (exI 𝓤 (λ (τ : State). guard 𝓤 (Good (τ .0) (τ .1 .0) (τ .1 .1) × (length ys - τ .0 .place ≡ t)) (⋆ 𝓤 H A (At (τ .0) (τ .1 .0) (τ
         .1 .1)))) σ))
-        (loop-rule 𝓤 H (W .laws) 𝓣 _<_ (Nat·lt-wfRel .wf) En m.turn-1 Left Inv turns t)
+        (loop-rule 𝓤 H (W .laws) 𝓣 _<_ (Nat·lt-wfRel .wf) En m.turn-1 Left Inv passes t)
 
   -- ---- the MIR, up to the loop
 

@@ -1,18 +1,18 @@
--- `lists::next`: a turn from the next place. Assumes nothing.
+-- `lists::next`: a pass from the next place. Assumes nothing.
 use borrow.Author.Needs.{needs}
 use Rattle.lists.proofs.next.Statement.{statement}
 use Rattle.lists.proofs.next.Tie as tie
 
-add-turn : tie.Need-add-turn
-add-turn c =
+add-pass : tie.Need-add-pass
+add-pass c =
     let a = c .before .before .before .before .before in
     let st = a .pre .lists .goes (a .pre .on) in
     let under = st .measures .under in
     let within = st .going .within in
     search needs
 
-turn-requires : tie.Need-turn-requires
-turn-requires c κs =
+pass-requires : tie.Need-pass-requires
+pass-requires c κs =
     let k = c .before .before .before .before .before .before .before .before .pre in
     record { number = k .number; limit = k .limit; room = k .room; stands = k .lists .goes (k .on) }
 
@@ -27,7 +27,7 @@ same-length-3 c = search needs
 
 returns : tie.Need-returns
 returns c =
-    let t = c .before .before .before .before .before .before .turn in (
+    let t = c .before .before .before .before .before .before .pass in (
       t .ensures .0,
       λ n limit room is. t .ensures .1 n limit room (is .goes (c .before .before .before .before .before .before .before
           .before .before .before .before .before .before .before .before .pre .on)),
@@ -35,4 +35,4 @@ returns c =
 
 pub next-spec : {M : Type 1} → statement M
 next-spec =
-    tie.close (tie.spec add-turn turn-requires same-length same-length-2 same-length-3 returns)
+    tie.close (tie.spec add-pass pass-requires same-length same-length-2 same-length-3 returns)

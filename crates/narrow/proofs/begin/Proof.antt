@@ -1,4 +1,4 @@
--- `narrow::begin`: after r turns the first r rows stand there. Assumes nothing.
+-- `narrow::begin`: after r passes the first r rows stand there. Assumes nothing.
 use mathlib.Core.Path.{_≡_}
 use Prim.Native.Nat.{ℕ, _+_, _-_, _*_, _≤_, _<_}
 use native.Mathlib.Omega.{arith}
@@ -14,13 +14,13 @@ use Rattle.narrow.proofs.begin.Statement.{statement}
 use Rattle.narrow.proofs.begin.Tie as tie
 
 abbrev Inv-loop : tie.InvT-loop
-Inv-loop s sh rows₀ r₀ rows r =
+Inv-loop z sh rows₀ r₀ rows r =
     (r ≤ 4) × (length rows ≡ 4)
-    × ((c : Code) (x : Word) → wbit s ≡ laid c sh x → (q : ℕ) → q < r
+    × ((c : Code) (x : Word) → wbit z ≡ laid c sh x → (q : ℕ) → q < r
     → Holds (getD rows q 0) (around (sh .size) (λ i. check c x (q * sh .size + i))))
 
 abbrev μ-loop : tie.MeasureT-loop
-μ-loop s sh rows₀ r₀ rows r = 4 - r
+μ-loop z sh rows₀ r₀ rows r = 4 - r
 
 loop-holds : tie.Need-loop-holds Inv-loop μ-loop
 loop-holds c = (omega arith, c .before .before .pre .5, λ k x e q l. absurd (omega arith))
@@ -58,7 +58,7 @@ loop-again c =
       λ k x e. set-rows (l .rows) (λ q v. Holds v (around (a .sh .size) (λ i. check k x (q * a .sh .size + i)))) (l .r)
           (c .repeated .result) (omega (arith, l .inv .1))
           (c .repeated .ensures (λ i. check k x (l .r * a .sh .size + i))
-          (laid-row k (a .sh) x (s .pre .2) (s .pre .1) (a .s .now) e (l .r) (omega (arith, s .pre .3))))
+          (laid-row k (a .sh) x (s .pre .2) (s .pre .1) (a .z .now) e (l .r) (omega (arith, s .pre .3))))
           (l .inv .2 k x e),
     )
 

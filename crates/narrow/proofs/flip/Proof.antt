@@ -1,4 +1,4 @@
--- `narrow::flip`: after r turns the checks of the first r rows are turned over. Assumes nothing.
+-- `narrow::flip`: after r passes the checks of the first r rows are flipped. Assumes nothing.
 use mathlib.Core.Path.{_≡_, refl, sym, _∙_, subst}
 use Prim.Native.Nat.{ℕ, _+_, _-_, _/_, _%_, _≤_, _<_}
 use native.Mathlib.Nat.{mod-lt, div-add-mod', div-lt-iff-lt-mul}
@@ -24,8 +24,8 @@ Inv-loop y rows₀ h sh bit each b k r₀ rows r =
 abbrev μ-loop : tie.MeasureT-loop
 μ-loop y rows₀ h sh bit each b k r₀ rows r = 4 - r
 
-turn-over-requires : tie.Need-turn-over-requires Inv-loop μ-loop
-turn-over-requires c κs =
+flip-bit-requires : tie.Need-flip-bit-requires Inv-loop μ-loop
+flip-bit-requires c κs =
     let s = c .before .before .before .before in
     omega (arith, s .pre .0 .bits, s .pre .2, s .pre .4)
 
@@ -49,14 +49,14 @@ loop-holds c = (
       l. absurd (omega arith),
 )
 
-mul-turn-row : tie.Need-mul-turn-row Inv-loop μ-loop
-mul-turn-row c = omega arith
+mul-flip-row : tie.Need-mul-flip-row Inv-loop μ-loop
+mul-flip-row c = omega arith
 
-slice-read-turn-row : tie.Need-slice-read-turn-row Inv-loop μ-loop
-slice-read-turn-row c = omega (arith, c .before .before .loop .inv .1)
+slice-read-flip-row : tie.Need-slice-read-flip-row Inv-loop μ-loop
+slice-read-flip-row c = omega (arith, c .before .before .loop .inv .1)
 
-mul-turn-row-2 : tie.Need-mul-turn-row-2 Inv-loop μ-loop
-mul-turn-row-2 c =
+mul-flip-row-2 : tie.Need-mul-flip-row-2 Inv-loop μ-loop
+mul-flip-row-2 c =
     let s = c .before .before .before .before .before .before .before .before .before .before .before .before .before .before in
     let a = s .args in
     let inside = div-lt-iff-lt-mul (s .pre .0 .some) .1 (s .pre .4) in
@@ -64,8 +64,8 @@ mul-turn-row-2 c =
     (omega arith) inside in
     omega (arith, room .0, room .1)
 
-add-turn-row : tie.Need-add-turn-row Inv-loop μ-loop
-add-turn-row c =
+add-flip-row : tie.Need-add-flip-row Inv-loop μ-loop
+add-flip-row c =
     let s = c .before .before .before .before .before .before .before .before .before .before .before .before .before .before in
     let a = s .args in
     let inside = div-lt-iff-lt-mul (s .pre .0 .some) .1 (s .pre .4) in
@@ -73,8 +73,8 @@ add-turn-row c =
     (omega arith) inside in
     omega (arith, room .0, room .1)
 
-mul-turn-row-3 : tie.Need-mul-turn-row-3 Inv-loop μ-loop
-mul-turn-row-3 c =
+mul-flip-row-3 : tie.Need-mul-flip-row-3 Inv-loop μ-loop
+mul-flip-row-3 c =
     let s = c .before .before .before .before .before .before .before .before .before .before .before .before .before .before in
     let a = s .args in
     let inside = div-lt-iff-lt-mul (s .pre .0 .some) .1 (s .pre .4) in
@@ -82,8 +82,8 @@ mul-turn-row-3 c =
     (omega arith) inside in
     omega (arith, room .0, room .1)
 
-turn-row-requires : tie.Need-turn-row-requires Inv-loop μ-loop
-turn-row-requires c κs =
+flip-row-requires : tie.Need-flip-row-requires Inv-loop μ-loop
+flip-row-requires c κs =
     let s = c .before .before .before .before .before .before .before .before .before .before .before .before .before .before in
     let a = s .args in
     let narrow = s .pre .0 .narrow (s .pre .1) in
@@ -114,7 +114,7 @@ loop-again c =
     let a = c .before .before .before .before .before .before .before .before .before .before .before .before .before .before .before
     .args in
     let l = c .before .before .before .before .loop in
-    let v = c .turn-row .result in
+    let v = c .flip-row .result in
     let was = a .rows .now in (
       omega arith,
       omega (arith, length-set (l .rows) (l .r) v, l .inv .1),
@@ -123,7 +123,7 @@ loop-again c =
           → Holds z (λ i. f i ⊕ over (shiftsOf (a .sh) (a .h .now) q (a .bit / a .sh .size))
           (λ s. eqb (i % a .sh .size) ((a .bit % a .sh .size + (a .sh .size - s)) % a .sh .size))))
           (l .r) v (omega (arith, l .inv .1))
-          (λ f is. c .turn-row .ensures f (subst (λ z. Holds z f) (sym (l .inv .2 (l .r) (omega arith))) is))
+          (λ f is. c .flip-row .ensures f (subst (λ z. Holds z f) (sym (l .inv .2 (l .r) (omega arith))) is))
           (l .inv .3),
     )
 
@@ -145,7 +145,7 @@ returns c =
     let M = a .sh .size in
     let l = c .before .loop in
     let inside = div-lt-iff-lt-mul (s .pre .0 .some) .1 (s .pre .4) in (
-      c .before .before .before .before .before .before .before .turn-over .ensures,
+      c .before .before .before .before .before .before .before .flip-bit .ensures,
       λ k x lent is.
           subst (λ n. Rows k (a .sh) (flipped x n) (l .rows)) (div-add-mod' (a .bit) M)
           (λ q hq.
@@ -160,17 +160,17 @@ flip-spec =
     (tie.spec
     Inv-loop
     μ-loop
-    turn-over-requires
+    flip-bit-requires
     repeated-requires
     div-b
     rem-k
     loop-holds
-    mul-turn-row
-    slice-read-turn-row
-    mul-turn-row-2
-    add-turn-row
-    mul-turn-row-3
-    turn-row-requires
+    mul-flip-row
+    slice-read-flip-row
+    mul-flip-row-2
+    add-flip-row
+    mul-flip-row-3
+    flip-row-requires
     mul-rows
     slice-write-rows
     add-r

@@ -1,4 +1,4 @@
--- `narrow::greatest`: after b turns it is the greatest of the first b scores. Assumes nothing.
+-- `narrow::greatest`: after b passes it is the greatest of the first b scores. Assumes nothing.
 use mathlib.Core.Path.{_≡_, subst}
 use mathlib.Core.Logic.{⊎-elim}
 use Prim.Native.Nat.{_-_, _≤_, _<_}

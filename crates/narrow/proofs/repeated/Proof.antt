@@ -1,4 +1,4 @@
--- `narrow::repeated`: in each turn the row stands twice as often. Assumes nothing.
+-- `narrow::repeated`: in each pass the row stands twice as often. Assumes nothing.
 use mathlib.Core.Path.{_≡_, _∙_}
 use Prim.Native.Nat.{_-_, _/_, _%_, _^_, _≤_, _<_}
 use native.Mathlib.Nat.{mod-self, div-le-self, lt-of-le-of-lt}

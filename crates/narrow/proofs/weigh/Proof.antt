@@ -1,4 +1,4 @@
--- `narrow::weigh`: after r turns the checks of the first r rows are weighed. Assumes nothing.
+-- `narrow::weigh`: after r passes the checks of the first r rows are weighed. Assumes nothing.
 use mathlib.Core.Path.{_≡_, sym, subst}
 use Prim.Native.Nat.{_+_, _-_, _*_, _%_, _≤_}
 use native.Mathlib.Omega.{arith}

@@ -1,4 +1,4 @@
--- `narrow::weigh_all`: after b turns the first b blocks are weighed. Assumes nothing.
+-- `narrow::weigh_all`: after b passes the first b blocks are weighed. Assumes nothing.
 use mathlib.Core.Path.{_≡_, sym, ap, _∙_}
 use Prim.Native.Nat.{_+_, _-_, _*_, _≤_, _<_}
 use native.Mathlib.Omega.{arith}

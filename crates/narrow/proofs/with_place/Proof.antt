@@ -25,23 +25,23 @@ returns : tie.Need-returns
 returns c =
     let s = c .before .before .before in
     let a = s .args in
-    let l : a .e < a .m = c .before .before .if1 .taken in
-    let t = lt-ltb (a .e) (a .m) l in (
+    let l : a .s < a .m = c .before .before .if1 .taken in
+    let t = lt-ltb (a .s) (a .m) l in (
       c .with-check .ensures .0 ∙ ap (λ b. a .w .checks + tally b) (sym t),
       λ counts f hits was is.
-          weighs-as (λ k hk. ap (λ b. hits k + tally (b && f ((k + (a .m - a .e)) % a .m))) (sym t))
-          (c .with-check .ensures .1 counts (λ k. f ((k + (a .m - a .e)) % a .m)) hits was
-          (turned-back (a .m) (s .pre .1) (s .pre .3) (a .row) (c .before .funnel .result) (a .e) f l (s .pre .2) is
+          weighs-as (λ k hk. ap (λ b. hits k + tally (b && f ((k + (a .m - a .s)) % a .m))) (sym t))
+          (c .with-check .ensures .1 counts (λ k. f ((k + (a .m - a .s)) % a .m)) hits was
+          (turned-back (a .m) (s .pre .1) (s .pre .3) (a .row) (c .before .funnel .result) (a .s) f l (s .pre .2) is
           (c .before .funnel .ensures))),
     )
 
 returns-2 : tie.Need-returns-2
 returns-2 c =
     let a = c .before .args in
-    let t = le-ltb (a .e) (a .m) (omega arith) in (
+    let t = le-ltb (a .s) (a .m) (omega arith) in (
       sym (add-zero (a .w .checks)) ∙ ap (λ b. a .w .checks + tally b) (sym t),
       λ counts f hits was is.
-          weighs-as (λ k hk. sym (add-zero (hits k)) ∙ ap (λ b. hits k + tally (b && f ((k + (a .m - a .e)) % a .m))) (sym t)) was,
+          weighs-as (λ k hk. sym (add-zero (hits k)) ∙ ap (λ b. hits k + tally (b && f ((k + (a .m - a .s)) % a .m))) (sym t)) was,
     )
 
 pub with-place-spec : {M : Type 1} → statement M

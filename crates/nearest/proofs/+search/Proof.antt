@@ -6,7 +6,7 @@ use Rattle.bits.specs.Bits.{Word, flipped}
 use Rattle.nearest.specs.Nearest.{firstList}
 use Rattle.nearest.specs.Answers.{Broken, held}
 use Rattle.nearest.proofs.Lists.{long}
-use Rattle.nearest.proofs.Searching.{search-none, alone-none, alone-some, search-turn, search-end}
+use Rattle.nearest.proofs.Searching.{search-none, alone-none, alone-some, search-pass, search-end}
 use Rattle.nearest.proofs.Searching.{held-chosen, held-passed, lent-long, broken-lent}
 use Prim.Native.Nat.{ℕ, _+_, _-_, _≤_, _<_}
 use borrow.Fn.Kinds.{In}
@@ -29,11 +29,11 @@ abbrev search-below : ℕ → In 1 search-kinds.ps
 search-below t = and 1 search-kinds.ps (falls 1 search-kinds.ps _<_ μ-search t) search′.Pre
 
 abbrev search-Inv-loop : search-lts.InvT-loop
-search-Inv-loop columns s from left n₀ n =
-    (n ≤ 128) × ((x : Word) → Broken s x → firstList left (128 - from) from x ≡ firstList left (128 - n) n x)
+search-Inv-loop columns z from left n₀ n =
+    (n ≤ 128) × ((x : Word) → Broken z x → firstList left (128 - from) from x ≡ firstList left (128 - n) n x)
 
 abbrev search-μ-loop : search-lts.MeasureT-loop
-search-μ-loop columns s from left n₀ n = 128 - n
+search-μ-loop columns z from left n₀ n = 128 - n
 
 search-returns : (t : ℕ) → search-lts.Need-returns (
   only-reads.Asked,
@@ -45,7 +45,7 @@ search-returns : (t : ℕ) → search-lts.Need-returns (
 ) (search-at t) search′.Post search-Inv-loop search-μ-loop
 search-returns t c =
     let a = c .before .before in
-    λ x h. search-none (a .args .left) (a .args .s) (128 - a .args .from) (a .args .from) x (c .if1 .taken) (omega arith) h
+    λ x h. search-none (a .args .left) (a .args .z) (128 - a .args .from) (a .args .from) x (c .if1 .taken) (omega arith) h
 
 search-only-requires : (t : ℕ) → search-lts.Need-only-requires (
   only-reads.Asked,
@@ -80,7 +80,7 @@ search-returns-2 t c =
     let a = o .before .before .before .before in
     λ x h.
     c .no-list .ensures
-    ∙ alone-none (a .args .left) (a .args .s) (a .args .from) (o .only .result) x
+    ∙ alone-none (a .args .left) (a .args .z) (a .args .from) (o .only .result) x
     (o .before .if2 .taken) (a .pre .1 .1) (omega arith) (o .only .ensures .1) h (c .before .if3 .taken)
 
 search-cast-t13 : (t : ℕ) → search-lts.Need-cast-t13 (
@@ -105,7 +105,7 @@ search-returns-3 t c =
     let o = c .before in
     let a = o .before .before .before .before in
     λ x h.
-    alone-some (a .args .left) (a .args .s) (a .args .from) (o .only .result) x
+    alone-some (a .args .left) (a .args .z) (a .args .from) (o .only .result) x
     (o .before .if2 .taken) (a .pre .1 .1) (omega arith) (o .only .ensures .1) h (c .if3 .left)
 
 search-loop-holds : (t : ℕ) → search-lts.Need-loop-holds (
@@ -213,9 +213,9 @@ search-returns-4 t c =
     let a = z .before .before in
     λ x h.
     held-chosen (l .n) (a .args .left) _ (firstList (a .args .left) (128 - (l .n + 1)) (l .n + 1) x) (r .search .result)
-    (r .search .ensures (flipped x (l .n)) (broken-lent (a .args .columns .now) (a .args .s) (l .n) x (a .pre .1 .0) (omega arith) h))
+    (r .search .ensures (flipped x (l .n)) (broken-lent (a .args .columns .now) (a .args .z) (l .n) x (a .pre .1 .0) (omega arith) h))
     (long (a .args .left - 1) (128 - (l .n + 1)) (l .n + 1) (flipped x (l .n))) (z .if1 .left) (c .before .if4 .taken)
-    ∙ ap held (sym (l .inv .1 x h ∙ search-turn (a .args .left) (l .n) x (z .if1 .left) (omega arith)))
+    ∙ ap held (sym (l .inv .1 x h ∙ search-pass (a .args .left) (l .n) x (z .if1 .left) (omega arith)))
 
 search-add-n : (t : ℕ) → search-lts.Need-add-n (
   only-reads.Asked,
@@ -253,9 +253,9 @@ search-loop-again t c =
       omega arith,
       λ x h.
           l .inv .1 x h
-          ∙ search-turn (a .args .left) (l .n) x (z .if1 .left) (omega arith)
+          ∙ search-pass (a .args .left) (l .n) x (z .if1 .left) (omega arith)
           ∙ held-passed (l .n) (a .args .left) _ (firstList (a .args .left) (128 - (l .n + 1)) (l .n + 1) x) (r .search .result)
-          (r .search .ensures (flipped x (l .n)) (broken-lent (a .args .columns .now) (a .args .s) (l .n) x (a .pre .1 .0) (omega arith) h))
+          (r .search .ensures (flipped x (l .n)) (broken-lent (a .args .columns .now) (a .args .z) (l .n) x (a .pre .1 .0) (omega arith) h))
           (c .if4 .left),
     )
 

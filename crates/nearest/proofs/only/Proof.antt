@@ -9,10 +9,10 @@ use Rattle.nearest.proofs.only.Statement.{statement}
 use Rattle.nearest.proofs.only.Tie as tie
 
 abbrev Inv-loop : tie.InvT-loop
-Inv-loop columns s from n₀ n = (n ≤ 128) × (lowestFrom (128 - from) from s ≡ lowestFrom (128 - n) n s)
+Inv-loop columns z from n₀ n = (n ≤ 128) × (lowestFrom (128 - from) from z ≡ lowestFrom (128 - n) n z)
 
 abbrev μ-loop : tie.MeasureT-loop
-μ-loop columns s from n₀ n = 128 - n
+μ-loop columns z from n₀ n = 128 - n
 
 loop-holds : tie.Need-loop-holds Inv-loop μ-loop
 loop-holds c = (c .pre .1, refl)
@@ -27,7 +27,7 @@ returns : tie.Need-returns Inv-loop μ-loop
 returns c =
     let l = c .before .before .before .loop in
     let a = c .before .before .before .before in
-    (omega arith, sym (l .inv .1 ∙ lowest-here (a .args .columns .now) (l .n) (a .args .s) (a .pre .0) (omega arith) (c .if1 .taken)))
+    (omega arith, sym (l .inv .1 ∙ lowest-here (a .args .columns .now) (l .n) (a .args .z) (a .pre .0) (omega arith) (c .if1 .taken)))
 
 add-n : tie.Need-add-n Inv-loop μ-loop
 add-n c = search needs
@@ -39,13 +39,13 @@ loop-again : tie.Need-loop-again Inv-loop μ-loop
 loop-again c =
     let l = c .before .before .before .loop in
     let a = c .before .before .before .before in
-    (omega arith, l .inv .1 ∙ lowest-later (a .args .columns .now) (l .n) (a .args .s) (a .pre .0) (omega arith) (λ q. c .if1 .left q))
+    (omega arith, l .inv .1 ∙ lowest-later (a .args .columns .now) (l .n) (a .args .z) (a .pre .0) (omega arith) (λ q. c .if1 .left q))
 
 returns-2 : tie.Need-returns-2 Inv-loop μ-loop
 returns-2 c =
     let l = c .before .loop in
     let a = c .before .before in
-    (omega arith, lowest-end (l .n) (a .args .s) (omega arith) ∙ sym (l .inv .1))
+    (omega arith, lowest-end (l .n) (a .args .z) (omega arith) ∙ sym (l .inv .1))
 
 pub only-spec : {M : Type 1} → statement M
 only-spec =

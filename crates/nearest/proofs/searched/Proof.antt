@@ -6,7 +6,7 @@ use Rattle.bits.specs.Bits.{bit, octets}
 use Rattle.vectors.specs.Vectors.{wbit}
 use Rattle.vectors.proofs.Filling.{zero-words}
 use Rattle.nearest.specs.Nearest.{fewest}
-use Rattle.nearest.specs.Answers.{Broken, heldTurned}
+use Rattle.nearest.specs.Answers.{Broken, heldFlipped}
 use Rattle.nearest.proofs.Searching.{held-small}
 use Rattle.nearest.proofs.Reaching.{from-first, found-none, found-list}
 use borrow.Author.Needs.{needs}
@@ -49,11 +49,11 @@ returns c =
     (w .fewest-of .ensures x (subst (Broken (s .syndrome .result)) (o .load .ensures) (s .syndrome .ensures)))
     (not-true (w .fewest-of .result .found) (c .before .if1 .taken))
 
-slice-aggregate-turn : tie.Need-slice-aggregate-turn
-slice-aggregate-turn c = search needs
+slice-aggregate-flip-listed : tie.Need-slice-aggregate-flip-listed
+slice-aggregate-flip-listed c = search needs
 
-turn-requires : tie.Need-turn-requires
-turn-requires c κs =
+flip-listed-requires : tie.Need-flip-listed-requires
+flip-listed-requires c κs =
     let w = c .before .before .before in
     let s = w .before .before in
     let o = w .before .before .before .before .before .before in
@@ -81,11 +81,11 @@ returns-2 c =
     let o = w .before .before .before .before .before .before in
     let a = o .before .before .before .before in
     let x = bit (a .args .word .now) in
-    let y = wbit (t .turn .last .0) in
+    let y = wbit (t .flip-listed .last .0) in
     found-list x (a .args .out .now) (fewest (a .args .reach) x) (w .fewest-of .result)
     (w .fewest-of .ensures x (subst (Broken (s .syndrome .result)) (o .load .ensures) (s .syndrome .ensures)))
     y _ (not-false (w .fewest-of .result .found) (t .before .before .if1 .left))
-    (subst (λ z. heldTurned (w .fewest-of .result) z y) (o .load .ensures) (t .turn .ensures))
+    (subst (λ z. heldFlipped (w .fewest-of .result) z y) (o .load .ensures) (t .flip-listed .ensures))
     (p .store .ensures ∙ ap₂ octets (a .pre .1) (from-first y))
 
 pub searched-spec : {M : Type 1} → statement M
@@ -101,8 +101,8 @@ searched-spec =
     fewest-of-requires
     refused-by-requires
     returns
-    slice-aggregate-turn
-    turn-requires
+    slice-aggregate-flip-listed
+    flip-listed-requires
     slice-aggregate-store
     store-requires
     same-length

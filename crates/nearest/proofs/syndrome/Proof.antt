@@ -1,4 +1,4 @@
--- `nearest::syndrome` meets its contract: after n turns the checks are summed over the first n bits. Assumes nothing.
+-- `nearest::syndrome` meets its contract: after n passes the checks are summed over the first n bits. Assumes nothing.
 use mathlib.Core.Path.{sym, _∙_, subst}
 use mathlib.Core.Logic.{⊎-elim}
 use Prim.Native.Nat.{_+_, _-_, _≤_, _<_}
@@ -11,10 +11,10 @@ use Rattle.nearest.proofs.syndrome.Statement.{statement}
 use Rattle.nearest.proofs.syndrome.Tie as tie
 
 abbrev Inv-loop : tie.InvT-loop
-Inv-loop columns y s₀ n₀ s n = (n ≤ 128) × Holds s (Partly (wbit y) n)
+Inv-loop columns y z₀ n₀ z n = (n ≤ 128) × Holds z (Partly (wbit y) n)
 
 abbrev μ-loop : tie.MeasureT-loop
-μ-loop columns y s₀ n₀ s n = 128 - n
+μ-loop columns y z₀ n₀ z n = 128 - n
 
 loop-holds : tie.Need-loop-holds Inv-loop μ-loop
 loop-holds c = (omega arith, partly-none (wbit (c .before .before .args .y .now)))
@@ -22,11 +22,11 @@ loop-holds c = (omega arith, partly-none (wbit (c .before .before .args .y .now)
 is-set-requires : tie.Need-is-set-requires Inv-loop μ-loop
 is-set-requires c κs = search needs
 
-mul-s : tie.Need-mul-s Inv-loop μ-loop
-mul-s c = search needs
+mul-z : tie.Need-mul-z Inv-loop μ-loop
+mul-z c = search needs
 
-shared-slice-read-s : tie.Need-shared-slice-read-s Inv-loop μ-loop
-shared-slice-read-s c = lent-long _ _ (c .before .before .before .before .before .before .before .pre .0) (omega arith)
+shared-slice-read-z : tie.Need-shared-slice-read-z Inv-loop μ-loop
+shared-slice-read-z c = lent-long _ _ (c .before .before .before .before .before .before .before .pre .0) (omega arith)
 
 add-n : tie.Need-add-n Inv-loop μ-loop
 add-n c = search needs
@@ -44,8 +44,8 @@ loop-again c =
       omega arith,
       ⊎-elim
           (λ w. subst (λ z. Holds z (Partly x (l .n + 1))) (sym (w .2))
-          (partly-set x (l .n) (l .s) h (l .inv .1) (a .args .columns .now) (a .pre .0) (sym set ∙ w .0 .taken)))
-          (λ w. subst (λ z. Holds z (Partly x (l .n + 1))) (sym (w .1)) (partly-clear x (l .n) (l .s) h (l .inv .1) (sym set ∙ w .0 .left)))
+          (partly-set x (l .n) (l .z) h (l .inv .1) (a .args .columns .now) (a .pre .0) (sym set ∙ w .0 .taken)))
+          (λ w. subst (λ z. Holds z (Partly x (l .n + 1))) (sym (w .1)) (partly-clear x (l .n) (l .z) h (l .inv .1) (sym set ∙ w .0 .left)))
           (c .if1 .came),
     )
 
@@ -53,7 +53,7 @@ returns : tie.Need-returns Inv-loop μ-loop
 returns c =
     let l = c .before .loop in
     let a = c .before .before .before .before in
-    partly-all (wbit (a .args .y .now)) (l .n) (l .s) (omega arith) (l .inv .1)
+    partly-all (wbit (a .args .y .now)) (l .n) (l .z) (omega arith) (l .inv .1)
 
 pub syndrome-spec : {M : Type 1} → statement M
 syndrome-spec =
@@ -63,8 +63,8 @@ syndrome-spec =
     μ-loop
     loop-holds
     is-set-requires
-    mul-s
-    shared-slice-read-s
+    mul-z
+    shared-slice-read-z
     add-n
     loop-less
     loop-again

@@ -1,4 +1,4 @@
--- `ownparity::odd_blocks` meets its contract: after j turns v has a bit for each of the first j blocks. Assumes nothing.
+-- `ownparity::odd_blocks` meets its contract: after j passes v has a bit for each of the first j blocks. Assumes nothing.
 use mathlib.Core.Path.{_≡_, sym, ap, _∙_, subst}
 use Prim.Native.Nat.{ℕ, _+_, _-_, _*_, _^_, _≤_, _<_}
 use native.Mathlib.Omega.{arith}

@@ -19,14 +19,14 @@ mul-end c = search needs
 add-b : tie.Need-add-b Inv-loop μ-loop
 add-b c = search needs
 
-turn-requires : tie.Need-turn-requires Inv-loop μ-loop
-turn-requires c κs = search needs
+flip-requires : tie.Need-flip-requires Inv-loop μ-loop
+flip-requires c κs = search needs
 
 loop-holds : tie.Need-loop-holds Inv-loop μ-loop
 loop-holds c = search needs
 
-turn-requires-2 : tie.Need-turn-requires-2 Inv-loop μ-loop
-turn-requires-2 c κs = search needs
+flip-requires-2 : tie.Need-flip-requires-2 Inv-loop μ-loop
+flip-requires-2 c κs = search needs
 
 attempt-requires : tie.Need-attempt-requires Inv-loop μ-loop
 attempt-requires c κs = search needs
@@ -34,8 +34,8 @@ attempt-requires c κs = search needs
 add-mended : tie.Need-add-mended Inv-loop μ-loop
 add-mended c = search needs
 
-turn-requires-3 : tie.Need-turn-requires-3 Inv-loop μ-loop
-turn-requires-3 c κs = search needs
+flip-requires-3 : tie.Need-flip-requires-3 Inv-loop μ-loop
+flip-requires-3 c κs = search needs
 
 add-b-2 : tie.Need-add-b-2 Inv-loop μ-loop
 add-b-2 c = search needs
@@ -46,8 +46,8 @@ loop-less c = search needs
 loop-again : tie.Need-loop-again Inv-loop μ-loop
 loop-again c = search needs
 
-turn-requires-4 : tie.Need-turn-requires-4 Inv-loop μ-loop
-turn-requires-4 c κs = search needs
+flip-requires-4 : tie.Need-flip-requires-4 Inv-loop μ-loop
+flip-requires-4 c κs = search needs
 
 same-length : tie.Need-same-length Inv-loop μ-loop
 same-length c = search needs
@@ -66,16 +66,16 @@ with-later-spec =
     μ-loop
     mul-end
     add-b
-    turn-requires
+    flip-requires
     loop-holds
-    turn-requires-2
+    flip-requires-2
     attempt-requires
     add-mended
-    turn-requires-3
+    flip-requires-3
     add-b-2
     loop-less
     loop-again
-    turn-requires-4
+    flip-requires-4
     same-length
     same-length-2
     returns)

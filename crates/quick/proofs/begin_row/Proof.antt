@@ -1,4 +1,4 @@
--- `quick::begin_row`: after k turns the first k beginnings are there. Assumes nothing.
+-- `quick::begin_row`: after k passes the first k beginnings are there. Assumes nothing.
 use mathlib.Core.Path.{_≡_}
 use Prim.Native.Nat.{_+_, _-_, _*_, _≤_}
 use native.Mathlib.Omega.{arith}

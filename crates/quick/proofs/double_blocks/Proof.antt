@@ -1,4 +1,4 @@
--- `quick::double_blocks`: after b turns the first b blocks stand twice over. Assumes nothing.
+-- `quick::double_blocks`: after b passes the first b blocks stand twice over. Assumes nothing.
 use mathlib.Core.Path.{_≡_, ap, _∙_}
 use Prim.Native.Nat.{_+_, _-_, _*_, _≤_}
 use native.Mathlib.Nat.{mul-le-mul-right}

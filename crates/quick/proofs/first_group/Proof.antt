@@ -1,4 +1,4 @@
--- `quick::first_group`: after k turns the first k places were added. Assumes nothing.
+-- `quick::first_group`: after k passes the first k places were added. Assumes nothing.
 use lib.ListN.{getD}
 use mathlib.Core.Path.{_≡_, ap, ap₂, _∙_}
 use Prim.Native.Nat.{ℕ, _+_, _-_, _*_, _/_, _≤_}

@@ -1,4 +1,4 @@
--- `quick::narrow_group`: after b turns the first b blocks were added. Assumes nothing.
+-- `quick::narrow_group`: after b passes the first b blocks were added. Assumes nothing.
 use mathlib.Core.Path.{_≡_, ap, ap₂, _∙_}
 use Prim.Native.Nat.{ℕ, _-_, _*_, _≤_}
 use native.Mathlib.Omega.{arith}

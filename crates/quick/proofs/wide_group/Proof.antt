@@ -1,4 +1,4 @@
--- `quick::wide_group`: after k turns the bits from the first k beginnings on were added. Assumes nothing.
+-- `quick::wide_group`: after k passes the bits from the first k beginnings on were added. Assumes nothing.
 use mathlib.Core.Path.{_≡_, ap, ap₂, _∙_}
 use Prim.Native.Nat.{ℕ, _+_, _-_, _≤_}
 use native.Mathlib.Omega.{arith}

@@ -27,17 +27,17 @@ use Rattle.quick.proofs.wide_lowest.Tie as tie
 abbrev near : Shape
 near = record { size = 511; words = 8; blocks = 16; rows = 2 }
 
-lent : (n : ℕ) → offered n ≡ true → 511 ≡ offerOf n .shape .size → (t : List ℕ) → t ≡ flat16 (pairs parity511)
-    → Lends n t near
-lent n off e t is = by-size 511 t near (record {
+lent : (n : ℕ) → offered n ≡ true → 511 ≡ offerOf n .shape .size → (h : List ℕ) → h ≡ flat16 (pairs parity511)
+    → Lends n h near
+lent n off e h is = by-size 511 h near (record {
   small = λ e. absurd (omega arith);
   middle = λ e. absurd (omega arith);
   large = λ e. absurd (omega arith);
   near = λ e. (is, refl);
 }) n off e .1
 
-full : (t : List ℕ) → t ≡ flat16 (pairs parity511) → Full t near
-full t is = subst (λ z. Full z near) (sym is) every-shift
+full : (h : List ℕ) → h ≡ flat16 (pairs parity511) → Full h near
+full h is = subst (λ z. Full z near) (sym is) every-shift
 
 slice-aggregate-lend511 : tie.Need-slice-aggregate-lend511
 slice-aggregate-lend511 c = search needs

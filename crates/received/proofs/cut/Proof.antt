@@ -1,4 +1,4 @@
--- `received::cut` meets its contract: after k turns the first k words have the bits, and the last word follows. Assumes nothing.
+-- `received::cut` meets its contract: after k passes the first k words have the bits, and the last word follows. Assumes nothing.
 use mathlib.Core.Path.{_≡_, sym, ap, _∙_}
 use Prim.Native.Nat.{_+_, _-_, _*_, _≤_}
 use native.Mathlib.Omega.{arith}

@@ -11,9 +11,9 @@ use Rattle.rules.proofs.Choosing.{quiet-next}
 use Rattle.vectors.specs.Vectors.{wbit}
 use Rattle.layout.specs.Lent.{Lent, laid}
 use Rattle.bounds.specs.Keeping.{Ready}
-use Rattle.runs.specs.Turns.{Going, Carried}
-use Rattle.runs.proofs.Turning.{going-start, ends-quiet, ends-stuck, ends-limit, goes-on, next-stuck, next-flip, chosen-top}
-use Rattle.runs.proofs.Turning.{chosen-kept, chosen-met, chosen-left, carried-more, runs-as}
+use Rattle.runs.specs.Passes.{Going, Carried}
+use Rattle.runs.proofs.Passing.{going-start, ends-quiet, ends-stuck, ends-limit, goes-on, next-stuck, next-flip, chosen-top}
+use Rattle.runs.proofs.Passing.{chosen-kept, chosen-met, chosen-left, carried-more, runs-as}
 use Rattle.runs.proofs.go_on.Statement.{statement}
 use Rattle.runs.proofs.go_on.Tie as tie
 
@@ -112,8 +112,8 @@ returns-2 c k lent u w =
       c .at-end2 .ensures .2 ∙ i .1 .left-is,
     )
 
-turn-over-requires : tie.Need-turn-over-requires Inv-loop μ-loop
-turn-over-requires c κs =
+flip-bit-requires : tie.Need-flip-bit-requires Inv-loop μ-loop
+flip-bit-requires c κs =
     let s = c .before .before .before .before .before .before .before .before .before .before .before .before .before .before .before
     .before .before in
     let l = c .before .before .before .before .before .before .before .before .before .before .loop in
@@ -197,7 +197,7 @@ loop-again c =
             c .before .before .before .before .before .before .before .before .before .before .before .before .before .before .before
                 .before .before .before .before .before .loop-test .taken,
           )) some in
-          let here = c .before .before .before .before .before .before .before .before .before .before .turn-over .ensures in (
+          let here = c .before .before .before .before .before .before .before .before .before .before .flip-bit .ensures in (
             subst (λ z. Going (byExcess k) k (a .sh) (a .limit) (wbit (a .y .now)) (l .flips + 1) z (laid k (a .sh) z)) (sym here)
                 (goes-on (byExcess k) k (a .sh) (a .limit) (wbit (a .y .now)) (l .flips) (wbit (l .y)) _ (i .0) _ _ next
                 (c .before .before .before .before .before .before .before .before .before .before .before .before .if2 .left) _ _ refl
@@ -250,7 +250,7 @@ go-on-spec =
     same-length-5
     same-length-6
     returns-2
-    turn-over-requires
+    flip-bit-requires
     flip-requires
     sub-left
     sub-left-2

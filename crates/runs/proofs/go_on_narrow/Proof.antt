@@ -10,8 +10,8 @@ use Rattle.vectors.specs.Vectors.{wbit}
 use Rattle.layout.specs.Lent.{Lent, laid}
 use Rattle.sizes.specs.Samples.{smaller}
 use Rattle.sizes.specs.Sizes.{bySize}
-use Rattle.runs.specs.Turns.{Going, CarriedNarrow}
-use Rattle.runs.proofs.Turning.{going-start, ends-quiet, ends-stuck, ends-limit, goes-on, some-sent, carried-narrow, runs-as}
+use Rattle.runs.specs.Passes.{Going, CarriedNarrow}
+use Rattle.runs.proofs.Passing.{going-start, ends-quiet, ends-stuck, ends-limit, goes-on, some-sent, carried-narrow, runs-as}
 use Rattle.runs.proofs.Sizes.{sized-quiet, chosen-stuck, chosen-inside, chosen-flip, chosen-left}
 use Rattle.runs.proofs.go_on_narrow.Statement.{statement}
 use Rattle.runs.proofs.go_on_narrow.Tie as tie

@@ -2,8 +2,8 @@
 use mathlib.Core.Path.{sym, ap, _∙_}
 use borrow.Author.Needs.{needs}
 use Rattle.rules.specs.Flipping.{stuck, flip}
-use Rattle.runs.proofs.Turning.{score-fits, excess-fits, excess-kept, top-lt, top-small, next-stuck, next-flip, chosen-top}
-use Rattle.runs.proofs.Turning.{begun-kept, begun-ready}
+use Rattle.runs.proofs.Passing.{score-fits, excess-fits, excess-kept, top-lt, top-small, next-stuck, next-flip, chosen-top}
+use Rattle.runs.proofs.Passing.{begun-kept, begun-ready}
 use Rattle.runs.proofs.next_bounded.Statement.{statement}
 use Rattle.runs.proofs.next_bounded.Tie as tie
 

@@ -4,7 +4,7 @@ use mathlib.Core.List.{[]}
 use native.Mathlib.Omega.{arith}
 use borrow.Author.Needs.{needs}
 use Rattle.rules.specs.Flipping.{flip}
-use Rattle.runs.proofs.Turning.{score-fits, excess-fits, excess-kept}
+use Rattle.runs.proofs.Passing.{score-fits, excess-fits, excess-kept}
 use Rattle.runs.proofs.Sizes.{chosen-inside, chosen-flip, chosen-small, sized-equal}
 use Rattle.runs.proofs.next_narrow.Statement.{statement}
 use Rattle.runs.proofs.next_narrow.Tie as tie

@@ -8,7 +8,7 @@ use Rattle.rules.specs.Flipping.{byExcess}
 use Rattle.rules.proofs.Choosing.{quiet-next}
 use Rattle.vectors.specs.Vectors.{wbit}
 use Rattle.layout.specs.Lent.{laid}
-use Rattle.runs.proofs.Turning.{going-start, ends-quiet, runs-as}
+use Rattle.runs.proofs.Passing.{going-start, ends-quiet, runs-as}
 use Rattle.runs.proofs.Sizes.{equal-runs}
 use Rattle.runs.proofs.run.Statement.{statement}
 use Rattle.runs.proofs.run.Tie as tie

@@ -2,7 +2,7 @@
 use borrow.Author.Needs.{needs}
 use Rattle.rules.specs.Checks.{broken}
 use Rattle.vectors.specs.Vectors.{wbit}
-use Rattle.runs.proofs.Turning.{begun-kept, begun-ready}
+use Rattle.runs.proofs.Passing.{begun-kept, begun-ready}
 use Rattle.runs.proofs.run_bounded.Statement.{statement}
 use Rattle.runs.proofs.run_bounded.Tie as tie
 

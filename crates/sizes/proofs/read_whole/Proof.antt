@@ -1,4 +1,4 @@
--- `sizes::read_whole`: after k turns the first k words have the samples' bits. Assumes nothing.
+-- `sizes::read_whole`: after k passes the first k words have the samples' bits. Assumes nothing.
 use mathlib.Core.Path.{_≡_, refl, sym, ap, ap₂, _∙_}
 use mathlib.Core.Bool.{_&&_}
 use Prim.Native.Nat.{ℕ, _+_, _-_, _*_, _/_, _≤_}

@@ -39,16 +39,16 @@ smaller-requires c κs =
     let l = c .before .before .loop in
     (l .inv .1, l .inv .2 (f .result) (f .ensures .0) (f .ensures .1))
 
-turned-requires : tie.Need-turned-requires Inv-loop μ-loop
-turned-requires c κs = search needs
+with-flipped-requires : tie.Need-with-flipped-requires Inv-loop μ-loop
+with-flipped-requires c κs = search needs
 
 loop-less : tie.Need-loop-less Inv-loop μ-loop
 loop-less c =
     let f = c .before .before .first-set in
     let l = c .before .before .before .before .loop in
     let a = c .before .before .before .before .before .before .args in
-    left-less (smaller (a .samples .now)) (a .first) (l .left) (c .turned .result) (f .result) (f .ensures .0) (f .ensures .1)
-    (f .ensures .2) (c .turned .ensures) (l .inv .0) (search needs)
+    left-less (smaller (a .samples .now)) (a .first) (l .left) (c .with-flipped .result) (f .result) (f .ensures .0) (f .ensures .1)
+    (f .ensures .2) (c .with-flipped .ensures) (l .inv .0) (search needs)
 
 loop-again : tie.Need-loop-again Inv-loop μ-loop
 loop-again c =
@@ -61,10 +61,10 @@ loop-again c =
       search needs,
       subst (λ k. k < length (a .samples .now)) (sym (s .ensures)) (smaller-in (less (a .first + i) (l .best)) (a .first + i) (l .best)
           (length (a .samples .now)) (l .inv .2 i (f .ensures .0) (f .ensures .1)) (l .inv .1)),
-      λ k h e. l .inv .2 k h (left-set less (a .first) (l .left) (c .turned .result) i (f .ensures .0) (f .ensures .1) (f .ensures .2)
-          (c .turned .ensures) k h e),
-      masked-more less (a .first) (l .left) (c .turned .result) i (f .ensures .0) (f .ensures .1) (f .ensures .2) (c .turned .ensures)
-          (l .best) (s .result) (s .ensures) ∙ l .inv .3,
+      λ k h e. l .inv .2 k h (left-set less (a .first) (l .left) (c .with-flipped .result) i (f .ensures .0) (f .ensures .1) (f .ensures .2)
+          (c .with-flipped .ensures) k h e),
+      masked-more less (a .first) (l .left) (c .with-flipped .result) i (f .ensures .0) (f .ensures .1) (f .ensures .2)
+          (c .with-flipped .ensures) (l .best) (s .result) (s .ensures) ∙ l .inv .3,
     )
 
 returns : tie.Need-returns Inv-loop μ-loop
@@ -87,7 +87,7 @@ smallest-of-spec =
     first-set-requires
     add-smaller
     smaller-requires
-    turned-requires
+    with-flipped-requires
     loop-less
     loop-again
     returns)

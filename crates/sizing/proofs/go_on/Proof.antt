@@ -11,14 +11,14 @@ use Rattle.answers.proofs.Differing.{differ-self}
 use Rattle.vectors.specs.Vectors.{wbit}
 use Rattle.layout.specs.Lent.{Lent, laid}
 use Rattle.bounds.specs.Keeping.{Ready}
-use Rattle.runs.specs.Turns.{Going}
-use Rattle.runs.proofs.Turning.{going-start, ends-quiet, ends-stuck, ends-limit, goes-on, runs-as}
+use Rattle.runs.specs.Passes.{Going}
+use Rattle.runs.proofs.Passing.{going-start, ends-quiet, ends-stuck, ends-limit, goes-on, runs-as}
 use Rattle.sizes.specs.Samples.{read, smaller}
 use Rattle.sizes.specs.Sizes.{bySize}
-use Rattle.sizing.specs.Turning.{Stands, Coming}
+use Rattle.sizing.specs.Passing.{Stands, Coming}
 use Rattle.runs.proofs.Sizes.{sized-quiet}
 use Rattle.sizing.proofs.Sized.{sized-stuck, sized-flip, sized-left}
-use Rattle.sizing.proofs.Turns.{differs-flip, chosen-most, chosen-leads, chosen-stands, stands-as}
+use Rattle.sizing.proofs.Passes.{differs-flip, chosen-most, chosen-leads, chosen-stands, stands-as}
 use borrow.Author.Needs.{needs}
 use Rattle.sizing.proofs.go_on.Statement.{statement}
 use Rattle.sizing.proofs.go_on.Tie as tie
@@ -186,8 +186,8 @@ sub-left-2 c =
           most leads (omega (arith, c .before .before .if1 .left)),
     )
 
-turn-requires : tie.Need-turn-requires Inv-loop μ-loop
-turn-requires c κs =
+pass-requires : tie.Need-pass-requires Inv-loop μ-loop
+pass-requires c κs =
     let s = c .before .before .before .before .before .before .before .before .before .before .before .before .before .before .before
     .before .before .before .before .before .before .before .before .before .before .before in
     let l = c .before .before .before .before .before .before .before .before .before .before .before .before .before .before .before
@@ -227,7 +227,7 @@ loop-again c =
     .before .before .before .before .before .before .before .before .before .before .before .loop in
     let f = c .before .before .before .before .before .before .before .before .before .before .before .before .before .before .before
     .before .before .before .before .before .before .choose in
-    let t = c .before .before .before .before .before .before .before .before .turn in
+    let t = c .before .before .before .before .before .before .before .before .pass in
     let x = a .samples .now in
     let bit = f .result .bit in
     let top = f .result .score in (
@@ -335,7 +335,7 @@ go-on-spec =
     returns-2
     sub-left
     sub-left-2
-    turn-requires
+    pass-requires
     add-flips
     loop-less
     loop-again

@@ -5,7 +5,7 @@ use Rattle.rules.specs.Checks.{broken}
 use Rattle.answers.proofs.Differing.{differ-self}
 use Rattle.vectors.specs.Vectors.{wbit}
 use Rattle.layout.specs.Lent.{laid}
-use Rattle.runs.proofs.Turning.{going-start, ends-quiet, runs-as}
+use Rattle.runs.proofs.Passing.{going-start, ends-quiet, runs-as}
 use Rattle.runs.proofs.Sizes.{sized-quiet}
 use Rattle.sizes.specs.Samples.{smaller}
 use Rattle.sizes.specs.Sizes.{bySize}

@@ -2,8 +2,8 @@
 use native.Mathlib.Omega.{arith}
 use borrow.Author.Needs.{needs}
 use Rattle.vectors.specs.Vectors.{wbit}
-use Rattle.runs.proofs.Turning.{begun-ready}
-use Rattle.sizing.proofs.Turns.{begun-stands}
+use Rattle.runs.proofs.Passing.{begun-ready}
+use Rattle.sizing.proofs.Passes.{begun-stands}
 use Rattle.sizing.proofs.run_bounded.Statement.{statement}
 use Rattle.sizing.proofs.run_bounded.Tie as tie
 

@@ -1,4 +1,4 @@
--- `smallest::broken_of`: a check more at each turn. Assumes nothing.
+-- `smallest::broken_of`: a check more at each pass. Assumes nothing.
 use mathlib.Core.Path.{_≡_, sym, ap, _∙_}
 use mathlib.Core.Bool.{Bool, true, false}
 use Prim.Native.Nat.{ℕ, _+_, _-_, _≤_, _<_}

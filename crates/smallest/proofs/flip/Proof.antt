@@ -29,15 +29,15 @@ cast-n c =
     let hb : a .bit / a .sh .size < a .sh .blocks = div-lt-iff-lt-mul (s .pre .0 .some) .1 (s .pre .5) in
     omega (arith, s .pre .0 .low (a .bit / a .sh .size) hb)
 
-mul-turn-checks : tie.Need-mul-turn-checks
-mul-turn-checks c =
+mul-flip-checks : tie.Need-mul-flip-checks
+mul-flip-checks c =
     let s = c .before .before .before .before .before .before .before .before .before .before in
     let a = s .args in
     let hb : a .bit / a .sh .size < a .sh .blocks = div-lt-iff-lt-mul (s .pre .0 .some) .1 (s .pre .5) in
     omega (arith, s .pre .0 .blocks)
 
-turn-checks-requires : tie.Need-turn-checks-requires
-turn-checks-requires c κs =
+flip-checks-requires : tie.Need-flip-checks-requires
+flip-checks-requires c κs =
     let s = c .before .before .before .before .before .before .before .before .before .before in
     let a = s .args in
     let r = s .pre .0 in
@@ -93,7 +93,7 @@ returns c =
     .before .before .before .before .before .before in
     let a = s .args in
     let f = c .before .before .before .before .raise in
-    let t = c .before .before .before .before .before .before .before .before .before .before .turn-checks in (
+    let t = c .before .before .before .before .before .before .before .before .before .before .flip-checks in (
       f .ensures .0,
       λ k h x lent g two. (
         twice-flip (a .samples .now) (a .sh) (a .starts .now) (a .counts .now) (a .met .now) (a .kept .now) (s .pre .0) (a .bit) (s .pre .5)
@@ -116,8 +116,8 @@ flip-spec =
     rem-k
     shared-slice-read-n
     cast-n
-    mul-turn-checks
-    turn-checks-requires
+    mul-flip-checks
+    flip-checks-requires
     mul-raise
     raise-requires
     same-length

@@ -1,4 +1,4 @@
--- `smallest::raise`: one check more at each turn. Assumes nothing.
+-- `smallest::raise`: one check more at each pass. Assumes nothing.
 use mathlib.Core.Path.{_≡_, sym, ap, _∙_, subst}
 use mathlib.Core.Bool.{Bool, true, false, _&&_, _||_}
 use Prim.Native.Nat.{ℕ, _+_, _-_, _*_, _≤_, _<_}

@@ -1,4 +1,4 @@
--- `smallest::smallest_at`: one block more at each turn. Assumes nothing.
+-- `smallest::smallest_at`: one block more at each pass. Assumes nothing.
 use mathlib.Core.Path.{_≡_, sym, ap, _∙_, subst}
 use Prim.Native.Nat.{ℕ, _+_, _-_, _*_, _≤_, _<_}
 use native.Mathlib.Decide.{ℕ-discrete}

@@ -1,4 +1,4 @@
--- `smallest::smallest_in`: 64 bits more at each turn. Assumes nothing.
+-- `smallest::smallest_in`: 64 bits more at each pass. Assumes nothing.
 use Prim.Native.Nat.{ℕ, _+_, _-_, _≤_, _<_}
 use native.Mathlib.Omega.{arith}
 use Rattle.vectors.specs.Vectors.{wbit}

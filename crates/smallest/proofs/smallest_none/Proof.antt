@@ -1,4 +1,4 @@
--- `smallest::smallest_none`: 64 bits more at each turn, all four windows of them at once. Assumes nothing.
+-- `smallest::smallest_none`: 64 bits more at each pass, all four windows of them at once. Assumes nothing.
 use mathlib.Core.Path.{sym, subst}
 use mathlib.Core.Logic.{⊎-elim}
 use Prim.Native.Nat.{ℕ, _+_, _-_, _≤_}

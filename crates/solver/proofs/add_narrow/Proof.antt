@@ -1,4 +1,4 @@
--- `solver::add_narrow` meets its contract: after b turns the rows have the first b blocks. Assumes nothing.
+-- `solver::add_narrow` meets its contract: after b passes the rows have the first b blocks. Assumes nothing.
 use mathlib.Core.Path.{_≡_, ap, ap₂, _∙_}
 use mathlib.Core.Bool.{Bool, _&&_}
 use Prim.Native.Nat.{ℕ, _+_, _-_, _*_, _≤_}
@@ -16,11 +16,11 @@ use Rattle.solver.proofs.add_narrow.Statement.{statement}
 use Rattle.solver.proofs.add_narrow.Tie as tie
 
 abbrev Inv-loop : tie.InvT-loop
-Inv-loop octets h sh s₀ y b₀ s b =
-    (b ≤ 4) × (length s ≡ 16) × (wbit s ≡ rowed (wide sh) (sh .rows) (summed sh h (bit octets) b))
+Inv-loop octets h sh z₀ y b₀ z b =
+    (b ≤ 4) × (length z ≡ 16) × (wbit z ≡ rowed (wide sh) (sh .rows) (summed sh h (bit octets) b))
 
 abbrev μ-loop : tie.MeasureT-loop
-μ-loop octets h sh s₀ y b₀ s b = 4 - b
+μ-loop octets h sh z₀ y b₀ z b = 4 - b
 
 slice-aggregate-load : tie.Need-slice-aggregate-load Inv-loop μ-loop
 slice-aggregate-load c = search needs

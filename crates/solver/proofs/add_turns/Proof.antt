@@ -13,11 +13,11 @@ use Rattle.solver.proofs.add_turns.Statement.{statement}
 use Rattle.solver.proofs.add_turns.Tie as tie
 
 abbrev Inv-loop : tie.InvT-loop
-Inv-loop d step sh s₀ at k₀ s k = (2 ≤ k) × (k ≤ 10) × (length s ≡ length s₀)
-    × Added (sh .size) step (wbit d) (wbit s₀) (wide sh * target step) (wide sh * (target step + 1)) (wbit s) k
+Inv-loop d step sh z₀ at k₀ z k = (2 ≤ k) × (k ≤ 10) × (length z ≡ length z₀)
+    × Added (sh .size) step (wbit d) (wbit z₀) (wide sh * target step) (wide sh * (target step + 1)) (wbit z) k
 
 abbrev μ-loop : tie.MeasureT-loop
-μ-loop d step sh s₀ at k₀ s k = 10 - k
+μ-loop d step sh z₀ at k₀ z k = 10 - k
 
 shared-slice-read-at : tie.Need-shared-slice-read-at Inv-loop μ-loop
 shared-slice-read-at c = search needs
@@ -85,9 +85,9 @@ loop-again c = let s = c .before .before .before .before .before .before .before
       omega arith,
       omega arith,
       c .before .before .add-turned .kept .1 .1 .0 ∙ l .inv .2,
-      added-more (a .sh .size) (a .step .now) d (wbit (a .s .now)) (w * t) (w * (t + 1)) (wbit (l .s)) (l .k) (l .inv .3)
+      added-more (a .sh .size) (a .step .now) d (wbit (a .z .now)) (w * t) (w * (t + 1)) (wbit (l .z)) (l .k) (l .inv .3)
           (wbit (c .before .before .add-turned .last .1 .1 .0)) (omega arith) low
-          (c .before .before .add-turned .ensures ∙ ap₂ (λ (p e : ℕ). added (wbit (l .s)) p e (from q d)) start end),
+          (c .before .before .add-turned .ensures ∙ ap₂ (λ (p e : ℕ). added (wbit (l .z)) p e (from q d)) start end),
     )
 
 same-length : tie.Need-same-length Inv-loop μ-loop
@@ -99,7 +99,7 @@ returns c = let s = c .before .before .before .before .before .before .before .b
     let l = c .before .before .before .before .loop in
     let t = target (a .step .now) in
     let w = wide (a .sh) in
-    added-all (a .sh .size) (a .step .now) (wbit (a .d .now)) (wbit (a .s .now)) (w * t) (w * (t + 1)) (wbit (l .s)) (l .k) (l .inv .3)
+    added-all (a .sh .size) (a .step .now) (wbit (a .d .now)) (wbit (a .z .now)) (w * t) (w * (t + 1)) (wbit (l .z)) (l .k) (l .inv .3)
     (rest-none (a .sh .size) (a .step .now) (wbit (a .d .now)) (l .k) (omega arith)
     (ltb-false (getD (a .step .now) (l .k) 0) (a .sh .size) (c .if1 .left)))
 
@@ -112,7 +112,7 @@ returns-2 c = let s = c .before .before .before .before .before .before .before 
     let l = c .before .loop in
     let t = target (a .step .now) in
     let w = wide (a .sh) in
-    added-all (a .sh .size) (a .step .now) (wbit (a .d .now)) (wbit (a .s .now)) (w * t) (w * (t + 1)) (wbit (l .s)) (l .k) (l .inv .3)
+    added-all (a .sh .size) (a .step .now) (wbit (a .d .now)) (wbit (a .z .now)) (w * t) (w * (t + 1)) (wbit (l .z)) (l .k) (l .inv .3)
     (rest-past (a .sh .size) (a .step .now) (wbit (a .d .now)) (l .k) (omega arith))
 
 pub add-turns-spec : {M : Type 1} → statement M

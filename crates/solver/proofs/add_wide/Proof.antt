@@ -1,4 +1,4 @@
--- `solver::add_wide` meets its contract: after b turns the rows have the first b blocks. Assumes nothing.
+-- `solver::add_wide` meets its contract: after b passes the rows have the first b blocks. Assumes nothing.
 use mathlib.Core.Path.{_≡_, refl, sym, ap, ap₂, _∙_, subst}
 use Prim.Native.Nat.{ℕ, _+_, _-_, _*_, _^_, _≤_, _<_}
 use native.Mathlib.Omega.{arith}
@@ -17,13 +17,13 @@ use Rattle.solver.proofs.add_wide.Statement.{statement}
 use Rattle.solver.proofs.add_wide.Tie as tie
 
 abbrev Inv-loop : tie.InvT-loop
-Inv-loop octets unsent h sh s₀ part₀ d₀ odd₀ b₀ s part d odd b =
-    (b ≤ 14) × (length part ≡ 8) × (length d ≡ 16) × (length s ≡ 16) × (odd < 2 ^ 14) × (odd ≡ number b (oddBlock (later unsent (bit
+Inv-loop octets unsent h sh z₀ part₀ d₀ odd₀ b₀ z part d odd b =
+    (b ≤ 14) × (length part ≡ 8) × (length d ≡ 16) × (length z ≡ 16) × (odd < 2 ^ 14) × (odd ≡ number b (oddBlock (later unsent (bit
     octets))))
-    × (wbit s ≡ rowed (wide sh) (sh .rows) (summed sh h (later unsent (bit octets)) b))
+    × (wbit z ≡ rowed (wide sh) (sh .rows) (summed sh h (later unsent (bit octets)) b))
 
 abbrev μ-loop : tie.MeasureT-loop
-μ-loop octets unsent h sh s₀ part₀ d₀ odd₀ b₀ s part d odd b = 14 - b
+μ-loop octets unsent h sh z₀ part₀ d₀ odd₀ b₀ z part d odd b = 14 - b
 
 loop-holds : tie.Need-loop-holds Inv-loop μ-loop
 loop-holds c =

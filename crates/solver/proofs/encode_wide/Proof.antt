@@ -101,11 +101,11 @@ returns c = λ n off is short.
     in
     let f : ℕ → Word = endRows n (sh .size) x in
     let g : ℕ → Word = λ r i. f r i ⊕ oddTogether x r in
-    let turned = c .before .before .before .before .before .before .before .invert .ensures x f (laid .0)
+    let inverted = c .before .before .before .before .before .before .before .invert .ensures x f (laid .0)
     (c .before .before .before .before .before .before .before .before .before .before .walk-wide .ensures (checkRows (code n) x) (laid .1
     ∙ start-held n refl ok x)) in
     let sends : 7154 - o .unsent ≡ informed sh - code n .unsent = omega (arith, unsent) in
-    c .before .before .write .ensures g turned (short-sent n (bit info) (7154 - o .unsent) (omega (arith, unsent, own .low, ok .informs))
+    c .before .before .write .ensures g inverted (short-sent n (bit info) (7154 - o .unsent) (omega (arith, unsent, own .low, ok .informs))
     short)
     ∙ ap₂ (λ (l m : ℕ). octets l (completed sh 0 g m (bit info))) long sends
     ∙ all-sent n sh ok (omega (arith, own .low)) 0 g (bit info) (ok .near-rows refl x (short-of (information (code n)) x short))

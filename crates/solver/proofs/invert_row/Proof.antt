@@ -15,11 +15,11 @@ use Rattle.solver.proofs.invert_row.Statement.{statement}
 use Rattle.solver.proofs.invert_row.Tie as tie
 
 abbrev Inv-loop : tie.InvT-loop
-Inv-loop s₀ r v k₀ s k = (8 * r ≤ k) × (k ≤ 8 * r + 7) × (length s ≡ 16)
-    × ((b : Bool) → Holds v (λ i. b) → wbit s ≡ added (wbit s₀) (512 * r) (64 * k) (upTo 511 (λ i. b)))
+Inv-loop z₀ r v k₀ z k = (8 * r ≤ k) × (k ≤ 8 * r + 7) × (length z ≡ 16)
+    × ((b : Bool) → Holds v (λ i. b) → wbit z ≡ added (wbit z₀) (512 * r) (64 * k) (upTo 511 (λ i. b)))
 
 abbrev μ-loop : tie.MeasureT-loop
-μ-loop s₀ r v k₀ s k = 8 * r + 7 - k
+μ-loop z₀ r v k₀ z k = 8 * r + 7 - k
 
 mul-k : tie.Need-mul-k Inv-loop μ-loop
 mul-k c = search needs
@@ -30,7 +30,7 @@ loop-holds c = let s = c .before in
       omega arith,
       omega arith,
       s .pre .0,
-      λ b h. added-start (wbit (a .s .now)) (512 * a .r) (64 * (8 * a .r)) (upTo 511 (λ i. b))
+      λ b h. added-start (wbit (a .z .now)) (512 * a .r) (64 * (8 * a .r)) (upTo 511 (λ i. b))
           (omega arith),
     )
 
@@ -59,7 +59,7 @@ loop-again c = let s = c .before .before .before .before .before .before .before
       λ b h.
           c .before .before .add-word .ensures (λ i. b) h
           ∙ ap (λ (z : Word). added z (64 * l .k) (64 * (l .k + 1)) (λ i. b)) (l .inv .3 b h)
-          ∙ added-append (wbit (a .s .now)) (512 * a .r) (64 * l .k) (64 * (l .k + 1)) (upTo 511 (λ i. b)) (λ i. b) (omega arith)
+          ∙ added-append (wbit (a .z .now)) (512 * a .r) (64 * l .k) (64 * (l .k + 1)) (upTo 511 (λ i. b)) (λ i. b) (omega arith)
           (omega arith)
           (λ n h1 h2. sym (upTo-below 511 (n - 512 * a .r) (λ i. b) (omega arith))),
     )
@@ -84,7 +84,7 @@ returns c = λ b h.
     c .before .before .add-word2 .ensures (upTo 63 (λ i. b)) (λ i hi. c .before .before .before .before .front .ensures i hi
     ∙ ap (λ (z : Bool). ltb i 63 && z) (h i hi))
     ∙ ap₂ (λ (z : Word) (e : ℕ). added z (64 * l .k) e (upTo 63 (λ i. b))) (l .inv .3 b h) end
-    ∙ added-append (wbit (a .s .now)) (512 * a .r) (64 * l .k) (512 * (a .r + 1)) (upTo 511 (λ i. b)) (upTo 63 (λ i. b)) (omega arith)
+    ∙ added-append (wbit (a .z .now)) (512 * a .r) (64 * l .k) (512 * (a .r + 1)) (upTo 511 (λ i. b)) (upTo 63 (λ i. b)) (omega arith)
     (omega arith)
     (λ n h1 h2. ap (λ (z : Bool). z && b) (ltb-iff (n - 64 * l .k) 63 (n - 512 * a .r) 511 (λ g. omega arith) (λ g. omega arith)))
 

@@ -1,4 +1,4 @@
--- `solver::put_row` meets its contract: after j turns the first j words of the row are added. Assumes nothing.
+-- `solver::put_row` meets its contract: after j passes the first j words of the row are added. Assumes nothing.
 use mathlib.Core.Path.{_≡_, sym, ap, ap₂, _∙_}
 use Prim.Native.Nat.{ℕ, _+_, _-_, _*_, _≤_}
 use native.Mathlib.Omega.{arith}
@@ -13,17 +13,17 @@ use Rattle.solver.proofs.put_row.Statement.{statement}
 use Rattle.solver.proofs.put_row.Tie as tie
 
 abbrev Inv-loop : tie.InvT-loop
-Inv-loop s sh r y₀ p j₀ y j = (j ≤ sh .words) × (length y ≡ 18) × (wbit y ≡ added (wbit y₀) p (p + 64 * j) (from (wide sh * r) (wbit s)))
+Inv-loop z sh r y₀ p j₀ y j = (j ≤ sh .words) × (length y ≡ 18) × (wbit y ≡ added (wbit y₀) p (p + 64 * j) (from (wide sh * r) (wbit z)))
 
 abbrev μ-loop : tie.MeasureT-loop
-μ-loop s sh r y₀ p j₀ y j = sh .words - j
+μ-loop z sh r y₀ p j₀ y j = sh .words - j
 
 loop-holds : tie.Need-loop-holds Inv-loop μ-loop
 loop-holds c = let s = c .before .before in
     let a = s .args in (
       omega arith,
       s .pre .3,
-      added-start (wbit (a .y .now)) (a .p) (a .p + 64 * 0) (from (wide (a .sh) * a .r) (wbit (a .s .now)))
+      added-start (wbit (a .y .now)) (a .p) (a .p + 64 * 0) (from (wide (a .sh) * a .r) (wbit (a .z .now)))
           (omega arith),
     )
 
@@ -65,13 +65,13 @@ loop-again : tie.Need-loop-again Inv-loop μ-loop
 loop-again c = let s = c .before .before .before .before .before .before .before .before .before .before .before in
     let a = s .args in
     let l = c .before .before .before .before .before .before .before .before .loop in
-    let x = wbit (a .s .now) in
+    let x = wbit (a .z .now) in
     let k = a .r * a .sh .words + l .j in
     let b = a .p + 64 * l .j in
     let g = from (wide (a .sh) * a .r) x in (
       omega arith,
       c .before .before .put-word .kept .1 .0 ∙ l .inv .1,
-      c .before .before .put-word .ensures (from (64 * k) x) (word-holds (a .s .now) k)
+      c .before .before .put-word .ensures (from (64 * k) x) (word-holds (a .z .now) k)
           ∙ ap₂ (λ (y : Word) (e : ℕ). added y b e (from (64 * k) x)) (l .inv .2) (omega arith)
           ∙ added-append (wbit (a .y .now)) (a .p) b (a .p + 64 * (l .j + 1)) g (from (64 * k) x) (omega arith) (omega arith)
           (λ n h1 h2. ap x (omega arith)),
@@ -88,10 +88,10 @@ returns c = λ f e.
     let fit = s .pre .0 in
     let all : a .p + 64 * l .j ≡ a .p + wide (a .sh) = omega arith in
     l .inv .2
-    ∙ ap (λ (e : ℕ). added (wbit (a .y .now)) (a .p) e (from (wide (a .sh) * a .r) (wbit (a .s .now)))) all
-    ∙ added-same (wbit (a .y .now)) (a .p) (a .p + wide (a .sh)) (from (wide (a .sh) * a .r) (wbit (a .s .now)))
+    ∙ ap (λ (e : ℕ). added (wbit (a .y .now)) (a .p) e (from (wide (a .sh) * a .r) (wbit (a .z .now)))) all
+    ∙ added-same (wbit (a .y .now)) (a .p) (a .p + wide (a .sh)) (from (wide (a .sh) * a .r) (wbit (a .z .now)))
     (upTo (a .sh .size) (f (a .r)))
-    (λ i h. held-at (a .sh) (wide-some (a .sh) fit) f (wbit (a .s .now)) e (a .r) i (s .pre .1) (omega arith))
+    (λ i h. held-at (a .sh) (wide-some (a .sh) fit) f (wbit (a .z .now)) e (a .r) i (s .pre .1) (omega arith))
     ∙ added-size (wbit (a .y .now)) (a .p) (a .sh .size) (wide (a .sh)) (f (a .r)) (fit .held-in)
 
 pub put-row-spec : {M : Type 1} → statement M

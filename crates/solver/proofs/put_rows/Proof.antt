@@ -1,4 +1,4 @@
--- `solver::put_rows` meets its contract: after a turns the first a parity blocks stand behind the first bits. Assumes nothing.
+-- `solver::put_rows` meets its contract: after a passes the first a parity blocks stand behind the first bits. Assumes nothing.
 use mathlib.Core.Path.{_≡_, sym, ap, _∙_}
 use Prim.Native.Nat.{ℕ, _+_, _-_, _*_, _%_, _≤_}
 use native.Mathlib.Nat.{mod-lt}
@@ -12,12 +12,12 @@ use Rattle.solver.proofs.put_rows.Statement.{statement}
 use Rattle.solver.proofs.put_rows.Tie as tie
 
 abbrev Inv-loop : tie.InvT-loop
-Inv-loop s sh first y₀ at a₀ y a = (a ≤ sh .rows) × (length y ≡ 18)
-    × ((f : ℕ → Word) (x : Word) → wbit s ≡ held sh f → wbit y₀ ≡ upTo at x
+Inv-loop z sh first y₀ at a₀ y a = (a ≤ sh .rows) × (length y ≡ 18)
+    × ((f : ℕ → Word) (x : Word) → wbit z ≡ held sh f → wbit y₀ ≡ upTo at x
     → wbit y ≡ upTo (at + a * sh .size) (joined at x (λ n. behind sh first f (n - at))))
 
 abbrev μ-loop : tie.MeasureT-loop
-μ-loop s sh first y₀ at a₀ y a = sh .rows - a
+μ-loop z sh first y₀ at a₀ y a = sh .rows - a
 
 loop-holds : tie.Need-loop-holds Inv-loop μ-loop
 loop-holds c = let s = c .before .before in

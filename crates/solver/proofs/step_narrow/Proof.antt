@@ -60,13 +60,13 @@ returns c = λ f e.
     let M = sh .size in
     let t = target step in
     let q = source step in
-    let x = wbit (a .s .now) in
+    let x = wbit (a .z .now) in
     let d = c .before .before .before .before .before .before .before .double-word .result in
     let some : 0 < wide sh = wide-some sh (s .pre .0) in
     let one : 64 ≡ wide sh = omega arith in
-    let hold : Holds (getD (a .s .now) q 0) (upTo M (f q)) =
+    let hold : Holds (getD (a .z .now) q 0) (upTo M (f q)) =
     λ i hi.
-    word-holds (a .s .now) q i hi ∙ ap (λ (w : ℕ). x (w * q + i)) one
+    word-holds (a .z .now) q i hi ∙ ap (λ (w : ℕ). x (w * q + i)) one
     ∙ held-at sh some f x e q i (from-row (sh .rows) step (s .pre .3)) (subst (λ (w : ℕ). i < w) one hi) in
     let doubled : both d ≡ twice M (upTo M (f q)) = c .before .before .before .before .before .before .before .double-word .ensures
     (f q) hold in

@@ -60,11 +60,11 @@ double-requires c κs = let s = c .before .before .before .before .before .befor
     let hq = from-row (sh .rows) (a .step .now) (s .pre .3) in
     let n = q * sh .words + sh .words - q * sh .words in
     let en : n ≡ sh .words = omega arith in
-    let x = wbit (a .s .now) in
-    let long : length (take n (drop (q * sh .words) (a .s .now))) ≡ n = slice-long (a .s .now) (q * sh .words) n
+    let x = wbit (a .z .now) in
+    let long : length (take n (drop (q * sh .words) (a .z .now))) ≡ n = slice-long (a .z .now) (q * sh .words) n
     (omega (arith, row-room sh fit q hq)) in (
-      upTo-again (sh .size) (λ i. x (wide sh * q + i)) (wbit (take n (drop (q * sh .words) (a .s .now))))
-          (row-slice sh (wide-some sh fit) (fit .held-in) (λ r i. x (wide sh * r + i)) (a .s .now) (s .pre .5) q n hq en),
+      upTo-again (sh .size) (λ i. x (wide sh * q + i)) (wbit (take n (drop (q * sh .words) (a .z .now))))
+          (row-slice sh (wide-some sh fit) (fit .held-in) (λ r i. x (wide sh * r + i)) (a .z .now) (s .pre .5) q n hq en),
       fit .some,
       omega (arith, long, fit .held-in),
       omega (arith, fit .held-in, fit .words),
@@ -96,14 +96,14 @@ returns c = λ f e.
     let M = sh .size in
     let t = target step in
     let q = source step in
-    let x = wbit (a .s .now) in
+    let x = wbit (a .z .now) in
     let some : 0 < wide sh = wide-some sh fit in
     let n = q * sh .words + sh .words - q * sh .words in
     let en : n ≡ sh .words = omega arith in
     let d = wbit (c .before .before .before .before .before .before .before .before .before .before .before .double .last .1 .1 .0) in
     let doubled : d ≡ twice M (upTo M (f q)) =
     c .before .before .before .before .before .before .before .before .before .before .before .double .ensures
-    ∙ ap (twice M) (row-slice sh some (fit .held-in) f (a .s .now) e q n (from-row (sh .rows) step (s .pre .3)) en) in
+    ∙ ap (twice M) (row-slice sh some (fit .held-in) f (a .z .now) e q n (from-row (sh .rows) step (s .pre .3)) en) in
     c .before .before .trim-rows .ensures
     ∙ ap (within (wide sh) M (sh .rows)) (c .before .before .before .before .before .before .add-turns .ensures
     ∙ ap (λ (z : Word). added z (wide sh * t) (wide sh * (t + 1)) (copies M step d)) e)

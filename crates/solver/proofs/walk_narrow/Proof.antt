@@ -1,4 +1,4 @@
--- `solver::walk_narrow` meets its contract: after k turns the first k steps are taken. Assumes nothing.
+-- `solver::walk_narrow` meets its contract: after k passes the first k steps are taken. Assumes nothing.
 use mathlib.Core.Path.{_≡_, sym, ap, _∙_, subst}
 use mathlib.Core.List.{List, []}
 use Prim.Native.Nat.{ℕ, _-_, _≤_, _<_}
@@ -15,12 +15,12 @@ use Rattle.solver.proofs.walk_narrow.Statement.{statement}
 use Rattle.solver.proofs.walk_narrow.Tie as tie
 
 abbrev Inv-loop : tie.InvT-loop
-Inv-loop sh s₀ steps k₀ s k =
-    (k ≤ 15) × (length s ≡ 16) × (stepsOf (sh .size) ≡ steps)
-    × ((f : ℕ → Word) → wbit s₀ ≡ held sh f → wbit s ≡ held sh (walked (sh .size) (stepsOf (sh .size)) k f))
+Inv-loop sh z₀ steps k₀ z k =
+    (k ≤ 15) × (length z ≡ 16) × (stepsOf (sh .size) ≡ steps)
+    × ((f : ℕ → Word) → wbit z₀ ≡ held sh f → wbit z ≡ held sh (walked (sh .size) (stepsOf (sh .size)) k f))
 
 abbrev μ-loop : tie.MeasureT-loop
-μ-loop sh s₀ steps k₀ s k = 15 - k
+μ-loop sh z₀ steps k₀ z k = 15 - k
 
 narrow-steps-requires : tie.Need-narrow-steps-requires Inv-loop μ-loop
 narrow-steps-requires c κs = c .before .pre .4

@@ -1,4 +1,4 @@
--- `solver::walk_wide` meets its contract: after k turns the first k steps are taken. Assumes nothing.
+-- `solver::walk_wide` meets its contract: after k passes the first k steps are taken. Assumes nothing.
 use mathlib.Core.Path.{_≡_, refl, sym, ap, _∙_, subst}
 use mathlib.Core.List.{List, []}
 use Prim.Native.Nat.{ℕ, _+_, _-_, _*_, _≤_, _<_}
@@ -16,12 +16,12 @@ use Rattle.solver.proofs.walk_wide.Statement.{statement}
 use Rattle.solver.proofs.walk_wide.Tie as tie
 
 abbrev Inv-loop : tie.InvT-loop
-Inv-loop sh s₀ steps d₀ k₀ s d k =
-    (k ≤ 15) × (length s ≡ 16) × (length d ≡ 16) × Kept sh (wbit s) × (stepsOf (sh .size) ≡ steps)
-    × ((f : ℕ → Word) → wbit s₀ ≡ held sh f → wbit s ≡ held sh (walked (sh .size) (stepsOf (sh .size)) k f))
+Inv-loop sh z₀ steps d₀ k₀ z d k =
+    (k ≤ 15) × (length z ≡ 16) × (length d ≡ 16) × Kept sh (wbit z) × (stepsOf (sh .size) ≡ steps)
+    × ((f : ℕ → Word) → wbit z₀ ≡ held sh f → wbit z ≡ held sh (walked (sh .size) (stepsOf (sh .size)) k f))
 
 abbrev μ-loop : tie.MeasureT-loop
-μ-loop sh s₀ steps d₀ k₀ s d k = 15 - k
+μ-loop sh z₀ steps d₀ k₀ z d k = 15 - k
 
 loop-holds : tie.Need-loop-holds Inv-loop μ-loop
 unfolding stepsOf
@@ -68,7 +68,7 @@ loop-again c = let s = c .before .before .before .before .before .before .before
     let sh = s .args .sh in
     let l = c .before .before .before .before .before .before .before .before .before .loop in
     let step = c .before .before .before .step-wide in
-    let own : ℕ → Word = λ r i. wbit (l .s) (wide sh * r + i) in (
+    let own : ℕ → Word = λ r i. wbit (l .z) (wide sh * r + i) in (
       omega arith,
       step .kept .1 .1 .1 .0 ∙ l .inv .1,
       step .kept .1 .1 .0 ∙ l .inv .2,

@@ -1,4 +1,4 @@
--- `syndromes::add_blocks` meets its contract: after b turns the rows have the first b blocks. Assumes nothing.
+-- `syndromes::add_blocks` meets its contract: after b passes the rows have the first b blocks. Assumes nothing.
 use mathlib.Core.Path.{_≡_, ap, ap₂, _∙_}
 use Prim.Native.Nat.{ℕ, _-_, _*_, _≤_}
 use native.Mathlib.Omega.{arith}

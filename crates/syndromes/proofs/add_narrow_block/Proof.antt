@@ -1,4 +1,4 @@
--- `syndromes::add_narrow_block` meets its contract: after r turns the first r rows have it. Assumes nothing.
+-- `syndromes::add_narrow_block` meets its contract: after r passes the first r rows have it. Assumes nothing.
 use Prim.Native.Nat.{_-_}
 use native.Mathlib.Omega.{arith}
 use borrow.Author.Needs.{needs}

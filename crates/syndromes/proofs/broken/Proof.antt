@@ -16,12 +16,12 @@ ones-requires c κs = search needs
 
 cast-result : tie.Need-cast-result
 cast-result c =
-    let s = c .before .before .args .s .now in
-    omega (arith, c .ones .ensures, count-le (64 * length s) (wbit s))
+    let z = c .before .before .args .z .now in
+    omega (arith, c .ones .ensures, count-le (64 * length z) (wbit z))
 
 returns : tie.Need-returns
 returns c code h sh x fit lent e =
-    let long = 64 * length (c .before .before .args .s .now) in
+    let long = 64 * length (c .before .before .args .z .now) in
     c .ones .ensures ∙ ap (count long) e ∙ laid-count h sh fit code lent x long (omega arith)
 
 pub broken-spec : {M : Type 1} → statement M

@@ -10,8 +10,8 @@ use borrow.Author.Needs.{needs}
 use Rattle.syndromes.proofs.flip.Statement.{statement}
 use Rattle.syndromes.proofs.flip.Tie as tie
 
-turn-over-requires : tie.Need-turn-over-requires
-turn-over-requires c κs = search needs
+flip-bit-requires : tie.Need-flip-bit-requires
+flip-bit-requires c κs = search needs
 
 div-flip-checks : tie.Need-div-flip-checks
 div-flip-checks c = search needs
@@ -38,7 +38,7 @@ returns c =
     let h = a .h .now in
     let M = a .sh .size in
     let g = rowed (wide (a .sh)) (a .sh .rows) (spread (a .sh) h (a .n / M) (covering M (a .n % M))) in (
-      c .before .before .before .before .before .before .before .before .turn-over .ensures,
+      c .before .before .before .before .before .before .before .before .flip-bit .ensures,
       λ code lent x e.
           c .before .before .flip-checks .ensures
           ∙ ap (λ (z : Word). plus z g) e
@@ -51,7 +51,7 @@ pub flip-spec : {M : Type 1} → statement M
 flip-spec =
     tie.close
     (tie.spec
-    turn-over-requires
+    flip-bit-requires
     div-flip-checks
     rem-flip-checks
     flip-checks-requires

@@ -1,4 +1,4 @@
--- `syndromes::flip_checks` meets its contract: after r turns the first r rows have it. Assumes nothing.
+-- `syndromes::flip_checks` meets its contract: after r passes the first r rows have it. Assumes nothing.
 use Prim.Native.Nat.{_-_}
 use native.Mathlib.Omega.{arith}
 use borrow.Author.Needs.{needs}
@@ -10,17 +10,17 @@ use Rattle.syndromes.proofs.flip_checks.Statement.{statement}
 use Rattle.syndromes.proofs.flip_checks.Tie as tie
 
 abbrev Inv-loop : tie.InvT-loop
-Inv-loop s₀ h sh b k r₀ s r = Reached (wide sh) (sh .rows) (spread sh h b (covering (sh .size) k)) (wbit s₀) s r
+Inv-loop z₀ h sh b k r₀ z r = Reached (wide sh) (sh .rows) (spread sh h b (covering (sh .size) k)) (wbit z₀) z r
 
 abbrev μ-loop : tie.MeasureT-loop
-μ-loop s₀ h sh b k r₀ s r = sh .rows - r
+μ-loop z₀ h sh b k r₀ z r = sh .rows - r
 
 loop-holds : tie.Need-loop-holds Inv-loop μ-loop
 loop-holds c =
     let a = c .before .before .args in
     let pre = c .before .before .pre in
     reached-none (wide (a .sh)) (a .sh .rows) (wide-some (a .h .now) (a .sh) (pre .0))
-    (spread (a .sh) (a .h .now) (a .b) (covering (a .sh .size) (a .k))) (a .s .now) (pre .3)
+    (spread (a .sh) (a .h .now) (a .b) (covering (a .sh .size) (a .k))) (a .z .now) (pre .3)
 
 flip-row-requires : tie.Need-flip-row-requires Inv-loop μ-loop
 flip-row-requires c κs = search needs
@@ -36,8 +36,8 @@ loop-again c =
     let a = c .before .before .before .before .before .before .before .before .before .args in
     let l = c .before .before .before .before .before .before .loop in
     let some = wide-some (a .h .now) (a .sh) (c .before .before .before .before .before .before .before .before .before .pre .0) in
-    reached-more (wide (a .sh)) (a .sh .rows) some (spread (a .sh) (a .h .now) (a .b) (covering (a .sh .size) (a .k))) (wbit (a .s .now))
-    (l .s) (l .r) (l .inv)
+    reached-more (wide (a .sh)) (a .sh .rows) some (spread (a .sh) (a .h .now) (a .b) (covering (a .sh .size) (a .k))) (wbit (a .z .now))
+    (l .z) (l .r) (l .inv)
     _ (omega arith) (search needs) (c .before .before .flip-row .ensures)
 
 same-length : tie.Need-same-length Inv-loop μ-loop
@@ -48,8 +48,8 @@ returns c =
     let a = c .before .before .before .before .before .args in
     let l = c .before .before .loop in
     let some = wide-some (a .h .now) (a .sh) (c .before .before .before .before .before .pre .0) in
-    reached-all (wide (a .sh)) (a .sh .rows) some (spread (a .sh) (a .h .now) (a .b) (covering (a .sh .size) (a .k))) (wbit (a .s .now))
-    (l .s) (l .r) (l .inv) (omega arith)
+    reached-all (wide (a .sh)) (a .sh .rows) some (spread (a .sh) (a .h .now) (a .b) (covering (a .sh .size) (a .k))) (wbit (a .z .now))
+    (l .z) (l .r) (l .inv) (omega arith)
 
 pub flip-checks-spec : {M : Type 1} → statement M
 flip-checks-spec =

@@ -1,4 +1,4 @@
--- `syndromes::flip_entry` meets its contract: k + M - e, less M where that is M or more. Assumes nothing.
+-- `syndromes::flip_entry` meets its contract: k + M - s, less M where that is M or more. Assumes nothing.
 use mathlib.Core.Path.{_≡_, ap, sym, _∙_}
 use mathlib.Core.Logic.{⊎-elim}
 use Prim.Native.Nat.{ℕ, _+_, _-_, _*_, _%_, _≤_, _<_}
@@ -18,17 +18,17 @@ sub-i c = search needs
 add-i : tie.Need-add-i
 add-i c = search needs
 
-mul-turn-over : tie.Need-mul-turn-over
-mul-turn-over c = search needs
+mul-flip-bit : tie.Need-mul-flip-bit
+mul-flip-bit c = search needs
 
-mul-turn-over-2 : tie.Need-mul-turn-over-2
-mul-turn-over-2 c = search needs
+mul-flip-bit-2 : tie.Need-mul-flip-bit-2
+mul-flip-bit-2 c = search needs
 
-add-turn-over : tie.Need-add-turn-over
-add-turn-over c = ⊎-elim (λ w. omega arith) (λ w. omega arith) (c .before .before .before .if2 .came)
+add-flip-bit : tie.Need-add-flip-bit
+add-flip-bit c = ⊎-elim (λ w. omega arith) (λ w. omega arith) (c .before .before .before .if2 .came)
 
-turn-over-requires : tie.Need-turn-over-requires
-turn-over-requires c κs = ⊎-elim (λ w. omega arith) (λ w. omega arith) (c .before .before .before .if2 .came)
+flip-bit-requires : tie.Need-flip-bit-requires
+flip-bit-requires c κs = ⊎-elim (λ w. omega arith) (λ w. omega arith) (c .before .before .before .if2 .came)
 
 same-length : tie.Need-same-length
 same-length c = search needs
@@ -38,12 +38,12 @@ returns c =
     let a = c .before .before .before .before .before .before .before .before .before .before .before .before .args in
     let i = c .before .before .before .before .before .before .if2 .i in
     let M = a .sh .size in
-    let turn = a .k + (M - a .e) in
-    let x = wbit (a .s .now) in
+    let turn = a .k + (M - a .s) in
+    let x = wbit (a .z .now) in
     let g = covering M (a .k) in
     let from = wide (a .sh) * a .r in
     let to = wide (a .sh) * (a .r + 1) in
-    let l : a .e < M = omega arith in
+    let l : a .s < M = omega arith in
     let some : 0 < M = omega arith in
     let at : i ≡ turn % M =
     ⊎-elim
@@ -55,17 +55,17 @@ returns c =
     let same : i ≡ turn = omega arith in
     same ∙ sym (mod-eq-of-lt low))
     (c .before .before .before .before .before .before .if2 .came) in
-    c .before .before .turn-over .ensures
+    c .before .before .flip-bit .ensures
     ∙ flipped-row x from to i (omega (arith, mod-lt turn some))
     ∙ ap (λ (j : ℕ). added x from to (λ n. eqb n j)) at
-    ∙ ap (added x from to) (entry-is M g (a .e) l)
+    ∙ ap (added x from to) (entry-is M g (a .s) l)
 
 returns-2 : tie.Need-returns-2
 returns-2 c =
     let a = c .before .before .before .args in
     let w = wide (a .sh) in
-    let l : a .sh .size ≤ a .e = omega arith in
-    entry-none (a .sh .size) (covering (a .sh .size) (a .k)) (a .e) (wbit (a .s .now)) (w * a .r) (w * (a .r + 1)) l
+    let l : a .sh .size ≤ a .s = omega arith in
+    entry-none (a .sh .size) (covering (a .sh .size) (a .k)) (a .s) (wbit (a .z .now)) (w * a .r) (w * (a .r + 1)) l
 
 pub flip-entry-spec : {M : Type 1} → statement M
 flip-entry-spec =
@@ -73,10 +73,10 @@ flip-entry-spec =
     (tie.spec
     sub-i
     add-i
-    mul-turn-over
-    mul-turn-over-2
-    add-turn-over
-    turn-over-requires
+    mul-flip-bit
+    mul-flip-bit-2
+    add-flip-bit
+    flip-bit-requires
     same-length
     returns
     returns-2)

@@ -36,7 +36,7 @@ returns c =
     let one = c .before .before .before .before .before .before .flip-entry in
     let two = c .before .before .flip-entry2 in
     added-places (a .sh) (a .h .now) (a .b) (a .r) (covering (a .sh .size) (a .k)) (w * a .r) (w * (a .r + 1)) (p .result .first)
-    (p .result .second) (wbit (a .s .now)) _ _ (p .ensures .0) (p .ensures .1) (one .ensures) (two .ensures)
+    (p .result .second) (wbit (a .z .now)) _ _ (p .ensures .0) (p .ensures .1) (one .ensures) (two .ensures)
 
 pub flip-row-spec : {M : Type 1} → statement M
 flip-row-spec =

@@ -17,7 +17,7 @@ any-requires c κs = search needs
 
 returns : tie.Need-returns
 returns c code h sh x fit lent e =
-    let long = 64 * length (c .before .before .args .s .now) in
+    let long = 64 * length (c .before .before .args .z .now) in
     ap not (c .any .ensures ∙ ap (λ (n : ℕ). ltb 0 n) (ap (count long) e ∙ laid-count h sh fit code lent x long (omega arith)))
     ∙ none-test (broken code x)
 

@@ -26,11 +26,11 @@ slice-read-front c = search needs
 front-requires : tie.Need-front-requires
 front-requires c κs = search needs
 
-mul-s : tie.Need-mul-s
-mul-s c = search needs
+mul-z : tie.Need-mul-z
+mul-z c = search needs
 
-slice-write-s : tie.Need-slice-write-s
-slice-write-s c = search needs
+slice-write-z : tie.Need-slice-write-z
+slice-write-z c = search needs
 
 same-length : tie.Need-same-length
 same-length c = search needs
@@ -41,7 +41,7 @@ returns c x e =
     let w = wide (a .sh) in
     let m = a .sh .size in
     let q = a .r * a .sh .words + a .sh .words - 1 in
-    within-more w m (omega arith) x (a .s .now) (a .r) q (m % 64) (c .front .result)
+    within-more w m (omega arith) x (a .z .now) (a .r) q (m % 64) (c .front .result)
     (omega arith) (omega arith) (omega arith) (omega arith) e (omega arith) (c .front .ensures)
 
 returns-2 : tie.Need-returns-2
@@ -59,8 +59,8 @@ trim-row-spec =
     mul-front
     slice-read-front
     front-requires
-    mul-s
-    slice-write-s
+    mul-z
+    slice-write-z
     same-length
     returns
     returns-2)

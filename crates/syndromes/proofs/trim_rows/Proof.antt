@@ -1,4 +1,4 @@
--- `syndromes::trim_rows` meets its contract: after r turns the first r rows are trimmed. Assumes nothing.
+-- `syndromes::trim_rows` meets its contract: after r passes the first r rows are trimmed. Assumes nothing.
 use mathlib.Core.Path.{_≡_, refl, ap, _∙_}
 use Prim.Native.Nat.{ℕ, _+_, _-_, _≤_}
 use native.Mathlib.Nat.{mul-le-mul-right}
@@ -12,15 +12,15 @@ use Rattle.syndromes.proofs.trim_rows.Statement.{statement}
 use Rattle.syndromes.proofs.trim_rows.Tie as tie
 
 abbrev Inv-loop : tie.InvT-loop
-Inv-loop s₀ sh r₀ s r = (r ≤ sh .rows) × (length s ≡ length s₀) × (wbit s ≡ within (wide sh) (sh .size) r (wbit s₀))
+Inv-loop z₀ sh r₀ z r = (r ≤ sh .rows) × (length z ≡ length z₀) × (wbit z ≡ within (wide sh) (sh .size) r (wbit z₀))
 
 abbrev μ-loop : tie.MeasureT-loop
-μ-loop s₀ sh r₀ s r = sh .rows - r
+μ-loop z₀ sh r₀ z r = sh .rows - r
 
 loop-holds : tie.Need-loop-holds Inv-loop μ-loop
 loop-holds c =
     let a = c .before .args in
-    (omega arith, refl, within-none (wide (a .sh)) (a .sh .size) (omega arith) (wbit (a .s .now)))
+    (omega arith, refl, within-none (wide (a .sh)) (a .sh .size) (omega arith) (wbit (a .z .now)))
 
 trim-row-requires : tie.Need-trim-row-requires Inv-loop μ-loop
 trim-row-requires c κs =
@@ -39,7 +39,7 @@ loop-again : tie.Need-loop-again Inv-loop μ-loop
 loop-again c =
     let a = c .before .before .before .before .before .before .before .before .args in
     let l = c .before .before .before .before .before .before .loop in
-    (omega arith, search needs, c .before .before .trim-row .ensures (wbit (a .s .now)) (l .inv .2))
+    (omega arith, search needs, c .before .before .trim-row .ensures (wbit (a .z .now)) (l .inv .2))
 
 same-length : tie.Need-same-length Inv-loop μ-loop
 same-length c = search needs
@@ -49,7 +49,7 @@ returns c =
     let a = c .before .before .before .before .args in
     let l = c .before .before .loop in
     let all : l .r ≡ a .sh .rows = omega arith in
-    l .inv .2 ∙ ap (λ (k : ℕ). within (wide (a .sh)) (a .sh .size) k (wbit (a .s .now))) all
+    l .inv .2 ∙ ap (λ (k : ℕ). within (wide (a .sh)) (a .sh .size) k (wbit (a .z .now))) all
 
 pub trim-rows-spec : {M : Type 1} → statement M
 trim-rows-spec =

@@ -8,10 +8,10 @@ use Rattle.tables.proofs.flatten16.Statement.{statement}
 use Rattle.tables.proofs.flatten16.Tie as tie
 
 abbrev Inv-loop : tie.InvT-loop
-Inv-loop h t₀ r₀ t r = Filled 64 (λ j. placeAt h (j / 32) (j / 2 % 16) (j % 2)) t (32 * r)
+Inv-loop nested h₀ r₀ h r = Filled 64 (λ j. placeAt nested (j / 32) (j / 2 % 16) (j % 2)) h (32 * r)
 
 abbrev μ-loop : tie.MeasureT-loop
-μ-loop h t₀ r₀ t r = 2 - r
+μ-loop nested h₀ r₀ h r = 2 - r
 
 loop-holds : tie.Need-loop-holds Inv-loop μ-loop
 loop-holds c = record { below = omega arith; long = search needs; places = λ j l. absurd (omega arith) }
@@ -36,12 +36,12 @@ loop-less c = search needs
 
 loop-again : tie.Need-loop-again Inv-loop μ-loop
 loop-again c =
-    let h = c .before .before .before .before .before .before .before .before .before .args .h .now in
+    let nested = c .before .before .before .before .before .before .before .before .before .args .nested .now in
     let l = c .before .before .before .before .before .before .before .loop in
     let laid = c .before .before .flatten-row in
-    filled-row 64 32 (l .r) (λ j. placeAt h (j / 32) (j / 2 % 16) (j % 2)) h (l .t) (laid .last .1 .0) (l .inv) (laid .ensures)
+    filled-row 64 32 (l .r) (λ j. placeAt nested (j / 32) (j / 2 % 16) (j % 2)) nested (l .h) (laid .last .1 .0) (l .inv) (laid .ensures)
     (omega arith) (omega arith) (laid .kept .1 .0) (omega arith)
-    (λ j hj. row-place h (l .r) ((32 * l .r + j) / 32) ((32 * l .r + j) / 2 % 16) ((32 * l .r + j) % 2) j (omega arith) (omega arith)
+    (λ j hj. row-place nested (l .r) ((32 * l .r + j) / 32) ((32 * l .r + j) / 2 % 16) ((32 * l .r + j) % 2) j (omega arith) (omega arith)
     (omega arith))
 
 same-length : tie.Need-same-length Inv-loop μ-loop
@@ -49,7 +49,7 @@ same-length c = search needs
 
 returns : tie.Need-returns Inv-loop μ-loop
 unfolding flat16
-returns c = filled-all 64 (λ j. placeAt (c .before .before .before .args .h .now) (j / 32) (j / 2 % 16) (j % 2)) (c .before .loop .t)
+returns c = filled-all 64 (λ j. placeAt (c .before .before .before .args .nested .now) (j / 32) (j / 2 % 16) (j % 2)) (c .before .loop .h)
     (32 * c .before .loop .r) (c .before .loop .inv) (omega arith)
 
 pub flatten16-spec : {M : Type 1} → statement M

@@ -1,4 +1,4 @@
--- `vectors::clear` meets its contract: after k turns the first k words are 0. Assumes nothing.
+-- `vectors::clear` meets its contract: after k passes the first k words are 0. Assumes nothing.
 use mathlib.Core.Path.{refl}
 use mathlib.Core.Bool.{false}
 use Prim.Native.Nat.{suc, _-_}

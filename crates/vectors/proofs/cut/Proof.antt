@@ -1,4 +1,4 @@
--- `vectors::cut` meets its contract: after k turns the first k words have the bits, and what is past bit m is cleared at the end. Assumes
+-- `vectors::cut` meets its contract: after k passes the first k words have the bits, and what is past bit m is cleared at the end. Assumes
 -- nothing.
 use mathlib.Core.Path.{ap, _∙_}
 use Prim.Native.Nat.{_-_, _*_}

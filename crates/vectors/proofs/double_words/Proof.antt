@@ -1,4 +1,4 @@
--- `vectors::double_words` meets its contract: after k turns k words are doubled, and a is word k of v. Assumes nothing.
+-- `vectors::double_words` meets its contract: after k passes k words are doubled, and a is word k of v. Assumes nothing.
 use mathlib.Core.Path.{_≡_, refl}
 use Prim.Native.Nat.{_+_, _-_, _≤_}
 use native.Mathlib.Omega.{arith}

@@ -1,4 +1,4 @@
--- `vectors::load_whole` meets its contract: after k turns the first k words have the octets' bits. Assumes nothing.
+-- `vectors::load_whole` meets its contract: after k passes the first k words have the octets' bits. Assumes nothing.
 use mathlib.Core.Path.{_≡_, ap, _∙_}
 use Prim.Native.Nat.{_-_, _/_, _≤_, _*_}
 use native.Mathlib.Omega.{arith}

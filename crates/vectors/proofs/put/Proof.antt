@@ -1,4 +1,4 @@
--- `vectors::put` meets its contract: after j turns the first j octets stand there. Assumes nothing.
+-- `vectors::put` meets its contract: after j passes the first j octets stand there. Assumes nothing.
 use mathlib.Core.Path.{_≡_, refl, sym, ap, _∙_}
 use Prim.Native.Nat.{ℕ, _+_, _-_, _*_, _/_, _%_, _^_, _≤_}
 use native.Mathlib.Omega.{arith}

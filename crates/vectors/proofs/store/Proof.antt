@@ -1,4 +1,4 @@
--- `vectors::store` meets its contract: after k turns the first 8 k octets stand there, and the last few follow. Assumes nothing.
+-- `vectors::store` meets its contract: after k passes the first 8 k octets stand there, and the last few follow. Assumes nothing.
 use mathlib.Core.Path.{_≡_, refl, ap, _∙_}
 use Prim.Native.Nat.{ℕ, _+_, _-_, _*_, _/_, _%_, _^_, _≤_, _<_}
 use native.Mathlib.Omega.{arith}

@@ -10,11 +10,11 @@ use Rattle.why.proofs.follow.Statement.{statement}
 use Rattle.why.proofs.follow.Tie as tie
 
 abbrev Inv-loop : tie.InvT-loop
-Inv-loop code limit word shown t₀ y₀ s₀ l₀ t y s l =
-    (length t ≡ 64) × (length y ≡ 130) × (length s ≡ 16) × Lists code word limit 511 l t y s
+Inv-loop code limit word shown h₀ y₀ z₀ l₀ h y z l =
+    (length h ≡ 64) × (length y ≡ 130) × (length z ≡ 16) × Lists code word limit 511 l h y z
 
 abbrev μ-loop : tie.MeasureT-loop
-μ-loop code limit word shown t₀ y₀ s₀ l₀ t y s l = 511 - l .place
+μ-loop code limit word shown h₀ y₀ z₀ l₀ h y z l = 511 - l .place
 
 slice-aggregate-begin : tie.Need-slice-aggregate-begin Inv-loop μ-loop
 slice-aggregate-begin c = search needs

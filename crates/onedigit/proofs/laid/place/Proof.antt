@@ -11,7 +11,7 @@ use Rattle.onedigit.proofs.laid.place.Tie as tie
 returns : tie.Need-returns
 returns c =
     let a = c .before .args in
-    sym (ap (λ b. if b then 65535 else getD (a .t .now) (a .i / 3 * 2 + a .i % 3) 0) (eq-eqb (a .i % 3) 2 (c .if1 .taken)))
+    sym (ap (λ b. if b then 65535 else getD (a .h .now) (a .i / 3 * 2 + a .i % 3) 0) (eq-eqb (a .i % 3) 2 (c .if1 .taken)))
 
 mul-result : tie.Need-mul-result
 mul-result c = search needs
@@ -28,7 +28,7 @@ shared-slice-read-result c = search needs
 returns-2 : tie.Need-returns-2
 returns-2 c =
     let a = c .before .before .args in
-    sym (ap (λ b. if b then 65535 else getD (a .t .now) (a .i / 3 * 2 + a .i % 3) 0) (ne-eqb (a .i % 3) 2 (c .before .if1 .left)))
+    sym (ap (λ b. if b then 65535 else getD (a .h .now) (a .i / 3 * 2 + a .i % 3) 0) (ne-eqb (a .i % 3) 2 (c .before .if1 .left)))
 
 pub place-spec : {M : Type 1} → statement M
 place-spec =

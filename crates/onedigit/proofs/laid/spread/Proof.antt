@@ -9,10 +9,10 @@ use Rattle.onedigit.proofs.laid.spread.Statement.{statement}
 use Rattle.onedigit.proofs.laid.spread.Tie as tie
 
 abbrev Inv-loop : tie.InvT-loop
-Inv-loop t p₀ i₀ p i = Filled 96 (thirdNone t) p i
+Inv-loop h p₀ i₀ p i = Filled 96 (thirdNone h) p i
 
 abbrev μ-loop : tie.MeasureT-loop
-μ-loop t p₀ i₀ p i = 96 - i
+μ-loop h p₀ i₀ p i = 96 - i
 
 loop-holds : tie.Need-loop-holds Inv-loop μ-loop
 loop-holds c = record { below = omega arith; long = search needs; places = λ j l. absurd (omega arith) }

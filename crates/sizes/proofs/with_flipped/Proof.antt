@@ -1,11 +1,11 @@
--- `sizes::turned`: one bit more or less. Assumes nothing.
+-- `sizes::with_flipped`: one bit more or less. Assumes nothing.
 use mathlib.Core.Path.{ap, _∙_}
 use Rattle.bits.specs.Bits.{digit, _⊕_}
 use Rattle.vectors.proofs.Places.{digit-xor}
 use Rattle.sizes.proofs.Masks.{one-bit}
 use borrow.Author.Needs.{needs}
-use Rattle.sizes.proofs.turned.Statement.{statement}
-use Rattle.sizes.proofs.turned.Tie as tie
+use Rattle.sizes.proofs.with_flipped.Statement.{statement}
+use Rattle.sizes.proofs.with_flipped.Tie as tie
 
 sub-result : tie.Need-sub-result
 sub-result c = search needs
@@ -18,5 +18,5 @@ returns c =
     let a = c .args in
     λ i l. digit-xor 64 (a .v) _ i ∙ ap (λ b. digit 64 (a .v) i ⊕ b) (one-bit (a .n) i (c .pre) l)
 
-pub turned-spec : {M : Type 1} → statement M
-turned-spec = tie.close (tie.spec sub-result shl-result returns)
+pub with-flipped-spec : {M : Type 1} → statement M
+with-flipped-spec = tie.close (tie.spec sub-result shl-result returns)

@@ -21,7 +21,7 @@ use Rattle.bounds.specs.Keeping.{Scored}
 use Rattle.bounds.proofs.Turned.{scored}
 use Rattle.sizes.specs.Samples.{read}
 use Rattle.smallest.specs.Knowing.{Knows, whole, Leads}
-use Rattle.sizing.specs.Turning.{Stands}
+use Rattle.sizing.specs.Passing.{Stands}
 
 few : (b : Bool) → tally b ≤ 1
 few true = omega arith
@@ -43,11 +43,11 @@ unknown zero i l = absurd (omega arith)
 unknown (suc n) zero l = refl
 unknown (suc n) (suc i) l = unknown n i (omega arith)
 
-pub begun-stands : (c : Code) (sh : Shape) (samples : List Float) (starts counts : List ℕ) (x s : Word) (d : List ℕ) → sh .blocks ≤ 16
-    → length samples ≤ 8176 → s ≡ laid c sh x → Twice sh (sh .rows) s (wbit d)
+pub begun-stands : (c : Code) (sh : Shape) (samples : List Float) (starts counts : List ℕ) (x z : Word) (d : List ℕ) → sh .blocks ≤ 16
+    → length samples ≤ 8176 → z ≡ laid c sh x → Twice sh (sh .rows) z (wbit d)
     → Stands c sh samples x d starts counts (replicate 16 0) (replicate 16 8176)
-begun-stands c sh samples starts counts x s d blocks long e two = record {
-  twice = subst (λ z. Twice sh (sh .rows) z (wbit d)) e two;
+begun-stands c sh samples starts counts x z d blocks long e two = record {
+  twice = subst (λ w. Twice sh (sh .rows) w (wbit d)) e two;
   knows = record {
     block = λ b hb.
         let none : length samples ≤ getD (replicate 16 8176) b 0 = omega (arith, unknown 16 b (omega arith)) in

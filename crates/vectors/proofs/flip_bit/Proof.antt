@@ -1,8 +1,8 @@
--- `vectors::turn_over` meets its contract. Assumes nothing.
+-- `vectors::flip_bit` meets its contract. Assumes nothing.
 use borrow.Author.Needs.{needs}
-use Rattle.vectors.proofs.Spans.{turned-over}
-use Rattle.vectors.proofs.turn_over.Statement.{statement}
-use Rattle.vectors.proofs.turn_over.Tie as tie
+use Rattle.vectors.proofs.Spans.{flipped-bit}
+use Rattle.vectors.proofs.flip_bit.Statement.{statement}
+use Rattle.vectors.proofs.flip_bit.Tie as tie
 
 sub-ws : tie.Need-sub-ws
 sub-ws c = search needs
@@ -23,8 +23,8 @@ same-length : tie.Need-same-length
 same-length c = search needs
 
 returns : tie.Need-returns
-returns c = turned-over (c .before .args .ws .now) (c .before .args .n) (c .before .pre)
+returns c = flipped-bit (c .before .args .ws .now) (c .before .args .n) (c .before .pre)
 
-pub turn-over-spec : {M : Type 1} → statement M
-turn-over-spec =
+pub flip-bit-spec : {M : Type 1} → statement M
+flip-bit-spec =
     tie.close (tie.spec sub-ws shl-ws mul-ws slice-read-ws slice-write-ws same-length returns)

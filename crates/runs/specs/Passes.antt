@@ -15,25 +15,25 @@ use Rattle.runs.specs.declared.Next.{Next}
 use Rattle.runs.specs.declared.Next.the-variants.{Quiet, Stuck, Flip}
 use Rattle.runs.specs.declared.Ran.{Ran}
 
--- s is the syndrome of a word under a code whose table is lent.
-pub record Holding (h : List ℕ) (sh : Shape) (s : Word) : Type 0 where
+-- z is the syndrome of a word under a code whose table is lent.
+pub record Holding (h : List ℕ) (sh : Shape) (z : Word) : Type 0 where
   pub code : Code
   pub word : Word
   pub lent : Lent code h sh
-  pub held : s ≡ laid code sh word
+  pub held : z ≡ laid code sh word
 
--- The run of the code c begins with the word y, whose syndrome is s; `first` of its checks are broken, and bits before bit `from` are not
+-- The run of the code c begins with the word y, whose syndrome is z; `first` of its checks are broken, and bits before bit `from` are not
 -- sent.
-pub record Begins (c : Code) (h : List ℕ) (sh : Shape) (from first : ℕ) (y s : Word) : Type 0 where
+pub record Begins (c : Code) (h : List ℕ) (sh : Shape) (from first : ℕ) (y z : Word) : Type 0 where
   pub lent : Lent c h sh
   pub unsent : c .unsent ≡ from
-  pub held : s ≡ laid c sh y
+  pub held : z ≡ laid c sh y
   pub broken : first ≡ broken c y
 
 -- There is such a code.
-pub record Beginning (h : List ℕ) (sh : Shape) (from first : ℕ) (y s : Word) : Type 0 where
+pub record Beginning (h : List ℕ) (sh : Shape) (from first : ℕ) (y z : Word) : Type 0 where
   pub code : Code
-  pub begins : Begins code h sh from first y s
+  pub begins : Begins code h sh from first y z
 
 -- The run has come to a word of which this is kept.
 pub record Carried (c : Code) (sh : Shape) (from left : ℕ) (y : Word) (d counts met : List ℕ) : Type 0 where
@@ -70,17 +70,17 @@ Within bits Quiet = Unit {0}
 Within bits (Stuck n e) = n < bits
 Within bits (Flip n e) = n < bits
 
--- Under a way of choosing, the word y and the syndrome s are those at the end of the run from x, and its number and flips are the run's.
-pub record RunsTo (way : Way) (c : Code) (sh : Shape) (limit : ℕ) (x : Word) (r : Ran) (y s : Word) : Type 0 where
+-- Under a way of choosing, the word y and the syndrome z are those at the end of the run from x, and its number and flips are the run's.
+pub record RunsTo (way : Way) (c : Code) (sh : Shape) (limit : ℕ) (x : Word) (r : Ran) (y z : Word) : Type 0 where
   pub number : r .number ≡ run way limit x .number
   pub flips : r .flips ≡ length (run way limit x .flips)
   pub word : y ≡ run way limit x .word
-  pub held : s ≡ laid c sh y
+  pub held : z ≡ laid c sh y
 
 -- The run from x has come to y after so many flips.
-pub record Going (way : Way) (c : Code) (sh : Shape) (limit : ℕ) (x : Word) (flips : ℕ) (y s : Word) : Type 0 where
+pub record Going (way : Way) (c : Code) (sh : Shape) (limit : ℕ) (x : Word) (flips : ℕ) (y z : Word) : Type 0 where
   pub within : flips ≤ limit
-  pub held : s ≡ laid c sh y
+  pub held : z ≡ laid c sh y
   pub number : run way limit x .number ≡ run way (limit - flips) y .number
   pub count : length (run way limit x .flips) ≡ flips + length (run way (limit - flips) y .flips)
   pub word : run way limit x .word ≡ run way (limit - flips) y .word

@@ -1,4 +1,4 @@
--- `lists::turn`: the list at the run's end, or with one flip more. Assumes nothing.
+-- `lists::pass`: the list at the run's end, or with one flip more. Assumes nothing.
 use mathlib.Core.Path.{refl, sym, ap, _∙_, subst}
 use Prim.Native.Nat.{_*_}
 use native.Mathlib.Omega.{arith}
@@ -6,12 +6,12 @@ use mir.Syntax.{w8}
 use mir.Val.{SFits}
 use mir.ValLaws.{toZ-ofZ}
 use Rattle.rules.specs.Codes.{code}
-use Rattle.runs.specs.Turns.{Within, comesNext}
+use Rattle.runs.specs.Passes.{Within, comesNext}
 use Rattle.codes.proofs.Admitted.{shaped, unsent-is}
 use Rattle.lists.proofs.Writing.{known-of, ends-by-quiet, ends-by-stuck, ends-by-limit, ended-lists, went-lists}
 use borrow.Author.Needs.{needs}
-use Rattle.lists.proofs.turn.Statement.{statement}
-use Rattle.lists.proofs.turn.Tie as tie
+use Rattle.lists.proofs.pass.Statement.{statement}
+use Rattle.lists.proofs.pass.Tie as tie
 
 comes-next-requires : tie.Need-comes-next-requires
 comes-next-requires c κs =
@@ -20,7 +20,7 @@ comes-next-requires c κs =
     let st = a .pre .stands in
     let known = known-of n (a .args .word .now) _ _ (st .measures) in (
       st .lends .fit,
-      st .s-long,
+      st .z-long,
       shaped known refl .0,
       shaped known refl .1,
       record { code = code n; word = _; lent = st .lends .lent; held = st .going .held },
@@ -109,7 +109,7 @@ flip-requires c κs =
     let sh = a .args .l .offer .shape in (
       st .lends .fit,
       st .y-long,
-      st .s-long,
+      st .z-long,
       subst (Within (sh .blocks * sh .size)) (c .before .before .before .before .before .before .next2 .given .1) (c .before .before
           .before .before .before .before .before .before .comes-next .ensures .0),
     )
@@ -117,7 +117,7 @@ flip-requires c κs =
 broken-requires : tie.Need-broken-requires
 broken-requires c κs =
     let long = c .before .before .before .before .before .before .before .before .before .before .before .before .before .before .before
-    .before .before .before .before .before .before .before .before .pre .stands .s-long in
+    .before .before .before .before .before .before .before .before .pre .stands .z-long in
     search needs
 
 cast-went : tie.Need-cast-went
@@ -214,7 +214,7 @@ returns-4 c =
           .before .before .before .next2 .given .1) in
           let held = f .ensures .1 (code n) (st .lends .lent) _ (st .going .held) in
           let y-long = st .y-long in
-          let s-long = st .s-long in
+          let z-long = st .z-long in
           went-lists n (a .args .word .now) limit room _ _ _ _ _ st _ ex _ (toZ-ofZ w8 ex fits) next (omega (
             arith,
             c .before .before
@@ -226,8 +226,8 @@ returns-4 c =
           _ (r .ensures .0) (r .ensures .1) (r .ensures .2) (r .ensures .3) (r .ensures .4) (r .ensures .5),
     )
 
-pub turn-spec : {M : Type 1} → statement M
-turn-spec =
+pub pass-spec : {M : Type 1} → statement M
+pass-spec =
     tie.close
     (tie.spec
     comes-next-requires

@@ -1,15 +1,15 @@
--- `sizing::turn`: the bit is flipped in the word, and what is kept follows while a check is broken. Assumes nothing.
+-- `sizing::pass`: the bit is flipped in the word, and what is kept follows while a check is broken. Assumes nothing.
 use native.Mathlib.Omega.{arith}
 use Rattle.vectors.specs.Vectors.{wbit}
 use borrow.Author.Needs.{needs}
-use Rattle.sizing.proofs.turn.Statement.{statement}
-use Rattle.sizing.proofs.turn.Tie as tie
+use Rattle.sizing.proofs.pass.Statement.{statement}
+use Rattle.sizing.proofs.pass.Tie as tie
 
 counted-requires : tie.Need-counted-requires
 counted-requires c κs = search needs
 
-turn-over-requires : tie.Need-turn-over-requires
-turn-over-requires c κs = search needs
+flip-bit-requires : tie.Need-flip-bit-requires
+flip-bit-requires c κs = search needs
 
 flip-requires : tie.Need-flip-requires
 flip-requires c κs =
@@ -40,7 +40,7 @@ returns c =
       f .ensures .0,
       n .ensures .0,
       n .ensures .1,
-      c .before .before .before .before .before .before .before .before .before .before .before .before .before .turn-over .ensures,
+      c .before .before .before .before .before .before .before .before .before .before .before .before .before .flip-bit .ensures,
       λ k h lent g l was.
           let e = f .ensures .1 k h (wbit (a .y .now)) lent g (was .twice) in
           record { twice = e .0; knows = e .1 (was .knows) },
@@ -56,16 +56,16 @@ returns-2 c =
       s .pre .0,
       n .ensures .0,
       n .ensures .1,
-      c .before .before .before .turn-over .ensures,
+      c .before .before .before .flip-bit .ensures,
       λ k h lent g l was. absurd (omega (arith, c .if1 .left)),
     )
 
-pub turn-spec : {M : Type 1} → statement M
-turn-spec =
+pub pass-spec : {M : Type 1} → statement M
+pass-spec =
     tie.close
     (tie.spec
     counted-requires
-    turn-over-requires
+    flip-bit-requires
     flip-requires
     same-length
     same-length-2

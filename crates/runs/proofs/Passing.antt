@@ -36,7 +36,7 @@ use Rattle.planes.proofs.Choice.{raised-above}
 use Rattle.choice.proofs.Excesses.{best-next, degree-le, score-excess}
 use Rattle.runs.specs.declared.Ran.{Ran}
 use Rattle.narrow.specs.Weighing.{Rows}
-use Rattle.runs.specs.Turns.{RunsTo, Going, Carried, CarriedNarrow}
+use Rattle.runs.specs.Passes.{RunsTo, Going, Carried, CarriedNarrow}
 
 -- a score of at most 15, less 8, as a signed octet
 module _ (top : ℕ) (small : top ≤ 15) where
@@ -144,10 +144,10 @@ carried-narrow {c} {sh} {left} {z} {y} {rows} e rows-are is = subst (λ w. Carri
 
 -- What is kept of a word at the start: no met check is counted on.
 pub begun-kept : (c : Code) (h : List ℕ) (sh : Shape) (lent : Lent c h sh) (starts counts : List ℕ)
-    → Gathered h sh starts counts (sh .blocks) → (from : ℕ) (x s : Word) (d : List ℕ)
-    → s ≡ laid c sh x → Twice sh (sh .rows) s (wbit d) → Kept c sh from x d counts (replicate 16 0)
-begun-kept c h sh lent starts counts g from x s d e two = record {
-  twice = subst (λ z. Twice sh (sh .rows) z (wbit d)) e two;
+    → Gathered h sh starts counts (sh .blocks) → (from : ℕ) (x z : Word) (d : List ℕ)
+    → z ≡ laid c sh x → Twice sh (sh .rows) z (wbit d) → Kept c sh from x d counts (replicate 16 0)
+begun-kept c h sh lent starts counts g from x z d e two = record {
+  twice = subst (λ w. Twice sh (sh .rows) w (wbit d)) e two;
   under = begun-under c h sh lent from starts counts g x (replicate 16 0) (zeros-at 16);
 }
 
@@ -158,20 +158,20 @@ begun-ready fit g a b = ready fit g a b refl (λ i hi. omega (arith, zeros-at 16
 -- ---- the run, flip by flip
 
 module _ (way : Way) (c : Code) (sh : Shape) (limit : ℕ) (x : Word) where
-  pub going-start : (s : Word) → s ≡ laid c sh x → Going way c sh limit x 0 x s
-  going-start s e =
-      let z : limit - 0 ≡ limit = omega arith in
+  pub going-start : (z : Word) → z ≡ laid c sh x → Going way c sh limit x 0 x z
+  going-start z e =
+      let v : limit - 0 ≡ limit = omega arith in
       record {
         within = omega arith;
         held = e;
-        number = ap (λ l. run way l x .number) (sym z);
-        count = ap (λ l. length (run way l x .flips)) (sym z) ∙ sym (zero-add (length (run way (limit - 0) x .flips)));
-        word = ap (λ l. run way l x .word) (sym z);
+        number = ap (λ l. run way l x .number) (sym v);
+        count = ap (λ l. length (run way l x .flips)) (sym v) ∙ sym (zero-add (length (run way (limit - 0) x .flips)));
+        word = ap (λ l. run way l x .word) (sym v);
       }
 
-  module _ (flips : ℕ) (y s : Word) (g : Going way c sh limit x flips y s) where
+  module _ (flips : ℕ) (y z : Word) (g : Going way c sh limit x flips y z) where
     -- a run that ends where it has come to
-    ends : (n : ℕ) → run way (limit - flips) y ≡ ended n y → RunsTo way c sh limit x (record { number = n; flips = flips }) y s
+    ends : (n : ℕ) → run way (limit - flips) y ≡ ended n y → RunsTo way c sh limit x (record { number = n; flips = flips }) y z
     ends n e = record {
       number = sym (g .number ∙ ap (λ r. r .number) e);
       flips = sym (g .count ∙ ap (λ r. flips + length (r .flips)) e ∙ add-zero flips);
@@ -179,37 +179,37 @@ module _ (way : Way) (c : Code) (sh : Shape) (limit : ℕ) (x : Word) where
       held = g .held;
     }
 
-    pub ends-quiet : way y ≡ quiet → RunsTo way c sh limit x (record { number = 0; flips = flips }) y s
+    pub ends-quiet : way y ≡ quiet → RunsTo way c sh limit x (record { number = 0; flips = flips }) y z
     ends-quiet e = ends 0 (run-quiet way (limit - flips) y e)
 
-    pub ends-stuck : (n : ℕ) (ex : ℤ) → way y ≡ stuck n ex → RunsTo way c sh limit x (record { number = 5; flips = flips }) y s
+    pub ends-stuck : (n : ℕ) (ex : ℤ) → way y ≡ stuck n ex → RunsTo way c sh limit x (record { number = 5; flips = flips }) y z
     ends-stuck n ex e = ends 5 (run-stuck way (limit - flips) y n ex e)
 
     pub ends-limit : (n : ℕ) (ex : ℤ) → way y ≡ flip n ex → limit ≤ flips
-        → RunsTo way c sh limit x (record { number = 6; flips = flips }) y s
+        → RunsTo way c sh limit x (record { number = 6; flips = flips }) y z
     ends-limit n ex e l =
-        let z : limit - flips ≡ 0 = omega arith in
-        ends 6 (ap (λ k. run way k y) z ∙ run-limit way y n ex e)
+        let v : limit - flips ≡ 0 = omega arith in
+        ends 6 (ap (λ k. run way k y) v ∙ run-limit way y n ex e)
 
     -- and one that goes on
-    pub goes-on : (n : ℕ) (ex : ℤ) → way y ≡ flip n ex → flips < limit → (y′ s′ : Word) → y′ ≡ flipped y n → s′ ≡ laid c sh (flipped y n)
-        → Going way c sh limit x (flips + 1) y′ s′
-    goes-on n ex e l y′ s′ here held =
-        subst (λ w. Going way c sh limit x (flips + 1) w s′) (sym here) (record {
+    pub goes-on : (n : ℕ) (ex : ℤ) → way y ≡ flip n ex → flips < limit → (y′ z′ : Word) → y′ ≡ flipped y n → z′ ≡ laid c sh (flipped y n)
+        → Going way c sh limit x (flips + 1) y′ z′
+    goes-on n ex e l y′ z′ here held =
+        subst (λ w. Going way c sh limit x (flips + 1) w z′) (sym here) (record {
           within = omega arith;
           held = held;
-          number = g .number ∙ ap (λ r. r .number) turns;
-          count = g .count ∙ ap (λ r. flips + length (r .flips)) turns ∙ omega arith;
-          word = g .word ∙ ap (λ r. r .word) turns;
+          number = g .number ∙ ap (λ r. r .number) passes;
+          count = g .count ∙ ap (λ r. flips + length (r .flips)) passes ∙ omega arith;
+          word = g .word ∙ ap (λ r. r .word) passes;
         })
       where
         left : limit - flips ≡ suc (limit - (flips + 1))
         left = omega arith
 
-        turns : run way (limit - flips) y ≡ after n ex (run way (limit - (flips + 1)) (flipped y n))
-        turns = ap (λ k. run way k y) left ∙ run-flip way (limit - (flips + 1)) y n ex e
+        passes : run way (limit - flips) y ≡ after n ex (run way (limit - (flips + 1)) (flipped y n))
+        passes = ap (λ k. run way k y) left ∙ run-flip way (limit - (flips + 1)) y n ex e
 
 -- The same run by another record of it.
-pub runs-as : {way : Way} {c : Code} {sh : Shape} {limit : ℕ} {x y s : Word} (r r′ : Ran) → r′ .number ≡ r .number → r′ .flips ≡ r .flips
-    → RunsTo way c sh limit x r y s → RunsTo way c sh limit x r′ y s
+pub runs-as : {way : Way} {c : Code} {sh : Shape} {limit : ℕ} {x y z : Word} (r r′ : Ran) → r′ .number ≡ r .number → r′ .flips ≡ r .flips
+    → RunsTo way c sh limit x r y z → RunsTo way c sh limit x r′ y z
 runs-as r r′ p q to = record { number = p ∙ to .number; flips = q ∙ to .flips; word = to .word; held = to .held }

@@ -1,4 +1,4 @@
--- `bounds::turn_checks` meets its contract: after e turns the checks of the first e starts are turned over. Assumes nothing.
+-- `bounds::flip_checks` meets its contract: after e passes the checks of the first e starts are flipped. Assumes nothing.
 use mathlib.Core.Path.{_≡_, refl, ap, _∙_}
 use Prim.Native.Nat.{ℕ, _+_, _-_, _≤_}
 use native.Mathlib.Omega.{arith}
@@ -8,9 +8,9 @@ use lib.ListN.{length, getD}
 use Rattle.bits.specs.Bits.{sum, _⊕_}
 use Rattle.vectors.specs.Vectors.{wbit}
 use Rattle.bounds.specs.Reading.{other}
-use Rattle.bounds.proofs.Flipped.{turned-none, turned-more}
-use Rattle.bounds.proofs.turn_checks.Statement.{statement}
-use Rattle.bounds.proofs.turn_checks.Tie as tie
+use Rattle.bounds.proofs.Flipped.{flipped-none, flipped-more}
+use Rattle.bounds.proofs.flip_checks.Statement.{statement}
+use Rattle.bounds.proofs.flip_checks.Tie as tie
 
 abbrev Inv-loop : tie.InvT-loop
 Inv-loop d₀ starts first n k m e₀ d e =
@@ -22,29 +22,29 @@ abbrev μ-loop : tie.MeasureT-loop
 μ-loop d₀ starts first n k m e₀ d e = n - e
 
 loop-holds : tie.Need-loop-holds Inv-loop μ-loop
-loop-holds c = (omega arith, c .before .before .pre .4, λ p. turned-none (wbit (c .before .before .args .d .now) p) _)
+loop-holds c = (omega arith, c .before .before .pre .4, λ p. flipped-none (wbit (c .before .before .args .d .now) p) _)
 
-add-turn-check : tie.Need-add-turn-check Inv-loop μ-loop
-add-turn-check c = omega arith
+add-flip-check : tie.Need-add-flip-check Inv-loop μ-loop
+add-flip-check c = omega arith
 
-mul-turn-check : tie.Need-mul-turn-check Inv-loop μ-loop
-mul-turn-check c = omega arith
+mul-flip-check : tie.Need-mul-flip-check Inv-loop μ-loop
+mul-flip-check c = omega arith
 
-shared-slice-read-turn-check : tie.Need-shared-slice-read-turn-check Inv-loop μ-loop
-shared-slice-read-turn-check c = omega arith
+shared-slice-read-flip-check : tie.Need-shared-slice-read-flip-check Inv-loop μ-loop
+shared-slice-read-flip-check c = omega arith
 
-cast-turn-check : tie.Need-cast-turn-check Inv-loop μ-loop
-cast-turn-check c =
+cast-flip-check : tie.Need-cast-flip-check Inv-loop μ-loop
+cast-flip-check c =
     let s = c .before .before .before .before .before .before in
     omega (arith, c .shared-slice-known2 .given (s .args .first + c .before .before .before .loop .e))
 
-add-turn-check-2 : tie.Need-add-turn-check-2 Inv-loop μ-loop
-add-turn-check-2 c =
+add-flip-check-2 : tie.Need-add-flip-check-2 Inv-loop μ-loop
+add-flip-check-2 c =
     let s = c .before .before .before .before .before .before in
     omega (arith, s .pre .5 (c .before .before .before .loop .e) (omega arith) .0)
 
-turn-check-requires : tie.Need-turn-check-requires Inv-loop μ-loop
-turn-check-requires c κs =
+flip-check-requires : tie.Need-flip-check-requires Inv-loop μ-loop
+flip-check-requires c κs =
     let s = c .before .before .before .before .before .before in
     let l = c .before .before .before .loop in
     let near = s .pre .5 (l .e) (omega arith) in
@@ -63,8 +63,8 @@ loop-again c =
     let at : ℕ → ℕ = λ j. getD (a .starts .now) (a .first + j) 0 + a .k in (
       omega arith,
       search needs,
-      λ p. ap (λ x. x p) (c .before .before .turn-check .ensures)
-          ∙ turned-more (λ j. eqb p (at j) ⊕ eqb p (other (a .m) (at j))) (l .e) (wbit (l .d) p) (wbit (a .d .now) p) (eqb p (at (l .e)))
+      λ p. ap (λ x. x p) (c .before .before .flip-check .ensures)
+          ∙ flipped-more (λ j. eqb p (at j) ⊕ eqb p (other (a .m) (at j))) (l .e) (wbit (l .d) p) (wbit (a .d .now) p) (eqb p (at (l .e)))
           (eqb p (other (a .m) (at (l .e)))) refl (l .inv .2 p),
     )
 
@@ -79,19 +79,19 @@ returns c p =
     l .inv .2 p ∙ ap (λ n. wbit (a .d .now) p ⊕ sum n (λ j. eqb p (getD (a .starts .now) (a .first + j) 0 + a .k) ⊕ eqb p
     (other (a .m) (getD (a .starts .now) (a .first + j) 0 + a .k)))) all
 
-pub turn-checks-spec : {M : Type 1} → statement M
-turn-checks-spec =
+pub flip-checks-spec : {M : Type 1} → statement M
+flip-checks-spec =
     tie.close
     (tie.spec
     Inv-loop
     μ-loop
     loop-holds
-    add-turn-check
-    mul-turn-check
-    shared-slice-read-turn-check
-    cast-turn-check
-    add-turn-check-2
-    turn-check-requires
+    add-flip-check
+    mul-flip-check
+    shared-slice-read-flip-check
+    cast-flip-check
+    add-flip-check-2
+    flip-check-requires
     add-e
     loop-less
     loop-again

@@ -1,4 +1,4 @@
--- `nearest::turn` meets its contract: the bits from place k on are still to be turned over. Assumes nothing.
+-- `nearest::flip_listed` meets its contract: the bits from place k on are still to be flipped. Assumes nothing.
 use mathlib.Core.Path.{_≡_, refl, sym, _∙_}
 use mathlib.Core.List.{List}
 use Prim.Native.Nat.{ℕ, _-_, _≤_}
@@ -6,15 +6,15 @@ use native.Mathlib.Omega.{arith}
 use lib.ListN.{length, drop}
 use borrow.Author.Needs.{needs}
 use Rattle.vectors.specs.Vectors.{wbit}
-use Rattle.nearest.specs.Nearest.{list, turned}
+use Rattle.nearest.specs.Nearest.{list, flips}
 use Rattle.nearest.specs.Answers.{held}
-use Rattle.nearest.proofs.Searching.{turn-more, turn-all}
-use Rattle.nearest.proofs.turn.Statement.{statement}
-use Rattle.nearest.proofs.turn.Tie as tie
+use Rattle.nearest.proofs.Searching.{flip-more, flip-all}
+use Rattle.nearest.proofs.flip_listed.Statement.{statement}
+use Rattle.nearest.proofs.flip_listed.Tie as tie
 
 abbrev Inv-loop : tie.InvT-loop
 Inv-loop y₀ l bits k₀ y k =
-    (k ≤ l .count) × (length y ≡ 3) × ((bits′ : List ℕ) → l ≡ held (list bits′) → turned bits′ (wbit y₀) ≡ turned (drop k bits′) (wbit y))
+    (k ≤ l .count) × (length y ≡ 3) × ((bits′ : List ℕ) → l ≡ held (list bits′) → flips bits′ (wbit y₀) ≡ flips (drop k bits′) (wbit y))
 
 abbrev μ-loop : tie.MeasureT-loop
 μ-loop y₀ l bits k₀ y k = l .count - k
@@ -25,17 +25,17 @@ loop-holds c = (omega arith, c .before .before .pre .0, λ bits e. refl)
 cast-if1 : tie.Need-cast-if1 Inv-loop μ-loop
 cast-if1 c = search needs
 
-mul-turn-over : tie.Need-mul-turn-over Inv-loop μ-loop
-mul-turn-over c = search needs
+mul-flip-bit : tie.Need-mul-flip-bit Inv-loop μ-loop
+mul-flip-bit c = search needs
 
-array-read-turn-over : tie.Need-array-read-turn-over Inv-loop μ-loop
-array-read-turn-over c = search needs
+array-read-flip-bit : tie.Need-array-read-flip-bit Inv-loop μ-loop
+array-read-flip-bit c = search needs
 
-cast-turn-over : tie.Need-cast-turn-over Inv-loop μ-loop
-cast-turn-over c = search needs
+cast-flip-bit : tie.Need-cast-flip-bit Inv-loop μ-loop
+cast-flip-bit c = search needs
 
-turn-over-requires : tie.Need-turn-over-requires Inv-loop μ-loop
-turn-over-requires c κs =
+flip-bit-requires : tie.Need-flip-bit-requires Inv-loop μ-loop
+flip-bit-requires c κs =
     let a = c .before .before .before .before .before .before in
     let l = c .before .before .before .loop in
     omega (arith, a .pre .2 (l .k), l .inv .1)
@@ -54,7 +54,7 @@ loop-again c =
       search needs,
       λ bits e.
           l .inv .2 bits e
-          ∙ turn-more (a .args .l) bits e (a .pre .1) (l .k) (wbit (l .y)) _ (omega arith) (c .before .before .turn-over .ensures),
+          ∙ flip-more (a .args .l) bits e (a .pre .1) (l .k) (wbit (l .y)) _ (omega arith) (c .before .before .flip-bit .ensures),
     )
 
 same-length : tie.Need-same-length Inv-loop μ-loop
@@ -64,20 +64,20 @@ returns : tie.Need-returns Inv-loop μ-loop
 returns c =
     let l = c .before .before .loop in
     let a = c .before .before .before .before .before in
-    λ bits e. turn-all (a .args .l) bits e (a .pre .1) (l .k) (wbit (l .y)) (omega arith) ∙ sym (l .inv .2 bits e)
+    λ bits e. flip-all (a .args .l) bits e (a .pre .1) (l .k) (wbit (l .y)) (omega arith) ∙ sym (l .inv .2 bits e)
 
-pub turn-spec : {M : Type 1} → statement M
-turn-spec =
+pub flip-listed-spec : {M : Type 1} → statement M
+flip-listed-spec =
     tie.close
     (tie.spec
     Inv-loop
     μ-loop
     loop-holds
     cast-if1
-    mul-turn-over
-    array-read-turn-over
-    cast-turn-over
-    turn-over-requires
+    mul-flip-bit
+    array-read-flip-bit
+    cast-flip-bit
+    flip-bit-requires
     add-k
     loop-less
     loop-again

@@ -11,7 +11,7 @@ use Rattle.vectors.specs.Vectors.{wbit}
 use Rattle.layout.specs.declared.Shape.{Shape}
 use Rattle.layout.specs.Lent.{Lent, laid}
 use Rattle.bounds.specs.Reading.{Twice}
-use Rattle.runs.specs.Turns.{Going, RunsTo}
+use Rattle.runs.specs.Passes.{Going, RunsTo}
 use Rattle.sizes.specs.Samples.{read, smaller}
 use Rattle.sizes.specs.Sizes.{bySize}
 use Rattle.smallest.specs.Knowing.{Knows, whole}
