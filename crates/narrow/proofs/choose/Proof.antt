@@ -30,7 +30,7 @@ first-bit-requires c κs = search needs
 
 returns : tie.Need-returns
 returns c k x lent is =
-    let s = c .before .before .before .before .before .before .before .before .before .before .before in
+    let s : tie.Start = search in
     let a = s .args in
     let p = c .before .before .greatest in
     subst (λ n. Chosen k (a .sh) (a .from) x (record { score = p .result .score; bit = n })) (sym (c .first-bit .ensures .1))

@@ -59,7 +59,7 @@ same-length-2 c = search needs
 
 returns : tie.Need-returns Inv-loop μ-loop
 returns c k lent u w =
-    let s = c .before .before .before .before .before .before .before .before .before .before in
+    let s : tie.Start Inv-loop μ-loop = search in
     let a = s .args in
     let l = c .before .before .before .before .before .before .loop in
     let i = l .inv .3 k lent u w in
@@ -83,7 +83,7 @@ same-length-4 c = search needs
 
 returns-2 : tie.Need-returns-2 Inv-loop μ-loop
 returns-2 c k lent u w =
-    let s = c .before .before .before .before .before .before .before .before .before .before .before in
+    let s : tie.Start Inv-loop μ-loop = search in
     let a = s .args in
     let l = c .before .before .before .before .before .before .before .loop in
     let i = l .inv .3 k lent u w in
@@ -98,7 +98,7 @@ returns-2 c k lent u w =
 
 flip-requires : tie.Need-flip-requires Inv-loop μ-loop
 flip-requires c κs =
-    let s = c .before .before .before .before .before .before .before .before .before .before .before .before in
+    let s : tie.Start Inv-loop μ-loop = search in
     let l = c .before .before .before .before .before .before .before .before .loop in
     let w = s .pre .6 in
     let i = l .inv .3 (w .code) (w .lent) (w .unsent) (w .carried) in (
@@ -111,18 +111,19 @@ flip-requires c κs =
     )
 
 sub-left : tie.Need-sub-left Inv-loop μ-loop
-sub-left c = omega (arith, c .before .before .before .before .before .before .before .before .before .if1 .left)
+sub-left c =
+    let else1 : tie.Else1 Inv-loop μ-loop = search in
+    omega (arith, else1 .if1 .left)
 
 sub-left-2 : tie.Need-sub-left-2 Inv-loop μ-loop
 sub-left-2 c =
-    let s = c .before .before .before .before .before .before .before .before .before .before .before .before .before .before .before
-    .before .before .before in
-    let l = c .before .before .before .before .before .before .before .before .before .before .before .before .before .before .loop in
+    let else1 : tie.Else1 Inv-loop μ-loop = search in
+    let s : tie.Start Inv-loop μ-loop = search in
+    let l = else1 .before .before .before .before .before .loop in
     let w = s .pre .6 in
     let i = l .inv .3 (w .code) (w .lent) (w .unsent) (w .carried) in
-    let high = c .before .before .before .before .before .before .before .before .before .if1 .left in
-    let best = c .before .before .before .before .before .before .before .before .before .before .before .choose .ensures (w .code) (wbit
-    (l .y)) (w .lent) (i .1 .rows-are) in
+    let high = else1 .if1 .left in
+    let best = else1 .before .before .choose .ensures (w .code) (wbit (l .y)) (w .lent) (i .1 .rows-are) in
     omega (
       arith,
       i .1 .left-is,
@@ -130,39 +131,34 @@ sub-left-2 c =
     )
 
 add-flips : tie.Need-add-flips Inv-loop μ-loop
-add-flips c = omega (
-  arith,
-  c .before .before .before .before .before .before .before .before .before .before .before .before .before
-      .before .loop .inv .4,
-  c .before .before .before .before .before .before .before .before .if2 .left,
-)
+add-flips c =
+    let in-loop : tie.In-loop Inv-loop μ-loop = search in
+    omega (arith, in-loop .before .loop .inv .4, c .before .before .before .before .before .before .before .before .if2 .left)
 
 loop-less : tie.Need-loop-less Inv-loop μ-loop
 loop-less c = omega (arith, c .before .before .before .before .before .before .before .before .if2 .left)
 
 loop-again : tie.Need-loop-again Inv-loop μ-loop
 loop-again c =
-    let s = c .before .before .before .before .before .before .before .before .before .before .before .before .before .before .before
-    .before .before .before in
+    let else1 : tie.Else1 Inv-loop μ-loop = search in
+    let s : tie.Start Inv-loop μ-loop = search in
     let a = s .args in
-    let l = c .before .before .before .before .before .before .before .before .before .before .before .before .before .before .loop in
+    let l = else1 .before .before .before .before .before .loop in
     let f = c .before .before .before .before .before .flip .ensures in
-    let high = c .before .before .before .before .before .before .before .before .before .if1 .left in
+    let high = else1 .if1 .left in
     let room = c .before .before .before .before .before .before .before .before .if2 .left in (
       omega (arith, c .before .before .before .before .y .given, l .inv .0),
       omega (arith, c .before .before .rows .given, l .inv .1),
       omega (arith, room),
       λ k lent u w.
           let i = l .inv .3 k lent u w in
-          let best = c .before .before .before .before .before .before .before .before .before .before .before .choose .ensures k (wbit (l
-          .y)) lent (i .1 .rows-are) in
+          let best = else1 .before .before .choose .ensures k (wbit (l .y)) lent (i .1 .rows-are) in
           let top = top-ends refl (sym (lent .bits-are)) (best .top high) in
           let next = next-flip lent (wbit (l .y)) top u (λ e. omega (
             arith,
             i .1 .left-is,
             e,
-            c .before .before .before .before .before
-                .before .before .before .before .before .before .before .before .loop-test .taken,
+            else1 .before .before .before .before .loop-test .taken,
           )) high in (
             subst (λ z. Going (byExcess k) k (a .sh) (a .limit) (wbit (a .y .now)) (l .flips + 1) z (laid k (a .sh) z)) (sym (f .0))
                 (goes-on (byExcess k) k (a .sh) (a .limit) (wbit (a .y .now)) (l .flips) (wbit (l .y)) _ (i .0) _ _ next room _ _ refl

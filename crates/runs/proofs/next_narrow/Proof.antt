@@ -24,21 +24,24 @@ choose-requires c κs = search needs
 
 cast-t13 : tie.Need-cast-t13
 cast-t13 c =
-    let w = c .before .before .before .before .before .before .before .before .before .before .pre .4 in
+    let s : tie.Start = search in
+    let w = s .pre .4 in
     let f = c .before .before .before .choose .ensures (w .code) (w .word) (w .lent)
     (c .before .before .before .before .before .before .begin .ensures (w .code) (w .word) (w .held)) in
     score-fits _ (top-small (w .lent) (w .word) (top-ends refl (sym (w .lent .bits-are)) (f .top (c .before .if1 .taken))))
 
 sub-t14 : tie.Need-sub-t14
 sub-t14 c =
-    let w = c .before .before .before .before .before .before .before .before .before .before .pre .4 in
+    let s : tie.Start = search in
+    let w = s .pre .4 in
     let f = c .before .before .before .choose .ensures (w .code) (w .word) (w .lent)
     (c .before .before .before .before .before .before .begin .ensures (w .code) (w .word) (w .held)) in
     excess-fits _ (top-small (w .lent) (w .word) (top-ends refl (sym (w .lent .bits-are)) (f .top (c .before .if1 .taken))))
 
 returns : tie.Need-returns
 returns c =
-    let w = c .before .before .before .before .before .before .before .before .before .before .pre .4 in
+    let s : tie.Start = search in
+    let w = s .pre .4 in
     let best = c .before .before .before .choose in
     let begun = c .before .before .before .before .before .before .begin .ensures in
     let high = c .before .if1 .taken in

@@ -46,7 +46,8 @@ same-length c = search needs
 
 returns : tie.Need-returns
 returns c k e =
-    let a = c .before .before .before .before .before .before .before .before .before .before .before .before .args in
+    let s : tie.Start = search in
+    let a = s .args in
     c .before .before .before .go-on-narrow .ensures k (e .lent) (e .unsent)
     (record {
       rows-are = c .before .before .before .before .before .before .before .begin .ensures k (wbit (a .y .now)) (e .held);

@@ -61,10 +61,10 @@ slice-aggregate-go-on-5 c = search needs
 
 go-on-requires : tie.Need-go-on-requires
 go-on-requires c κs =
-    let s = c .before .before .before .before .before .before .before .before .before .before .before .before .before .before .before
-    .before .before .before in
+    let after-begin : tie.After-begin = search in
+    let s : tie.Start = search in
     let a = s .args in
-    let m = c .before .before .before .before .before .before .before .before .before .begin in
+    let m = after-begin .begin in
     let w = s .pre .7 in
     let k = w .begins in (
       s .pre .0,
@@ -92,11 +92,10 @@ same-length c = search needs
 
 returns-2 : tie.Need-returns-2
 returns-2 c k e =
-    let s = c .before .before .before .before .before .before .before .before .before .before .before .before .before .before .before
-    .before .before .before .before .before .before .before .before .before in
+    let after-begin : tie.After-begin = search in
+    let s : tie.Start = search in
     let a = s .args in
-    let m = c .before .before .before .before .before .before .before .before .before .before .before .before .before .before .before
-    .begin in
+    let m = after-begin .begin in
     c .before .before .before .before .before .go-on .ensures k (e .lent) (e .unsent) (e .broken)
     (begun-stands k (a .sh) (a .samples .now) _ _ (wbit (a .y .now)) _ _ (s .pre .0 .blocks) (omega (arith, s .pre .4, s .pre .0 .bits))
     (e .held) (m .ensures .0))

@@ -28,13 +28,13 @@ cast-smallest-in c =
 
 mul-smallest-in-2 : tie.Need-mul-smallest-in-2
 mul-smallest-in-2 c =
-    let s = c .before .before .before .before .before .before .before .before .before in
+    let s : tie.Start = search in
     let a = s .args in
     omega (arith, s .pre .3, block-room (a .b) (a .sh .blocks) (a .sh .size) (s .pre .5))
 
 smallest-in-requires : tie.Need-smallest-in-requires
 smallest-in-requires c κs =
-    let s = c .before .before .before .before .before .before .before .before .before in
+    let s : tie.Start = search in
     let a = s .args in (
       block-within (a .sh) (a .starts .now) (a .counts .now) (a .met .now) (s .pre .0) (a .b) (s .pre .5) (a .d .now) (s .pre .2),
       s .pre .4,
@@ -56,7 +56,7 @@ same-length c = search needs
 
 returns : tie.Need-returns
 returns c =
-    let s = c .before .before .before .before .before .before .before .before .before .before .before .before in
+    let s : tie.Start = search in
     let a = s .args in
     let f = c .before .before .smallest-in in
     let e = c .lead .ensures in
@@ -69,7 +69,7 @@ slice-read-met c = search needs
 
 add-met : tie.Need-add-met
 add-met c =
-    let s = c .before .before .before .before .before .before .before .before .before .before .before .before in
+    let s : tie.Start = search in
     omega (arith, s .pre .0 .low (s .args .b) (s .pre .5), s .pre .0 .few (s .args .b) (s .pre .5))
 
 slice-write-met : tie.Need-slice-write-met
@@ -83,7 +83,7 @@ same-length-3 c = search needs
 
 returns-2 : tie.Need-returns-2
 returns-2 c =
-    let s = c .before .before .before .before .before .before .before .before .before .before .before .before in
+    let s : tie.Start = search in
     let a = s .args in
     let f = c .before .before .smallest-in in
     weighed-none (a .samples .now) (a .sh) (wbit (a .d .now)) (a .starts .now) (a .counts .now) (a .met .now) (a .kept .now) (s .pre .0)
