@@ -36,7 +36,7 @@ returns-3 : tie.Need-returns-3
 returns-3 c =
     let w = c .before .before .put-blocks in
     let e2 = c .before .before .before .before .before .before in
-    let a = c .before .before .before .before .before .before .before .before .before .before .args in
+    let a = e2 .before .before .before .before .args in
     ap (asExported 0) (w .ensures) ∙ sym (export-done (a .octets .now) (a .out .now) (le-ltb _ _ (e2 .before .if1 .left))
     (eq-eqb _ _ (e2 .if2 .left)))
 

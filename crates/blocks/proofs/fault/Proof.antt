@@ -78,7 +78,7 @@ count-right-requires c κs = search needs
 
 returns-3 : tie.Need-returns-3
 returns-3 c =
-    let e1 = c .before .before .before .before .before .before .before .before .before .before in
+    let e1 : tie.Else1 = search in
     let p = e1 .before .pair in
     let v = e1 .before .before .before .before .over in
     let a = e1 .before .before .before .before .before .before .before in
@@ -97,8 +97,7 @@ add-from c = search needs
 
 sub-clear : tie.Need-sub-clear
 sub-clear c =
-    let a = c .before .before .before .before .before .before .before .before .before .before .before .before .before .before .before
-    .before .before in
+    let a : tie.Start = search in
     omega (
       arith,
       count-le (a .args .last) (c .before .before .used .result)
@@ -107,8 +106,7 @@ sub-clear c =
 
 part-clear-start : tie.Need-part-clear-start
 part-clear-start c =
-    let a = c .before .before .before .before .before .before .before .before .before .before .before .before .before .before .before
-    .before .before in
+    let a : tie.Start = search in
     omega (
       arith,
       count-le (a .args .last) (c .before .before .used .result)
@@ -123,7 +121,7 @@ clear-requires c κs = search needs
 
 returns-4 : tie.Need-returns-4
 returns-4 c =
-    let e1 = c .before .before .before .before .before .before .before .before .before .before .before .before .before in
+    let e1 : tie.Else1 = search in
     let p = e1 .before .pair in
     let v = e1 .before .before .before .before .over in
     let a = e1 .before .before .before .before .before .before .before in
@@ -141,7 +139,7 @@ returns-4 c =
 
 returns-5 : tie.Need-returns-5
 returns-5 c =
-    let e1 = c .before .before .before .before .before .before .before .before .before .before .before .before .before in
+    let e1 : tie.Else1 = search in
     let p = e1 .before .pair in
     let v = e1 .before .before .before .before .over in
     let a = e1 .before .before .before .before .before .before .before in

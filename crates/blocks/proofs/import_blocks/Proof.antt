@@ -38,7 +38,7 @@ returns-2 c =
     let e1 = c .before .before .before .before .before in
     let w = e1 .before .is-whole in
     let whole = sym (w .ensures) ∙ not-false (w .result) (e1 .if1 .left) in
-    let a = c .before .before .before .before .before .before .before .before .before .args in
+    let a = e1 .before .before .before .before .args in
     ap (λ (r : Fault). record { number = r .number; block = r .block; out = a .out .now }) (f .ensures)
     ∙ sym (import-fault (a .blocks .now) (a .out .now) whole
     (ap (λ (r : Fault). eqb (r .number) 0) (sym (f .ensures)) ∙ ne-eqb (f .result .number) 0 (c .if2 .taken)))
@@ -52,7 +52,7 @@ room-requires c κs =
     let whole = sym (w .ensures) ∙ not-false (w .result) (e1 .if1 .left) in
     let none : f .result .number ≡ 0 = e2 .if2 .left in
     let found = sym (ap (λ (r : Fault). r .number) (f .ensures)) ∙ none in
-    let a = e2 .before .before .before .before .before .before .before .before .before .args in
+    let a = e1 .before .before .before .before .args in
     let i = whole-is (length (a .blocks .now)) whole in
     (i .0, i .1, found)
 
@@ -66,7 +66,7 @@ returns-3 c =
     let whole = sym (w .ensures) ∙ not-false (w .result) (e1 .if1 .left) in
     let none : f .result .number ≡ 0 = e2 .if2 .left in
     let found = sym (ap (λ (r : Fault). r .number) (f .ensures)) ∙ none in
-    let a = e2 .before .before .before .before .before .before .before .before .before .args in
+    let a = e1 .before .before .before .before .args in
     sym (import-room (a .blocks .now) (a .out .now) whole (eq-eqb _ 0 found) (ne-eqb _ _ (λ q. c .if3 .taken (q ∙ sym (r .ensures)))))
 
 take-data-requires : tie.Need-take-data-requires
@@ -80,7 +80,7 @@ take-data-requires c κs =
     let whole = sym (w .ensures) ∙ not-false (w .result) (e1 .if1 .left) in
     let none : f .result .number ≡ 0 = e2 .if2 .left in
     let found = sym (ap (λ (r : Fault). r .number) (f .ensures)) ∙ none in
-    let a = e2 .before .before .before .before .before .before .before .before .before .args in
+    let a = e1 .before .before .before .before .args in
     let i = whole-is (length (a .blocks .now)) whole in
     (i .0, i .1, found, e3 .if3 .left ∙ r .ensures)
 
@@ -99,7 +99,7 @@ returns-4 c =
     let whole = sym (w .ensures) ∙ not-false (w .result) (e1 .if1 .left) in
     let none : f .result .number ≡ 0 = e2 .if2 .left in
     let found = sym (ap (λ (r : Fault). r .number) (f .ensures)) ∙ none in
-    let a = e2 .before .before .before .before .before .before .before .before .before .args in
+    let a = e1 .before .before .before .before .args in
     ap (λ (l : List ℕ). record { number = 0; block = 0; out = l }) (d .ensures)
     ∙ sym (import-done (a .blocks .now) (a .out .now) whole (eq-eqb _ 0 found) (eq-eqb _ _ (e3 .if3 .left ∙ r .ensures)))
 

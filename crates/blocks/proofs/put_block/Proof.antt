@@ -32,9 +32,9 @@ slice-reshare-prefix-over c = search needs
 
 slice-aggregate-over : tie.Need-slice-aggregate-over
 slice-aggregate-over c =
+    let a : tie.Start = search in
     let d = c .before .before .before .put-data in
     let h = c .before .before .before .before .before .before .before .put-head in
-    let a = c .before .before .before .before .before .before .before .before .before .before .before in
     checked-long (a .args .out .now) (a .args .used .now) (h .last .1 .1 .0) (d .last .1 .0) (a .args .place) (a .pre .1) (a .pre .0)
     (h .ensures) (d .ensures)
 
@@ -58,12 +58,12 @@ same-length c = search needs
 
 returns : tie.Need-returns
 returns c =
+    let after-put-head : tie.After-put-head = search in
+    let a : tie.Start = search in
     let k = c .before .before .put-two in
     let f = c .before .before .before .before .over in
     let d = c .before .before .before .before .before .before .before .before .put-data in
-    let h = c .before .before .before .before .before .before .before .before .before .before .before .before .put-head in
-    let a = c .before .before .before .before .before .before .before .before .before .before .before .before .before .before .before
-    .before in
+    let h = after-put-head .put-head in
     block-put (a .args .out .now) (a .args .used .now) (h .last .1 .1 .0) (d .last .1 .0) (a .args .place) (a .pre .1) (a .pre .0)
     (h .ensures) (d .ensures)
     (f .result) (k .last .1 .0) (f .ensures) (k .ensures)

@@ -72,10 +72,10 @@ loop-less c = omega arith
 
 loop-again : tie.Need-loop-again Inv-loop μ-loop
 loop-again c =
+    let a : tie.Start Inv-loop μ-loop = search in
     let w = c .before .before .put-block in
     let s = c .before .before .before .before .before .least in
     let h = c .before .before .before .before .before .before .before .loop in
-    let a = c .before .before .before .before .before .before .before .before .before .before in
     let o = a .args .octets .now in
     let e = w .ensures ∙ ap (block (h .k)) (piece-range (h .k) (s .result) o (omega arith) (s .ensures)) in (
       omega arith,

@@ -32,9 +32,9 @@ same-length c = search needs
 
 returns : tie.Need-returns
 returns c =
+    let a : tie.Start = search in
     let w = c .before .before .wipe in
     let k = c .before .before .before .before .before .before .copy in
-    let a = c .before .before .before .before .before .before .before .before .before .before in
     data-put (a .args .out .now) (a .args .used .now) (k .last .1 .0) (w .last .0) (a .pre) (k .ensures) (w .ensures)
 
 pub put-data-spec : {M : Type 1} → statement M

@@ -46,10 +46,11 @@ same-length c = search needs
 
 returns : tie.Need-returns
 returns c =
+    let after-put-two : tie.After-put-two = search in
+    let a : tie.Start = search in
     let third = c .before .before .put-two3 in
     let second = c .before .before .before .before .before .before .put-two2 in
-    let first = c .before .before .before .before .before .before .before .before .before .before .put-two in
-    let a = c .before .before .before .before .before .before .before .before .before .before .before .before .before in
+    let first = after-put-two .put-two in
     three-put (a .args .out .now) (first .last .1 .0) (second .last .1 .0) (third .last .1 .0) 2 2 2
     (ap length (first .ensures)) (ap length (second .ensures)) (ap length (third .ensures)) (a .pre)
     ∙ ap₂ (λ x y. x ++ y) (ap₂ (λ x y. x ++ y) (first .ensures ∙ high (a .args .place)) (second .ensures)) (third .ensures)

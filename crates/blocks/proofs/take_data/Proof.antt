@@ -104,9 +104,9 @@ loop-less c = omega arith
 
 loop-again : tie.Need-loop-again Inv-loop μ-loop
 loop-again c =
+    let a : tie.Start Inv-loop μ-loop = search in
     let u = c .before .before .before .before .before .used in
     let h = c .before .before .before .before .before .before .before .before .loop in
-    let a = c .before .before .before .before .before .before .before .before .before .before .before in
     let o = a .args .blocks .now in
     let w = c .before .before .copy in
     let fit = next-fits (a .args .n) o (a .pre .0) (a .pre .2) (h .k) (u .result) (omega arith) (u .ensures .0) in

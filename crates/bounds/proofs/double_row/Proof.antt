@@ -25,7 +25,8 @@ same-length c = search needs
 
 returns : tie.Need-returns
 returns c =
-    let a = c .before .before .before .before .before .before .before .before .before .args in
+    let s : tie.Start = search in
+    let a = s .args in
     c .before .before .double-narrow-row .ensures (wbit (a .z .now)) (64 * a .at) (word-holds (a .z .now) (a .at))
 
 row-requires : tie.Need-row-requires
@@ -51,7 +52,8 @@ part-double-end c = search needs
 
 double-requires : tie.Need-double-requires
 double-requires c κs =
-    let a = c .before .before .before .before .before .before .before .before .before .before .args in
+    let s : tie.Start = search in
+    let a = s .args in
     let clean = upTo-again (a .m) (from (64 * a .at) (wbit (a .z .now))) _ (c .before .before .before .before .row .ensures) in
     (clean, omega arith, omega arith, simp (length-take, length-drop) (omega arith), simp (length-take, length-drop) (omega arith))
 
@@ -63,7 +65,8 @@ same-length-3 c = search needs
 
 returns-2 : tie.Need-returns-2
 returns-2 c =
-    let a = c .before .before .before .before .before .before .before .before .before .before .before .before .before .args in
+    let s : tie.Start = search in
+    let a = s .args in
     let row = c .before .before .before .before .before .before .before .row .ensures in
     let twofold = c .before .before .double .ensures in
     placed (a .d .now) _ _ (a .to) (omega arith) (wbit (a .z .now)) (64 * a .at) (a .m)

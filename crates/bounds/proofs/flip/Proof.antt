@@ -53,7 +53,7 @@ flip-checks-requires c κs =
 
 slice-read-by : tie.Need-slice-read-by
 slice-read-by c =
-    let s = c .before .before .before .before .before .before .before .before .before .before .before .before in
+    let s : tie.Start = search in
     let a = s .args in
     let hb : a .bit / a .sh .size < a .sh .blocks = div-lt-iff-lt-mul (s .pre .0 .some) .1 (s .pre .2) in
     omega (arith, s .pre .0 .met-long, s .pre .0 .blocks)
@@ -69,8 +69,7 @@ same-length-2 c = search needs
 
 returns : tie.Need-returns
 returns c =
-    let s = c .before .before .before .before .before .before .before .before .before .before .before .before .before .before .before
-    .before in
+    let s : tie.Start = search in
     let a = s .args in
     let r = c .before .before .raise in
     let t = c .before .before .before .before .before .before .before .flip-checks in (

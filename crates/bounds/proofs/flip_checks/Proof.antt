@@ -58,8 +58,9 @@ loop-less c = omega arith
 
 loop-again : tie.Need-loop-again Inv-loop μ-loop
 loop-again c =
+    let s : tie.Start Inv-loop μ-loop = search in
     let l = c .before .before .before .before .before .before .loop in
-    let a = c .before .before .before .before .before .before .before .before .before .args in
+    let a = s .args in
     let at : ℕ → ℕ = λ j. getD (a .starts .now) (a .first + j) 0 + a .k in (
       omega arith,
       search needs,

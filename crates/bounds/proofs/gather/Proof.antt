@@ -64,7 +64,7 @@ note-requires c κs =
 
 add-note : tie.Need-add-note Inv-loop μ-loop
 add-note c =
-    let s = c .before .before .before .before .before .before .before .before .before .before in
+    let s : tie.Start Inv-loop μ-loop = search in
     let inside = within (c .before .before .before .before .before .before .before .loop .r) (s .args .sh .rows) (s .args .sh .blocks)
     (omega arith) in
     omega arith
@@ -74,7 +74,7 @@ mul-note-2 c = omega arith
 
 note-requires-2 : tie.Need-note-requires-2 Inv-loop μ-loop
 note-requires-2 c κs =
-    let s = c .before .before .before .before .before .before .before .before .before .before .before in
+    let s : tie.Start Inv-loop μ-loop = search in
     let inside = within (c .before .before .before .before .before .before .before .before .loop .r) (s .args .sh .rows)
     (s .args .sh .blocks) (omega arith) in (
       omega arith,
@@ -96,10 +96,11 @@ loop-less c = omega arith
 
 loop-again : tie.Need-loop-again Inv-loop μ-loop
 loop-again c =
-    let s = c .before .before .before .before .before .before .before .before .before .before .before .before .before .before in
+    let then1 : tie.Then1 Inv-loop μ-loop = search in
+    let s : tie.Start Inv-loop μ-loop = search in
     let a = s .args in
     let rows = s .pre .0 .rows in
-    let l = c .before .before .before .before .before .before .before .before .before .before .before .loop in
+    let l = then1 .before .before .loop in
     let one = c .before .before .before .before .before .before .note in
     let two = c .before .before .note2 in (
       omega arith,

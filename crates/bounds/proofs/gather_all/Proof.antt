@@ -31,20 +31,23 @@ cast-counts c = omega (arith, c .before .before .gather .ensures .0)
 
 slice-write-counts : tie.Need-slice-write-counts Inv-loop μ-loop
 slice-write-counts c =
+    let s : tie.Start Inv-loop μ-loop = search in
     let l = c .before .before .before .before .before .before .loop in
-    let blocks = c .before .before .before .before .before .before .before .before .before .before .pre .0 .blocks in
+    let blocks = s .pre .0 .blocks in
     omega (arith, l .inv .2)
 
 add-b : tie.Need-add-b Inv-loop μ-loop
-add-b c = omega (arith, c .before .before .before .before .before .before .before .before .before .before .pre .0 .blocks)
+add-b c =
+    let s : tie.Start Inv-loop μ-loop = search in
+    omega (arith, s .pre .0 .blocks)
 
 loop-less : tie.Need-loop-less Inv-loop μ-loop
 loop-less c = omega arith
 
 loop-again : tie.Need-loop-again Inv-loop μ-loop
 loop-again c =
+    let s : tie.Start Inv-loop μ-loop = search in
     let l = c .before .before .before .before .before .before .loop in
-    let s = c .before .before .before .before .before .before .before .before .before .before in
     let a = s .args in
     let g = c .before .before .gather in (
       omega arith,

@@ -31,8 +31,9 @@ look-requires c κs =
 
 mul-result : tie.Need-mul-result Inv-loop μ-loop
 mul-result c =
-    let s = c .before .before .before .before .before .before .before .before .before .before .before .before .before .before in
-    let b = c .before .before .before .before .before .before .before .before .before .loop .b in
+    let then1 : tie.Then1 Inv-loop μ-loop = search in
+    let s : tie.Start Inv-loop μ-loop = search in
+    let b = then1 .before .before .loop .b in
     let ready = s .pre .0 in
     omega (
       arith,
@@ -45,8 +46,9 @@ mul-result c =
 
 add-result : tie.Need-add-result Inv-loop μ-loop
 add-result c =
-    let s = c .before .before .before .before .before .before .before .before .before .before .before .before .before .before in
-    let b = c .before .before .before .before .before .before .before .before .before .loop .b in
+    let then1 : tie.Then1 Inv-loop μ-loop = search in
+    let s : tie.Start Inv-loop μ-loop = search in
+    let b = then1 .before .before .loop .b in
     let ready = s .pre .0 in
     omega (
       arith,
@@ -62,9 +64,10 @@ same-length c = search needs
 
 returns : tie.Need-returns Inv-loop μ-loop
 returns c =
-    let s = c .before .before .before .before .before .before .before .before .before .before .before .before .before .before in
+    let then1 : tie.Then1 Inv-loop μ-loop = search in
+    let s : tie.Start Inv-loop μ-loop = search in
     let a = s .args in
-    let l = c .before .before .before .before .before .before .before .before .before .loop in
+    let l = then1 .before .before .loop in
     let k = c .before .before .before .before .before .look in
     let more = lowered-more (a .sh) (a .from) (wbit (a .d .now)) (a .starts .now) (a .counts .now) (a .met .now) (l .met) _ (l .b) (a .top)
     (k .result) (l .inv .1) (l .inv .2) (l .inv .3) (omega arith) (k .ensures) in
@@ -73,18 +76,16 @@ returns c =
     record { lowered = more; found = λ h. here; none = λ h. absurd (omega (arith, here .inside)) }
 
 add-b : tie.Need-add-b Inv-loop μ-loop
-add-b c = omega (
-  arith,
-  c .before .before .before .before .before .before .before .before .before .before .before .before .before .pre .0
-      .blocks,
-)
+add-b c =
+    let s : tie.Start Inv-loop μ-loop = search in
+    omega (arith, s .pre .0 .blocks)
 
 loop-less : tie.Need-loop-less Inv-loop μ-loop
 loop-less c = omega arith
 
 loop-again : tie.Need-loop-again Inv-loop μ-loop
 loop-again c =
-    let s = c .before .before .before .before .before .before .before .before .before .before .before .before .before in
+    let s : tie.Start Inv-loop μ-loop = search in
     let a = s .args in
     let l = c .before .before .before .before .before .before .before .before .loop in
     let k = c .before .before .before .before .look in (

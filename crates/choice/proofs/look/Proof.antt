@@ -45,12 +45,12 @@ cast-n c =
 
 slice-read-first-light : tie.Need-slice-read-first-light
 slice-read-first-light c =
-    let s = c .before .before .before .before .before .before .before .before .before in
+    let s : tie.Start = search in
     omega (arith, s .pre .0 .met-long, s .pre .0 .blocks, s .pre .3)
 
 cast-first-light : tie.Need-cast-first-light
 cast-first-light c =
-    let s = c .before .before .before .before .before .before .before .before .before in
+    let s : tie.Start = search in
     omega (arith, s .pre .0 .low (s .args .b) (s .pre .3), s .pre .0 .few (s .args .b) (s .pre .3))
 
 begin-in-requires : tie.Need-begin-in-requires
@@ -58,7 +58,7 @@ begin-in-requires c κs = search needs
 
 first-light-requires : tie.Need-first-light-requires
 first-light-requires c κs =
-    let s = c .before .before .before .before .before .before .before .before .before .before in
+    let s : tie.Start = search in
     let r = s .pre .0 in
     let b = s .args .b in (
       r .some,
@@ -78,7 +78,7 @@ same-length-2 c = search needs
 
 returns-2 : tie.Need-returns-2
 returns-2 c =
-    let s = c .before .before .before .before .before .before .before .before .before .before .before .before .before in
+    let s : tie.Start = search in
     let a = s .args in
     let f = c .before .before in
     let m = f .before .before .before .before in
@@ -92,17 +92,17 @@ returns-2 c =
 
 slice-read-met : tie.Need-slice-read-met
 slice-read-met c =
-    let s = c .before .before .before .before .before .before .before .before .before .before .before .before .before .before in
+    let s : tie.Start = search in
     omega (arith, s .pre .0 .met-long, s .pre .0 .blocks, s .pre .3)
 
 add-met : tie.Need-add-met
 add-met c =
-    let s = c .before .before .before .before .before .before .before .before .before .before .before .before .before .before in
+    let s : tie.Start = search in
     omega (arith, s .pre .0 .low (s .args .b) (s .pre .3), s .pre .0 .few (s .args .b) (s .pre .3))
 
 slice-write-met : tie.Need-slice-write-met
 slice-write-met c =
-    let s = c .before .before .before .before .before .before .before .before .before .before .before .before .before .before in
+    let s : tie.Start = search in
     omega (arith, s .pre .0 .met-long, s .pre .0 .blocks, s .pre .3)
 
 same-length-3 : tie.Need-same-length-3
@@ -110,7 +110,7 @@ same-length-3 c = search needs
 
 returns-3 : tie.Need-returns-3
 returns-3 c =
-    let s = c .before .before .before .before .before .before .before .before .before .before .before .before .before .before in
+    let s : tie.Start = search in
     let a = s .args in
     let f = c .before .before .before in
     let m = f .before .before .before .before in

@@ -57,7 +57,7 @@ slice-aggregate-run-3 c = search needs
 
 run-requires : tie.Need-run-requires
 run-requires c κs =
-    let m = c .before .before .before .before .before .before .before .before .before .before in
+    let m : tie.After-measure = search in
     let b = c .before .before .before .before .before in
     let a = m .before .before .before .before .before .before in
     let k = a .pre .0 in
@@ -81,19 +81,16 @@ slice-aggregate-judge : tie.Need-slice-aggregate-judge
 slice-aggregate-judge c = search needs
 
 judge-requires : tie.Need-judge-requires
-judge-requires c κs = (
-  c .before .before .before .before .before .before .before .before .before .before .before .before .before .before
-      .before .before .before .before .before .before .before .before .pre .0,
-  search needs,
-)
+judge-requires c κs =
+    let s = let after-measure : tie.After-measure = search in after-measure .before .before .before .before .before .before in
+    (s .pre .0, search needs)
 
 slice-aggregate-write : tie.Need-slice-aggregate-write
 slice-aggregate-write c = search needs
 
 write-requires : tie.Need-write-requires
 write-requires c κs =
-    let a = c .before .before .before .before .before .before .before .before .before .before .before .before .before .before .before
-    .before .before .before .before .before .before .before .before .before .before .before in (
+    let a = let after-measure : tie.After-measure = search in after-measure .before .before .before .before .before .before in (
       search needs,
       small (a .pre .0) .unsent,
       omega (arith, a .pre .2, small (a .pre .0) .word),

@@ -87,8 +87,7 @@ slice-aggregate-write c = search needs
 
 write-requires : tie.Need-write-requires
 write-requires c κs =
-    let a = c .before .before .before .before .before .before .before .before .before .before .before .before .before .before .before
-    .before .before .before .before .before in (
+    let a : tie.Start = search in (
       search needs,
       small (a .pre .0) .unsent,
       omega (arith, a .pre .2, small (a .pre .0) .word),
@@ -99,7 +98,7 @@ write-requires c κs =
 
 cast-t32 : tie.Need-cast-t32
 cast-t32 c =
-    let f = c .before .before .before .before .before .before .before .before .before .before in
+    let f : tie.After-next = search in
     let x = f .before .before in
     let m = x .before .before .before .before .before .before in
     let a = m .before .before .before .before .before .before in
@@ -141,7 +140,8 @@ same-length-2 c = search needs
 returns-3 : tie.Need-returns-3
 unfolding nextStep
 returns-3 c =
-    let f = c .before .before .before .before .before .before .before .before .before .before in
+    let after-flip-bit : tie.After-flip-bit = search in
+    let f : tie.After-next = search in
     let x = f .before .before in
     let m = x .before .before .before .before .before .before in
     let a = m .before .before .before .before .before .before in
@@ -149,7 +149,7 @@ returns-3 c =
     let e = m .measure .ensures .1 n off is in
     let b = f .next .given .0 .0 in
     let ex = f .next .given .0 .1 .0 in
-    let known = c .before .before .before .before .before .before .before .before .before .known-told .given in
+    let known = after-flip-bit .before .before .known-told .given in
     let fits : SFits w8 ex = search (needs, known) in
     ap₂ (λ z o. record { number = 0; quiet = false; bit = b; excess = z; out = o }) (toZ-ofZ w8 ex fits)
     (c .before .before .before .write .ensures (code n) (unsent-is n is off) (bits-are n is off) (word-long n is off (a .pre .2))

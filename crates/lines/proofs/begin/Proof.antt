@@ -25,8 +25,9 @@ same-length c = search needs
 
 returns : tie.Need-returns
 returns c =
-    let s = c .before .before .before .before .before .before .before .before .before .before .before .before .before in
-    let h = c .before .before .before .before .before .before .before .before .before .put-header in
+    let after-put-header : tie.After-put-header = search in
+    let s : tie.Start = search in
+    let h = after-put-header .put-header in
     let b = sym (c .before .before .before .before .before .before .is-bad .ensures)
     ∙ c .before .before .before .before .before .if1 .taken in
     let p = c .before .before .put-line in (

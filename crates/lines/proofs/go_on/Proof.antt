@@ -28,7 +28,7 @@ limit-requires c κs = search needs
 
 write-words-requires : tie.Need-write-words-requires
 write-words-requires c κs =
-    let s = c .before .before .before .before .before .before .before .before .before .before .before in
+    let s : tie.Start = search in
     let z = c .before .before .before .before .before .word-octets in
     ((good (s .args .head .now) (s .pre .0 .1) .1, s .pre .1 .0), (s .pre .1 .1, omega (arith, div-le-self (s .args .read) (z .result))))
 
@@ -40,10 +40,10 @@ same-length-2 c = search needs
 
 returns : tie.Need-returns
 returns c =
-    let s = c .before .before .before .before .before .before .before .before .before .before .before .before .before .before .before
-    .before in
+    let after-word-octets : tie.After-word-octets = search in
+    let s : tie.Start = search in
     let a = s .args in
-    let z = c .before .before .before .before .before .before .before .before .before .before .word-octets in
+    let z = after-word-octets .word-octets in
     let l = c .before .before .before .before .before .before .before .limit in
     let w = c .before .before .before .before .write-words in (
       w .ensures .0,

@@ -39,7 +39,8 @@ loop-less c = search needs
 
 loop-again : tie.Need-loop-again Inv-loop μ-loop
 loop-again c =
-    let a = c .before .before .before .before .before .before .before .before .before .args in
+    let s : tie.Start Inv-loop μ-loop = search in
+    let a = s .args in
     let h = c .before .before .before .before .before .before .loop in
     let w = c .before .before .put-field in
     let l : h .k < length (a .numbers .now) = omega arith in (

@@ -9,11 +9,6 @@ use Rattle.lines.proofs.Texts.{long64, line-whole}
 use borrow.Author.Needs.{needs}
 use Rattle.lines.proofs.put_line.Statement.{statement}
 use Rattle.lines.proofs.put_line.Tie as tie
-use Rattle.lines.proofs.put_line.Reads as reads
-use Rattle.lines.proofs.put_line.Lts as lts
-use Rattle.lines.proofs.numbers.Reads as numbers-reads
-use Rattle.lines.proofs.put.Reads as put-reads
-use Rattle.lines.proofs.put_fields.Reads as put-fields-reads
 
 numbers-requires : tie.Need-numbers-requires
 numbers-requires c κs = search needs
@@ -30,28 +25,17 @@ put-fields-requires c κs =
     let p = c .before .before .before .before .put in
     omega (arith, n, p .ensures .0, long64 (c .before .before .before .before .before .before .before .before .args .index) (omega arith))
 
+abbrev start : tie.After-slice-known3 → tie.Start
+start c = search
+
 -- where the numbers end
-ends : (c : lts.After-slice-known3 (
-  numbers-reads.Asked,
-  numbers-reads.Learnt,
-  put-reads.Asked,
-  put-reads.Learnt,
-  put-fields-reads.Asked,
-  put-fields-reads.Learnt,
-) reads.Pre reads.Post) → c .before .before .put-fields .result
-    < c .before .before .before .before .before .before .before .before .before .before .before .args .at + 128
+ends : (c : tie.After-slice-known3) → c .before .before .put-fields .result < start c .args .at + 128
 ends c =
-    let n = ap length (c .before .before .before .before .before .before .before .before .before .numbers .ensures) in
+    let after-numbers : tie.After-numbers = search in
+    let n = ap length (after-numbers .numbers .ensures) in
     let f = c .before .before .put-fields in
     let p = c .before .before .before .before .before .before .before .put in
-    omega (
-      arith,
-      n,
-      f .ensures .0,
-      p .ensures .0,
-      long64
-          (c .before .before .before .before .before .before .before .before .before .before .before .args .index) (omega arith),
-    )
+    omega (arith, n, f .ensures .0, p .ensures .0, long64 (after-numbers .before .before .args .index) (omega arith))
 
 slice-write-text : tie.Need-slice-write-text
 slice-write-text c = omega (arith, ends c)
@@ -64,10 +48,11 @@ same-length c = simp length-set (omega arith)
 
 returns : tie.Need-returns
 returns c =
+    let after-numbers : tie.After-numbers = search in
     let f = c .before .before .put-fields in
     let p = c .before .before .before .before .before .before .before .put in
-    let ns = c .before .before .before .before .before .before .before .before .before .numbers in
-    let a = c .before .before .before .before .before .before .before .before .before .before .before .args in
+    let ns = after-numbers .numbers in
+    let a = after-numbers .before .before .args in
     let before = take (a .at) (a .text .now) in
     let first = take (p .result) (p .last .1 .0) in
     let e : f .result < length (f .last .1 .0) = omega (arith, ends c) in (

@@ -25,9 +25,9 @@ same-length-2 c = search needs
 returns : tie.Need-returns
 unfolding line
 returns c =
+    let s : tie.Start = search in
     let p = c .before .before .put-line in
     let g = c .before .before .before .before .before .before .correct in
-    let s = c .before .before .before .before .before .before .before .before .before .before .before in
     let a = s .args in
     let z : List ℕ = replicate (code (a .code) .wordOctets) 0 in (
       p .ensures .0,

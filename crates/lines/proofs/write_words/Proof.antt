@@ -79,19 +79,17 @@ part-write-word-end : tie.Need-part-write-word-end Inv-loop μ-loop
 part-write-word-end c = search needs
 
 write-word-requires : tie.Need-write-word-requires Inv-loop μ-loop
-write-word-requires c κs = (
-  c .before .before .before .before .before .loop .inv .3
-      ∙ c .before .before .before .before .before .before .before .before .before .before .pre .0 .1,
-  omega (arith, starts (c .before .before .before .before) .0, starts (c .before .before .before .before) .1),
-)
+write-word-requires c κs =
+    let s : tie.Start Inv-loop μ-loop = search in (
+      c .before .before .before .before .before .loop .inv .3
+          ∙ s .pre .0 .1,
+      omega (arith, starts (c .before .before .before .before) .0, starts (c .before .before .before .before) .1),
+    )
 
 add-k : tie.Need-add-k Inv-loop μ-loop
-add-k c = omega (
-  arith,
-  starts (c .before .before .before .before .before .before .before .before .before) .0,
-  starts
-      (c .before .before .before .before .before .before .before .before .before) .1,
-)
+add-k c =
+    let in-loop : tie.In-loop Inv-loop μ-loop = search in
+    omega (arith, starts (in-loop) .0, starts (in-loop) .1)
 
 loop-less : tie.Need-loop-less Inv-loop μ-loop
 loop-less c = omega arith
@@ -99,13 +97,14 @@ loop-less c = omega arith
 loop-again : tie.Need-loop-again Inv-loop μ-loop
 unfolding lines
 loop-again c =
-    let s = c .before .before .before .before .before .before .before .before .before .before .before .before .before .before .before in
+    let in-loop : tie.In-loop Inv-loop μ-loop = search in
+    let s : tie.Start Inv-loop μ-loop = search in
     let ws = s .args .words .now in
-    let z = c .before .before .before .before .before .before .before .before .before .before .before .word-octets in
-    let h = c .before .before .before .before .before .before .before .before .before .before .loop in
+    let z = in-loop .before .before .word-octets in
+    let h = in-loop .before .loop in
     let l = c .before .before .before .before .before .before .before .before .least in
     let w = c .before .before .before .before .write-word in
-    let b = starts (c .before .before .before .before .before .before .before .before .before) in
+    let b = starts (in-loop) in
     let at = h .k * z .result in
     let e : take (l .result - at) (drop at ws) ≡ word (s .args .code) ws (h .k) =
     piece ws at (z .result) (l .result) (l .ensures) ∙ ap (λ m. take m (drop (h .k * m) ws)) (z .ensures .0) in (

@@ -31,8 +31,8 @@ returns c =
 
 begin-taken-requires : tie.Need-begin-taken-requires
 begin-taken-requires c κs =
+    let a : tie.Start = search in
     let f = c .before .before .before .before in
-    let a = c .before .before .before .before .before .before .before .before .before .before in
     let is = f .before .of .ensures in
     let t = taken (a .args .code) is (f .before .of .result .offered) (offered-by (a .args .code) is) _ _ 0 0 (f .refusal .ensures)
     (c .before .before .before .if1 .left) in
@@ -49,13 +49,13 @@ same-length-3 c = search needs
 
 returns-2 : tie.Need-returns-2
 returns-2 c =
-    let f = c .before .before .before .before .before .before .before .before .before .before .before in
-    let a = c .before .before .before .before .before .before .before .before .before .before .before .before .before .before .before
-    .before .before in
+    let else1 : tie.Else1 = search in
+    let f : tie.After-refusal = search in
+    let a : tie.Start = search in
     let n = a .args .code in
     let is = f .before .of .ensures in
     let t = taken n is (f .before .of .result .offered) (offered-by n is) (length (a .args .word .now)) (f .before .of .result .word) 0 0
-    (f .refusal .ensures) (c .before .before .before .before .before .before .before .before .before .before .if1 .left) in
+    (f .refusal .ensures) (else1 .if1 .left) in
     let b = c .before .before .before .before .before .before .begin-taken .ensures in
     (b .0, b .1 n (t .offers) is)
 

@@ -17,9 +17,9 @@ broken-requires c κs = search needs
 
 lowest-requires : tie.Need-lowest-requires
 lowest-requires c κs =
-    let m = c .before .before .before .before .before .before .before .before .before .measure .ensures in
-    let k = c .before .before .before .before .before .before .before .before .before .before .before .before .before .before .before
-    .before .before .pre .0 in
+    let after-measure : tie.After-measure = search in
+    let m = after-measure .measure .ensures in
+    let k = after-measure .before .before .before .before .before .before .before .before .pre .0 in
     let w = fitting (m .1 (k .number) (k .offers) (k .is) .lends .fit) in
     (search needs, w .0, w .1, w .2, w .3)
 
@@ -40,9 +40,9 @@ same-length-3 c = search needs
 
 returns : tie.Need-returns
 returns c =
-    let a = c .before .before .before .before .before .before .before .before .before .before .before .before .before .before .before
-    .before .before .before .before .before .before in
-    let m = c .before .before .before .before .before .before .before .before .before .before .before .before .before .measure .ensures in
+    let after-measure : tie.After-measure = search in
+    let a = after-measure .before .before .before .before .before .before .before .before in
+    let m = after-measure .measure .ensures in
     let first = c .before .before .before .before .before .broken .ensures in
     let r = c .refused .ensures in (
       r .1,
@@ -56,10 +56,9 @@ returns c =
 
 pass-requires : tie.Need-pass-requires
 pass-requires c κs =
-    let a = c .before .before .before .before .before .before .before .before .before .before .before .before .before .before .before
-    .before .before .before .before .before .before .before .before in
-    let m = c .before .before .before .before .before .before .before .before .before .before .before .before .before .before .before
-    .measure .ensures in
+    let after-measure : tie.After-measure = search in
+    let a = after-measure .before .before .before .before .before .before .before .before in
+    let m = after-measure .measure .ensures in
     let k = a .pre .0 in
     let n = k .number in
     let off = k .offers in
@@ -79,38 +78,36 @@ pass-requires c κs =
     }
 
 same-length-4 : tie.Need-same-length-4
-same-length-4 c = c .before .before .before .before .before .h2 .given ∙ c .before .before .before .before .before .before .before .before
-    .before .before .before .before .before .before .before .before .before .before .before .before .before .h .given
+same-length-4 c =
+    let after-h = let after-broken : tie.After-broken = search in after-broken .before .before .before .before .before .before .before in
+    c .before .before .before .before .before .h2 .given ∙ after-h .h .given
 
 same-length-5 : tie.Need-same-length-5
-same-length-5 c = c .before .before .before .y2 .given ∙ c .before .before .before .before .before .before .before .before .before .before
-    .before .before .before .before .before .before .before .before .before .y .given
+same-length-5 c =
+    let after-broken : tie.After-broken = search in
+    c .before .before .before .y2 .given ∙ after-broken .before .before .before .before .before .y .given
 
 same-length-6 : tie.Need-same-length-6
 same-length-6 c = search needs
 
 returns-2 : tie.Need-returns-2
 returns-2 c =
-    let a = c .before .before .before .before .before .before .before .before .before .before .before .before .before .before .before
-    .before .before .before .before .before .before .before .before .before .before .before .before .before .before .before in
-    let m = c .before .before .before .before .before .before .before .before .before .before .before .before .before .before .before
-    .before .before .before .before .before .before .before .measure .ensures in
+    let else1 : tie.Else1 = search in
+    let after-z : tie.After-z = search in
+    let a = let after-measure = after-z .before .before .before .before .before in
+    after-measure .before .before .before .before .before .before .before .before in
+    let m = after-z .before .before .before .before .before .measure .ensures in
     let t = c .before .before .before .before .before .before .pass .ensures in (
       t .0,
       λ n off is.
           let e = m .1 n off is in
-          let broke = c .before .before .before .before .before .before .before .before .before .before .before .before .before .before
-          .broken .ensures (code n) _ _ _ (e .lends .fit) (e .lends .lent) (e .held) in
-          let low = c .before .before .before .before .before .before .before .before .before .before .before .before .lowest .ensures
-          (code n) _ _ (e .lends .fit) (e .lends .lent) (e .held) in
-          let some = sym (c .before .before .before .before .before .before .before .before .before .before .before .serves .ensures n off
-          is (broke ∙ ap (broken (code n)) (e .bits))) ∙ not-false _ (c .before .before .before .before .before .before .before .before
-          .before .before .if1 .left) in
+          let broke = else1 .before .before .before .before .broken .ensures (code n) _ _ _ (e .lends .fit) (e .lends .lent) (e .held) in
+          let low = else1 .before .before .lowest .ensures (code n) _ _ (e .lends .fit) (e .lends .lent) (e .held) in
+          let some = sym (else1 .before .serves .ensures n off
+          is (broke ∙ ap (broken (code n)) (e .bits))) ∙ not-false _ (else1 .if1 .left) in
           t .1 n (a .args .limit) (a .args .room)
           (starts n off (a .args .word .now) _ is (a .pre .1) (a .args .limit) (a .args .room) _ _ _ _ e (m .0)
-          (c .before .before .before .before .before .before .before .before .before .before .before .before .before .before .before
-          .before .before .before .before .y .given ∙ a .pre .2 .1) (c .before .before .before .before .before .before .before .before
-          .before .before .before .before .before .before .before .before .before .z .given ∙ a .pre .2 .2) _ _ broke low some _ refl refl
+          (after-z .before .before .y .given ∙ a .pre .2 .1) (after-z .z .given ∙ a .pre .2 .2) _ _ broke low some _ refl refl
           refl refl refl),
     )
 

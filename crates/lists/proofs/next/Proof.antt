@@ -27,10 +27,10 @@ same-length-3 c = search needs
 
 returns : tie.Need-returns
 returns c =
+    let s : tie.Start = search in
     let t = c .before .before .before .before .before .before .pass in (
       t .ensures .0,
-      λ n limit room is. t .ensures .1 n limit room (is .goes (c .before .before .before .before .before .before .before
-          .before .before .before .before .before .before .before .before .pre .on)),
+      λ n limit room is. t .ensures .1 n limit room (is .goes (s .pre .on)),
     )
 
 pub next-spec : {M : Type 1} → statement M

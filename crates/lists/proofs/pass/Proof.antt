@@ -31,7 +31,7 @@ enum-told c = search needs
 
 ended-requires : tie.Need-ended-requires
 ended-requires c κs =
-    let a = c .before .before .before .before .before .before .before .before .before .before .before .before in
+    let a : tie.Start = search in
     let st = a .pre .stands in
     let under = st .measures .under in
     let within = st .going .within in
@@ -42,7 +42,7 @@ enum-known-next c = search needs
 
 cast-ended : tie.Need-cast-ended
 cast-ended c =
-    let a = c .before .before .before .before .before .before .before .before .before .before .before .before .before in
+    let a : tie.Start = search in
     let sh = a .args .l .offer .shape in
     omega (
       arith,
@@ -53,7 +53,7 @@ cast-ended c =
 
 ended-requires-2 : tie.Need-ended-requires-2
 ended-requires-2 c κs =
-    let a = c .before .before .before .before .before .before .before .before .before .before .before .before .before in
+    let a : tie.Start = search in
     let st = a .pre .stands in
     let under = st .measures .under in
     let within = st .going .within in
@@ -67,7 +67,8 @@ cast-if1 c = search needs
 
 ended-requires-3 : tie.Need-ended-requires-3
 ended-requires-3 c κs =
-    let a = c .before .before .before .before .before .before .before .before .before .before .before .before .before .before .before in
+    let a = let after-comes-next-arg2 : tie.After-comes-next-arg2 = search in
+    after-comes-next-arg2 .before .before .before .before .before .before .before .before in
     let st = a .pre .stands in
     let under = st .measures .under in
     let within = st .going .within in
@@ -84,8 +85,8 @@ same-length-3 c = search needs
 
 returns : tie.Need-returns
 returns c =
-    let a = c .before .before .before .before .before .before .before .before .before .before .before .before .before .before .before
-    .before in
+    let a = let after-comes-next-arg2 : tie.After-comes-next-arg2 = search in
+    after-comes-next-arg2 .before .before .before .before .before .before .before .before in
     let r = c .ended3 in (
       r .ensures .1,
       λ n limit room st.
@@ -103,8 +104,8 @@ returns c =
 
 flip-requires : tie.Need-flip-requires
 flip-requires c κs =
-    let a = c .before .before .before .before .before .before .before .before .before .before .before .before .before .before .before
-    .before .before in
+    let a = let after-comes-next-arg2 : tie.After-comes-next-arg2 = search in
+    after-comes-next-arg2 .before .before .before .before .before .before .before .before in
     let st = a .pre .stands in
     let sh = a .args .l .offer .shape in (
       st .lends .fit,
@@ -116,22 +117,23 @@ flip-requires c κs =
 
 broken-requires : tie.Need-broken-requires
 broken-requires c κs =
-    let long = c .before .before .before .before .before .before .before .before .before .before .before .before .before .before .before
-    .before .before .before .before .before .before .before .before .pre .stands .z-long in
+    let s = let after-comes-next-arg2 = let else1 : tie.Else1 = search in else1 .before .before .before .before .before .before in
+    after-comes-next-arg2 .before .before .before .before .before .before .before .before in
+    let long = s .pre .stands .z-long in
     search needs
 
 cast-went : tie.Need-cast-went
 cast-went c =
-    let a = c .before .before .before .before .before .before .before .before .before .before .before .before .before .before .before
-    .before .before .before .before .before .before .before .before .before in
+    let else1 : tie.Else1 = search in
+    let a = let after-comes-next-arg2 = else1 .before .before .before .before .before .before in
+    after-comes-next-arg2 .before .before .before .before .before .before .before .before in
     let sh = a .args .l .offer .shape in
     omega (
       arith,
       a .pre .stands .lends .fit .bits,
       subst (Within (sh .blocks * sh .size))
-          (c .before .before .before .before .before .before .before .before .before .before .before .before .before .next2 .given .1)
-          (c .before .before .before .before .before .before .before .before .before .before .before .before .before .before .before
-          .comes-next .ensures .0),
+          (else1 .before .before .before .next2 .given .1)
+          (else1 .before .before .before .before .before .comes-next .ensures .0),
     )
 
 went-requires : tie.Need-went-requires
@@ -148,7 +150,7 @@ same-length-6 c = search needs
 
 returns-2 : tie.Need-returns-2
 returns-2 c =
-    let a = c .before .before .before .before .before .before .before .before .before .before .before .before .before in
+    let a : tie.Start = search in
     let r = c .ended in (
       r .ensures .1,
       λ n limit room st.
@@ -171,7 +173,7 @@ same-length-9 c = search needs
 
 returns-3 : tie.Need-returns-3
 returns-3 c =
-    let a = c .before .before .before .before .before .before .before .before .before .before .before .before .before .before in
+    let a : tie.Start = search in
     let ex = c .before .before .before .next .given .0 .1 .0 in
     let known = c .before .before .known-told .given in
     let fits : SFits w8 ex = search (needs, known) in
@@ -197,28 +199,25 @@ same-length-12 c = search needs
 
 returns-4 : tie.Need-returns-4
 returns-4 c =
-    let a = c .before .before .before .before .before .before .before .before .before .before .before .before .before .before .before
-    .before .before .before .before .before .before .before .before .before .before in
+    let else1 : tie.Else1 = search in
+    let a = let after-comes-next-arg2 = else1 .before .before .before .before .before .before in
+    after-comes-next-arg2 .before .before .before .before .before .before .before .before in
     let f = c .before .before .before .before .before .before .before .flip in
-    let ex = c .before .before .before .before .before .before .before .before .before .before .before .before .before .before .next2
-    .given .0 .1 .0 in
-    let known = c .before .before .before .before .before .before .before .before .before .before .before .before .before .known-told2
-    .given in
+    let ex = else1 .before .before .before .next2 .given .0 .1 .0 in
+    let known = else1 .before .before .known-told2 .given in
     let fits : SFits w8 ex = search (needs, known) in
     let r = c .went in (
       r .ensures .1,
       λ n limit room st.
-          let next = c .before .before .before .before .before .before .before .before .before .before .before .before .before .before
-          .before .before .comes-next .ensures .1 (code n) (st .lends .lent) (sym (unsent-is n (st .measures .is) (st .measures .offers)))
-          _ (st .going .held) ∙ ap comesNext (c .before .before .before .before .before .before .before .before .before .before .before
-          .before .before .before .next2 .given .1) in
+          let next = else1 .before .before .before .before .before .comes-next .ensures .1 (code n) (st .lends .lent)
+          (sym (unsent-is n (st .measures .is) (st .measures .offers)))
+          _ (st .going .held) ∙ ap comesNext (else1 .before .before .before .next2 .given .1) in
           let held = f .ensures .1 (code n) (st .lends .lent) _ (st .going .held) in
           let y-long = st .y-long in
           let z-long = st .z-long in
           went-lists n (a .args .word .now) limit room _ _ _ _ _ st _ ex _ (toZ-ofZ w8 ex fits) next (omega (
             arith,
-            c .before .before
-                .before .before .before .before .before .before .before .before .before .if1 .left,
+            else1 .if1 .left,
             st .measures .under,
           )) _ _ _
           (search needs) (search needs) (f .ensures .0) held (c .before .broken .ensures (code n) _ _ _ (st .lends .fit) (st .lends .lent)

@@ -32,9 +32,9 @@ same-length-3 c = search needs
 
 returns : tie.Need-returns
 returns c =
+    let s : tie.Start = search in
     let made = c .before .before .before .before .before .before .measure-by in
-    let k = c .before .before .before .before .before .before .before .before .before .before .before .before .before .before .before .pre
-    .0 in (
+    let k = s .pre .0 in (
       made .ensures (k .number) (k .offers) (ap (λ z. z .unsent) (k .is)) (ap (λ z. z .shape .size) (k .is)) .0
           ∙ sym (ap (λ z. z .shape) (k .is)),
       λ n off e. made .ensures n off (ap (λ z. z .unsent) e) (ap (λ z. z .shape .size) e) .1,

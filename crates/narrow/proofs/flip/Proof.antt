@@ -35,19 +35,24 @@ repeated-requires c κs =
     (s .pre .0 .some, omega (arith, s .pre .0 .held, s .pre .1))
 
 div-b : tie.Need-div-b Inv-loop μ-loop
-div-b c = omega (arith, c .before .before .before .before .before .before .before .before .before .pre .0 .some)
+div-b c =
+    let s : tie.Start Inv-loop μ-loop = search in
+    omega (arith, s .pre .0 .some)
 
 rem-k : tie.Need-rem-k Inv-loop μ-loop
-rem-k c = omega (arith, c .before .before .before .before .before .before .before .before .before .before .pre .0 .some)
+rem-k c =
+    let s : tie.Start Inv-loop μ-loop = search in
+    omega (arith, s .pre .0 .some)
 
 loop-holds : tie.Need-loop-holds Inv-loop μ-loop
-loop-holds c = (
-  omega arith,
-  c .before .before .before .before .before .before .before .before .before .before .pre .3,
-  λ q l. refl,
-  λ q
-      l. absurd (omega arith),
-)
+loop-holds c =
+    let s : tie.Start Inv-loop μ-loop = search in (
+      omega arith,
+      s .pre .3,
+      λ q l. refl,
+      λ q
+          l. absurd (omega arith),
+    )
 
 mul-flip-row : tie.Need-mul-flip-row Inv-loop μ-loop
 mul-flip-row c = omega arith
@@ -57,7 +62,7 @@ slice-read-flip-row c = omega (arith, c .before .before .loop .inv .1)
 
 mul-flip-row-2 : tie.Need-mul-flip-row-2 Inv-loop μ-loop
 mul-flip-row-2 c =
-    let s = c .before .before .before .before .before .before .before .before .before .before .before .before .before .before in
+    let s : tie.Start Inv-loop μ-loop = search in
     let a = s .args in
     let inside = div-lt-iff-lt-mul (s .pre .0 .some) .1 (s .pre .4) in
     let room = place-room (a .h .now) (a .sh) (s .pre .0) (s .pre .0 .narrow (s .pre .1) .0) (c .before .before .before .loop .r) _
@@ -66,7 +71,7 @@ mul-flip-row-2 c =
 
 add-flip-row : tie.Need-add-flip-row Inv-loop μ-loop
 add-flip-row c =
-    let s = c .before .before .before .before .before .before .before .before .before .before .before .before .before .before in
+    let s : tie.Start Inv-loop μ-loop = search in
     let a = s .args in
     let inside = div-lt-iff-lt-mul (s .pre .0 .some) .1 (s .pre .4) in
     let room = place-room (a .h .now) (a .sh) (s .pre .0) (s .pre .0 .narrow (s .pre .1) .0) (c .before .before .before .loop .r) _
@@ -75,7 +80,7 @@ add-flip-row c =
 
 mul-flip-row-3 : tie.Need-mul-flip-row-3 Inv-loop μ-loop
 mul-flip-row-3 c =
-    let s = c .before .before .before .before .before .before .before .before .before .before .before .before .before .before in
+    let s : tie.Start Inv-loop μ-loop = search in
     let a = s .args in
     let inside = div-lt-iff-lt-mul (s .pre .0 .some) .1 (s .pre .4) in
     let room = place-room (a .h .now) (a .sh) (s .pre .0) (s .pre .0 .narrow (s .pre .1) .0) (c .before .before .before .loop .r) _
@@ -84,7 +89,7 @@ mul-flip-row-3 c =
 
 flip-row-requires : tie.Need-flip-row-requires Inv-loop μ-loop
 flip-row-requires c κs =
-    let s = c .before .before .before .before .before .before .before .before .before .before .before .before .before .before in
+    let s : tie.Start Inv-loop μ-loop = search in
     let a = s .args in
     let narrow = s .pre .0 .narrow (s .pre .1) in
     let inside = div-lt-iff-lt-mul (s .pre .0 .some) .1 (s .pre .4) in
@@ -111,8 +116,8 @@ loop-less c = omega arith
 
 loop-again : tie.Need-loop-again Inv-loop μ-loop
 loop-again c =
-    let a = c .before .before .before .before .before .before .before .before .before .before .before .before .before .before .before
-    .args in
+    let start : tie.Start Inv-loop μ-loop = search in
+    let a = start .args in
     let l = c .before .before .before .before .loop in
     let v = c .flip-row .result in
     let was = a .rows .now in (
@@ -131,16 +136,13 @@ same-length : tie.Need-same-length Inv-loop μ-loop
 same-length c = search needs
 
 same-length-2 : tie.Need-same-length-2 Inv-loop μ-loop
-same-length-2 c = omega (
-  arith,
-  c .before .loop .inv .1,
-  c .before .before .before .before .before .before .before .before .before .before
-      .before .before .pre .3,
-)
+same-length-2 c =
+    let s : tie.Start Inv-loop μ-loop = search in
+    omega (arith, c .before .loop .inv .1, s .pre .3)
 
 returns : tie.Need-returns Inv-loop μ-loop
 returns c =
-    let s = c .before .before .before .before .before .before .before .before .before .before .before .before in
+    let s : tie.Start Inv-loop μ-loop = search in
     let a = s .args in
     let M = a .sh .size in
     let l = c .before .loop in

@@ -40,27 +40,27 @@ highest-requires c κs = c .weigh .ensures .1
 
 mul-scores : tie.Need-mul-scores Inv-loop μ-loop
 mul-scores c =
-    let s = c .before .before .before .before .before .before .before .before .before .before in
+    let s : tie.Start Inv-loop μ-loop = search in
     omega (arith, c .before .before .before .if1 .taken, s .pre .0 .blocks)
 
 slice-write-scores : tie.Need-slice-write-scores Inv-loop μ-loop
 slice-write-scores c =
-    let s = c .before .before .before .before .before .before .before .before .before .before in
+    let s : tie.Start Inv-loop μ-loop = search in
     omega (arith, c .before .before .before .if1 .taken, s .pre .0 .blocks, c .before .before .before .before .before .loop .inv .1)
 
 mul-masks : tie.Need-mul-masks Inv-loop μ-loop
 mul-masks c =
-    let s = c .before .before .before .before .before .before .before .before .before .before in
+    let s : tie.Start Inv-loop μ-loop = search in
     omega (arith, c .before .before .before .if1 .taken, s .pre .0 .blocks)
 
 slice-write-masks : tie.Need-slice-write-masks Inv-loop μ-loop
 slice-write-masks c =
-    let s = c .before .before .before .before .before .before .before .before .before .before in
+    let s : tie.Start Inv-loop μ-loop = search in
     omega (arith, c .before .before .before .if1 .taken, s .pre .0 .blocks, c .before .before .before .before .before .loop .inv .2)
 
 add-b : tie.Need-add-b Inv-loop μ-loop
 add-b c =
-    let s = c .before .before .before .before .before .before .before .before .before .before in
+    let s : tie.Start Inv-loop μ-loop = search in
     omega (arith, c .before .before .before .if1 .taken, s .pre .0 .blocks)
 
 loop-less : tie.Need-loop-less Inv-loop μ-loop
@@ -68,7 +68,7 @@ loop-less c = omega (arith, c .before .before .before .if1 .taken)
 
 loop-again : tie.Need-loop-again Inv-loop μ-loop
 loop-again c =
-    let s = c .before .before .before .before .before .before .before .before .before .before in
+    let s : tie.Start Inv-loop μ-loop = search in
     let a = s .args in
     let l = c .before .before .before .before .before .loop in
     let hb : l .b < a .sh .blocks = c .before .before .before .if1 .taken in

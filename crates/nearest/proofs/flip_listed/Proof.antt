@@ -48,8 +48,8 @@ loop-less c = search needs
 
 loop-again : tie.Need-loop-again Inv-loop μ-loop
 loop-again c =
-    let l = c .before .before .before .before .before .before .loop in
-    let a = c .before .before .before .before .before .before .before .before .before in (
+    let a : tie.Start Inv-loop μ-loop = search in
+    let l = c .before .before .before .before .before .before .loop in (
       omega arith,
       search needs,
       λ bits e.

@@ -35,7 +35,8 @@ same-length-2 c = search needs
 
 returns-2 : tie.Need-returns-2
 returns-2 c =
-    let a = c .before .before .before .before .before .before .before .before .before .args in (
+    let s : tie.Start = search in
+    let a = s .args in (
       λ printed fits.
           c .before .before .place-noticed .ensures .0 printed fits
           ∙ ap (λ (x : Bool). x && not (flatTied (a .m) printed (a .rows) (a .count) (a .parts) (set (a .parity .now) (a .place) (a .s))

@@ -35,17 +35,18 @@ entries-noticed-requires c κs = search needs
 
 line-requires : tie.Need-line-requires
 line-requires c κs =
-    let s = c .before .before .before .before .before .before .before .before .before .before .before .before .before .before in
+    let after-digits-noticed : tie.After-digits-noticed = search in
+    let s : tie.Start = search in
     let a = s .args in
     let p = a .parity .now in
     let g = a .generator .now in
-    let after = c .before .before .before .before .before .before .before .before .before .digits-noticed .last .1 .1 .1 .1 .1 .1 .0 in
+    let after = after-digits-noticed .digits-noticed .last .1 .1 .1 .1 .1 .1 .0 in
     let d : length g * a .digits ≤ 65535 * 65536 = product-fits (s .pre .4) (omega arith) in
     let e : length p * (a .m + 1) ≤ 65535 * 65536 = product-fits (s .pre .3) (omega arith) in (
       omega arith,
       omega (
         arith,
-        c .before .before .before .before .before .before .before .before .before .digits-noticed .ensures .0 (a .m) (le-refl (a .m)),
+        after-digits-noticed .digits-noticed .ensures .0 (a .m) (le-refl (a .m)),
         count-le (length g * a .digits * 15) (digitNoticed (a .m) (a .m) (a .rows) (a .count) (a .parts) (a .digits) p g),
       ),
       omega (

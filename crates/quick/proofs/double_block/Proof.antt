@@ -32,7 +32,7 @@ same-length c = search needs
 
 returns : tie.Need-returns
 returns c =
-    let s = c .before .before .before .before .before .before .before .before .before .before in
+    let s : tie.Start = search in
     c .before .before .double .ensures ∙ ap (twice (s .args .m)) (c .before .before .before .before .before .before .cut .ensures)
 
 pub double-block-spec : {M : Type 1} → statement M

@@ -64,7 +64,7 @@ loop-less c = omega arith
 
 loop-again : tie.Need-loop-again Inv-loop μ-loop
 loop-again c =
-    let s = c .before .before .before .before .before .before .before .before .before .before in
+    let s : tie.Start Inv-loop μ-loop = search in
     let l = c .before .before .before .before .before .before .before .loop in
     let new = c .before .before .double-block .last .1 .1 .1 .0 in
     let m : 16 * l .b + 16 - 16 * l .b ≡ 16 = omega arith in

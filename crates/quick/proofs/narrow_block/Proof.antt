@@ -69,22 +69,23 @@ narrow-entry-requires c κs = search needs
 
 add-narrow-entry : tie.Need-add-narrow-entry
 add-narrow-entry c =
-    let s = c .before .before .before .before .before .before .before .before .before in
+    let s : tie.Start = search in
     omega (arith, place-room (s .args .h .now) (s .args .sh) (s .pre .0) (s .args .r) (s .args .b) (s .pre .3) (s .pre .2))
 
 mul-narrow-entry-2 : tie.Need-mul-narrow-entry-2
 mul-narrow-entry-2 c =
-    let s = c .before .before .before .before .before .before .before .before .before in
+    let s : tie.Start = search in
     omega (arith, place-room (s .args .h .now) (s .args .sh) (s .pre .0) (s .args .r) (s .args .b) (s .pre .3) (s .pre .2))
 
 shared-slice-read-narrow-entry-2 : tie.Need-shared-slice-read-narrow-entry-2
 shared-slice-read-narrow-entry-2 c =
-    let s = c .before .before .before .before .before .before .before .before .before .before in
+    let s : tie.Start = search in
     omega (arith, place-room (s .args .h .now) (s .args .sh) (s .pre .0) (s .args .r) (s .args .b) (s .pre .3) (s .pre .2))
 
 cast-narrow-entry-2 : tie.Need-cast-narrow-entry-2
 cast-narrow-entry-2 c =
-    let a = c .before .before .before .before .before .before .before .before .before .before .args in
+    let s : tie.Start = search in
+    let a = s .args in
     omega (arith, c .shared-slice-known4 .given (placeOf (a .sh) (a .r) (a .b) + 1))
 
 narrow-entry-requires-2 : tie.Need-narrow-entry-requires-2
@@ -92,9 +93,9 @@ narrow-entry-requires-2 c κs = search needs
 
 returns : tie.Need-returns
 returns c =
+    let s : tie.Start = search in
     let f = c .before .before .before .before .before .before .front in
     let w = c .before .before .before .before .before .before .before .window in
-    let s = c .before .before .before .before .before .before .before .before .before .before .before in
     let sh = s .args .sh in
     let h = s .args .h .now in
     let y = wbit (s .args .y .now) in

@@ -37,13 +37,14 @@ slice-aggregate-rows-lowest-2 c = search needs
 
 rows-lowest-requires : tie.Need-rows-lowest-requires
 rows-lowest-requires c κs =
-    let k = c .before .before .before .before .before .before .before .before .before .before .pre .0 in
+    let s : tie.Start = search in
+    let k = s .pre .0 in
     let l = c .before .before .before .before .before .before .lend-narrow .ensures in
     (l .0 (k .number) (k .offers) (ap (λ o. o .shape .size) (k .is)) .fit, l .1, search needs)
 
 returns : tie.Need-returns
 returns c n off is =
-    let s = c .before .before .before .before .before .before .before .before .before .before .before in
+    let s : tie.Start = search in
     let w = checked n off .narrow (λ e. s .pre .2 (ap (λ o. o .shape .size) is ∙ e)) in
     let lends = c .before .before .before .before .before .before .before .lend-narrow .ensures .0 n off (ap (λ o. o .shape .size) is) in
     let bits = taken-whole (code n) (sym (w .1) ∙ fixed n off .unsent) (bit (s .args .word .now)) in

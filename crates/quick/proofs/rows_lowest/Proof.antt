@@ -38,25 +38,25 @@ front-requires c κs = c .before .before .before .before .before .before .pre .1
 
 mul-result : tie.Need-mul-result Inv-loop μ-loop
 mul-result c =
-    let s = c .before .before .before .before .before .before .before .before .before in
+    let s : tie.Start Inv-loop μ-loop = search in
     let r : c .before .before .before .before .before .before .loop .r ≤ 4 = omega (arith, s .pre .0 .rows) in
     omega (arith, mul-le-mul r (s .pre .1))
 
 cast-result : tie.Need-cast-result Inv-loop μ-loop
 cast-result c =
-    let s = c .before .before .before .before .before .before .before .before .before in
+    let s : tie.Start Inv-loop μ-loop = search in
     let r : c .before .before .before .before .before .before .loop .r ≤ 4 = omega (arith, s .pre .0 .rows) in
     omega (arith, mul-le-mul r (s .pre .1))
 
 add-result : tie.Need-add-result Inv-loop μ-loop
 add-result c =
-    let s = c .before .before .before .before .before .before .before .before .before in
+    let s : tie.Start Inv-loop μ-loop = search in
     let r : c .before .before .before .before .before .before .loop .r ≤ 4 = omega (arith, s .pre .0 .rows) in
     omega (arith, mul-le-mul r (s .pre .1), leading-le 64 (c .before .before .front .result))
 
 returns : tie.Need-returns Inv-loop μ-loop
 returns c code lent =
-    let s = c .before .before .before .before .before .before .before .before .before in
+    let s : tie.Start Inv-loop μ-loop = search in
     let a = s .args in
     let l = c .before .before .before .before .before .before .loop in
     let v = c .before .before .front .result in

@@ -36,7 +36,7 @@ wide-rows-lowest-requires c κs = search needs
 
 returns : tie.Need-returns
 returns c code lent e =
-    let s = c .before .before .before .before .before .before .before .before .before .before .before in
+    let s : tie.Start = search in
     let bits = c .before .before .before .before .before .before .before .take .ensures code e in
     let two = c .before .before .before .double-blocks in
     c .wide-rows-lowest .ensures code (lifted code (bit (s .args .octets .now))) lent

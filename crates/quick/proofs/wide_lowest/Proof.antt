@@ -93,7 +93,7 @@ whole-lowest-requires c κs =
 
 returns-2 : tie.Need-returns-2
 returns-2 c n off is =
-    let s = c .before .before .before .before .before .before .before .before .before in
+    let s : tie.Start = search in
     let e : 511 ≡ offerOf n .shape .size = sym (s .pre .2) ∙ ap (λ o. o .shape .size) is in
     let l = lent n off e _ (c .before .before .before .before .before .before .lend511 .ensures) in
     c .whole-lowest .ensures (code n) (l .lent) (ap (λ o. o .unsent) is ∙ fixed n off .unsent)

@@ -32,25 +32,25 @@ wide-row-lowest-requires c κs =
 
 mul-result : tie.Need-mul-result Inv-loop μ-loop
 mul-result c =
-    let s = c .before .before .before .before .before .before .before .before .before in
+    let s : tie.Start Inv-loop μ-loop = search in
     let r : c .before .before .before .before .before .before .loop .row ≤ 4 = omega (arith, s .pre .0 .rows) in
     omega (arith, mul-le-mul r (fit-size (s .pre .0)))
 
 add-result : tie.Need-add-result Inv-loop μ-loop
 add-result c =
-    let s = c .before .before .before .before .before .before .before .before .before in
+    let s : tie.Start Inv-loop μ-loop = search in
     let r : c .before .before .before .before .before .before .loop .row ≤ 4 = omega (arith, s .pre .0 .rows) in
     omega (arith, mul-le-mul r (fit-size (s .pre .0)), fit-size (s .pre .0))
 
 cast-result : tie.Need-cast-result Inv-loop μ-loop
 cast-result c =
-    let s = c .before .before .before .before .before .before .before .before .before in
+    let s : tie.Start Inv-loop μ-loop = search in
     let r : c .before .before .before .before .before .before .loop .row ≤ 4 = omega (arith, s .pre .0 .rows) in
     omega (arith, mul-le-mul r (fit-size (s .pre .0)), fit-size (s .pre .0))
 
 returns : tie.Need-returns Inv-loop μ-loop
 returns c code x lent two =
-    let s = c .before .before .before .before .before .before .before .before .before in
+    let s : tie.Start Inv-loop μ-loop = search in
     let l = c .before .before .before .before .before .before .loop in
     let w = c .before .before .before .wide-row-lowest in
     row-found code (s .args .h .now) (s .args .sh) x lent (l .row) (w .result) (omega arith) (w .ensures code x lent two)

@@ -22,7 +22,8 @@ trim-requires c κs = search needs
 
 lift-requires : tie.Need-lift-requires
 lift-requires c κs =
-    let a = c .before .before .before .before .before .before .before .before .before .before .before .args in
+    let s : tie.Start = search in
+    let a = s .args in
     let trim = c .before .before .before .trim in
     let cut = c .before .before .before .before .before .before .before .cut in
     let long : length (trim .last .0) ≡ 8 = search needs in
@@ -33,12 +34,12 @@ same-length c = search needs
 
 returns : tie.Need-returns
 returns c =
-    let s = c .before .before .before .before .before .before .before .before .before .before .before .before .before .before in
+    let after-cut : tie.After-cut = search in
+    let s : tie.Start = search in
     let u = s .args .unsent in
     let x = bit (s .args .octets .now) in
     c .before .before .lift .ensures
-    ∙ ap (later u) (c .before .before .before .before .before .before .trim .ensures ∙ ap (upTo (511 - u)) (c .before .before .before
-    .before .before .before .before .before .before .before .cut .ensures))
+    ∙ ap (later u) (c .before .before .before .before .before .before .trim .ensures ∙ ap (upTo (511 - u)) (after-cut .cut .ensures))
     ∙ first-block u x (s .pre .2)
 
 pub cut-first-spec : {M : Type 1} → statement M

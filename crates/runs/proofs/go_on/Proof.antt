@@ -48,7 +48,7 @@ loop-holds c =
 
 choose-requires : tie.Need-choose-requires Inv-loop μ-loop
 choose-requires c κs =
-    let s = c .before .before .before .before .before .before .before .before .before .before in
+    let s : tie.Start Inv-loop μ-loop = search in
     let l = c .before .before .before .loop in
     (l .inv .3, l .inv .1, s .pre .5, s .pre .6)
 
@@ -66,10 +66,10 @@ same-length-3 c = search needs
 
 returns : tie.Need-returns Inv-loop μ-loop
 returns c k lent u w =
-    let s = c .before .before .before .before .before .before .before .before .before .before .before .before .before .before .before
-    .before in
+    let in-loop : tie.In-loop Inv-loop μ-loop = search in
+    let s : tie.Start Inv-loop μ-loop = search in
     let a = s .args in
-    let l = c .before .before .before .before .before .before .before .before .before .loop in
+    let l = in-loop .before .loop in
     let f = c .before .before .before .before .before .choose in
     let i = l .inv .4 k lent u w in
     let top = chosen-top k (a .h .now) (a .sh) lent (s .pre .0) (a .starts .now) (a .counts .now) (s .pre .1) (a .from) (wbit (l .y))
@@ -96,16 +96,16 @@ same-length-6 c = search needs
 
 returns-2 : tie.Need-returns-2 Inv-loop μ-loop
 returns-2 c k lent u w =
-    let s = c .before .before .before .before .before .before .before .before .before .before .before .before .before .before .before
-    .before .before in
+    let in-loop : tie.In-loop Inv-loop μ-loop = search in
+    let s : tie.Start Inv-loop μ-loop = search in
     let a = s .args in
-    let l = c .before .before .before .before .before .before .before .before .before .before .loop in
+    let l = in-loop .before .loop in
     let f = c .before .before .before .before .before .before .choose in
     let i = l .inv .4 k lent u w in
     let top = chosen-top k (a .h .now) (a .sh) lent (s .pre .0) (a .starts .now) (a .counts .now) (s .pre .1) (a .from) (wbit (l .y))
     (l .d) (l .met) _ (f .result .score) (f .result .bit) (i .1 .kept) (f .ensures .0) (f .ensures .1) in
     let next = next-flip lent (wbit (l .y)) top u
-    (λ e. omega (arith, i .1 .left-is, e, c .before .before .before .before .before .before .before .before .before .loop-test .taken))
+    (λ e. omega (arith, i .1 .left-is, e, in-loop .loop-test .taken))
     (c .before .before .if1 .left) in (
       runs-as _ _ (c .at-end2 .ensures .0) (c .at-end2 .ensures .1) (ends-limit (byExcess k) k (a .sh) (a .limit) (wbit (a .y .now))
           (l .flips) (wbit (l .y)) _ (i .0) _ _ next (c .before .if2 .taken)),
@@ -114,34 +114,30 @@ returns-2 c k lent u w =
 
 flip-bit-requires : tie.Need-flip-bit-requires Inv-loop μ-loop
 flip-bit-requires c κs =
-    let s = c .before .before .before .before .before .before .before .before .before .before .before .before .before .before .before
-    .before .before in
-    let l = c .before .before .before .before .before .before .before .before .before .before .loop in
+    let in-loop : tie.In-loop Inv-loop μ-loop = search in
+    let s : tie.Start Inv-loop μ-loop = search in
+    let l = in-loop .before .loop in
     omega (arith, l .inv .0, s .pre .0 .bits, c .before .before .before .before .before .before .choose .ensures .1 .inside)
 
 flip-requires : tie.Need-flip-requires Inv-loop μ-loop
 flip-requires c κs =
-    let l = c .before .before .before .before .before .before .before .before .before .before .before .before .before .before .before
-    .loop in
-    let f = c .before .before .before .before .before .before .before .before .before .before .before .choose in
+    let after-choose : tie.After-choose Inv-loop μ-loop = search in
+    let l = after-choose .before .before .before .before .loop in
+    let f = after-choose .choose in
     (f .ensures .0 .ready, l .inv .1, f .ensures .1 .inside)
 
 sub-left : tie.Need-sub-left Inv-loop μ-loop
-sub-left c = omega (
-  arith,
-  c .before .before .before .before .before .before .before .before .before .before .before .before .before .if1
-      .left,
-)
+sub-left c =
+    let else1 : tie.Else1 Inv-loop μ-loop = search in
+    omega (arith, else1 .if1 .left)
 
 sub-left-2 : tie.Need-sub-left-2 Inv-loop μ-loop
 sub-left-2 c =
-    let s = c .before .before .before .before .before .before .before .before .before .before .before .before .before .before .before
-    .before .before .before .before .before .before .before .before .before .before .before .before .before in
+    let else1 : tie.Else1 Inv-loop μ-loop = search in
+    let s : tie.Start Inv-loop μ-loop = search in
     let a = s .args in
-    let l = c .before .before .before .before .before .before .before .before .before .before .before .before .before .before .before
-    .before .before .before .before .before .before .loop in
-    let f = c .before .before .before .before .before .before .before .before .before .before .before .before .before .before .before
-    .before .before .choose in
+    let l = else1 .before .before .before .before .before .before .before .before .loop in
+    let f = else1 .before .before .before .before .choose in
     let w = s .pre .7 in
     let i = l .inv .4 (w .code) (w .lent) (w .unsent) (w .carried) in
     omega (
@@ -149,35 +145,33 @@ sub-left-2 c =
       i .1 .left-is,
       chosen-left (w .code) (a .h .now) (a .sh) (w .lent) (s .pre .0) (a .starts .now) (a .counts .now)
           (s .pre .1) (a .from) (wbit (l .y)) (l .d) (l .met) _ (f .result .score) (f .result .bit) (i .1 .kept) (f .ensures .0)
-          (f .ensures .1) (c .before .before .before .before .before .before .before .before .before .before .before .before .before .if1
-          .left),
+          (f .ensures .1) (else1 .if1 .left),
     )
 
 add-flips : tie.Need-add-flips Inv-loop μ-loop
-add-flips c = omega (
-  arith,
-  c .before .before .before .before .before .before .before .before .before .before .before .before .before
-      .before .before .before .before .before .before .before .before .loop .inv .5,
-  c .before .before .before .before .before .before .before .before .before .before .before .before .if2 .left,
-)
+add-flips c =
+    let else2 : tie.Else2 Inv-loop μ-loop = search in
+    let in-loop : tie.In-loop Inv-loop μ-loop = search in
+    omega (arith, in-loop .before .loop .inv .5, else2 .if2 .left)
 
 loop-less : tie.Need-loop-less Inv-loop μ-loop
-loop-less c = omega (arith, c .before .before .before .before .before .before .before .before .before .before .before .before .if2 .left)
+loop-less c =
+    let else2 : tie.Else2 Inv-loop μ-loop = search in
+    omega (arith, else2 .if2 .left)
 
 loop-again : tie.Need-loop-again Inv-loop μ-loop
 loop-again c =
-    let s = c .before .before .before .before .before .before .before .before .before .before .before .before .before .before .before
-    .before .before .before .before .before .before .before .before .before .before .before .before .before in
+    let after-y : tie.After-y Inv-loop μ-loop = search in
+    let in-loop : tie.In-loop Inv-loop μ-loop = search in
+    let s : tie.Start Inv-loop μ-loop = search in
     let a = s .args in
-    let l = c .before .before .before .before .before .before .before .before .before .before .before .before .before .before .before
-    .before .before .before .before .before .before .loop in
-    let f = c .before .before .before .before .before .before .before .before .before .before .before .before .before .before .before
-    .before .before .choose in
+    let l = in-loop .before .loop in
+    let f = after-y .before .before .before .before .before .before .before .before .choose in
     let b = c .before .before .before .before .before .flip in
-    let some = c .before .before .before .before .before .before .before .before .before .before .before .before .before .if1 .left in (
-      omega (arith, c .before .before .before .before .before .before .before .before .before .y .given, l .inv .0),
+    let some = after-y .before .before .before .before .if1 .left in (
+      omega (arith, after-y .y .given, l .inv .0),
       omega (arith, c .before .before .before .before .d .given, l .inv .1),
-      omega (arith, c .before .before .before .before .before .before .before .before .before .before .before .before .if2 .left),
+      omega (arith, after-y .before .before .before .if2 .left),
       b .ensures .0,
       λ k lent u w.
           let i = l .inv .4 k lent u w in
@@ -190,17 +184,11 @@ loop-again c =
           let left = chosen-left k (a .h .now) (a .sh) lent (s .pre .0) (a .starts .now) (a .counts .now) (s .pre .1) (a .from)
           (wbit (l .y)) (l .d) (l .met) _ (f .result .score) (f .result .bit) (i .1 .kept) (f .ensures .0) (f .ensures .1) some in
           let next = next-flip lent (wbit (l .y)) top u
-          (λ e. omega (
-            arith,
-            i .1 .left-is,
-            e,
-            c .before .before .before .before .before .before .before .before .before .before .before .before .before .before .before
-                .before .before .before .before .before .loop-test .taken,
-          )) some in
-          let here = c .before .before .before .before .before .before .before .before .before .before .flip-bit .ensures in (
+          (λ e. omega (arith, i .1 .left-is, e, in-loop .loop-test .taken)) some in
+          let here = after-y .before .flip-bit .ensures in (
             subst (λ z. Going (byExcess k) k (a .sh) (a .limit) (wbit (a .y .now)) (l .flips + 1) z (laid k (a .sh) z)) (sym here)
                 (goes-on (byExcess k) k (a .sh) (a .limit) (wbit (a .y .now)) (l .flips) (wbit (l .y)) _ (i .0) _ _ next
-                (c .before .before .before .before .before .before .before .before .before .before .before .before .if2 .left) _ _ refl
+                (after-y .before .before .before .if2 .left) _ _ refl
                 refl),
             carried-more here (b .ensures .1 k (a .h .now) (a .from) (wbit (l .y)) lent (s .pre .1) kept met)
                 (omega (arith, left, i .1 .left-is)),
@@ -222,7 +210,7 @@ same-length-9 c = search needs
 
 returns-3 : tie.Need-returns-3 Inv-loop μ-loop
 returns-3 c k lent u w =
-    let s = c .before .before .before .before .before .before .before .before .before in
+    let s : tie.Start Inv-loop μ-loop = search in
     let a = s .args in
     let l = c .before .before .loop in
     let i = l .inv .4 k lent u w in

@@ -33,17 +33,17 @@ slice-aggregate-choose-4 c = search needs
 
 choose-requires : tie.Need-choose-requires
 choose-requires c κs =
-    let s = c .before .before .before .before .before .before .before .before .before .before .before .before .before in
+    let s : tie.Start = search in
     let b = c .before .before .before .before .before .before .before .begin in
     (begun-ready (s .pre .0) (b .ensures .1) (search needs) (search needs), search needs, s .pre .2, s .pre .3)
 
 cast-excess : tie.Need-cast-excess
 cast-excess c =
-    let s = c .before .before .before .before .before .before .before .before .before .before .before .before .before .before .before
-    .before in
+    let after-begin : tie.After-begin = search in
+    let s : tie.Start = search in
     let a = s .args in
     let w = s .pre .4 in
-    let b = c .before .before .before .before .before .before .before .before .before .before .begin in
+    let b = after-begin .begin in
     let f = c .before .before .choose in
     score-fits _ (top-small (w .lent) (w .word) (chosen-top (w .code) (a .h .now) (a .sh) (w .lent) (s .pre .0) _ _ (b .ensures .1)
     (a .from) (w .word) _ _ _ (f .result .score) (f .result .bit)
@@ -52,11 +52,11 @@ cast-excess c =
 
 sub-excess : tie.Need-sub-excess
 sub-excess c =
-    let s = c .before .before .before .before .before .before .before .before .before .before .before .before .before .before .before
-    .before in
+    let after-begin : tie.After-begin = search in
+    let s : tie.Start = search in
     let a = s .args in
     let w = s .pre .4 in
-    let b = c .before .before .before .before .before .before .before .before .before .before .begin in
+    let b = after-begin .begin in
     let f = c .before .before .choose in
     excess-fits _ (top-small (w .lent) (w .word) (chosen-top (w .code) (a .h .now) (a .sh) (w .lent) (s .pre .0) _ _ (b .ensures .1)
     (a .from) (w .word) _ _ _ (f .result .score) (f .result .bit)
@@ -65,11 +65,11 @@ sub-excess c =
 
 returns : tie.Need-returns
 returns c =
-    let s = c .before .before .before .before .before .before .before .before .before .before .before .before .before .before .before
-    .before .before .before in
+    let after-begin : tie.After-begin = search in
+    let s : tie.Start = search in
     let a = s .args in
     let w = s .pre .4 in
-    let b = c .before .before .before .before .before .before .before .before .before .before .before .before .begin in
+    let b = after-begin .begin in
     let f = c .before .before .before .before .choose in
     let t = chosen-top (w .code) (a .h .now) (a .sh) (w .lent) (s .pre .0) _ _ (b .ensures .1) (a .from) (w .word) _ _ _ (f .result .score)
     (f .result .bit)
@@ -85,11 +85,11 @@ returns c =
 
 returns-2 : tie.Need-returns-2
 returns-2 c =
-    let s = c .before .before .before .before .before .before .before .before .before .before .before .before .before .before .before
-    .before .before .before in
+    let after-begin : tie.After-begin = search in
+    let s : tie.Start = search in
     let a = s .args in
     let w = s .pre .4 in
-    let b = c .before .before .before .before .before .before .before .before .before .before .before .before .begin in
+    let b = after-begin .begin in
     let f = c .before .before .before .before .choose in
     let t = chosen-top (w .code) (a .h .now) (a .sh) (w .lent) (s .pre .0) _ _ (b .ensures .1) (a .from) (w .word) _ _ _ (f .result .score)
     (f .result .bit)

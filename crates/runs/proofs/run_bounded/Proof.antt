@@ -32,7 +32,7 @@ slice-aggregate-go-on-4 c = search needs
 
 go-on-requires : tie.Need-go-on-requires
 go-on-requires c κs =
-    let s = c .before .before .before .before .before .before .before .before .before .before .before .before .before .before .before in
+    let s : tie.Start = search in
     let a = s .args in
     let b = c .before .before .before .before .before .before .before .before .begin in
     let w = s .pre .5 in
@@ -61,10 +61,10 @@ same-length c = search needs
 
 returns : tie.Need-returns
 returns c k e =
-    let s = c .before .before .before .before .before .before .before .before .before .before .before .before .before .before .before
-    .before .before .before .before .before in
+    let after-begin : tie.After-begin = search in
+    let s : tie.Start = search in
     let a = s .args in
-    let b = c .before .before .before .before .before .before .before .before .before .before .before .before .before .begin in
+    let b = after-begin .begin in
     c .before .before .before .before .go-on .ensures k (e .lent) (e .unsent)
     (record {
       kept = begun-kept k (a .h .now) (a .sh) (e .lent) _ _ (b .ensures .1) (a .from) (wbit (a .y .now)) _ _ (e .held)

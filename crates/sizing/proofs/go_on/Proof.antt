@@ -55,7 +55,7 @@ loop-holds c =
 
 choose-requires : tie.Need-choose-requires Inv-loop μ-loop
 choose-requires c κs =
-    let s = c .before .before .before .before .before .before .before .before .before .before .before .before .before in
+    let s : tie.Start Inv-loop μ-loop = search in
     let l = c .before .before .before .before .loop in
     (l .inv .6, l .inv .2, l .inv .1, s .pre .6, s .pre .7, s .pre .8)
 
@@ -69,24 +69,24 @@ same-length-2 : tie.Need-same-length-2 Inv-loop μ-loop
 same-length-2 c = search needs
 
 same-length-3 : tie.Need-same-length-3 Inv-loop μ-loop
-same-length-3 c = c .before .before .before .before .before .before .before .choose .ensures .0 .met-long ∙ sym (c .before .before .before
-    .before .before .before .before .before .before .before .before .before .before .before .before .before .before .before .before .before
-    .before .pre .2 .met-long)
+same-length-3 c =
+    let s : tie.Start Inv-loop μ-loop = search in
+    c .before .before .before .before .before .before .before .choose .ensures .0 .met-long ∙ sym (s .pre .2 .met-long)
 
 same-length-4 : tie.Need-same-length-4 Inv-loop μ-loop
 same-length-4 c = search needs
 
 returns : tie.Need-returns Inv-loop μ-loop
 returns c k lent u eq w =
-    let s = c .before .before .before .before .before .before .before .before .before .before .before .before .before .before .before
-    .before .before .before .before .before .before in
+    let in-loop : tie.In-loop Inv-loop μ-loop = search in
+    let s : tie.Start Inv-loop μ-loop = search in
     let a = s .args in
-    let l = c .before .before .before .before .before .before .before .before .before .before .before .before .loop in
+    let l = in-loop .before .loop in
     let f = c .before .before .before .before .before .before .before .choose in
     let e = c .at-end .ensures in
     let i = l .inv .7 k lent u eq w in
     let x = a .samples .now in
-    let was = i .stands (c .before .before .before .before .before .before .before .before .before .before .before .loop-test .taken) in
+    let was = i .stands (in-loop .loop-test .taken) in
     let most = chosen-most k (a .h .now) (a .sh) lent (s .pre .0) (a .starts .now) (a .counts .now) (s .pre .1) x (wbit (l .y)) (l .d) (l
     .met)
     (l .kept) was (f .result .bit) (f .result .score) (f .ensures .2) in
@@ -94,13 +94,7 @@ returns c k lent u eq w =
     (l .met)
     (l .kept) was (f .result .bit) (f .result .score) (f .ensures .2) in
     let next = sized-stuck x lent u (wbit (l .y)) (f .result .bit) (f .result .score) (f .ensures .1) (s .pre .7) most leads
-    (λ z. omega (
-      arith,
-      z,
-      i .left-is,
-      c .before .before .before .before .before .before .before .before .before .before .before
-          .loop-test .taken,
-    )) (c .before .if1 .taken) in
+    (λ z. omega (arith, z, i .left-is, in-loop .loop-test .taken)) (c .before .if1 .taken) in
     record {
       runs = runs-as _ _ (e .0) (e .1) (ends-stuck (bySize (smaller x) k) k (a .sh) (a .limit) (wbit (a .y .now)) (l .flips) (wbit (l .y)) _
           (i .going) _ _ next);
@@ -118,25 +112,24 @@ same-length-6 : tie.Need-same-length-6 Inv-loop μ-loop
 same-length-6 c = search needs
 
 same-length-7 : tie.Need-same-length-7 Inv-loop μ-loop
-same-length-7 c = c .before .before .before .before .before .before .before .before .choose .ensures .0 .met-long ∙ sym (c .before .before
-    .before .before .before .before .before .before .before .before .before .before .before .before .before .before .before .before .before
-    .before .before .before .pre .2 .met-long)
+same-length-7 c =
+    let s : tie.Start Inv-loop μ-loop = search in
+    c .before .before .before .before .before .before .before .before .choose .ensures .0 .met-long ∙ sym (s .pre .2 .met-long)
 
 same-length-8 : tie.Need-same-length-8 Inv-loop μ-loop
 same-length-8 c = search needs
 
 returns-2 : tie.Need-returns-2 Inv-loop μ-loop
 returns-2 c k lent u eq w =
-    let s = c .before .before .before .before .before .before .before .before .before .before .before .before .before .before .before
-    .before .before .before .before .before .before .before in
+    let in-loop : tie.In-loop Inv-loop μ-loop = search in
+    let s : tie.Start Inv-loop μ-loop = search in
     let a = s .args in
-    let l = c .before .before .before .before .before .before .before .before .before .before .before .before .before .loop in
+    let l = in-loop .before .loop in
     let f = c .before .before .before .before .before .before .before .before .choose in
     let e = c .at-end2 .ensures in
     let i = l .inv .7 k lent u eq w in
     let x = a .samples .now in
-    let was = i .stands (c .before .before .before .before .before .before .before .before .before .before .before .before .loop-test
-    .taken) in
+    let was = i .stands (in-loop .loop-test .taken) in
     let most = chosen-most k (a .h .now) (a .sh) lent (s .pre .0) (a .starts .now) (a .counts .now) (s .pre .1) x (wbit (l .y)) (l .d) (l
     .met)
     (l .kept) was (f .result .bit) (f .result .score) (f .ensures .2) in
@@ -144,13 +137,7 @@ returns-2 c k lent u eq w =
     (l .met)
     (l .kept) was (f .result .bit) (f .result .score) (f .ensures .2) in
     let next = sized-flip x lent u (wbit (l .y)) (f .result .bit) (f .result .score) (f .ensures .1) (s .pre .7) most leads (s .pre .8)
-    (λ z. omega (
-      arith,
-      z,
-      i .left-is,
-      c .before .before .before .before .before .before .before .before .before .before .before .before
-          .loop-test .taken,
-    )) (c .before .before .if1 .left) in
+    (λ z. omega (arith, z, i .left-is, in-loop .loop-test .taken)) (c .before .before .if1 .left) in
     record {
       runs = runs-as _ _ (e .0) (e .1) (ends-limit (bySize (smaller x) k) k (a .sh) (a .limit) (wbit (a .y .now)) (l .flips) (wbit (l .y)) _
           (i .going) _ _ next (c .before .if2 .taken));
@@ -163,16 +150,15 @@ sub-left c = omega (arith, c .before .before .if1 .left)
 
 sub-left-2 : tie.Need-sub-left-2 Inv-loop μ-loop
 sub-left-2 c =
-    let s = c .before .before .before .before .before .before .before .before .before .before .before .before .before .before .before
-    .before .before .before .before .before .before .before in
+    let in-loop : tie.In-loop Inv-loop μ-loop = search in
+    let s : tie.Start Inv-loop μ-loop = search in
     let a = s .args in
-    let l = c .before .before .before .before .before .before .before .before .before .before .before .before .before .loop in
+    let l = in-loop .before .loop in
     let f = c .before .before .before .before .before .before .before .before .choose in
     let w = s .pre .10 in
     let i = l .inv .7 (w .code) (w .lent) (w .unsent) (w .left-is) (w .stands) in
     let x = a .samples .now in
-    let was = i .stands (c .before .before .before .before .before .before .before .before .before .before .before .before .loop-test
-    .taken) in
+    let was = i .stands (in-loop .loop-test .taken) in
     let most = chosen-most (w .code) (a .h .now) (a .sh) (w .lent) (s .pre .0) (a .starts .now) (a .counts .now) (s .pre .1) x (wbit (l
     .y)) (l .d)
     (l .met) (l .kept) was (f .result .bit) (f .result .score) (f .ensures .2) in
@@ -188,11 +174,10 @@ sub-left-2 c =
 
 pass-requires : tie.Need-pass-requires Inv-loop μ-loop
 pass-requires c κs =
-    let s = c .before .before .before .before .before .before .before .before .before .before .before .before .before .before .before
-    .before .before .before .before .before .before .before .before .before .before .before in
-    let l = c .before .before .before .before .before .before .before .before .before .before .before .before .before .before .before
-    .before .before .loop in
-    let f = c .before .before .before .before .before .before .before .before .before .before .before .before .choose in (
+    let after-choose : tie.After-choose Inv-loop μ-loop = search in
+    let s : tie.Start Inv-loop μ-loop = search in
+    let l = after-choose .before .before .before .before .before .loop in
+    let f = after-choose .choose in (
       f .ensures .0,
       search needs,
       l .inv .0,
@@ -206,46 +191,38 @@ pass-requires c κs =
 
 add-flips : tie.Need-add-flips Inv-loop μ-loop
 add-flips c =
-    let l = c .before .before .before .before .before .before .before .before .before .before .before .before .before .before
-    .before .before .before .before .before .before .before .before .before .before .before .before .loop in
+    let in-loop : tie.In-loop Inv-loop μ-loop = search in
+    let l = in-loop .before .loop in
     omega (arith, l .inv .3, l .inv .4)
 
 loop-less : tie.Need-loop-less Inv-loop μ-loop
-loop-less c = omega (
-  arith,
-  c .before .before .before .before .before .before .before .before .before .before .before .before .before
-      .before .if2 .left,
-)
+loop-less c =
+    let else2 : tie.Else2 Inv-loop μ-loop = search in
+    omega (arith, else2 .if2 .left)
 
 loop-again : tie.Need-loop-again Inv-loop μ-loop
 loop-again c =
-    let s = c .before .before .before .before .before .before .before .before .before .before .before .before .before .before .before
-    .before .before .before .before .before .before .before .before .before .before .before .before .before .before .before .before
-    .before .before .before .before in
+    let else2 : tie.Else2 Inv-loop μ-loop = search in
+    let in-loop = let after-choose = else2 .before .before .before .before .before .before .before in
+    after-choose .before .before .before .before in
+    let s : tie.Start Inv-loop μ-loop = search in
     let a = s .args in
-    let l = c .before .before .before .before .before .before .before .before .before .before .before .before .before .before .before
-    .before .before .before .before .before .before .before .before .before .before .before .loop in
-    let f = c .before .before .before .before .before .before .before .before .before .before .before .before .before .before .before
-    .before .before .before .before .before .before .choose in
+    let l = in-loop .before .loop in
+    let f = else2 .before .before .before .before .before .before .before .choose in
     let t = c .before .before .before .before .before .before .before .before .pass in
     let x = a .samples .now in
     let bit = f .result .bit in
     let top = f .result .score in (
       search needs,
       search needs,
-      search needs,
-      omega (
-        arith,
-        c .before .before .before .before .before .before .before .before .before .before .before .before .before .before .if2
-            .left,
-      ),
+      omega (arith, c .before .kept2 .given, else2 .before .before .before .before .kept .given, l .inv .2),
+      omega (arith, else2 .if2 .left),
       l .inv .4,
       omega (arith, t .ensures .1, l .inv .5),
       t .ensures .0,
       λ k lent u eq w.
           let i = l .inv .7 k lent u eq w in
-          let was = i .stands (c .before .before .before .before .before .before .before .before .before .before .before .before .before
-          .before .before .before .before .before .before .before .before .before .before .before .before .loop-test .taken) in
+          let was = i .stands (in-loop .loop-test .taken) in
           let most = chosen-most k (a .h .now) (a .sh) lent (s .pre .0) (a .starts .now) (a .counts .now) (s .pre .1) x (wbit (l .y)) (l .d)
           (l .met) (l .kept) was bit top (f .ensures .2) in
           let leads = chosen-leads k (a .h .now) (a .sh) lent (s .pre .0) (a .starts .now) (a .counts .now) (s .pre .1) x (wbit (l .y)) (l
@@ -253,26 +230,16 @@ loop-again c =
           (l .met) (l .kept) was bit top (f .ensures .2) in
           let word = t .ensures .3 in
           let next = sized-flip x lent u (wbit (l .y)) bit top (f .ensures .1) (s .pre .7) most leads (s .pre .8)
-          (λ z. omega (
-            arith,
-            z,
-            i .left-is,
-            c .before .before .before .before .before .before .before .before .before .before .before
-                .before .before .before .before .before .before .before .before .before .before .before .before .before .before .loop-test
-                .taken,
-          )) (c .before .before .before .before .before .before .before .before .before .before .before .before .before .before
-          .before .if1 .left) in
+          (λ z. omega (arith, z, i .left-is, in-loop .loop-test .taken)) (else2 .before .if1 .left) in
           let left = sized-left x lent u (wbit (l .y)) bit top (f .ensures .1) (s .pre .7) most leads (omega (
             arith,
-            c .before .before
-                .before .before .before .before .before .before .before .before .before .before .before .before .before .if1 .left,
+            else2 .before .if1 .left,
           )) in
           record {
             going = subst (λ z. Going (bySize (smaller x) k) k (a .sh) (a .limit) (wbit (a .y .now)) (l .flips + 1) z (laid k (a .sh) z))
                 (sym word)
                 (goes-on (bySize (smaller x) k) k (a .sh) (a .limit) (wbit (a .y .now)) (l .flips) (wbit (l .y)) _ (i .going) _ _ next
-                (c .before .before .before .before .before .before .before .before .before .before .before .before .before .before .if2
-                .left) _ _ refl refl);
+                (else2 .if2 .left) _ _ refl refl);
             left-is = omega (arith, left, i .left-is, ap (broken k) word);
             stands = λ some. stands-as (sym word)
                 (t .ensures .4 k (a .h .now) lent (s .pre .1) some
@@ -300,7 +267,7 @@ same-length-12 c = search needs
 
 returns-3 : tie.Need-returns-3 Inv-loop μ-loop
 returns-3 c k lent u eq w =
-    let s = c .before .before .before .before .before .before .before .before .before .before .before in
+    let s : tie.Start Inv-loop μ-loop = search in
     let a = s .args in
     let l = c .before .before .loop in
     let e = c .at-end3 .ensures in

@@ -13,8 +13,7 @@ flip-bit-requires c κs = search needs
 
 flip-requires : tie.Need-flip-requires
 flip-requires c κs =
-    let s = c .before .before .before .before .before .before .before .before .before .before .before .before .before .before .before
-    .before .before in
+    let s : tie.Start = search in
     (s .pre .0, s .pre .1, s .pre .3, s .pre .4, s .pre .6, omega (arith, s .pre .4, s .pre .7))
 
 same-length : tie.Need-same-length
@@ -31,16 +30,15 @@ same-length-4 c = search needs
 
 returns : tie.Need-returns
 returns c =
-    let s = c .before .before .before .before .before .before .before .before .before .before .before .before .before .before .before
-    .before .before .before .before .before .before .before .before .before in
+    let after-flip-bit : tie.After-flip-bit = search in
+    let s : tie.Start = search in
     let a = s .args in
     let f = c .before .before .before .before .before .before .flip in
-    let n = c .before .before .before .before .before .before .before .before .before .before .before .before .before .before .before
-    .counted in (
+    let n = after-flip-bit .before .before .counted in (
       f .ensures .0,
       n .ensures .0,
       n .ensures .1,
-      c .before .before .before .before .before .before .before .before .before .before .before .before .before .flip-bit .ensures,
+      after-flip-bit .flip-bit .ensures,
       λ k h lent g l was.
           let e = f .ensures .1 k h (wbit (a .y .now)) lent g (was .twice) in
           record { twice = e .0; knows = e .1 (was .knows) },
@@ -51,7 +49,7 @@ same-length-5 c = search needs
 
 returns-2 : tie.Need-returns-2
 returns-2 c =
-    let s = c .before .before .before .before .before .before .before .before .before .before .before .before .before .before in
+    let s : tie.Start = search in
     let n = c .before .before .before .before .before .counted in (
       s .pre .0,
       n .ensures .0,

@@ -31,7 +31,7 @@ greatest-requires c κs =
 
 smallest-at-requires : tie.Need-smallest-at-requires Inv-loop μ-loop
 smallest-at-requires c κs =
-    let s = c .before .before .before .before .before .before .before .before .before .before .before in
+    let s : tie.Start Inv-loop μ-loop = search in
     let a = s .args in
     let l = c .before .before .before .before .loop in (
       l .inv .1,
@@ -54,10 +54,10 @@ same-length-2 c = search needs
 
 returns : tie.Need-returns Inv-loop μ-loop
 returns c =
-    let s = c .before .before .before .before .before .before .before .before .before .before .before .before .before .before .before
-    .before .before in
+    let after-greatest : tie.After-greatest Inv-loop μ-loop = search in
+    let s : tie.Start Inv-loop μ-loop = search in
     let a = s .args in
-    let l = c .before .before .before .before .before .before .before .before .before .before .loop in
+    let l = after-greatest .before .before .loop in
     let f = c .before .before .before .before .before .smallest-at in
     let g = c .before .before .before .before .before .before .before .before .greatest in (
       f .ensures .0,
@@ -78,17 +78,18 @@ returns c =
 
 loop-less : tie.Need-loop-less Inv-loop μ-loop
 loop-less c =
-    let s = c .before .before .before .before .before .before .before .before .before .before .before .before .before .before .before
-    .before .before in
+    let after-greatest : tie.After-greatest Inv-loop μ-loop = search in
+    let s : tie.Start Inv-loop μ-loop = search in
     let a = s .args in
-    let l = c .before .before .before .before .before .before .before .before .before .before .loop in
+    let l = after-greatest .before .before .loop in
     highest-less (a .counts .now) (l .met) _ (a .sh .blocks) (c .before .before .before .before .before .before .before .before .greatest
     .result) (s .pre .3) (c .before .before .before .before .before .before .before .before .greatest .ensures)
     (c .before .before .before .before .before .smallest-at .ensures .1 (c .if1 .left))
 
 loop-again : tie.Need-loop-again Inv-loop μ-loop
 loop-again c =
-    let l = c .before .before .before .before .before .before .before .before .before .before .loop in
+    let at-loop : tie.At-loop Inv-loop μ-loop = search in
+    let l = at-loop .loop in
     let f = c .before .before .before .before .before .smallest-at in
     (search needs, f .ensures .0, λ was. f .ensures .2 (l .inv .2 was) .0)
 

@@ -17,28 +17,28 @@ rem-k c = search needs
 
 shared-slice-read-n : tie.Need-shared-slice-read-n
 shared-slice-read-n c =
-    let s = c .before .before .before .before .before .before .before .before .before in
+    let s : tie.Start = search in
     let a = s .args in
     let hb : a .bit / a .sh .size < a .sh .blocks = div-lt-iff-lt-mul (s .pre .0 .some) .1 (s .pre .5) in
     omega (arith, s .pre .0 .counts-long, s .pre .0 .blocks)
 
 cast-n : tie.Need-cast-n
 cast-n c =
-    let s = c .before .before .before .before .before .before .before .before .before in
+    let s : tie.Start = search in
     let a = s .args in
     let hb : a .bit / a .sh .size < a .sh .blocks = div-lt-iff-lt-mul (s .pre .0 .some) .1 (s .pre .5) in
     omega (arith, s .pre .0 .low (a .bit / a .sh .size) hb)
 
 mul-flip-checks : tie.Need-mul-flip-checks
 mul-flip-checks c =
-    let s = c .before .before .before .before .before .before .before .before .before .before in
+    let s : tie.Start = search in
     let a = s .args in
     let hb : a .bit / a .sh .size < a .sh .blocks = div-lt-iff-lt-mul (s .pre .0 .some) .1 (s .pre .5) in
     omega (arith, s .pre .0 .blocks)
 
 flip-checks-requires : tie.Need-flip-checks-requires
 flip-checks-requires c κs =
-    let s = c .before .before .before .before .before .before .before .before .before .before in
+    let s : tie.Start = search in
     let a = s .args in
     let r = s .pre .0 in
     let b = a .bit / a .sh .size in
@@ -54,16 +54,14 @@ flip-checks-requires c κs =
 
 mul-raise : tie.Need-mul-raise
 mul-raise c =
-    let s = c .before .before .before .before .before .before .before .before .before .before .before .before .before .before .before
-    .before in
+    let s : tie.Start = search in
     let a = s .args in
     let hb : a .bit / a .sh .size < a .sh .blocks = div-lt-iff-lt-mul (s .pre .0 .some) .1 (s .pre .5) in
     omega (arith, s .pre .0 .blocks)
 
 raise-requires : tie.Need-raise-requires
 raise-requires c κs =
-    let s = c .before .before .before .before .before .before .before .before .before .before .before .before .before .before .before
-    .before in
+    let s : tie.Start = search in
     let a = s .args in
     let r = s .pre .0 in
     let b = a .bit / a .sh .size in
@@ -89,11 +87,11 @@ same-length-3 c = search needs
 
 returns : tie.Need-returns
 returns c =
-    let s = c .before .before .before .before .before .before .before .before .before .before .before .before .before .before .before
-    .before .before .before .before .before .before in
+    let after-flip-checks : tie.After-flip-checks = search in
+    let s : tie.Start = search in
     let a = s .args in
     let f = c .before .before .before .before .raise in
-    let t = c .before .before .before .before .before .before .before .before .before .before .flip-checks in (
+    let t = after-flip-checks .flip-checks in (
       f .ensures .0,
       λ k h x lent g two. (
         twice-flip (a .samples .now) (a .sh) (a .starts .now) (a .counts .now) (a .met .now) (a .kept .now) (s .pre .0) (a .bit) (s .pre .5)

@@ -79,7 +79,7 @@ add-if3 c = search needs
 
 returns-3 : tie.Need-returns-3
 returns-3 c =
-    let s = c .before .before .before .before .before .before .before .before .before in
+    let s : tie.Start = search in
     let a = s .args in
     let f = c .before .before .before .before .broken-of in (
       s .pre .3,
@@ -89,7 +89,7 @@ returns-3 c =
 
 returns-4 : tie.Need-returns-4
 returns-4 c =
-    let s = c .before .before .before .before .before .before .before .before .before .before .before in
+    let s : tie.Start = search in
     let a = s .args in
     let f = c .before .before .before .before .before .before .broken-of in (
       s .pre .3,
@@ -112,7 +112,7 @@ lesser-requires c κs = search needs
 
 returns-5 : tie.Need-returns-5
 returns-5 c =
-    let s = c .before .before .before .before .before .before .before .before .before .before .before .before in
+    let s : tie.Start = search in
     let a = s .args in
     let f = c .before .before .before .before .before .before .before .broken-of in
     let p = c .lesser .ensures in (

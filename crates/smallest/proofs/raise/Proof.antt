@@ -34,57 +34,67 @@ loop-holds c =
     )
 
 add-raise-check : tie.Need-add-raise-check Inv-loop μ-loop
-add-raise-check c = let s = c .before .before .before .before .before .before .before .before .before .before in omega (
-  arith,
-  s .pre .5,
-  s .pre .0 .starts-long,
-)
+add-raise-check c =
+    let s : tie.Start Inv-loop μ-loop = search in
+    omega (
+      arith,
+      s .pre .5,
+      s .pre .0 .starts-long,
+    )
 
 mul-raise-check : tie.Need-mul-raise-check Inv-loop μ-loop
-mul-raise-check c = let s = c .before .before .before .before .before .before .before .before .before .before in omega (
-  arith,
-  s .pre .5,
-  s .pre .0 .starts-long,
-)
+mul-raise-check c =
+    let s : tie.Start Inv-loop μ-loop = search in
+    omega (
+      arith,
+      s .pre .5,
+      s .pre .0 .starts-long,
+    )
 
 shared-slice-read-raise-check : tie.Need-shared-slice-read-raise-check Inv-loop μ-loop
-shared-slice-read-raise-check c = let s = c .before .before .before .before .before .before .before .before .before .before .before in
+shared-slice-read-raise-check c =
+    let s : tie.Start Inv-loop μ-loop = search in
     omega (arith, s .pre .5)
 
 cast-raise-check : tie.Need-cast-raise-check Inv-loop μ-loop
-cast-raise-check c = let s = c .before .before .before .before .before .before .before .before .before .before .before in omega (
-  arith,
-  s
-      .pre .6 (c .before .before .before .before .loop .e) (omega arith) .0,
-)
+cast-raise-check c =
+    let s : tie.Start Inv-loop μ-loop = search in
+    omega (
+      arith,
+      s
+          .pre .6 (c .before .before .before .before .loop .e) (omega arith) .0,
+    )
 
 add-raise-check-2 : tie.Need-add-raise-check-2 Inv-loop μ-loop
-add-raise-check-2 c = let s = c .before .before .before .before .before .before .before .before .before .before .before in omega (
-  arith,
-  s
-      .pre .6 (c .before .before .before .before .loop .e) (omega arith) .0,
-)
+add-raise-check-2 c =
+    let s : tie.Start Inv-loop μ-loop = search in
+    omega (
+      arith,
+      s
+          .pre .6 (c .before .before .before .before .loop .e) (omega arith) .0,
+    )
 
 raise-check-requires : tie.Need-raise-check-requires Inv-loop μ-loop
 raise-check-requires c κs =
-    let s = c .before .before .before .before .before .before .before .before .before .before .before in
+    let s : tie.Start Inv-loop μ-loop = search in
     let l = c .before .before .before .before .loop in
     let near = s .pre .6 (l .e) (omega arith) in
     (l .inv .2, l .inv .1, s .pre .2, s .pre .3, s .pre .4, near .0, near .1)
 
 add-e : tie.Need-add-e Inv-loop μ-loop
-add-e c = let s = c .before .before .before .before .before .before .before .before .before .before .before .before .before .before
-    .before .before in omega (arith, s .pre .5, s .pre .0 .starts-long)
+add-e c =
+    let s : tie.Start Inv-loop μ-loop = search in
+    omega (arith, s .pre .5, s .pre .0 .starts-long)
 
 loop-less : tie.Need-loop-less Inv-loop μ-loop
 loop-less c = omega arith
 
 loop-again : tie.Need-loop-again Inv-loop μ-loop
 loop-again c =
-    let s = c .before .before .before .before .before .before .before .before .before .before .before .before .before .before .before
-    .before in
+    let in-loop : tie.In-loop Inv-loop μ-loop = search in
+    let s : tie.Start Inv-loop μ-loop = search in
     let a = s .args in
-    let l = c .before .before .before .before .before .before .before .before .before .loop in
+    let l = in-loop .before .loop in
     let f = c .before .before .before .before .raise-check in (
       omega arith,
       search needs,

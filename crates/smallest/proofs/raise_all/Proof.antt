@@ -62,7 +62,7 @@ shared-slice-read-raise-in c = let r = c .before .before .before .before .before
 
 mul-raise-in-3 : tie.Need-mul-raise-in-3 Inv-loop μ-loop
 mul-raise-in-3 c =
-    let s = c .before .before .before .before .before .before .before .before .before .before .before .before .before in
+    let s : tie.Start Inv-loop μ-loop = search in
     let a = s .args in
     omega (
       arith,
@@ -73,7 +73,7 @@ mul-raise-in-3 c =
 
 raise-in-requires : tie.Need-raise-in-requires Inv-loop μ-loop
 raise-in-requires c κs =
-    let s = c .before .before .before .before .before .before .before .before .before .before .before .before .before in
+    let s : tie.Start Inv-loop μ-loop = search in
     let a = s .args in
     let l = c .before .before .before .before .before .before .loop in
     let hb : l .b < a .sh .blocks = omega arith in
@@ -102,7 +102,7 @@ loop-less c = omega arith
 
 loop-again : tie.Need-loop-again Inv-loop μ-loop
 loop-again c =
-    let s = c .before .before .before .before .before .before .before .before .before .before .before .before .before .before in
+    let s : tie.Start Inv-loop μ-loop = search in
     let a = s .args in
     let l = c .before .before .before .before .before .before .before .loop in
     let hb : l .b < a .sh .blocks = omega arith in
@@ -128,15 +128,18 @@ loop-again c =
     )
 
 same-length : tie.Need-same-length Inv-loop μ-loop
-same-length c = c .before .before .loop .inv .2 .met-long ∙ sym (c .before .before .before .before .before .before .before .before .before
-    .pre .0 .met-long)
+same-length c =
+    let s : tie.Start Inv-loop μ-loop = search in
+    c .before .before .loop .inv .2 .met-long ∙ sym (s .pre .0 .met-long)
 
 same-length-2 : tie.Need-same-length-2 Inv-loop μ-loop
-same-length-2 c = c .before .before .loop .inv .1 ∙ sym (c .before .before .before .before .before .before .before .before .before .pre .1)
+same-length-2 c =
+    let s : tie.Start Inv-loop μ-loop = search in
+    c .before .before .loop .inv .1 ∙ sym (s .pre .1)
 
 returns : tie.Need-returns Inv-loop μ-loop
 returns c =
-    let s = c .before .before .before .before .before .before .before .before .before in
+    let s : tie.Start Inv-loop μ-loop = search in
     let a = s .args in
     let l = c .before .before .loop in (
       l .inv .2,

@@ -38,8 +38,7 @@ same-length-2 c = search needs
 
 returns-2 : tie.Need-returns-2
 returns-2 c =
-    let s = c .before .before .before .before .before .before .before .before .before .before .before .before .before .before .before
-    .before in
+    let s : tie.Start = search in
     let a = s .args in
     let f = c .before .before .before .before .raise-all in
     let n = c .before .before .before .before .before .nearer in (

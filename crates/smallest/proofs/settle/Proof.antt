@@ -23,7 +23,7 @@ same-length c = search needs
 
 returns : tie.Need-returns
 returns c =
-    let s = c .before .before .before .before .before .before .before .before .before in
+    let s : tie.Start = search in
     let a = s .args in
     passed (a .samples .now) (a .sh) (wbit (a .d .now)) (a .starts .now) (a .counts .now) (a .met .now) (a .kept .now) (s .pre .0)
     (s .pre .3) (s .pre .4) (a .b) (s .pre .5) (a .top) (a .best) (s .pre .6) (λ e. c .if1 .taken (c .before .bound-of .ensures ∙ e))
@@ -45,7 +45,7 @@ slice-read-still-2 c = search needs
 
 still-requires : tie.Need-still-requires
 still-requires c κs =
-    let s = c .before .before .before .before .before .before .before .before .before .before .before .before in
+    let s : tie.Start = search in
     let a = s .args in (
       block-within (a .sh) (a .starts .now) (a .counts .now) (a .met .now) (s .pre .0) (a .b) (s .pre .5) (a .d .now) (s .pre .2),
       s .pre .4,
@@ -58,7 +58,7 @@ same-length-2 c = search needs
 
 returns-2 : tie.Need-returns-2
 returns-2 c =
-    let s = c .before .before .before .before .before .before .before .before .before .before .before .before .before .before in
+    let s : tie.Start = search in
     let a = s .args in
     let f = c .before .still in
     let e = f .ensures (c .if2 .taken) in
@@ -79,13 +79,12 @@ same-length-4 c = search needs
 
 returns-3 : tie.Need-returns-3
 returns-3 c =
-    let s = c .before .before .before .before .before .before .before .before .before .before .before .before .before .before .before
-    .before .before .before .before .before .before in
+    let else1 : tie.Else1 = search in
+    let s = let after-bound-of : tie.After-bound-of = search in
+    after-bound-of .before .before .before .before .before .before .before .before in
     let a = s .args in
     let f = c .before .before .before .before .weigh in
-    let top : bound (a .counts .now) (a .met .now) (a .b) ≡ a .top = sym (c .before .before .before .before .before .before .before
-    .before .before .before .before .before .before .bound-of .ensures) ∙ c .before .before .before .before .before .before .before
-    .before .before .before .before .before .if1 .left in
+    let top : bound (a .counts .now) (a .met .now) (a .b) ≡ a .top = sym (else1 .before .bound-of .ensures) ∙ else1 .if1 .left in
     settled-as (f .ensures) top
 
 pub settle-spec : {M : Type 1} → statement M

@@ -36,22 +36,24 @@ loop-holds c =
 
 settle-requires : tie.Need-settle-requires Inv-loop μ-loop
 settle-requires c κs =
-    let s = c .before .before .before .before .before .before .before .before .before .before .before in
+    let s : tie.Start Inv-loop μ-loop = search in
     let l = c .before .before .before .before .loop in
     (l .inv .2, l .inv .1, s .pre .2, s .pre .3, s .pre .4, c .before .before .if1 .taken, l .inv .3 (l .b) (c .before .before .if1 .taken))
 
 add-b : tie.Need-add-b Inv-loop μ-loop
-add-b c = omega (arith, c .before .before .before .before .before .before .before .before .before .loop .inv .2 .blocks)
+add-b c =
+    let then1 : tie.Then1 Inv-loop μ-loop = search in
+    omega (arith, then1 .before .before .loop .inv .2 .blocks)
 
 loop-less : tie.Need-loop-less Inv-loop μ-loop
 loop-less c = omega arith
 
 loop-again : tie.Need-loop-again Inv-loop μ-loop
 loop-again c =
-    let s = c .before .before .before .before .before .before .before .before .before .before .before .before .before .before .before
-    .before in
+    let then1 : tie.Then1 Inv-loop μ-loop = search in
+    let s : tie.Start Inv-loop μ-loop = search in
     let a = s .args in
-    let l = c .before .before .before .before .before .before .before .before .before .loop in
+    let l = then1 .before .before .loop in
     let f = c .before .before .before .before .settle .ensures in
     let next : l .b * a .sh .size + a .sh .size ≡ (l .b + 1) * a .sh .size = omega arith in (
       omega arith,
@@ -68,15 +70,18 @@ loop-again c =
     )
 
 same-length : tie.Need-same-length Inv-loop μ-loop
-same-length c = c .before .before .loop .inv .2 .met-long ∙ sym (c .before .before .before .before .before .before .before .before .before
-    .pre .0 .met-long)
+same-length c =
+    let s : tie.Start Inv-loop μ-loop = search in
+    c .before .before .loop .inv .2 .met-long ∙ sym (s .pre .0 .met-long)
 
 same-length-2 : tie.Need-same-length-2 Inv-loop μ-loop
-same-length-2 c = c .before .before .loop .inv .1 ∙ sym (c .before .before .before .before .before .before .before .before .before .pre .1)
+same-length-2 c =
+    let s : tie.Start Inv-loop μ-loop = search in
+    c .before .before .loop .inv .1 ∙ sym (s .pre .1)
 
 returns : tie.Need-returns Inv-loop μ-loop
 returns c =
-    let s = c .before .before .before .before .before .before .before .before .before in
+    let s : tie.Start Inv-loop μ-loop = search in
     let a = s .args in
     let l = c .before .before .loop in
     let all : l .b ≡ a .sh .blocks = omega arith in (

@@ -38,7 +38,7 @@ slice-aggregate-window c = search needs
 
 mul-window : tie.Need-mul-window Inv-loop μ-loop
 mul-window c =
-    let s = c .before .before .before .before .before .before .before .before .before .before in
+    let s : tie.Start Inv-loop μ-loop = search in
     omega (
       arith,
       s .pre .1,
@@ -49,7 +49,7 @@ mul-window c =
 
 window-requires : tie.Need-window-requires Inv-loop μ-loop
 window-requires c κs =
-    let s = c .before .before .before .before .before .before .before .before .before .before in
+    let s : tie.Start Inv-loop μ-loop = search in
     let long : length (c .before .before .before .before .before .load .last .1 .0) ≡ 5 = search needs in
     omega (
       arith,
@@ -77,18 +77,17 @@ loop-less c = omega arith
 
 loop-again : tie.Need-loop-again Inv-loop μ-loop
 loop-again c =
-    let s = c .before .before .before .before .before .before .before .before .before .before .before .before .before .before .before
-    .before .before in
+    let in-loop : tie.In-loop Inv-loop μ-loop = search in
+    let s : tie.Start Inv-loop μ-loop = search in
     let sh = s .args .sh in
     let h = s .args .h .now in
     let x = bit (s .args .octets .now) in
-    let l = c .before .before .before .before .before .before .before .before .before .before .loop in
+    let l = in-loop .before .loop in
     let M = sh .size in
     let block : Holds (c .before .before .before .before .before .front .result) (upTo M (from (l .b * M) x)) =
     λ i hi. c .before .before .before .before .before .front .ensures i hi
     ∙ ap (λ (p : Bool). ltb i M && p) (c .before .before .before .before .before .before .window .ensures i hi
-    ∙ ap (λ (z : Word). z (l .b * M + i)) (c .before .before .before .before .before .before .before .before .before .before .before
-    .before .load .ensures)) in (
+    ∙ ap (λ (z : Word). z (l .b * M + i)) (in-loop .before .before .before .load .ensures)) in (
       omega arith,
       c .before .before .add-narrow-block .kept .1 .1 .1 .1 .0 ∙ l .inv .1,
       c .before .before .add-narrow-block .ensures

@@ -55,7 +55,8 @@ cast-add-turned : tie.Need-cast-add-turned Inv-loop μ-loop
 cast-add-turned c = omega (arith, c .shared-slice-known5 .given (c .before .before .before .before .before .loop .k))
 
 add-turned-requires : tie.Need-add-turned-requires Inv-loop μ-loop
-add-turned-requires c κs = let s = c .before .before .before .before .before .before .before .before .before .before .before .before in
+add-turned-requires c κs =
+    let s : tie.Start Inv-loop μ-loop = search in
     let fit = s .pre .0 in
     let low : getD (s .args .step .now) (c .before .before .before .before .before .before .loop .k) 0 < s .args .sh .size =
     ltb-true (getD (s .args .step .now) (c .before .before .before .before .before .before .loop .k) 0) (s .args .sh .size)
@@ -71,10 +72,11 @@ loop-less : tie.Need-loop-less Inv-loop μ-loop
 loop-less c = search needs
 
 loop-again : tie.Need-loop-again Inv-loop μ-loop
-loop-again c = let s = c .before .before .before .before .before .before .before .before .before .before .before .before .before .before
-    .before in
+loop-again c =
+    let in-loop : tie.In-loop Inv-loop μ-loop = search in
+    let s : tie.Start Inv-loop μ-loop = search in
     let a = s .args in
-    let l = c .before .before .before .before .before .before .before .before .before .loop in
+    let l = in-loop .before .loop in
     let t = target (a .step .now) in
     let w = wide (a .sh) in
     let d = wbit (a .d .now) in
@@ -94,7 +96,8 @@ same-length : tie.Need-same-length Inv-loop μ-loop
 same-length c = c .before .before .before .before .loop .inv .2
 
 returns : tie.Need-returns Inv-loop μ-loop
-returns c = let s = c .before .before .before .before .before .before .before .before .before .before in
+returns c =
+    let s : tie.Start Inv-loop μ-loop = search in
     let a = s .args in
     let l = c .before .before .before .before .loop in
     let t = target (a .step .now) in

@@ -65,7 +65,7 @@ slice-aggregate-double-2 c = search needs
 
 double-requires : tie.Need-double-requires Inv-loop μ-loop
 double-requires c κs =
-    let s = c .before .before .before .before .before .before .before .before .before .before .before .before in
+    let s : tie.Start Inv-loop μ-loop = search in
     let l = c .before .before .before .before .before .before .before .before .loop in
     let cut = c .before .before .before .before .before .cut-block in
     let x = later (s .args .unsent) (bit (s .args .octets .now)) in (
@@ -91,15 +91,14 @@ loop-less c = omega arith
 
 loop-again : tie.Need-loop-again Inv-loop μ-loop
 loop-again c =
-    let s = c .before .before .before .before .before .before .before .before .before .before .before .before .before .before .before
-    .before .before .before .before in
+    let after-odd-of : tie.After-odd-of Inv-loop μ-loop = search in
+    let s : tie.Start Inv-loop μ-loop = search in
     let a = s .args in
-    let l = c .before .before .before .before .before .before .before .before .before .before .before .before .before .before .before .loop
-    in
+    let l = after-odd-of .before .before .before .before .before .before .loop in
     let x = later (a .unsent) (bit (a .octets .now)) in
     let sh = a .sh in
-    let cut = c .before .before .before .before .before .before .before .before .before .before .before .before .cut-block in
-    let odd = c .before .before .before .before .before .before .before .before .before .odd-of in
+    let cut = after-odd-of .before .before .before .cut-block in
+    let odd = after-odd-of .odd-of in
     let v = 2 * l .odd + odd .result in
     let long : length (cut .last .1 .1 .1 .0) ≡ 8 = cut .kept .1 .1 .1 .0 ∙ l .inv .1 in
     let one = odd .ensures .1 ∙ cut-odd (cut .last .1 .1 .1 .0) 511 (from (l .b * 511) x) (cut .ensures) (omega arith) in

@@ -46,7 +46,7 @@ walk-narrow-requires c κs =
 
 mul-write : tie.Need-mul-write
 mul-write c =
-    let s = c .before .before .before .before .before .before .before .before .before .before in
+    let s : tie.Start = search in
     let k = s .pre .0 in
     let ok = ready-as (k .number) (k .offers) (k .is) (narrow-is (k .number) (k .offers) (k .is) (s .pre .1)) in
     omega (arith, ok .fits .parity)
@@ -56,7 +56,7 @@ slice-aggregate-write c = search needs
 
 write-requires : tie.Need-write-requires
 write-requires c κs =
-    let s = c .before .before .before .before .before .before .before .before .before .before .before .before in
+    let s : tie.Start = search in
     let k = s .pre .0 in
     let ok = ready-as (k .number) (k .offers) (k .is) (narrow-is (k .number) (k .offers) (k .is) (s .pre .1)) in
     let inside = ap (λ z. z .information) (k .is) in
@@ -75,8 +75,10 @@ same-length : tie.Need-same-length
 same-length c = search needs
 
 returns : tie.Need-returns
-returns c = λ n off is short.
-    let s = c .before .before .before .before .before .before .before .before .before .before .before .before .before .before .before in
+returns c =
+    let after-lay-narrow : tie.After-lay-narrow = search in
+    λ n off is short.
+    let s : tie.Start = search in
     let info = s .args .information .now in
     let sh = narrowShape (s .args .o .shape .size) in
     let same = narrow-is n off is (s .pre .1) in
@@ -87,8 +89,7 @@ returns c = λ n off is short.
     let x : Word = bit info in
     let whole = taken-whole (code n) unsent x in
     let only = subst (λ (z : Word). z ≡ upTo (information (code n)) z) (sym whole) short in
-    let laid = c .before .before .before .before .before .before .before .before .before .before .lay-narrow .ensures n off (sym same ∙ ap
-    (λ z. z .shape) is) only in
+    let laid = after-lay-narrow .lay-narrow .ensures n off (sym same ∙ ap (λ z. z .shape) is) only in
     let f : ℕ → Word = endRows n (sh .size) x in
     let ended = c .before .before .before .before .before .before .before .walk-narrow .ensures (checkRows (code n) x) (laid ∙ start-held n
     refl ok x) in

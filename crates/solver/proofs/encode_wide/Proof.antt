@@ -54,18 +54,17 @@ invert-requires : tie.Need-invert-requires
 invert-requires c κs = search needs
 
 sub-write : tie.Need-sub-write
-sub-write c = omega (
-  arith,
-  small (c .before .before .before .before .before .before .before .before .before .before .before .before .pre
-      .0) .unsent,
-)
+sub-write c =
+    let s : tie.Start = search in
+    omega (arith, small (s .pre .0) .unsent)
 
 slice-aggregate-write : tie.Need-slice-aggregate-write
 slice-aggregate-write c = search needs
 
 write-requires : tie.Need-write-requires
 write-requires c κs =
-    let s = c .before .before .before .before .before .before .before .before .before .before .before .before .before .before in
+    let after-lay-wide : tie.After-lay-wide = search in
+    let s : tie.Start = search in
     let k = s .pre .0 in
     let ok = ready-as (k .number) (k .offers) (k .is) (wide-is (k .number) (k .offers) (k .is) (s .pre .1)) in
     let inside = ap (λ z. z .information) (k .is) in
@@ -74,7 +73,7 @@ write-requires c κs =
       ok .fits,
       lit≤ tt,
       c .before .before .before .before .invert .kept .1 .0 ∙ c .before .before .before .before .before .before .before .walk-wide .kept .1
-          .0 ∙ c .before .before .before .before .before .before .before .before .before .before .lay-wide .kept .1 .1 .1 .0,
+          .0 ∙ after-lay-wide .lay-wide .kept .1 .1 .1 .0,
       omega (arith, ok .enough, s .pre .2, inside, unsent),
       omega (arith, ok .front, s .pre .3, word, unsent),
       omega (arith, ok .behind-front, s .pre .3, word, unsent),
@@ -84,12 +83,13 @@ same-length : tie.Need-same-length
 same-length c = search needs
 
 returns : tie.Need-returns
-returns c = λ n off is short.
-    let s = c .before .before .before .before .before .before .before .before .before .before .before .before .before .before .before
-    .before .before in
+returns c =
+    let after-walk-wide : tie.After-walk-wide = search in
+    λ n off is short.
+    let s : tie.Start = search in
     let o = s .args .o in
     let info = s .args .information .now in
-    let lay = c .before .before .before .before .before .before .before .before .before .before .before .before .before .lay-wide in
+    let lay = after-walk-wide .before .before .before .lay-wide in
     let sh = wideShape in
     let same = wide-is n off is (s .pre .1) in
     let ok = ready-as n off is same in
@@ -102,8 +102,7 @@ returns c = λ n off is short.
     let f : ℕ → Word = endRows n (sh .size) x in
     let g : ℕ → Word = λ r i. f r i ⊕ oddTogether x r in
     let inverted = c .before .before .before .before .before .before .before .invert .ensures x f (laid .0)
-    (c .before .before .before .before .before .before .before .before .before .before .walk-wide .ensures (checkRows (code n) x) (laid .1
-    ∙ start-held n refl ok x)) in
+    (after-walk-wide .walk-wide .ensures (checkRows (code n) x) (laid .1 ∙ start-held n refl ok x)) in
     let sends : 7154 - o .unsent ≡ informed sh - code n .unsent = omega (arith, unsent) in
     c .before .before .write .ensures g inverted (short-sent n (bit info) (7154 - o .unsent) (omega (arith, unsent, own .low, ok .informs))
     short)

@@ -28,9 +28,11 @@ same-length : tie.Need-same-length
 same-length c = search needs
 
 returns : tie.Need-returns
-returns c = λ x f is e.
+returns c =
+    let after-odd-together : tie.After-odd-together = search in
+    λ x f is e.
     let q = oddTogether x in
-    let odd = c .before .before .before .before .before .before .before .before .before .before .odd-together .ensures x is in
+    let odd = after-odd-together .odd-together .ensures x is in
     c .before .before .invert-row2 .ensures (q 1) (c .before .before .before .ones-if2 .ensures (q 1) (odd .1))
     ∙ ap (λ (z : Word). added z (512 * 1) (512 * (1 + 1)) (upTo 511 (λ i. q 1)))
     (c .before .before .before .before .before .before .before .invert-row .ensures (q 0)

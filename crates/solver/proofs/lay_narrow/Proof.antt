@@ -39,7 +39,7 @@ add-narrow-requires c κs =
 
 trim-rows-requires : tie.Need-trim-rows-requires
 trim-rows-requires c κs =
-    let s = c .before .before .before .before .before .before .before .before .before .before .before in
+    let s : tie.Start = search in
     let k = s .pre .0 in
     let t = c .before .before .before .before .before .before .before .lend-narrow in
     let fit = subst (Fit (t .last .1 .0)) (sym (k .is)) (t .ensures (k .number) (k .offers) (ap (λ z. z .size) (k .is)) .fit) in
@@ -50,12 +50,14 @@ same-length : tie.Need-same-length
 same-length c = search needs
 
 returns : tie.Need-returns
-returns c = λ n off is short.
-    let s = c .before .before .before .before .before .before .before .before .before .before .before .before .before .before in
+returns c =
+    let after-lend-narrow : tie.After-lend-narrow = search in
+    λ n off is short.
+    let s : tie.Start = search in
     let sh = s .args .sh in
     let x = bit (s .args .octets .now) in
     let narrow = s .pre .1 in
-    let t = c .before .before .before .before .before .before .before .before .before .before .lend-narrow in
+    let t = after-lend-narrow .lend-narrow in
     let lends = subst (Lends n (t .last .1 .0)) (sym is) (t .ensures n off (ap (λ z. z .size) is)) in
     let bits = ready n off sh is .informs ∙ ap informed narrow in
     c .before .before .trim-rows .ensures

@@ -47,7 +47,7 @@ add-wide-requires c κs =
 
 trim-rows-requires : tie.Need-trim-rows-requires
 trim-rows-requires c κs =
-    let s = c .before .before .before .before .before .before .before .before .before .before .before in
+    let s : tie.Start = search in
     let wide = s .pre .1 in
     let size = ap (λ z. z .size) wide in
     let words = ap (λ z. z .words) wide in
@@ -63,11 +63,12 @@ same-length c = search needs
 
 returns : tie.Need-returns
 returns c =
-    let s = c .before .before .before .before .before .before .before .before .before .before .before .before .before .before in
+    let after-lend511 : tie.After-lend511 = search in
+    let s : tie.Start = search in
     let sh = s .args .sh in
     let k = s .pre .0 in
     let wideness = s .pre .1 in
-    let t = c .before .before .before .before .before .before .before .before .before .before .lend511 in
+    let t = after-lend511 .lend511 in
     let added = c .before .before .before .before .before .before .add-wide .ensures in
     let sums = summed sh (t .last .0) (later (s .args .unsent) (bit (s .args .octets .now))) 14 in
     let cut = c .before .before .trim-rows .ensures

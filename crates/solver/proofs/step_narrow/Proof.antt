@@ -45,7 +45,8 @@ cast-add-word : tie.Need-cast-add-word
 cast-add-word c = omega (arith, c .shared-slice-known3 .given 0)
 
 add-word-requires : tie.Need-add-word-requires
-add-word-requires c κs = let s = c .before .before .before .before .before .before .before .before .before in
+add-word-requires c κs =
+    let s : tie.Start = search in
     omega (arith, to-row (s .args .sh .rows) (s .args .step .now) (s .pre .3), rows-few (s .args .sh) (s .pre .0))
 
 same-length : tie.Need-same-length
@@ -53,7 +54,7 @@ same-length c = search needs
 
 returns : tie.Need-returns
 returns c = λ f e.
-    let s = c .before .before .before .before .before .before .before .before .before .before .before .before in
+    let s : tie.Start = search in
     let a = s .args in
     let sh = a .sh in
     let step = a .step .now in

@@ -52,7 +52,8 @@ part-double-end c = let s = c .before .before .before .before .before .before .b
     search needs
 
 double-requires : tie.Need-double-requires
-double-requires c κs = let s = c .before .before .before .before .before .before .before .before .before in
+double-requires c κs =
+    let s : tie.Start = search in
     let a = s .args in
     let sh = a .sh in
     let fit = s .pre .0 in
@@ -73,7 +74,7 @@ double-requires c κs = let s = c .before .before .before .before .before .befor
 
 add-turns-requires : tie.Need-add-turns-requires
 add-turns-requires c κs =
-    let s = c .before .before .before .before .before .before .before .before .before .before .before .before .before .before in
+    let s : tie.Start = search in
     (s .pre .0, c .before .before .before .before .double .kept .1 .1 .0 ∙ s .pre .1, s .pre .2, s .pre .3, s .pre .4)
 
 trim-rows-requires : tie.Need-trim-rows-requires
@@ -86,9 +87,10 @@ same-length-2 : tie.Need-same-length-2
 same-length-2 c = search needs
 
 returns : tie.Need-returns
-returns c = λ f e.
-    let s = c .before .before .before .before .before .before .before .before .before .before .before .before .before .before .before
-    .before .before .before .before .before .before in
+returns c =
+    let after-double : tie.After-double = search in
+    λ f e.
+    let s : tie.Start = search in
     let a = s .args in
     let sh = a .sh in
     let fit = s .pre .0 in
@@ -100,9 +102,9 @@ returns c = λ f e.
     let some : 0 < wide sh = wide-some sh fit in
     let n = q * sh .words + sh .words - q * sh .words in
     let en : n ≡ sh .words = omega arith in
-    let d = wbit (c .before .before .before .before .before .before .before .before .before .before .before .double .last .1 .1 .0) in
+    let d = wbit (after-double .double .last .1 .1 .0) in
     let doubled : d ≡ twice M (upTo M (f q)) =
-    c .before .before .before .before .before .before .before .before .before .before .before .double .ensures
+    after-double .double .ensures
     ∙ ap (twice M) (row-slice sh some (fit .held-in) f (a .z .now) e q n (from-row (sh .rows) step (s .pre .3)) en) in
     c .before .before .trim-rows .ensures
     ∙ ap (within (wide sh) M (sh .rows)) (c .before .before .before .before .before .before .add-turns .ensures

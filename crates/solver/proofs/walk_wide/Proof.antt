@@ -64,9 +64,11 @@ loop-less : tie.Need-loop-less Inv-loop μ-loop
 loop-less c = omega arith
 
 loop-again : tie.Need-loop-again Inv-loop μ-loop
-loop-again c = let s = c .before .before .before .before .before .before .before .before .before .before .before in
+loop-again c =
+    let in-loop : tie.In-loop Inv-loop μ-loop = search in
+    let s : tie.Start Inv-loop μ-loop = search in
     let sh = s .args .sh in
-    let l = c .before .before .before .before .before .before .before .before .before .loop in
+    let l = in-loop .before .loop in
     let step = c .before .before .before .step-wide in
     let own : ℕ → Word = λ r i. wbit (l .z) (wide sh * r + i) in (
       omega arith,

@@ -28,7 +28,7 @@ slice-aggregate-write-both-2 c = search needs
 
 write-both-requires : tie.Need-write-both-requires
 write-both-requires c κs =
-    let s = c .before .before .before .before .before .before .before .before .before in
+    let s : tie.Start = search in
     let a = s .args in
     let long = length-take-le (a .n / 8) (a .information .now) (s .pre .3) in
     (omega (arith, long, s .pre .4), omega (arith, long, s .pre .5), c .before .before .before .before .lay-tail .kept .1 .1 .1 .1 .1 .0)
@@ -38,7 +38,7 @@ same-length c = search needs
 
 returns : tie.Need-returns
 returns c = λ f e short.
-    let s = c .before .before .before .before .before .before .before .before .before .before .before .before in
+    let s : tie.Start = search in
     let a = s .args in
     let info = a .information .now in
     let put = c .before .before .write-both in

@@ -33,7 +33,7 @@ same-length c = search needs
 
 returns : tie.Need-returns
 returns c =
-    let s = c .before .before .before .before .before .before .before .before .before .before .before in
+    let s : tie.Start = search in
     let a = s .args in
     let front = c .before .before .before .before .before .before .copy in
     let rear = c .before .before .store in

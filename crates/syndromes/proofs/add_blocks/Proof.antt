@@ -29,24 +29,26 @@ loop-holds c =
 
 mul-cut : tie.Need-mul-cut Inv-loop μ-loop
 mul-cut c =
-    let a = c .before .before .before .before .before .before .before .before .before .args in
-    let pre = c .before .before .before .before .before .before .before .before .before .pre in
+    let s : tie.Start Inv-loop μ-loop = search in
+    let a = s .args in
+    let pre = s .pre in
     let l = c .before .before .before .loop in
     omega (arith, block-room (a .h .now) (a .sh) (pre .0) (l .b) (omega arith))
 
 cut-requires : tie.Need-cut-requires Inv-loop μ-loop
 cut-requires c κs =
-    let a = c .before .before .before .before .before .before .before .before .before .before .args in
-    let pre = c .before .before .before .before .before .before .before .before .before .before .pre in
+    let s : tie.Start Inv-loop μ-loop = search in
+    let a = s .args in
+    let pre = s .pre in
     let l = c .before .before .before .before .loop in
     let room = block-room (a .h .now) (a .sh) (pre .0) (l .b) (omega arith) in
     (omega arith, omega arith)
 
 double-requires : tie.Need-double-requires Inv-loop μ-loop
 double-requires c κs =
-    let a = c .before .before .before .before .before .before .before .before .before .before .before .before .before .before .before
-    .args in
-    let l = c .before .before .before .before .before .before .before .before .before .loop in (
+    let at-loop : tie.At-loop Inv-loop μ-loop = search in
+    let a = at-loop .before .before .before .before .before .before .args in
+    let l = at-loop .loop in (
       upTo-again (a .sh .size) (from (l .b * a .sh .size) (wbit (a .y .now)))
           (wbit (c .before .before .before .before .cut .last .1 .1 .1 .0)) (c .before .before .before .before .cut .ensures),
       search needs,
@@ -66,10 +68,10 @@ loop-less c = omega arith
 
 loop-again : tie.Need-loop-again Inv-loop μ-loop
 loop-again c =
-    let a = c .before .before .before .before .before .before .before .before .before .before .before .before .before .before .before
-    .before .before .before .before .before .before .before .before .args in
-    let l = c .before .before .before .before .before .before .before .before .before .before .before .before .before .before .before
-    .before .before .loop in
+    let after-cut : tie.After-cut Inv-loop μ-loop = search in
+    let s : tie.Start Inv-loop μ-loop = search in
+    let a = s .args in
+    let l = after-cut .before .before .before .before .before .loop in
     let sh = a .sh in
     let h = a .h .now in (
       omega arith,
@@ -79,10 +81,8 @@ loop-again c =
       c .before .before .add-block .ensures
           ∙ ap₂ (λ (x d : Word). plus x (rowed (wide sh) (sh .rows) (spread sh h (l .b) (turned d)))) (l .inv .4)
           (c .before .before .before .before .before .before .before .double .ensures
-          ∙ ap (twice (sh .size)) (c .before .before .before .before .before .before .before .before .before .before .before .before .cut
-          .ensures))
-          ∙ summed-more h sh (c .before .before .before .before .before .before .before .before .before .before .before .before .before
-          .before .before .before .before .before .before .before .before .before .before .pre .0) (wbit (a .y .now)) (l .b),
+          ∙ ap (twice (sh .size)) (after-cut .cut .ensures))
+          ∙ summed-more h sh (s .pre .0) (wbit (a .y .now)) (l .b),
     )
 
 same-length : tie.Need-same-length Inv-loop μ-loop

@@ -20,7 +20,8 @@ same-length c = search needs
 
 returns : tie.Need-returns
 returns c =
-    let a = c .before .before .before .before .before .before .before .before .before .args in
+    let s : tie.Start = search in
+    let a = s .args in
     let x = wbit (a .acc .now) in
     let g = turned (wbit (a .d .now)) in
     let from = wide (a .sh) * a .r in

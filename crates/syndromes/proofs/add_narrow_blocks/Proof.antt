@@ -52,11 +52,12 @@ loop-less c = omega arith
 
 loop-again : tie.Need-loop-again Inv-loop μ-loop
 loop-again c =
-    let s = c .before .before .before .before .before .before .before .before .before .before .before .before .before .before in
+    let at-loop : tie.At-loop Inv-loop μ-loop = search in
+    let s : tie.Start Inv-loop μ-loop = search in
     let sh = s .args .sh in
     let h = s .args .h .now in
     let y = wbit (s .args .y .now) in
-    let l = c .before .before .before .before .before .before .before .before .before .before .loop in
+    let l = at-loop .loop in
     let M = sh .size in
     let block : Holds (c .before .before .before .before .before .front .result) (upTo M (from (l .b * M) y)) =
     λ i hi. c .before .before .before .before .before .front .ensures i hi

@@ -20,9 +20,9 @@ add-entry-requires c κs =
 
 add-entry-requires-2 : tie.Need-add-entry-requires-2
 add-entry-requires-2 c κs =
-    let a = c .before .before .before .before .before .before .before .before .before .args in
-    let room = row-room (a .h .now) (a .sh) (c .before .before .before .before .before .before .before .before .before .pre .0) (a .r)
-    (c .before .before .before .before .before .before .before .before .before .pre .3) in
+    let s : tie.Start = search in
+    let a = s .args in
+    let room = row-room (a .h .now) (a .sh) (s .pre .0) (a .r) (s .pre .3) in
     search needs
 
 same-length : tie.Need-same-length
@@ -30,7 +30,8 @@ same-length c = search needs
 
 returns : tie.Need-returns
 returns c =
-    let a = c .before .before .before .before .before .before .before .before .before .before .before .before .args in
+    let s : tie.Start = search in
+    let a = s .args in
     let w = wide (a .sh) in
     let p = c .before .before .before .before .before .before .before .before .read-places in
     let one = c .before .before .before .before .before .before .add-entry in

@@ -21,8 +21,9 @@ rem-flip-checks c = search needs
 
 flip-checks-requires : tie.Need-flip-checks-requires
 flip-checks-requires c κs =
-    let a = c .before .before .before .before .before .before .before .before .before .before .args in
-    let pre = c .before .before .before .before .before .before .before .before .before .before .pre in
+    let s : tie.Start = search in
+    let a = s .args in
+    let pre = s .pre in
     (pre .0, div-lt-iff-lt-mul (pre .0 .some) .1 (pre .3), mod-lt (a .n) (pre .0 .some), pre .2)
 
 same-length : tie.Need-same-length
@@ -33,8 +34,9 @@ same-length-2 c = search needs
 
 returns : tie.Need-returns
 returns c =
-    let a = c .before .before .before .before .before .before .before .before .before .before .before .before .before .args in
-    let pre = c .before .before .before .before .before .before .before .before .before .before .before .before .before .pre in
+    let s : tie.Start = search in
+    let a = s .args in
+    let pre = s .pre in
     let h = a .h .now in
     let M = a .sh .size in
     let g = rowed (wide (a .sh)) (a .sh .rows) (spread (a .sh) h (a .n / M) (covering M (a .n % M))) in (

@@ -35,7 +35,8 @@ same-length c = search needs
 
 returns : tie.Need-returns
 returns c =
-    let a = c .before .before .before .before .before .before .before .before .before .before .before .before .args in
+    let s : tie.Start = search in
+    let a = s .args in
     let i = c .before .before .before .before .before .before .if2 .i in
     let M = a .sh .size in
     let turn = a .k + (M - a .s) in

@@ -63,7 +63,8 @@ loop-less c = omega (arith, c .jump2 .ensures .0 .0)
 
 loop-again : tie.Need-loop-again Inv-loop μ-loop
 loop-again c =
-    let part = c .before .before .before .before .before .before .before .before .before .args .part .now in
+    let s : tie.Start Inv-loop μ-loop = search in
+    let part = s .args .part .now in
     let h = c .before .before .before .before .before .loop in
     let k = c .before .before .matched in
     let j = c .jump2 .ensures in (

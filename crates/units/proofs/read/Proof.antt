@@ -42,7 +42,7 @@ returns-2 c =
 
 returns-3 : tie.Need-returns-3
 returns-3 c =
-    let a = c .before .before .before .before .before .before .before .before .before in
+    let a : tie.Start = search in
     let s = asReading (a .args .state) in
     sym (read-kept s (a .args .unit .now) (a .args .out .now)
     (sym (c .before .before .before .before .before .before .is-unit-code .ensures)
@@ -65,27 +65,28 @@ numbered-requires-3 c κs = search needs
 
 returns-4 : tie.Need-returns-4
 returns-4 c =
-    let a = c .before .before .before .before .before .before .before .before .before .before .before .before .before .before in
+    let after-information-octets : tie.After-information-octets = search in
+    let a : tie.Start = search in
     let s = asReading (a .args .state) in
     ap (λ x. handedAgain s (withOut x (a .args .out .now)) true) (c .numbered3 .ensures)
     ∙ sym (read-none s (a .args .unit .now) (a .args .out .now)
-    (sym (c .before .before .before .before .before .before .before .before .before .before .before .is-unit-code .ensures)
-    ∙ not-false _ (c .before .before .before .before .before .before .before .before .before .before .if1 .left))
+    (sym (after-information-octets .before .before .is-unit-code .ensures) ∙ not-false _ (after-information-octets .before .if1 .left))
     (c .before .before .before .before .before .before .before .before .if2 .left
-    ∙ c .before .before .before .before .before .before .before .before .before .information-octets .ensures .0)
+    ∙ after-information-octets .information-octets .ensures .0)
     (c .before .before .before .before .before .if3 .left)
     (subst (λ z. z ≤ a .args .state .place) (ap₂ (λ x y. x / y) (c .before .before .before .before .between .ensures)
     (c .before .before .before .word-octets .ensures .0)) (c .before .if4 .taken)))
 
 read-next-requires : tie.Need-read-next-requires
 read-next-requires c κs =
-    let a = c .before .before .before .before .before .before .before .before .before .before .before .before .before .before in (
-      sym (c .before .before .before .before .before .before .before .before .before .before .before .is-unit-code .ensures)
-          ∙ not-false _ (c .before .before .before .before .before .before .before .before .before .before .if1 .left),
+    let after-information-octets : tie.After-information-octets = search in
+    let a : tie.Start = search in (
+      sym (after-information-octets .before .before .is-unit-code .ensures)
+          ∙ not-false _ (after-information-octets .before .if1 .left),
       subst (λ z. a .args .state .place < z) (ap₂ (λ x y. x / y) (c .before .before .before .before .between .ensures)
           (c .before .before .before .word-octets .ensures .0)) (c .before .if4 .left),
       c .before .before .before .before .before .before .before .before .if2 .left
-          ∙ c .before .before .before .before .before .before .before .before .before .information-octets .ensures .0,
+          ∙ after-information-octets .information-octets .ensures .0,
     )
 
 same-length : tie.Need-same-length
@@ -93,15 +94,13 @@ same-length c = search needs
 
 returns-5 : tie.Need-returns-5
 returns-5 c =
-    let a = c .before .before .before .before .before .before .before .before .before .before .before .before .before .before .before
-    .before .before in
+    let else2 : tie.Else2 = search in
+    let a : tie.Start = search in
     let s = asReading (a .args .state) in
     c .before .before .read-next .ensures
     ∙ sym (read-more s (a .args .unit .now) (a .args .out .now)
-    (sym (c .before .before .before .before .before .before .before .before .before .before .before .before .before .before .is-unit-code
-    .ensures) ∙ not-false _ (c .before .before .before .before .before .before .before .before .before .before .before .before .before .if1
-    .left)) (c .before .before .before .before .before .before .before .before .before .before .before .if2 .left
-    ∙ c .before .before .before .before .before .before .before .before .before .before .before .before .information-octets .ensures .0)
+    (sym (else2 .before .before .before .is-unit-code .ensures) ∙ not-false _ (else2 .before .before .if1 .left)) (else2 .if2 .left
+    ∙ else2 .before .information-octets .ensures .0)
     (c .before .before .before .before .before .before .before .before .if3 .left)
     (subst (λ z. a .args .state .place < z)
     (ap₂ (λ x y. x / y) (c .before .before .before .before .before .before .before .between .ensures)

@@ -56,7 +56,7 @@ array-share-prefix-word c =
 
 slice-aggregate-correct : tie.Need-slice-aggregate-correct
 slice-aggregate-correct c =
-    let a = c .before .before .before .before .before .before .before .before .before in
+    let a : tie.Start = search in
     let o = c .before .before .before .before .before .before in
     let p = c .before .before .before .before .before in
     let g = c .before .before .before in
@@ -79,9 +79,9 @@ correct-requires c κs = search needs
 
 returns : tie.Need-returns
 returns c =
-    let a = c .before .before .before .before .before .before .before .before .before .before .before .before .before .before in
-    let o = c .before .before .before .before .before .before .before .before .before .before .before in
-    let p = c .before .before .before .before .before .before .before .before .before .before in
+    let p : tie.After-word-buffer = search in
+    let o : tie.After-word-octets = search in
+    let a : tie.Start = search in
     let g = c .before .before .before .before .before .before .before .before in
     let q = c .before .before .before .before .before .before in
     let x = c .before .before .before in
@@ -94,9 +94,9 @@ returns c =
 
 array-share-prefix-mended : tie.Need-array-share-prefix-mended
 array-share-prefix-mended c =
-    let a = c .before .before .before .before .before .before .before .before .before .before .before .before .before .before in
-    let o = c .before .before .before .before .before .before .before .before .before .before .before in
-    let p = c .before .before .before .before .before .before .before .before .before .before in
+    let p : tie.After-word-buffer = search in
+    let o : tie.After-word-octets = search in
+    let a : tie.Start = search in
     let g = c .before .before .before .before .before .before .before .before in
     let q = c .before .before .before .before .before .before in
     let x = c .before .before .before in
@@ -107,10 +107,10 @@ array-share-prefix-mended c =
 
 slice-aggregate-copy : tie.Need-slice-aggregate-copy
 slice-aggregate-copy c =
-    let a = c .before .before .before .before .before .before .before .before .before .before .before .before .before .before .before in
-    let o = c .before .before .before .before .before .before .before .before .before .before .before .before in
-    let p = c .before .before .before .before .before .before .before .before .before .before .before in
-    let g = c .before .before .before .before .before .before .before .before .before in
+    let g : tie.After-receive = search in
+    let p : tie.After-word-buffer = search in
+    let o : tie.After-word-octets = search in
+    let a : tie.Start = search in
     let q = c .before .before .before .before .before .before .before in
     let x = c .before .before .before .before in
     sym (mended-part-length (a .args .state .code) (a .args .unit .now) (g .receive .last .1 .1 .1 .0) (p .word-buffer .result)
@@ -120,11 +120,10 @@ slice-aggregate-copy c =
 
 copy-requires : tie.Need-copy-requires
 copy-requires c κs =
-    let a = c .before .before .before .before .before .before .before .before .before .before .before .before .before .before .before
-    .before in
-    let o = c .before .before .before .before .before .before .before .before .before .before .before .before .before in
-    let p = c .before .before .before .before .before .before .before .before .before .before .before .before in
-    let g = c .before .before .before .before .before .before .before .before .before .before in
+    let g : tie.After-receive = search in
+    let p : tie.After-word-buffer = search in
+    let o : tie.After-word-octets = search in
+    let a : tie.Start = search in
     let q = c .before .before .before .before .before .before .before .before in
     let x = c .before .before .before .before .before in
     mended-part-length (a .args .state .code) (a .args .unit .now) (g .receive .last .1 .1 .1 .0) (p .word-buffer .result)
@@ -133,8 +132,9 @@ copy-requires c κs =
     (asCorrected (x .correct .result) (x .correct .last .1 .1 .1 .0)) (x .correct .ensures) (length (a .args .out .now)) (a .pre .2)
 
 add-t26 : tie.Need-add-t26
-add-t26 c = let a = c .before .before .before .before .before .before .before .before .before .before .before .before .before .before
-    .before .before .before .before .before .before .before in omega (
+add-t26 c =
+    let a = let after-word-octets : tie.After-word-octets = search in after-word-octets .before .before .before in
+    omega (
       arith,
       place-fits (a .args .state .code) (a .args .unit .now)
           (a .args .state .place) (a .pre .0) (a .pre .1),
@@ -145,15 +145,12 @@ same-length c = search needs
 
 returns-2 : tie.Need-returns-2
 returns-2 c =
-    let a = c .before .before .before .before .before .before .before .before .before .before .before .before .before .before .before
-    .before .before .before .before .before .before in
-    let o = c .before .before .before .before .before .before .before .before .before .before .before .before .before .before .before
-    .before .before .before in
-    let p = c .before .before .before .before .before .before .before .before .before .before .before .before .before .before .before
-    .before .before in
-    let g = c .before .before .before .before .before .before .before .before .before .before .before .before .before .before .before in
-    let q = c .before .before .before .before .before .before .before .before .before .before .before .before .before in
-    let x = c .before .before .before .before .before .before .before .before .before .before in
+    let x : tie.After-correct = search in
+    let q : tie.After-word-buffer2 = search in
+    let g : tie.After-receive = search in
+    let p : tie.After-word-buffer = search in
+    let o : tie.After-word-octets = search in
+    let a = o .before .before .before in
     let s = asReading (a .args .state) in
     ap₂ (λ y p. record {
       corrected = asCorrected (x .correct .result) y;

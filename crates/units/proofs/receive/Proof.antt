@@ -63,7 +63,7 @@ same-length c = search needs
 
 returns : tie.Need-returns
 returns c =
-    let a = c .before .before .before .before .before .before .before .before .before .before .before in
+    let a : tie.Start = search in
     c .before .before .randomise .ensures
     ∙ received-is (a .args .code) (a .args .unit .now) (c .before .before .before .before .before .before .copy .last .1 .0) (a .args .k)
     (length (a .args .word .now)) (a .pre .2) (c .before .before .before .before .before .before .copy .ensures)

@@ -71,9 +71,9 @@ same-length c = search needs
 returns : tie.Need-returns
 unfolding codeblock
 returns c =
+    let a : tie.Start = search in
     let t = c .before .before .before .before .before in
     let i = t .before in
-    let a = c .before .before .before .before .before .before .before .before .before in
     c .before .before .write-last .ensures
     ∙ ap (λ z. randomised telecommand (a .args .used) (encodedOf (a .args .code) z)) (
     ap (λ z. z ++ replicate (code (a .args .code) .informationOctets - length z) 0x55)
@@ -87,9 +87,9 @@ same-length-2 c = search needs
 returns-2 : tie.Need-returns-2
 unfolding codeblock
 returns-2 c =
+    let a : tie.Start = search in
     let t = c .before .before .before .before .before in
     let i = t .before in
-    let a = c .before .before .before .before .before .before .before .before .before in
     c .before .before .write-part .ensures
     ∙ ap (λ z. randomised telecommand (a .args .used) (encodedOf (a .args .code) z))
     (sym (part-whole (a .args .code) (a .pre .0) (a .args .information .now) (a .args .k) (i .information-octets .result)

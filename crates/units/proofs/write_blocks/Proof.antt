@@ -68,27 +68,27 @@ write-block-requires c κs =
 
 add-k : tie.Need-add-k Inv-loop μ-loop
 add-k c =
+    let a : tie.Start Inv-loop μ-loop = search in
     let h = c .before .before .before .before .before .loop in
     let w = c .before .before .before .before .before .before in
-    let a = c .before .before .before .before .before .before .before .before .before in
     let g = goes (length (a .args .information .now)) (h .k) (a .args .code) (h .at) (w .word-octets .result) (length (h .out)) (a .pre .0)
     (w .word-octets .ensures .0) (h .inv .0) (h .inv .2 ∙ a .pre .1) (c .before .before .before .before .loop-test .taken) in omega
     (arith, g .next, g .some, k-small (a .args .code) (h .k) (h .at) (a .pre .0) (h .inv .0))
 
 loop-less : tie.Need-loop-less Inv-loop μ-loop
 loop-less c =
+    let a : tie.Start Inv-loop μ-loop = search in
     let h = c .before .before .before .before .before .loop in
     let w = c .before .before .before .before .before .before in
-    let a = c .before .before .before .before .before .before .before .before .before in
     let g = goes (length (a .args .information .now)) (h .k) (a .args .code) (h .at) (w .word-octets .result) (length (h .out)) (a .pre .0)
     (w .word-octets .ensures .0) (h .inv .0) (h .inv .2 ∙ a .pre .1) (c .before .before .before .before .loop-test .taken) in omega
     (arith, g .next, h .inv .2, w .word-octets .ensures .1)
 
 loop-again : tie.Need-loop-again Inv-loop μ-loop
 loop-again c =
+    let a : tie.Start Inv-loop μ-loop = search in
     let h = c .before .before .before .before .before .loop in
     let w = c .before .before .before .before .before .before in
-    let a = c .before .before .before .before .before .before .before .before .before in
     let g = goes (length (a .args .information .now)) (h .k) (a .args .code) (h .at) (w .word-octets .result) (length (h .out)) (a .pre .0)
     (w .word-octets .ensures .0) (h .inv .0) (h .inv .2 ∙ a .pre .1) (c .before .before .before .before .loop-test .taken) in (
       ap₂ (λ x y. x + y) (h .inv .0) (w .word-octets .ensures .0) ∙ sym (ap (λ z. z * codeOf (a .args .code) .wordOctets) (add-one (h .k))

@@ -68,10 +68,10 @@ slice-aggregate-write-part c =
 
 write-part-requires : tie.Need-write-part-requires
 write-part-requires c κs =
+    let a : tie.Start = search in
     let i = c .before .before in
     let k = c .before .before .before .before in
-    let f = c .before .before .before .before .before .before in
-    let a = c .before .before .before .before .before .before .before .before .before in (
+    let f = c .before .before .before .before .before .before in (
       a .pre .0,
       filled-part-length (a .args .rest .now) (k .copy .last .1 .0) (f .fill .result) (i .information-octets .result)
           (code (a .args .code) .informationOctets) (k .copy .ensures) (f .fill .ensures) (a .pre .1) (i .information-octets .ensures .0)
@@ -84,10 +84,10 @@ same-length c = search needs
 
 returns : tie.Need-returns
 returns c =
+    let f : tie.After-fill = search in
+    let a : tie.Start = search in
     let i = c .before .before .before .before .before in
     let k = c .before .before .before .before .before .before .before in
-    let f = c .before .before .before .before .before .before .before .before .before in
-    let a = c .before .before .before .before .before .before .before .before .before .before .before .before in
     c .before .before .write-part .ensures ∙ ap (λ z. randomised telecommand (a .args .used) (encodedOf (a .args .code) z))
     (filled-part (a .args .rest .now) (k .copy .last .1 .0) (f .fill .result) (i .information-octets .result)
     (code (a .args .code) .informationOctets) (k .copy .ensures) (f .fill .ensures) (a .pre .1) (i .information-octets .ensures .0)

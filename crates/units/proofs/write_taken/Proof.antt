@@ -66,10 +66,9 @@ same-length c = search needs
 returns : tie.Need-returns
 unfolding unit
 returns c =
-    let a = c .before .before .before .before .before .before .before .before .before .before .before .before .before .before .before
-    .before in
-    let t = c .before .before .before .before .before .before .before .before .before .before .before .before .before in
-    let k = c .before .before .before .before .before .before .before .before .before .before in
+    let k : tie.After-copy = search in
+    let t : tie.After-tail-octets = search in
+    let a : tie.Start = search in
     let w = c .before .before .before .before .before .before in
     let n = a .args .code in
     let info = a .args .information .now in

@@ -50,7 +50,7 @@ returns-4 c =
 
 write-taken-requires : tie.Need-write-taken-requires
 write-taken-requires c κs =
-    let a = c .before .before .before .before .before .before .before .before .before in
+    let a : tie.Start = search in
     let u = sym (c .before .before .before .before .before .before .is-unit-code .ensures)
     ∙ not-false _ (c .before .before .before .before .before .if1 .left) in (
       u,
@@ -64,8 +64,9 @@ same-length c = search needs
 
 returns-5 : tie.Need-returns-5
 returns-5 c =
-    let a = c .before .before .before .before .before .before .before .before .before .before .before .before in
-    let u = sym (c .before .before .before .before .before .before .before .before .before .is-unit-code .ensures)
+    let else1 : tie.Else1 = search in
+    let a : tie.Start = search in
+    let u = sym (else1 .before .is-unit-code .ensures)
     ∙ not-false _ (c .before .before .before .before .before .before .before .before .if1 .left) in
     let d = c .before .before .before .before .before .before .before .if2 .left in
     ap (λ z. record { number = 0; out = z }) (c .before .before .write-taken .ensures)

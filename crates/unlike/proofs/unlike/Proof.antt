@@ -50,7 +50,7 @@ returns-2 : tie.Need-returns-2
 returns-2 c =
     let f = c .before .before .before .before in
     let w = c .before .before .before .before .before .before .apart-whole .ensures in
-    let a = c .before .before .before .before .before .before .before .before .before .args in
+    let a = f .before .before .before .before .before .args in
     let k = a .n / 64 in
     let t = a .n % 64 in
     let x : Word = bit (a .octets .now) in

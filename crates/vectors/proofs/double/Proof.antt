@@ -77,9 +77,10 @@ trim-requires c κs = search needs
 
 same-length : tie.Need-same-length
 same-length c =
-    let s = c .before .before .before .before .before .before .before .before .before .before .before .before .before .before in
+    let after-d : tie.After-d = search in
+    let s : tie.Start = search in
     let a = s .args in
-    let w = c .before .before .before .before .before .before .before .before .before .before .double-words in
+    let w = after-d .before .double-words in
     let v = a .v .now in
     let d = w .last .1 .1 .1 .0 in
     let n = (a .m + 63) / 64 in
@@ -88,7 +89,7 @@ same-length c =
     omega (
       arith,
       c .before .d2 .given,
-      c .before .before .before .before .before .before .before .before .before .d .given,
+      after-d .d .given,
       length-set
           (set d (n - 1) p) (2 * n - 1) (c .before .before .before .before .funnel .result),
       length-set d (n - 1) p,
@@ -96,9 +97,10 @@ same-length c =
 
 returns : tie.Need-returns
 returns c =
-    let s = c .before .before .before .before .before .before .before .before .before .before .before .before .before .before in
+    let after-double-words : tie.After-double-words = search in
+    let s : tie.Start = search in
     let a = s .args in
-    let w = c .before .before .before .before .before .before .before .before .before .before .double-words in
+    let w = after-double-words .double-words in
     let n = (a .m + 63) / 64 in
     let u = c .before .before .before .before .funnel in
     c .before .before .trim .ensures
@@ -111,7 +113,7 @@ same-length-2 c = search needs
 
 returns-2 : tie.Need-returns-2
 returns-2 c =
-    let s = c .before .before .before .before .before .before .before .before .before in
+    let s : tie.Start = search in
     let a = s .args in
     let w = c .before .before .before .before .before .double-words in
     let d = w .last .1 .1 .1 .0 in

@@ -50,7 +50,7 @@ same-length c = search needs
 
 returns : tie.Need-returns
 returns c =
-    let s = c .before .before .before .before .before .before .before .before .before in
+    let s : tie.Start = search in
     let a = s .args in
     let o = a .octets .now in
     let x = bit o in

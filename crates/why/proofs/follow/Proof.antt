@@ -48,7 +48,7 @@ slice-aggregate-next-3 c = search needs
 
 next-requires : tie.Need-next-requires Inv-loop μ-loop
 next-requires c κs =
-    let a = c .before .before .before .before .before .before .before .before .before .before .before .before .before .before in
+    let a : tie.Start Inv-loop μ-loop = search in
     record {
       number = a .args .code;
       limit = a .args .limit;
@@ -60,19 +60,19 @@ next-requires c κs =
 
 loop-less : tie.Need-loop-less Inv-loop μ-loop
 loop-less c =
-    let st = c .before .before .before .before .before .before .before .before .before .loop .inv .3 .goes (c .before .before .before
+    let in-loop : tie.In-loop Inv-loop μ-loop = search in
+    let st = in-loop .before .loop .inv .3 .goes (c .before .before .before
     .before .before .before .before .before .loop-test .taken) in
     omega (arith, c .before .before .before .next .ensures .0, st .going .count, st .serves)
 
 loop-again : tie.Need-loop-again Inv-loop μ-loop
 loop-again c =
-    let a = c .before .before .before .before .before .before .before .before .before .before .before .before .before .before .before
-    .before .before .before in (
+    let in-loop : tie.In-loop Inv-loop μ-loop = search in
+    let a : tie.Start Inv-loop μ-loop = search in (
       search needs,
       search needs,
       search needs,
-      c .before .before .before .next .ensures .1 (a .args .code) (a .args .limit) 511 (c .before
-          .before .before .before .before .before .before .before .before .loop .inv .3),
+      c .before .before .before .next .ensures .1 (a .args .code) (a .args .limit) 511 (in-loop .before .loop .inv .3),
     )
 
 returns-2 : tie.Need-returns-2 Inv-loop μ-loop

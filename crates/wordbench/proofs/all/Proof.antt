@@ -50,11 +50,12 @@ slice-aggregate-blocks-3 c = search needs
 
 blocks-requires : tie.Need-blocks-requires
 blocks-requires c κs =
-    let s = c .before .before .before .before .before .before .before .before .before .before .before in
+    let after-out-buffer : tie.After-out-buffer = search in
+    let s : tie.Start = search in
     let d = c .before .before .before .block-octets in
     let z = c .before .before .before .before .before .word-octets in
     let words = length-take-le (d .result)
-    (c .before .before .before .before .before .before .before .before .before .large-buffer .result) (omega arith) in
+    (after-out-buffer .before .large-buffer .result) (omega arith) in
     let out = length-take-le (z .result) (c .before .before .before .before .before .before .before .before .out-buffer .result)
     (omega arith) in
     let w = sizeIn (s .args .head .now) in

@@ -22,7 +22,7 @@ loop-holds c = (zero-mod _, refl, refl, refl)
 
 block-requires : tie.Need-block-requires Inv-loop μ-loop
 block-requires c κs =
-    let s = c .before .before .before .before .before .before .before .before .before in
+    let s : tie.Start Inv-loop μ-loop = search in
     let h = c .before .before .before .before .loop in
     (s .pre .0 .0, (h .inv .2 ∙ s .pre .0 .1 .0, omega arith), (h .inv .0, omega arith))
 
@@ -34,9 +34,9 @@ loop-less c = search needs
 
 loop-again : tie.Need-loop-again Inv-loop μ-loop
 loop-again c =
-    let s = c .before .before .before .before .before .before .before .before .before .before .before .before .before .before .before
-    .before .before in
-    let h = c .before .before .before .before .before .before .before .before .before .before .before .before .loop in
+    let at-loop : tie.At-loop Inv-loop μ-loop = search in
+    let s : tie.Start Inv-loop μ-loop = search in
+    let h = at-loop .loop in
     let words = c .before .before .before .before .before .before .before .block .last .1 .1 .0 in
     let w = sizeIn (s .args .head .now) in
     let e : length words ≡ length (s .args .words .now) = omega arith in

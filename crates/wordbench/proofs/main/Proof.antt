@@ -55,7 +55,8 @@ slice-aggregate-all c = search needs
 
 all-requires : tie.Need-all-requires
 all-requires c κs =
-    let f = c .before .before .before .before .before .before .before .before .before .before .before .before .before .fill in
+    let after-fill : tie.After-fill = search in
+    let f = after-fill .fill in
     let b = sym (c .before .before .is-bad .ensures) ∙ not-true (c .before .before .is-bad .result) (c .before .if3 .taken) in
     (simp length-take (omega (arith, good (take (f .result .octets) (f .last .0)) b .0)), b)
 
