@@ -40,8 +40,9 @@ slice-aggregate-lowest c = search needs
 
 lowest-requires : tie.Need-lowest-requires
 lowest-requires c κs =
+    let s : tie.Start = search in
     let m = c .before .before .before .before .before .checks in
-    let k = c .before .before .before .before .before .before .before .before .before .before .before .before .before .pre .0 in
+    let k = s .pre .0 in
     let w = fitting (m .ensures (k .number) (k .offers) (ap (λ z. z .shape .size) (k .is)) .1 .fit) in
     (search needs, w .0, w .1, w .2, w .3)
 
@@ -53,9 +54,9 @@ slice-aggregate-run-2 c = search needs
 
 run-requires : tie.Need-run-requires
 run-requires c κs =
-    let m = c .before .before .before .before .before .before .before .before .before .checks in
-    let s = c .before .before .before .before .before .before .before .before .before .before .before .before .before .before .before
-    .before .before in
+    let after-checks : tie.After-checks = search in
+    let s : tie.Start = search in
+    let m = after-checks .checks in
     let f = c .before .before .before .before .before .broken in
     let k = s .pre .0 in
     let e = m .ensures (k .number) (k .offers) (ap (λ z. z .shape .size) (k .is)) in (
@@ -83,8 +84,9 @@ judge-requires c κs = search needs
 
 write-requires : tie.Need-write-requires
 write-requires c κs =
-    let k = c .before .before .before .before .before .before .before .before .before .before .before .before .before .before .before
-    .before .before .before .before .before .before .before .before .before .before .before .pre in
+    let start = let after-checks : tie.After-checks = search in
+    after-checks .before .before .before .before .before .before .before .before in
+    let k = start .pre in
     let s = small (k .0) in
     (search needs, s .unsent, omega (arith, k .4, s .word), λ h. s .plain (omega (arith, h, k .4)), omega (arith, k .4, s .ends))
 
@@ -96,16 +98,15 @@ same-length-2 c = search needs
 
 returns : tie.Need-returns
 returns c =
+    let after-run : tie.After-run = search in
+    let after-broken : tie.After-broken = search in
+    let s = let after-checks = after-broken .before .before .before .before in
+    after-checks .before .before .before .before .before .before .before .before in
     let j = c .before .before .before .before .before .before .before .before .judge in
-    let g = c .before .before .before .before .before .before .before .before .before .before .before .before .before .run in
-    let w = c .before .before .before .before .before .before .before .before .before .before .before .before .before .before .before
-    .before .before .lowest in
-    let f = c .before .before .before .before .before .before .before .before .before .before .before .before .before .before .before
-    .before .before .before .before .broken in
-    let m = c .before .before .before .before .before .before .before .before .before .before .before .before .before .before .before
-    .before .before .before .before .before .before .before .before .checks in
-    let s = c .before .before .before .before .before .before .before .before .before .before .before .before .before .before .before
-    .before .before .before .before .before .before .before .before .before .before .before .before .before .before .before .before in
+    let g = after-run .run in
+    let w = after-run .before .before .before .before .lowest in
+    let f = after-broken .broken in
+    let m = after-broken .before .before .before .before .checks in
     let a = s .args in
     λ n off is.
     let e = m .ensures n off (ap (λ z. z .shape .size) is) in
@@ -127,14 +128,13 @@ same-length-3 c = search needs
 
 returns-2 : tie.Need-returns-2
 returns-2 c =
+    let after-lowest : tie.After-lowest = search in
+    let s = let after-checks : tie.After-checks = search in after-checks .before .before .before .before .before .before .before .before in
     let j = c .before .judge in
     let g = c .before .before .before .before .before .before .run in
-    let w = c .before .before .before .before .before .before .before .before .before .before .lowest in
-    let f = c .before .before .before .before .before .before .before .before .before .before .before .before .broken in
-    let m = c .before .before .before .before .before .before .before .before .before .before .before .before .before .before .before
-    .before .checks in
-    let s = c .before .before .before .before .before .before .before .before .before .before .before .before .before .before .before
-    .before .before .before .before .before .before .before .before .before in
+    let w = after-lowest .lowest in
+    let f = after-lowest .before .before .broken in
+    let m = after-lowest .before .before .before .before .before .before .checks in
     let a = s .args in
     λ n off is.
     let e = m .ensures n off (ap (λ z. z .shape .size) is) in

@@ -48,7 +48,7 @@ refused-correct-requires-2 c κs = search needs
 returns-2 : tie.Need-returns-2
 returns-2 c =
     let f = c .before .before .before .before .before .before in
-    let a = c .before .before .before .before .before .before .before .before .before .before .args in
+    let a = f .before .before .before .before .args in
     let n = a .code in
     let is = f .before .of .ensures in
     let t = taken n is (f .before .of .result .steps) (steps-offered n is) _ _ _ _ (f .refusal .ensures)
@@ -64,7 +64,7 @@ slice-aggregate-correct-read c = search needs
 correct-read-requires : tie.Need-correct-read-requires
 correct-read-requires c κs =
     let f = c .before .before .before .before .before .before .before in
-    let a = c .before .before .before .before .before .before .before .before .before .before .before .args in
+    let a = f .before .before .before .before .args in
     let is = f .before .of .ensures in
     let t = taken (a .code) is (f .before .of .result .steps) (steps-offered (a .code) is) (length (a .samples .now))
     (f .before .of .result .bits) (length (a .out .now)) (f .before .of .result .word) (f .refusal .ensures)
@@ -78,13 +78,13 @@ same-length c = search needs
 
 returns-3 : tie.Need-returns-3
 returns-3 c =
-    let f = c .before .before .before .before .before .before .before .before .before .before .before in
-    let a = c .before .before .before .before .before .before .before .before .before .before .before .before .before .before .before
-    .args in
+    let else1 : tie.Else1 = search in
+    let f : tie.After-refusal = search in
+    let a = f .before .before .before .before .args in
     let n = a .code in
     let is = f .before .of .ensures in
     let t = taken n is (f .before .of .result .steps) (steps-offered n is) _ _ _ _ (f .refusal .ensures)
-    (c .before .before .before .before .before .before .before .before .before .before .if1 .left) in
+    (else1 .if1 .left) in
     c .before .before .before .correct-read .ensures n (t .offers) is
     ∙ sym (samples-taken n (a .samples .now) (a .limit) (a .out .now) (as-truth (steps-by n is (t .chosen))) (t .input-is
     ∙ bits-are n is (t .offers)) (word-long n is (t .offers) (t .output-is))
