@@ -296,29 +296,42 @@ LEAF void begin_narrow(const uint64_t *z, struct shape sh, uint64_t *rows)
         rows[r] = repeated(z[r], sh.size);
 }
 
-/* The bit of the greatest excess above 0 from bit `from` on; a score of 8 says that there is none. Of each block those bits are
- * found that have none, at most one and at most two of their checks met. */
+/* A score, and the bits of a block that have it. */
+struct level {
+    unsigned score;
+    uint64_t mask;
+};
+
+/* The greatest score above 8 of the bits of block b from bit `from` on; one of 8 or less says that there is none. Those bits are found
+ * that have none, at most one and at most two of their checks met. */
+LEAF struct level highest(const uint64_t *rows, const uint16_t *h, struct shape sh, unsigned b, unsigned from)
+{
+    uint64_t none = front(~UINT64_C(0), sh.size) & (b == 0 ? ~UINT64_C(0) >> from : ~UINT64_C(0)), one = none, two = none;
+    unsigned n = 0;
+    for (unsigned r = 0; r < 4; r++)
+        for (unsigned e = 0; e < 2; e++) {
+            unsigned shift = h[2 * (r * sh.blocks + b) + e];
+            if (shift < sh.size) {
+                uint64_t x = rows[r] >> shift | rows[r] << (64 - shift) % 64;
+                two = (two & x) | one;
+                one = (one & x) | none;
+                none &= x;
+                n++;
+            }
+        }
+    uint64_t mask = none != 0 ? none : one != 0 ? one : two;
+    unsigned score = none != 0 ? 8 + n : one != 0 ? 6 + n : two != 0 ? 4 + n : 0;
+    return (struct level){score, mask};
+}
+
+/* The bit of the greatest excess above 0 from bit `from` on; a score of 8 says that there is none. */
 static struct best choose_narrow(const uint64_t *rows, const uint16_t *h, struct shape sh, unsigned from)
 {
     struct best best = {8, 0};
     for (unsigned b = 0; b < sh.blocks; b++) {
-        uint64_t none = front(~UINT64_C(0), sh.size) & (b == 0 ? ~UINT64_C(0) >> from : ~UINT64_C(0)), one = none, two = none;
-        unsigned n = 0;
-        for (unsigned r = 0; r < 4; r++)
-            for (unsigned e = 0; e < 2; e++) {
-                unsigned shift = h[2 * (r * sh.blocks + b) + e];
-                if (shift < sh.size) {
-                    uint64_t x = rows[r] >> shift | rows[r] << (64 - shift) % 64;
-                    two = (two & x) | one;
-                    one = (one & x) | none;
-                    none &= x;
-                    n++;
-                }
-            }
-        uint64_t mask = none != 0 ? none : one != 0 ? one : two;
-        unsigned score = none != 0 ? 8 + n : one != 0 ? 6 + n : two != 0 ? 4 + n : 0;
-        if (score > best.score)
-            best = (struct best){score, b * sh.size + (unsigned)__builtin_clzll(mask)};
+        struct level level = highest(rows, h, sh, b, from);
+        if (level.score > best.score)
+            best = (struct best){level.score, b * sh.size + (unsigned)__builtin_clzll(level.mask)};
     }
     return best;
 }

@@ -1,5 +1,6 @@
-/* The run keeps for each block a bound, of which no bit of it has more broken checks, and its smallest bit that has as many; or
- * UNKNOWN, if that is not known. A program has this file in place of fast.c, whose parts it uses. */
+/* Where one word holds a block, the run is correct's, and sizes are compared of the bits of greatest excess. Else it keeps for each
+ * block a bound, of which no bit of it has more broken checks, and its smallest bit that has as many; or UNKNOWN, if that is not
+ * known. A program has this file in place of fast.c, whose parts it uses. */
 #include "samples_fast.h"
 
 #include "fast.c"
@@ -18,21 +19,81 @@ LEAF unsigned smaller(const float *samples, unsigned earlier, unsigned later)
     return size_of(samples[later]) < size_of(samples[earlier]) ? later : earlier;
 }
 
+/* The smallest of a bit and of those that are set in mask, which begins with bit `first`. */
+LEAF unsigned smallest_of(const float *samples, uint64_t mask, unsigned first, unsigned bit)
+{
+    while (mask != 0) {
+        unsigned place = (unsigned)__builtin_clzll(mask);
+        bit = smaller(samples, bit, first + place);
+        mask ^= UINT64_C(1) << (63 - place);
+    }
+    return bit;
+}
+
+/* The bit of the greatest excess above 0 whose sample is the smallest, then the lowest; a score of 8 says that there is none. Sizes
+ * are compared once the greatest score is known, of the bits that have it. */
+static struct best smallest_narrow(const float *samples, const uint64_t *rows, const uint16_t *h, struct shape sh)
+{
+    struct level levels[8];
+    struct best best = {8, 0};
+    for (unsigned b = 0; b < sh.blocks; b++) {
+        levels[b] = highest(rows, h, sh, b, 0);
+        if (levels[b].score > best.score)
+            best = (struct best){levels[b].score, b * sh.size + (unsigned)__builtin_clzll(levels[b].mask)};
+    }
+    if (best.score <= 8)
+        return best;
+    for (unsigned b = 0; b < sh.blocks; b++)
+        if (levels[b].score == best.score)
+            best.bit = smallest_of(samples, levels[b].mask, b * sh.size, best.bit);
+    return best;
+}
+
+/* The smallest of the bits of block b from bit at on that are set in mask, and of one before them, or UNKNOWN. */
+LEAF unsigned among(const float *samples, struct shape sh, unsigned b, unsigned at, uint64_t mask, unsigned best)
+{
+    if (sh.size - at < 64)
+        mask = front(mask, sh.size);
+    if (mask != 0 && best == UNKNOWN)
+        best = b * sh.size + at + (unsigned)__builtin_clzll(mask);
+    return smallest_of(samples, mask, b * sh.size + at, best);
+}
+
+/* Of 64 bits those that have none of four checks met; the first bit's stand at s0 to s3. Mostly two of them show that there is none. */
+LEAF uint64_t none_met(const uint64_t *d, unsigned s0, unsigned s1, unsigned s2, unsigned s3)
+{
+    uint64_t found = window(d, s0);
+    if (found == 0)
+        return 0;
+    found &= window(d, s1);
+    if (found == 0)
+        return 0;
+    return found & window(d, s2) & window(d, s3);
+}
+
+/* The smallest bit of block b that has none of its four checks met; UNKNOWN if there is none. */
+LEAF unsigned smallest_none(const struct kept *kept, const float *samples, struct shape sh, unsigned b)
+{
+    const uint16_t *starts = kept->starts[b];
+    unsigned best = UNKNOWN, s0 = starts[0], s1 = starts[1], s2 = starts[2], s3 = starts[3];
+    for (unsigned at = 0; at < sh.size; at += 64) {
+        uint64_t found = none_met(kept->d, s0 + at, s1 + at, s2 + at, s3 + at);
+        if (found != 0)
+            best = among(samples, sh, b, at, found, best);
+    }
+    return best;
+}
+
 /* The smallest bit of block b among those that have at most as many met checks as its bound says; UNKNOWN if there is none. */
 LEAF unsigned smallest_in(const struct kept *kept, const float *samples, struct shape sh, unsigned b)
 {
+    if (kept->met[b] == 0 && kept->counts[b] == 4)
+        return smallest_none(kept, samples, sh, b);
     unsigned best = UNKNOWN;
     for (unsigned at = 0; at < sh.size; at += 64) {
         uint64_t mask = light(kept, b, at);
-        if (mask != 0 && sh.size - at < 64)
-            mask = front(mask, sh.size);
-        if (mask != 0 && best == UNKNOWN)
-            best = b * sh.size + at + (unsigned)__builtin_clzll(mask);
-        while (mask != 0) {
-            unsigned place = (unsigned)__builtin_clzll(mask);
-            best = smaller(samples, best, b * sh.size + at + place);
-            mask ^= UINT64_C(1) << (63 - place);
-        }
+        if (mask != 0)
+            best = among(samples, sh, b, at, mask, best);
     }
     return best;
 }
@@ -126,11 +187,41 @@ LEAF void flip_known(struct kept *kept, unsigned *known, const float *samples, s
     }
 }
 
-LEAF uint8_t run_samples(const float *samples, uint64_t *y, const uint64_t *z, const uint16_t *h, struct shape sh, uint16_t limit,
+static uint8_t go_on_narrow(const float *samples, uint64_t *y, const uint64_t *z, const uint16_t *h, struct shape sh, uint16_t limit,
+                            struct judge_corrected *answer)
+{
+    uint64_t rows[4];
+    begin_narrow(z, sh, rows);
+    while (answer->last > 0) {
+        struct best best = smallest_narrow(samples, rows, h, sh);
+        if (best.score <= 8)
+            return 5;
+        if (answer->flips == limit)
+            return 6;
+        flip_narrow(y, rows, h, sh, best.bit);
+        answer->flips++;
+        answer->last -= best.score - 8;
+    }
+    return 0;
+}
+
+/* The few words of such a code are kept as they were read, and compared with those at the end. */
+LEAF uint8_t run_by_rows(const float *samples, uint64_t *y, const uint64_t *z, const uint16_t *h, struct shape sh, uint16_t limit,
+                         struct judge_corrected *answer)
+{
+    uint64_t read[8];
+    unsigned words = sh.blocks * sh.size / 64;
+    memcpy(read, y, words * sizeof *y);
+    uint8_t number = go_on_narrow(samples, y, z, h, sh, limit, answer);
+    for (unsigned k = 0; k < words; k++)
+        answer->unlike += ones(y[k] ^ read[k]);
+    return number;
+}
+
+/* A long word is not kept: each flip tells whether its bit is then another than was read, or the same again. */
+LEAF uint8_t run_by_bounds(const float *samples, uint64_t *y, const uint64_t *z, const uint16_t *h, struct shape sh, uint16_t limit,
                            struct judge_corrected *answer)
 {
-    if (answer->last == 0)
-        return 0;
     struct kept kept;
     unsigned known[16];
     begin(z, h, sh, &kept);
@@ -143,12 +234,27 @@ LEAF uint8_t run_samples(const float *samples, uint64_t *y, const uint64_t *z, c
         if (answer->flips == limit)
             return 6;
         y[best.bit / 64] ^= UINT64_C(1) << (63 - best.bit % 64);
+        bool one = y[best.bit / 64] >> (63 - best.bit % 64) & 1;
+        if (one == (samples[best.bit] < 0))
+            answer->unlike--;
+        else
+            answer->unlike++;
         answer->flips++;
         answer->last -= best.score - 8;
         if (answer->last == 0)
             return 0;
         flip_known(&kept, known, samples, sh, best.bit);
     }
+}
+
+LEAF uint8_t run_samples(const float *samples, uint64_t *y, const uint64_t *z, const uint16_t *h, struct shape sh, uint16_t limit,
+                         struct judge_corrected *answer)
+{
+    if (answer->last == 0)
+        return 0;
+    if (sh.words == 1)
+        return run_by_rows(samples, y, z, h, sh, limit, answer);
+    return run_by_bounds(samples, y, z, h, sh, limit, answer);
 }
 
 LEAF unsigned is_finite(float x)
@@ -190,22 +296,17 @@ struct judge_corrected fast_correct_samples(uint8_t code, const float *samples, 
     answer.number = !offered(code) || code == 5 ? 1 : len != 8 * word_octets[code] ? 2 : out_len != word_octets[code] ? 3 : 0;
     if (answer.number != 0)
         return answer;
-    uint64_t y[HELD], read[HELD], z[SYNDROME];
+    uint64_t y[HELD], z[SYNDROME];
     if (!read_samples(samples, len, y)) {
         answer.number = 16;
         return answer;
     }
-#define RUN_SAMPLES(h, steps, sh, lead)              \
-    syndrome(y, h, sh, z);                           \
-    answer.first = answer.last = broken(z, sh);      \
-    answer.lowest = lowest(z, sh);                   \
-    if (answer.last != 0)                            \
-        memcpy(read, y, sizeof read);                \
+#define RUN_SAMPLES(h, steps, sh, lead)         \
+    syndrome(y, h, sh, z);                      \
+    answer.first = answer.last = broken(z, sh); \
+    answer.lowest = lowest(z, sh);              \
     answer.number = run_samples(samples, y, z, h, sh, limit, &answer)
     FOR_CODE(code, RUN_SAMPLES)
-    if (answer.flips != 0)
-        for (size_t k = 0; k <= len / 64; k++)
-            answer.unlike += ones(y[k] ^ read[k]);
     if (answer.number == 0 && code == 4 && !own_parity(y))
         answer.number = 8;
     if (answer.number == 0)
