@@ -26,7 +26,8 @@ use Rattle.narrow.proofs.Blocks.{sent-is}
 -- ---- block after block
 
 pub smallest-none : (less : ℕ → ℕ → Bool) (marked : ℕ → Bool) (bit m : ℕ) → bit ≡ smallest less marked bit 0 (0 * m)
-smallest-none less marked bit m = sym (ap (smallest less marked bit 0) (zero-mul m) ∙ smallest-stays less marked bit 0 0 (λ k f l. absurd (omega arith)))
+smallest-none less marked bit m =
+    sym (ap (smallest less marked bit 0) (zero-mul m) ∙ smallest-stays less marked bit 0 0 (λ k f l. absurd (omega arith)))
 
 module _ (less : ℕ → ℕ → Bool) (marked : ℕ → Bool) (bit m b best : ℕ) (was : best ≡ smallest less marked bit 0 (b * m)) where
   pub peak-more : (r : ℕ) → r ≡ smallest less marked best (b * m) m → r ≡ smallest less marked bit 0 ((b + 1) * m)

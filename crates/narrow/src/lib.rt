@@ -248,8 +248,9 @@ fn smallest_peak(
     top: u32,
     bit: usize,
 ) -> usize
-    requires { ⌜ (sh .blocks ≤ 16) × (1 ≤ sh .size) × (sh .size ≤ 64) × (length (now scores) ≡ blocksRoom) × (length (now masks) ≡ blocksRoom)
-        × (length (now samples) ≡ sh .blocks * sh .size) × (bit < length (now samples)) × Marked sh (now scores) (now masks) top ⌝ }
+    requires { ⌜ (sh .blocks ≤ 16) × (1 ≤ sh .size) × (sh .size ≤ 64) × (length (now scores) ≡ blocksRoom)
+        × (length (now masks) ≡ blocksRoom) × (length (now samples) ≡ sh .blocks * sh .size) × (bit < length (now samples))
+        × Marked sh (now scores) (now masks) top ⌝ }
     ensures { λ r. ⌜ ((marked : ℕ → Bool) → Marks marked sh (now (scores .entry)) (now (masks .entry)) top
         → r ≡ smallest (smaller (now (samples .entry))) marked bit 0 (sh .blocks * sh .size)) ⌝ }
 {

@@ -163,8 +163,8 @@ fn go_on_narrow(
         × ContinuingNarrow (now h) sh from first (wbit (now y)) (now rows) ⌝ }
     ensures { λ r. ⌜ ((c : Code) → Lent c (now (h .entry)) sh → c .unsent ≡ from
         → CarriedNarrow c sh first (wbit (now (y .entry))) (now (rows .entry))
-        → RunsTo (bySize (smaller (now (samples .entry))) c) c sh limit (wbit (now (y .entry))) (r .ran) (wbit (now (y .exit))) (laid c sh (wbit (now (y .exit))))
-        × (r .last ≡ broken c (wbit (now (y .exit))))) ⌝ }
+        → RunsTo (bySize (smaller (now (samples .entry))) c) c sh limit (wbit (now (y .entry))) (r .ran) (wbit (now (y .exit)))
+        (laid c sh (wbit (now (y .exit)))) × (r .last ≡ broken c (wbit (now (y .exit))))) ⌝ }
 {
     let end = limit as u32;
     let mut flips: u32 = 0;

@@ -185,13 +185,16 @@ fn run_bounded(
     )
 }
 
-// The first sixteen words of y.
+// The words that hold a word whose blocks one word holds each.
+const NARROW: usize = 16;
+
+// The first words of y.
 fn keep(y: &[u64], x: &mut [u64])
     requires { ⌜ (length (now y) ≡ 130) × (length (now x) ≡ 16) ⌝ }
     ensures { λ _. ⌜ ((j : ℕ) → j < 16 → getD (now (x .exit)) j 0 ≡ getD (now (y .entry)) j 0) ⌝ }
 {
     let mut j = 0;
-    while j < 16 {
+    while j < NARROW {
         x[j] = y[j];
         j += 1;
     }
@@ -212,7 +215,7 @@ fn run_narrow(
     ensures { λ r. ⌜ ((c : Code) → Begins c (now (h .entry)) sh 0 first (wbit (now (y .entry))) (wbit (now (z .entry)))
         → SizesTo c sh (now (samples .entry)) limit (wbit (now (y .entry))) r (wbit (now (y .exit)))) ⌝ }
 {
-    let mut x = [0u64; 16];
+    let mut x = [0u64; NARROW];
     keep(y, &mut x);
     let end = runs::run_narrow(samples, y, z, h, sh, 0, limit, first);
     let ran = end.ran;

@@ -3,6 +3,9 @@
 // refused word of code 1 the codeword that is nearest.
 ghost use mathlib.Core.Path.{_≡_};
 ghost use lib.ListN.{length};
+use layout::SYNDROME;
+use layout::TABLE;
+use layout::WORD;
 use libc::STDIN_FILENO;
 use libc::STDOUT_FILENO;
 
@@ -70,9 +73,9 @@ fn put_flip(r: lists::FlipRecord) -> bool {
 
 // The list of a word, to its end; where the flips are shown, to one that could not be written.
 fn follow(code: u8, limit: u16, word: &[u8], shown: bool) -> lists::Listing {
-    let mut h = [0u16; 64];
-    let mut y = [0u64; 130];
-    let mut z = [0u64; 16];
+    let mut h = [0u16; TABLE];
+    let mut y = [0u64; WORD];
+    let mut z = [0u64; SYNDROME];
     let mut l = lists::begin(code, word, limit, PLACES, &mut h, &mut y, &mut z);
     while l.goes {
         if shown && !put_flip(l.record) {

@@ -83,8 +83,8 @@ smallest-peak-requires c κs =
         long .0,
         f .first-bit .ensures .1,
         top-in (held .code) (a .h .now) (a .sh) (s .pre .0) narrow (held .word) (a .from)
-            (s .pre .4) _ _ (g .greatest .result .score) (g .greatest .result .block) (f .first-bit .ensures .0) weighed (g .greatest .ensures)
-            high .under,
+            (s .pre .4) _ _ (g .greatest .result .score) (g .greatest .result .block) (f .first-bit .ensures .0) weighed
+            (g .greatest .ensures) high .under,
       ),
       record {
         marked = _;
@@ -107,8 +107,8 @@ returns-3 c k x lent is =
     chosen k (a .h .now) (a .sh) (s .pre .0) narrow x (a .from) (s .pre .4) _ _ (g .greatest .result .score) (g .greatest .result .block)
     (f .first-bit .ensures .0) (w .weigh-all .ensures k x lent is) (g .greatest .ensures) (a .samples .now) (c .smallest-peak .result)
     (λ high.
-    c .smallest-peak .ensures _ (high-marks k (a .sh) (s .pre .0 .some) narrow x _ _ (g .greatest .result .score) (g .greatest .result .block)
-    (weighed-from (long .1) weighed) (g .greatest .ensures) high)
+    c .smallest-peak .ensures _ (high-marks k (a .sh) (s .pre .0 .some) narrow x _ _ (g .greatest .result .score)
+    (g .greatest .result .block) (weighed-from (long .1) weighed) (g .greatest .ensures) high)
     ∙ smallest-from (smaller (a .samples .now)) _ (a .sh .blocks * a .sh .size) (f .first-bit .ensures .1) (long .1))
 
 pub choose-spec : {M : Type 1} → statement M

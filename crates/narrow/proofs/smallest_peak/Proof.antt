@@ -85,8 +85,8 @@ loop-again c =
     let under : l .b < a .sh .blocks = omega arith in (
       omega arith,
       c .peak-in .ensures .0,
-      λ marked m. peak-next (a .samples .now) (a .sh) (a .scores .now) (a .masks .now) (a .top) (a .bit) (l .b) (l .best) (c .peak-in .result)
-          marked m under (s .pre .2) (l .inv .2 marked m) (c .peak-in .ensures .1) (c .peak-in .ensures .2),
+      λ marked m. peak-next (a .samples .now) (a .sh) (a .scores .now) (a .masks .now) (a .top) (a .bit) (l .b) (l .best)
+          (c .peak-in .result) marked m under (s .pre .2) (l .inv .2 marked m) (c .peak-in .ensures .1) (c .peak-in .ensures .2),
     )
 
 returns : tie.Need-returns Inv-loop μ-loop
@@ -94,7 +94,8 @@ returns c =
     let l = c .before .before .loop in
     let s : tie.Start Inv-loop μ-loop = search needs in
     let all : l .b ≡ s .args .sh .blocks = omega arith in
-    λ marked m. l .inv .2 marked m ∙ ap (λ b. smallest (smaller (s .args .samples .now)) marked (s .args .bit) 0 (b * s .args .sh .size)) all
+    λ marked m.
+    l .inv .2 marked m ∙ ap (λ b. smallest (smaller (s .args .samples .now)) marked (s .args .bit) 0 (b * s .args .sh .size)) all
 
 pub smallest-peak-spec : {M : Type 1} → statement M
 smallest-peak-spec =

@@ -184,7 +184,11 @@ loop-again c =
                 (goes-on way k (a .sh) (a .limit) (wbit (a .y .now)) (l .flips) (wbit (l .y)) _ (i .0) _ _ next (room .if2 .left) _ _ refl
                 refl),
             carried-narrow (f .0) (f .1 k (wbit (l .y)) lent (i .1 .rows-are))
-                (omega (arith, chosen-left (a .samples .now) lent (wbit (l .y)) (chose .choose .result) best (above .if1 .left), i .1 .left-is)),
+                (omega (
+                  arith,
+                  chosen-left (a .samples .now) lent (wbit (l .y)) (chose .choose .result) best (above .if1 .left),
+                  i .1 .left-is,
+                )),
           ),
       l .inv .4,
     )
