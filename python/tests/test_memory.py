@@ -48,6 +48,10 @@ class Memory(unittest.TestCase):
         self.same(words, recording[:3], 8, "correct", "--jobs", 2)
         self.same(bytes(892), b"", 3, "encode", "--code", 5)
 
+    def test_samples(self) -> None:
+        self.same(bytes(1022), b"\x04\0\0", 1, "samples", "make")
+        self.same(b"\0\0\x80?" * 8175 + b"\0\0\x80\xbf", b"", 3, "samples", "correct", "--code", 4)
+
     def test_stream(self) -> None:
         self.same((SAMPLES / "frames.stream").read_bytes()[2:], b"", 3, "frames", "--limit", 4)
 

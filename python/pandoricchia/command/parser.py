@@ -258,8 +258,8 @@ def _samples(verbs: Verbs) -> None:
     correct = group.add(
         "correct", samples.correct, "correct words by their samples, and print a log as correct does",
         "The input is samples alone, one for each bit, word after word: 32-bit floats, little-endian, as a file sink of floats in GNU"
-        " Radio writes them. A bit is 1 if its sample is below 0. The run is that of correct, but of several bits that it could flip it"
-        f" flips the one whose sample is nearest to 0. {LOG} Its columns are those of correct; a word with a sample that is infinite or"
+        " Radio writes them. A bit is 1 if its sample is below 0. The run is that of correct, but of several bits of greatest"
+        f" excess it flips the one whose sample is nearest to 0. {LOG} Its columns are those of correct; a word with a sample that is infinite or"
         " not a number has answer 16, and a last word that is cut short 2. With --output the words are written too, as a recording:"
         " those that are refused as their bits were read, of one that is cut short its whole octets.",
         "pandoricchia samples correct --code 1 heard.f32 --output mended.bin > heard.log",

@@ -166,8 +166,9 @@ def _proved(code: Optional[int]) -> List[str]:
         said.append("Codes 1 to 3 never give answer 8.")
     if code is None:
         said.append(
-            "A log of <code>pandoricchia samples correct</code> is one of another run, which chooses by the sizes of samples, and has a"
-            " definition of its own. All of this is proved of it too, but for what is said of <code>wordbench</code> and of two wrong bits."
+            "A log of <code>pandoricchia samples correct</code> is of another run, which chooses by the sizes of samples, and its numbers"
+            " are those of a definition of its own. What is said of codewords, of one wrong bit and of the most flips is proved of it too;"
+            " what is said of unlike, of two wrong bits and of <code>wordbench</code> is not."
         )
     return said
 

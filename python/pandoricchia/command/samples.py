@@ -15,14 +15,15 @@ from . import spoiling
 from .files import Refusal, Source, octets_out
 from .jobs import ordered
 from .progress import Progress
-from .recordings import NO_LIMIT, Part, head, header, not_offered, parts
+from .recordings import NO_LIMIT, PART, Part, head, header, not_offered, parts
 from .words import LOG, Ask, Done, log
 
 #: The codes that have samples.
 CODES = (1, 2, 3, 4)
 
-#: Octets of a sample.
+#: Octets of a sample, and of the samples of an octet.
 SAMPLE = 4
+SAMPLES = 8 * SAMPLE
 
 #: The most noise: every sample is finite under it.
 LOUDEST = 1e30
@@ -52,7 +53,7 @@ def correct_part(ask: Ask, part: Part) -> Done:
     lines, octets, taken = [], [], True
     length = calls.word_octets(ask.code)
     out = bytearray(length)
-    for index, held in part.words(8 * SAMPLE * length):
+    for index, held in part.words(SAMPLES * length):
         samples = array("f", bytes(held[:len(held) - len(held) % SAMPLE]))
         number, flips, first, last, unlike, _ = calls.correct_samples(ask.code, samples, ask.limit, out)
         lines.append("%d %d %d %d %d %d\n" % (index, number, flips, first, last, unlike))
@@ -73,7 +74,8 @@ def make(options: Namespace) -> int:
             raise Refusal(f"{not_offered(source)}; samples are for codes 1 to 4")
         ask = Ask(told.code, seed=options.seed, noise=options.noise)
         with octets_out(options.output) as out, Progress("samples make", source.size) as bar:
-            for done in ordered(partial(make_part, ask), parts(source, calls.word_octets(ask.code)), options.jobs):
+            some = parts(source, calls.word_octets(ask.code), PART // SAMPLES)
+            for done in ordered(partial(make_part, ask), some, options.jobs):
                 out.write(b"".join(done.octets))
                 bar.at(source.place)
     return 0
@@ -83,6 +85,6 @@ def correct(options: Namespace) -> int:
     """What `correct` prints, by samples; a recording of the words goes to --output."""
     limit = NO_LIMIT if options.limit is None else options.limit
     ask = Ask(options.code, limit, keep=options.output is not None)
-    length = 8 * SAMPLE * calls.word_octets(options.code)
+    length = SAMPLES * calls.word_octets(options.code)
     with Source(options.input) as source:
         return log("samples correct", LOG, partial(correct_part, ask), source, length, header(options.code, limit), options)
