@@ -38,7 +38,8 @@ class Memory(unittest.TestCase):
         """The command takes as much for an input of so many parts as for one that is three times as long."""
         self.most(octets, head, min(1, parts), *words)  # what is kept after the first run is not counted
         short, long = (self.most(octets, head, times * parts, *words, "--output", self.place / "out") for times in (1, 3))
-        self.assertLess(long, short + MORE, words)
+        more = 2 * MORE if "--jobs" in words else MORE  # how many parts are on their way at a time varies
+        self.assertLess(long, short + more, words)
 
     def test_words(self) -> None:
         recording = (SAMPLES / "code5.bin").read_bytes()

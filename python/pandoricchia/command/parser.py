@@ -259,9 +259,9 @@ def _samples(verbs: Verbs) -> None:
         "correct", samples.correct, "correct words by their samples, and print a log as correct does",
         "The input is samples alone, one for each bit, word after word: 32-bit floats, little-endian, as a file sink of floats in GNU"
         " Radio writes them. A bit is 1 if its sample is below 0. The run is that of correct, but of several bits of greatest"
-        f" excess it flips the one whose sample is nearest to 0. {LOG} Its columns are those of correct; a word with a sample that is infinite or"
-        " not a number has answer 16, and a last word that is cut short 2. With --output the words are written too, as a recording:"
-        " those that are refused as their bits were read, of one that is cut short its whole octets.",
+        f" excess it flips the one whose sample is nearest to 0. {LOG} Its columns are those of correct; a word with a sample that is"
+        " infinite or not a number has answer 16, and a last word that is cut short 2. With --output the words are written too, as a"
+        " recording: those that are refused as their bits were read, of one that is cut short its whole octets.",
         "pandoricchia samples correct --code 1 heard.f32 --output mended.bin > heard.log",
     )
     _input(correct, "the samples")
@@ -346,10 +346,10 @@ def _links(verbs: Verbs) -> None:
 def _pictures(verbs: Verbs) -> None:
     short = verbs.add(
         "summary", summary.summary, "say what a log holds as a whole",
-        "The input is a log of correct, samples correct, why, frames or unit read, or of the program of that kind. How many words have each answer,"
-        " flips and unlike by how many, and the words that need a look: those that are refused, those in which a bit was flipped and"
-        " flipped back, and those that were taken with more than two bits changed, which is more than is promised for any code."
-        " The status is 1 if a word was refused.",
+        "The input is a log of correct, samples correct, why, frames or unit read, or of the program of that kind. How many words have"
+        " each answer, flips and unlike by how many, and the words that need a look: those that are refused, those in which a bit was"
+        " flipped and flipped back, and those that were taken with more than two bits changed, which is more than is promised for any"
+        " code. The status is 1 if a word was refused.",
         "pandoricchia summary heard.log",
     )
     _input(short, "the log")
@@ -389,9 +389,9 @@ def _pictures(verbs: Verbs) -> None:
 
 
 DESCRIPTION = (
-    "Encode, spoil, check, open and correct words of five CCSDS LDPC codes, and what lies around them: units, streams, blocks, BCH"
-    " words; and make summaries, reports and campaigns. It is thin and stands outside the proofs: what it computes it asks of the"
-    " proved library."
+    "Encode, spoil, check, open and correct words of five CCSDS LDPC codes, and what lies around them: samples, units, streams,"
+    " blocks, BCH words; and make summaries, reports and campaigns. It is thin and stands outside the proofs: what it computes it asks"
+    " of the proved library."
 )
 STATUS = (
     "exit status: 0 if all is taken, 1 if something is refused, 2 for bad usage or a read or write that failed, which is said in one"
