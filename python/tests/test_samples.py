@@ -134,7 +134,7 @@ class Samples(unittest.TestCase):
     def test_not_finite(self) -> None:
         """Answer 16; in the word that is written what is not a number reads as 0."""
         nan, inf = math.nan, math.inf
-        words = [[-1.0] * 128, [1.0] * 127 + [nan], [-inf] + [1.0] * 127, [inf] * 128, [-nan] * 8 + [-1.0] * 120, [-0.0] * 128]
+        words = [[-1.0] * 128, [1.0] * 126 + [-0.0, nan], [-inf] + [1.0] * 127, [inf] * 128, [-nan] * 8 + [-1.0] * 120, [-0.0] * 128]
         ran = command("samples", "correct", "--code", 1, "--output", self.out, given=file(sum(words, [])))
         self.assertEqual([line[1] for line in lines(ran.out)], [lines(ran.out)[0][1], 16, 16, 16, 16, 0])
         self.assertEqual([line[2:] for line in lines(ran.out)[1:]], [[0, 0, 0, 0]] * 5)
