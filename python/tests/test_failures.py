@@ -39,23 +39,28 @@ class Failures(unittest.TestCase):
             "", "nothing", "correct a b", "correct --limit 65536", "correct --limit x", "correct --code 6", "correct --jobs 0",
             "encode", "encode --code 0", "spoil", "spoil --wrong 1 --rate 0.1", "spoil --rate 2", "spoil --wrong -1", "nearest --reach 4",
             "nearest --code 2", "unit", "unit read", "unit write --code 2", "frames --edition x", "blocks", "bch", "campaign --words 0",
-            "correct --out x", "report --worst -1",
+            "correct --out x", "report --worst -1", "samples", "samples correct", "samples correct --code 0", "samples correct --code 5",
+            "samples make --code 5", "samples make --noise -1", "samples make --noise nan", "samples make --noise inf",
+            "samples make --noise loud",
         ):
             ran = command(*words.split())
             self.assertEqual((ran.status, ran.out, ran.said.count("\n")), (2, b"", 1), words)
             self.assertRegex(ran.said, "^pandoricchia.*: .*; see pandoricchia.* --help\n$")
         ran = command("unit", "read", "--code", 1, "a", "b")
         self.assertEqual(ran.said, "pandoricchia unit read: not understood: b; see pandoricchia unit read --help\n")
-        for verb, codes in (("nearest", "1"), ("unit read", "1, 3")):
-            said = f"argument -c/--code: '2' is no code of this verb ({codes}); see pandoricchia {verb} --help"
-            self.assertEqual(command(*verb.split(), "--code", 2).said, f"pandoricchia {verb}: {said}\n")
+        for verb, codes in (("nearest", "1"), ("unit read", "1, 3"), ("samples correct", "1, 2, 3, 4")):
+            said = f"argument -c/--code: '5' is no code of this verb ({codes}); see pandoricchia {verb} --help"
+            self.assertEqual(command(*verb.split(), "--code", 5).said, f"pandoricchia {verb}: {said}\n")
         ran = command("spoil", "--wrong", 129, CODE1)
         self.assertEqual(ran, (2, b"", "pandoricchia spoil: --wrong: a word of code 1 has 128 bits that can be wrong\n"))
         ran = command("campaign", "--code", 1, "--wrong", 129)
         self.assertEqual(ran, (2, b"", "pandoricchia campaign: --wrong: a word of code 1 has 128 bits that can be wrong\n"))
 
     def test_reads(self) -> None:
-        for verb in ("correct", "summary", "report", "blocks import", "unit read --code 1", "bch check", "encode --code 1"):
+        for verb in (
+            "correct", "summary", "report", "blocks import", "unit read --code 1", "bch check", "encode --code 1", "samples make",
+            "samples correct --code 1",
+        ):
             words = verb.split()
             name = " ".join(word for word in words if word[0] != "-" and word != "1")
             ran = command(*words, self.place / "none")
@@ -65,16 +70,17 @@ class Failures(unittest.TestCase):
             self.assertEqual(list(self.place.iterdir()), [])
 
     def test_writes(self) -> None:
-        for verb in ("correct", "report", "spoil --wrong 1", "blocks export", "open"):
+        for verb in ("correct", "report", "spoil --wrong 1", "blocks export", "open", "samples make", "samples correct --code 1"):
             ran = command(*verb.split(), CODE1, "--output", self.place / "none" / "out")
             self.assertEqual((ran.status, ran.out), (2, b""))
             self.assertEqual(ran.said.split(": ", 1)[1], f"{self.place}/none/out: No such file or directory\n")
             ran = command(*verb.split(), CODE1, "--output", "/dev/full")
             self.assertEqual((ran.status, ran.said.split(": ", 1)[1]), (2, "/dev/full: No space left on device\n"))
-        with open("/dev/full", "wb") as full:
-            running = process("correct", CODE1, stdout=full, stderr=subprocess.PIPE)
-        self.assertEqual(running.communicate()[1], b"pandoricchia correct: standard output: No space left on device\n")
-        self.assertEqual(running.returncode, 2)
+        for verb, words in (("correct", ()), ("samples make", ()), ("samples correct", ("--code", 1))):
+            with open("/dev/full", "wb") as full:
+                running = process(*verb.split(), *words, CODE1, stdout=full, stderr=subprocess.PIPE)
+            said = f"pandoricchia {verb}: standard output: No space left on device\n"
+            self.assertEqual((running.communicate()[1].decode(), running.returncode), (said, 2))
 
     def test_before_the_work(self) -> None:
         """An output that can't be is said before anything else is done, and not after a campaign of an hour."""

@@ -13,8 +13,8 @@ from pandoricchia.command.parser import parser
 from .command import TOP, command
 
 VERBS = (
-    "encode", "spoil", "check", "quick", "correct", "open", "why", "nearest", "unit write", "unit read", "frames", "blocks import",
-    "blocks export", "bch encode", "bch check", "summary", "report", "campaign",
+    "encode", "spoil", "check", "quick", "correct", "open", "why", "nearest", "samples make", "samples correct", "unit write",
+    "unit read", "frames", "blocks import", "blocks export", "bch encode", "bch check", "summary", "report", "campaign",
 )
 
 

@@ -5,7 +5,7 @@ import argparse
 from typing import IO, Any, Callable, List, NoReturn, Optional, Tuple
 
 from .._library import VERSION
-from . import campaign, links, report, summary, words
+from . import campaign, links, report, samples, summary, words
 from .files import Failed, Sink
 
 RECORDING = (
@@ -58,14 +58,19 @@ def _one_of(codes: Tuple[int, ...]) -> Callable[[str], int]:
     return read
 
 
-def _rate(given: str) -> float:
-    try:
-        value = float(given)
-    except ValueError:
-        value = -1.0
-    if not 0 <= value <= 1:
-        raise argparse.ArgumentTypeError(f"{given!r} is no rate from 0 to 1")
-    return value
+def _real(most: float, what: str) -> Callable[[str], float]:
+    """The type of a number from 0, with fractions."""
+
+    def read(given: str) -> float:
+        try:
+            value = float(given)
+        except ValueError:
+            value = -1.0
+        if not 0 <= value <= most:
+            raise argparse.ArgumentTypeError(f"{given!r} is no {what} from 0 to {most:g}")
+        return value
+
+    return read
 
 
 class Verbs:
@@ -117,7 +122,7 @@ def _limit(parser: argparse.ArgumentParser, what: str = "the most flips of a wor
 
 
 def _seed(parser: argparse.ArgumentParser) -> None:
-    parser.add_argument("-s", "--seed", default="1", help="any number or word; the same seed draws the same bits (1 unless said)")
+    parser.add_argument("-s", "--seed", default="1", help="any number or word; the same seed draws the same (1 unless said)")
 
 
 def _jobs(parser: argparse.ArgumentParser) -> None:
@@ -162,7 +167,7 @@ def _words(verbs: Verbs) -> None:
     _output(spoil, "where the spoilt recording goes, else to standard output")
     how = spoil.add_mutually_exclusive_group(required=True)
     how.add_argument("-w", "--wrong", type=_number(0, 8176), metavar="BITS", help="so many wrong bits in each word")
-    how.add_argument("-r", "--rate", type=_rate, metavar="RATE", help="each bit is wrong at this rate, from 0 to 1")
+    how.add_argument("-r", "--rate", type=_real(1, "rate"), metavar="RATE", help="each bit is wrong at this rate, from 0 to 1")
     _seed(spoil)
     _code(spoil, BARE)
     _jobs(spoil)
@@ -230,6 +235,40 @@ def _words(verbs: Verbs) -> None:
     nearest.add_argument("-r", "--reach", type=_number(0, 3), default=3, metavar="FLIPS", help=many)
     _code(nearest, "the input is words of code 1, without the three octets of a recording", (1,))
     _jobs(nearest)
+
+
+def _samples(verbs: Verbs) -> None:
+    group = verbs.group("samples", "a receiver's samples of words of codes 1 to 4, a number for each bit")
+    make = group.add(
+        "make", samples.make, "write noisy samples of words",
+        f"{RECORDING} Of each bit a sample is written, 1 for a 0 and -1 for a 1, and normal noise on it, drawn from the seed and the"
+        " word's index. What is written is samples alone: 32-bit floats, little-endian, word after word. Codes 1 to 4. A last word that"
+        " is cut short gives as many samples as it has bits.",
+        "pandoricchia samples make --noise 0.5 --seed 7 sent.bin --output heard.f32",
+    )
+    _input(make, "the recording")
+    _output(make, "where the samples go, else to standard output")
+    make.add_argument(
+        "--noise", type=_real(samples.LOUDEST, "noise"), default=0.5, metavar="DEVIATION",
+        help="the noise's standard deviation, 0 or more (0.5 unless said)",
+    )
+    _seed(make)
+    _code(make, "the input is words of this code, 1 to 4, without the three octets of a recording", samples.CODES)
+    _jobs(make)
+    correct = group.add(
+        "correct", samples.correct, "correct words by their samples, and print a log as correct does",
+        "The input is samples alone, one for each bit, word after word: 32-bit floats, little-endian, as a file sink of floats in GNU"
+        " Radio writes them. A bit is 1 if its sample is below 0. The run is that of correct, but of several bits of greatest"
+        f" excess it flips the one whose sample is nearest to 0. {LOG} Its columns are those of correct; a word with a sample that is"
+        " infinite or not a number has answer 16, and a last word that is cut short 2. With --output the words are written too, as a"
+        " recording: those that are refused as their bits were read, of one that is cut short its whole octets.",
+        "pandoricchia samples correct --code 1 heard.f32 --output mended.bin > heard.log",
+    )
+    _input(correct, "the samples")
+    _output(correct, "where a recording of the corrected words goes, else nowhere")
+    _code(correct, "the code, 1 to 4", samples.CODES, True)
+    _limit(correct, "the most flips of a word, 0 to 65535 (65535 unless said, which no run reaches)")
+    _jobs(correct)
 
 
 def _links(verbs: Verbs) -> None:
@@ -307,10 +346,10 @@ def _links(verbs: Verbs) -> None:
 def _pictures(verbs: Verbs) -> None:
     short = verbs.add(
         "summary", summary.summary, "say what a log holds as a whole",
-        "The input is a log of correct, why, frames or unit read, or of the program of that kind. How many words have each answer,"
-        " flips and unlike by how many, and the words that need a look: those that are refused, those in which a bit was flipped and"
-        " flipped back, and those that were taken with more than two bits changed, which is more than is promised for any code."
-        " The status is 1 if a word was refused.",
+        "The input is a log of correct, samples correct, why, frames or unit read, or of the program of that kind. How many words have"
+        " each answer, flips and unlike by how many, and the words that need a look: those that are refused, those in which a bit was"
+        " flipped and flipped back, and those that were taken with more than two bits changed, which is more than is promised for any"
+        " code. The status is 1 if a word was refused.",
         "pandoricchia summary heard.log",
     )
     _input(short, "the log")
@@ -350,9 +389,9 @@ def _pictures(verbs: Verbs) -> None:
 
 
 DESCRIPTION = (
-    "Encode, spoil, check, open and correct words of five CCSDS LDPC codes, and what lies around them: units, streams, blocks, BCH"
-    " words; and make summaries, reports and campaigns. It is thin and stands outside the proofs: what it computes it asks of the"
-    " proved library."
+    "Encode, spoil, check, open and correct words of five CCSDS LDPC codes, and what lies around them: samples, units, streams,"
+    " blocks, BCH words; and make summaries, reports and campaigns. It is thin and stands outside the proofs: what it computes it asks"
+    " of the proved library."
 )
 STATUS = (
     "exit status: 0 if all is taken, 1 if something is refused, 2 for bad usage or a read or write that failed, which is said in one"
@@ -366,6 +405,7 @@ def parser() -> Parser:
     made.add_argument("--version", action="version", version=f"pandoricchia {VERSION}")
     verbs = Verbs(made, "verb")
     _words(verbs)
+    _samples(verbs)
     _links(verbs)
     _pictures(verbs)
     return made

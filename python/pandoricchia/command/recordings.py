@@ -78,9 +78,9 @@ def header(code: int, limit: int) -> bytes:
     return bytes([code]) + limit.to_bytes(2, "big")
 
 
-def parts(source: Source, length: int) -> Iterator[Part]:
-    """What is left of an input, in parts of whole words of so many octets."""
-    many = max(1, PART // length)
+def parts(source: Source, length: int, most: int = PART) -> Iterator[Part]:
+    """What is left of an input, in parts of whole words of so many octets; of one word, or of at most so many octets."""
+    many = max(1, most // length)
     index = 0
     while True:
         octets = source.read(many * length)

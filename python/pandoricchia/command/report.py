@@ -164,6 +164,12 @@ def _proved(code: Optional[int]) -> List[str]:
         said.append(f"{where} such wrong bits, under a limit of at least 2, are mended by exactly two flips.")
     if code in (None, 1, 2, 3):
         said.append("Codes 1 to 3 never give answer 8.")
+    if code is None:
+        said.append(
+            "A log of <code>pandoricchia samples correct</code> is of another run, which chooses by the sizes of samples, and its numbers"
+            " are those of a definition of its own. What is said of codewords, of one wrong bit and of the most flips is proved of it too;"
+            " what is said of unlike, of two wrong bits and of <code>wordbench</code> is not."
+        )
     return said
 
 
@@ -229,14 +235,14 @@ def made(counted: Counted, name: str, digest: str, worst: int) -> str:
 
 def _looks(tally: Tally, head: Optional[Head], worst: int) -> str:
     if not tally.looks:
-        return section("Words that need a look", "<p>None: every word was taken, with at most two bits changed and none turned back.</p>")
+        return section("Words that need a look", "<p>None: every word was taken, with at most two bits changed and none flipped back.</p>")
     rows = [(str(e.word), e.answer, e.flips, e.first, e.last, e.unlike, "; ".join(e.looks)) for e in tally.worst]
     columns = ("word", "answer", "flips", "first", "last", "unlike", "why")
     pieces = [f"<p>{escape(tally.looked())}. The worst, at most {worst}, first:</p>", table(columns, rows, (6,))]
     if head is None and not any(entry.under for entry in tally.worst):
         pieces.append(
             "<p class=small>This log has no flips. A report of the recording, or of the log of <code>pandoricchia why</code>, shows the"
-            " runs flip by flip.</p>"
+            " runs flip by flip; not those of <code>pandoricchia samples correct</code>, which may flip other bits.</p>"
         )
     else:
         pieces += [_word(entry, head) for entry in tally.worst]

@@ -1,4 +1,4 @@
-"""Wrong bits, and information, that look random: fixed by the seed and by what they are for, however the work is spread."""
+"""Wrong bits, noise and information that look random: fixed by the seed and by what they are for, however the work is spread."""
 from __future__ import annotations
 
 import math
@@ -48,6 +48,14 @@ def flipped(word: Iterable[int], at: Iterable[int]) -> bytes:
     for bit in at:
         octets[bit // 8] ^= 0x80 >> bit % 8
     return bytes(octets)
+
+
+def noise(draws: random.Random) -> Iterator[float]:
+    """Normal draws of standard deviation 1 without end, two at a time by Box and Muller; none is beyond 9."""
+    while True:
+        angle, size = 2 * math.pi * draws.random(), math.sqrt(-2 * math.log(1 - draws.random()))
+        yield size * math.cos(angle)
+        yield size * math.sin(angle)
 
 
 def information(draws: random.Random, code: int) -> bytes:

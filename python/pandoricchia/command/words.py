@@ -36,6 +36,7 @@ class Ask(NamedTuple):
     seed: str = ""
     wrong: Optional[int] = None
     rate: float = 0.0
+    noise: float = 0.0
 
 
 class Done(NamedTuple):
@@ -163,25 +164,30 @@ def spoil_part(ask: Ask, part: Part) -> Done:
 # The verbs.
 
 
+def log(verb: str, columns: str, work: Callable[[Part], Done], source: Source, length: int, start: bytes, options: Namespace) -> int:
+    """A line for each word of so many octets, and octets to --output, which begin so; 0 if all is taken."""
+    taken = True
+    with Sink(None) as printed, kept(options.output) as out, Progress(verb, source.size, lines=True) as bar:
+        printed.write(columns.encode() + b"\n")
+        out.write(start)
+        for done in ordered(work, parts(source, length), options.jobs):
+            printed.write("".join(done.lines).encode())
+            out.write(b"".join(done.octets))
+            taken = taken and done.taken
+            bar.at(source.place)
+    return 0 if taken else 1
+
+
 def _log(verb: str, columns: str, work: Callable[[Ask, Part], Done], options: Namespace, *offered: int) -> int:
-    """A line for each word of a recording, and octets to --output; 0 if all is taken."""
-    with Source(options.input) as source, Sink(None) as printed:
+    """The log of a recording."""
+    with Source(options.input) as source:
         told = head(source, options)
         ask = Ask(told.code, told.limit, keep=options.output is not None, reach=getattr(options, "reach", 0))
         if not told.offered or offered and told.code not in offered:
-            printed.write((columns + "\n" + "".join(work(Ask(0), Part(0, b"")).lines)).encode())
+            Sink(None).write((columns + "\n" + "".join(work(Ask(0), Part(0, b"")).lines)).encode())
             raise not_offered(source)
-        taken = True
-        with kept(options.output) as out, Progress(verb, source.size, lines=True) as bar:
-            printed.write(columns.encode() + b"\n")
-            if verb != "open":
-                out.write(told.octets)
-            for done in ordered(partial(work, ask), parts(source, calls.word_octets(ask.code)), options.jobs):
-                printed.write("".join(done.lines).encode())
-                out.write(b"".join(done.octets))
-                taken = taken and done.taken
-                bar.at(source.place)
-    return 0 if taken else 1
+        start = b"" if verb == "open" else told.octets
+        return log(verb, columns, partial(work, ask), source, calls.word_octets(ask.code), start, options)
 
 
 def correct(options: Namespace) -> int:
