@@ -16,6 +16,9 @@ ghost use Rattle.sizing.specs.Passing.{Stands, Starting, SizesTo};
 ghost use Rattle.runs.specs.Passes.{Begins, Beginning};
 use layout::BLOCKS;
 use layout::ROWS;
+use layout::SYNDROME;
+use layout::TABLE;
+use layout::WORD;
 use layout::STARTS;
 use layout::Shape;
 use runs::Ran;
@@ -47,20 +50,19 @@ fn counted(samples: &[f32], y: &[u64], bit: usize, unlike: u32) -> u32
 // was read.
 fn pass(
     samples: &[f32],
-    y: &mut [u64],
-    d: &mut [u64],
-    starts: &[u16],
-    counts: &[u8],
-    met: &mut [u8],
-    kept: &mut [usize],
+    y: &mut [u64; WORD],
+    d: &mut [u64; ROWS],
+    starts: &[u16; STARTS],
+    counts: &[u8; BLOCKS],
+    met: &mut [u8; BLOCKS],
+    kept: &mut [usize; BLOCKS],
     sh: Shape,
     bit: usize,
     left: u32,
     unlike: u32,
 ) -> u32
-    requires { ⌜ Ready sh (now starts) (now counts) (now met) × (length (now kept) ≡ 16) × (length (now y) ≡ 130) × (length (now d) ≡ 65)
-        × (length (now samples) ≡ sh .blocks * sh .size) × (length (now samples) ≤ 8176) × (allFinite (now samples) ≡ true)
-        × (bit < length (now samples)) × (unlike < 65536) ⌝ }
+    requires { ⌜ Ready sh (now starts) (now counts) (now met) × (length (now samples) ≡ sh .blocks * sh .size)
+        × (length (now samples) ≤ 8176) × (allFinite (now samples) ≡ true) × (bit < length (now samples)) × (unlike < 65536) ⌝ }
     ensures { λ r. ⌜ Ready sh (now (starts .entry)) (now (counts .entry)) (now (met .exit)) × (r ≤ unlike + 1)
         × (tally (readOf (now (samples .entry)) bit ⊕ wbit (now (y .entry)) bit) ≤ unlike
         → r + 2 * tally (readOf (now (samples .entry)) bit ⊕ wbit (now (y .entry)) bit) ≡ unlike + 1)
@@ -97,20 +99,20 @@ fn at_end(number: u8, flips: u32, last: u32, unlike: u32) -> Ended
 // checks are broken.
 fn go_on(
     samples: &[f32],
-    y: &mut [u64],
-    d: &mut [u64],
-    starts: &[u16],
-    counts: &[u8],
-    met: &mut [u8],
-    kept: &mut [usize],
-    h: &[u16],
+    y: &mut [u64; WORD],
+    d: &mut [u64; ROWS],
+    starts: &[u16; STARTS],
+    counts: &[u8; BLOCKS],
+    met: &mut [u8; BLOCKS],
+    kept: &mut [usize; BLOCKS],
+    h: &[u16; TABLE],
     sh: Shape,
     limit: u16,
     first: u32,
 ) -> Ended
-    requires { ⌜ Fit (now h) sh × Gathered (now h) sh (now starts) (now counts) (sh .blocks) × Ready sh (now starts) (now counts) (now met)
-        × (length (now kept) ≡ 16) × (length (now y) ≡ 130) × (length (now d) ≡ 65) × (1 ≤ sh .blocks)
-        × (length (now samples) ≡ sh .blocks * sh .size) × (allFinite (now samples) ≡ true) × (wbit (now y) ≡ readOf (now samples))
+    requires { ⌜ Fit (now h) sh × Gathered (now h) sh (now starts) (now counts) (sh .blocks)
+        × Ready sh (now starts) (now counts) (now met) × (1 ≤ sh .blocks) × (length (now samples) ≡ sh .blocks * sh .size)
+        × (allFinite (now samples) ≡ true) × (wbit (now y) ≡ readOf (now samples))
         × Starting (now h) sh (now samples) first (wbit (now y)) (now d) (now starts) (now counts) (now met) (now kept) ⌝ }
     ensures { λ r. ⌜ ((c : Code) → Lent c (now (h .entry)) sh → c .unsent ≡ 0 → first ≡ broken c (wbit (now (y .entry)))
         → Stands c sh (now (samples .entry)) (wbit (now (y .entry))) (now (d .entry)) (now (starts .entry)) (now (counts .entry))
@@ -151,16 +153,15 @@ fn go_on(
 // The run from the word y that was read, with the syndrome z, of which so many checks are broken, by the bounds of its blocks.
 fn run_bounded(
     samples: &[f32],
-    y: &mut [u64],
-    z: &[u64],
-    h: &[u16],
+    y: &mut [u64; WORD],
+    z: &[u64; SYNDROME],
+    h: &[u16; TABLE],
     sh: Shape,
     limit: u16,
     first: u32,
 ) -> Ended
-    requires { ⌜ Fit (now h) sh × (length (now y) ≡ 130) × (length (now z) ≡ 16) × (1 ≤ sh .blocks)
-        × (length (now samples) ≡ sh .blocks * sh .size) × (allFinite (now samples) ≡ true) × (wbit (now y) ≡ readOf (now samples))
-        × Beginning (now h) sh 0 first (wbit (now y)) (wbit (now z)) ⌝ }
+    requires { ⌜ Fit (now h) sh × (1 ≤ sh .blocks) × (length (now samples) ≡ sh .blocks * sh .size) × (allFinite (now samples) ≡ true)
+        × (wbit (now y) ≡ readOf (now samples)) × Beginning (now h) sh 0 first (wbit (now y)) (wbit (now z)) ⌝ }
     ensures { λ r. ⌜ ((c : Code) → Begins c (now (h .entry)) sh 0 first (wbit (now (y .entry))) (wbit (now (z .entry)))
         → SizesTo c sh (now (samples .entry)) limit (wbit (now (y .entry))) r (wbit (now (y .exit)))) ⌝ }
 {
@@ -203,15 +204,15 @@ fn keep(y: &[u64], x: &mut [u64])
 // The same where one word holds a block: the run of `runs`, and the words as they were read beside those at its end.
 fn run_narrow(
     samples: &[f32],
-    y: &mut [u64],
-    z: &[u64],
-    h: &[u16],
+    y: &mut [u64; WORD],
+    z: &[u64; SYNDROME],
+    h: &[u16; TABLE],
     sh: Shape,
     limit: u16,
     first: u32,
 ) -> Ended
-    requires { ⌜ Fit (now h) sh × (length (now y) ≡ 130) × (length (now z) ≡ 16) × (1 ≤ sh .blocks)
-        × (length (now samples) ≡ sh .blocks * sh .size) × Beginning (now h) sh 0 first (wbit (now y)) (wbit (now z)) × (sh .words ≡ 1) ⌝ }
+    requires { ⌜ Fit (now h) sh × (1 ≤ sh .blocks) × (length (now samples) ≡ sh .blocks * sh .size)
+        × Beginning (now h) sh 0 first (wbit (now y)) (wbit (now z)) × (sh .words ≡ 1) ⌝ }
     ensures { λ r. ⌜ ((c : Code) → Begins c (now (h .entry)) sh 0 first (wbit (now (y .entry))) (wbit (now (z .entry)))
         → SizesTo c sh (now (samples .entry)) limit (wbit (now (y .entry))) r (wbit (now (y .exit)))) ⌝ }
 {
@@ -226,16 +227,15 @@ fn run_narrow(
 // The run from the word y that was read, with the syndrome z, of which so many checks are broken, under a limit: flips until it ends.
 pub fn run(
     samples: &[f32],
-    y: &mut [u64],
-    z: &[u64],
-    h: &[u16],
+    y: &mut [u64; WORD],
+    z: &[u64; SYNDROME],
+    h: &[u16; TABLE],
     sh: Shape,
     limit: u16,
     first: u32,
 ) -> Ended
-    requires { ⌜ Fit (now h) sh × (length (now y) ≡ 130) × (length (now z) ≡ 16) × (1 ≤ sh .blocks)
-        × (length (now samples) ≡ sh .blocks * sh .size) × (allFinite (now samples) ≡ true) × (wbit (now y) ≡ readOf (now samples))
-        × Beginning (now h) sh 0 first (wbit (now y)) (wbit (now z)) ⌝ }
+    requires { ⌜ Fit (now h) sh × (1 ≤ sh .blocks) × (length (now samples) ≡ sh .blocks * sh .size) × (allFinite (now samples) ≡ true)
+        × (wbit (now y) ≡ readOf (now samples)) × Beginning (now h) sh 0 first (wbit (now y)) (wbit (now z)) ⌝ }
     ensures { λ r. ⌜ ((c : Code) → Begins c (now (h .entry)) sh 0 first (wbit (now (y .entry))) (wbit (now (z .entry)))
         → SizesTo c sh (now (samples .entry)) limit (wbit (now (y .entry))) r (wbit (now (y .exit)))) ⌝ }
 {

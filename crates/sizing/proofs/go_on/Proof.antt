@@ -25,21 +25,17 @@ use Rattle.sizing.proofs.go_on.Tie as tie
 
 abbrev Inv-loop : tie.InvT-loop
 Inv-loop samples y₀ d₀ starts counts met₀ kept₀ h sh limit first most flips₀ left₀ unlike₀ y d met kept flips left unlike =
-    (length y ≡ 130) × (length d ≡ 65) × (length kept ≡ 16) × (flips ≤ limit) × (limit < 65536) × (unlike ≤ flips)
-    × Ready sh starts counts met
-    × ((c : Code) → Lent c h sh → c .unsent ≡ 0 → first ≡ broken c (wbit y₀) → Stands c sh samples (wbit y₀) d₀ starts counts met₀ kept₀
-    → Coming c sh samples limit (wbit y₀) flips y d starts counts met kept left unlike)
+    (flips ≤ limit) × (limit < 65536) × (unlike ≤ flips) × Ready sh starts counts met × ((c : Code) → Lent c h sh → c .unsent ≡ 0 → first
+    ≡ broken c (wbit y₀) → Stands c sh samples (wbit y₀) d₀ starts counts met₀ kept₀ → Coming c sh samples limit (wbit y₀) flips y d
+    starts counts met kept left unlike)
 
 abbrev μ-loop : tie.MeasureT-loop
 μ-loop samples y₀ d₀ starts counts met₀ kept₀ h sh limit first most flips₀ left₀ unlike₀ y d met kept flips left unlike = limit - flips
 
 loop-holds : tie.Need-loop-holds Inv-loop μ-loop
 loop-holds c =
-    let s = c .before .before .before .before .before .before .before .before in
+    let s = c .before in
     let a = s .args in (
-      s .pre .4,
-      s .pre .5,
-      s .pre .3,
       omega arith,
       search needs,
       omega arith,
@@ -49,32 +45,18 @@ loop-holds c =
             (laid k (a .sh) (wbit (a .y .now))) refl;
         left-is = e;
         stands = λ l. w;
-        differs = sym (ap (differing k (read (a .samples .now))) (s .pre .9) ∙ differ-self k (read (a .samples .now)));
+        differs = sym (ap (differing k (read (a .samples .now))) (s .pre .6) ∙ differ-self k (read (a .samples .now)));
       },
     )
 
 choose-requires : tie.Need-choose-requires Inv-loop μ-loop
 choose-requires c κs =
     let s : tie.Start Inv-loop μ-loop = search in
-    let l = c .before .before .before .before .loop in
-    (l .inv .6, l .inv .2, l .inv .1, s .pre .6, s .pre .7, s .pre .8)
+    let l = c .before .before .before .before .before .before .before .loop in
+    (l .inv .3, search needs, search needs, s .pre .3, s .pre .4, s .pre .5)
 
 at-end-requires : tie.Need-at-end-requires Inv-loop μ-loop
 at-end-requires c κs = tt
-
-same-length : tie.Need-same-length Inv-loop μ-loop
-same-length c = search needs
-
-same-length-2 : tie.Need-same-length-2 Inv-loop μ-loop
-same-length-2 c = search needs
-
-same-length-3 : tie.Need-same-length-3 Inv-loop μ-loop
-same-length-3 c =
-    let s : tie.Start Inv-loop μ-loop = search in
-    c .before .before .before .before .before .before .before .choose .ensures .0 .met-long ∙ sym (s .pre .2 .met-long)
-
-same-length-4 : tie.Need-same-length-4 Inv-loop μ-loop
-same-length-4 c = search needs
 
 returns : tie.Need-returns Inv-loop μ-loop
 returns c k lent u eq w =
@@ -82,9 +64,9 @@ returns c k lent u eq w =
     let s : tie.Start Inv-loop μ-loop = search in
     let a = s .args in
     let l = in-loop .before .loop in
-    let f = c .before .before .before .before .before .before .before .choose in
+    let f = c .before .before .before .choose in
     let e = c .at-end .ensures in
-    let i = l .inv .7 k lent u eq w in
+    let i = l .inv .4 k lent u eq w in
     let x = a .samples .now in
     let was = i .stands (in-loop .loop-test .taken) in
     let most = chosen-most k (a .h .now) (a .sh) lent (s .pre .0) (a .starts .now) (a .counts .now) (s .pre .1) x (wbit (l .y)) (l .d) (l
@@ -93,31 +75,17 @@ returns c k lent u eq w =
     let leads = chosen-leads k (a .h .now) (a .sh) lent (s .pre .0) (a .starts .now) (a .counts .now) (s .pre .1) x (wbit (l .y)) (l .d)
     (l .met)
     (l .kept) was (f .result .bit) (f .result .score) (f .ensures .2) in
-    let next = sized-stuck x lent u (wbit (l .y)) (f .result .bit) (f .result .score) (f .ensures .1) (s .pre .7) most leads
+    let next = sized-stuck x lent u (wbit (l .y)) (f .result .bit) (f .result .score) (f .ensures .1) (s .pre .4) most leads
     (λ z. omega (arith, z, i .left-is, in-loop .loop-test .taken)) (c .before .if1 .taken) in
     record {
       runs = runs-as _ _ (e .0) (e .1) (ends-stuck (bySize (smaller x) k) k (a .sh) (a .limit) (wbit (a .y .now)) (l .flips) (wbit (l .y)) _
           (i .going) _ _ next);
       last = e .2 ∙ i .left-is;
-      differs = e .3 ∙ i .differs ∙ ap (λ z. differing k z (wbit (l .y))) (sym (s .pre .9));
+      differs = e .3 ∙ i .differs ∙ ap (λ z. differing k z (wbit (l .y))) (sym (s .pre .6));
     }
 
 at-end-requires-2 : tie.Need-at-end-requires-2 Inv-loop μ-loop
 at-end-requires-2 c κs = tt
-
-same-length-5 : tie.Need-same-length-5 Inv-loop μ-loop
-same-length-5 c = search needs
-
-same-length-6 : tie.Need-same-length-6 Inv-loop μ-loop
-same-length-6 c = search needs
-
-same-length-7 : tie.Need-same-length-7 Inv-loop μ-loop
-same-length-7 c =
-    let s : tie.Start Inv-loop μ-loop = search in
-    c .before .before .before .before .before .before .before .before .choose .ensures .0 .met-long ∙ sym (s .pre .2 .met-long)
-
-same-length-8 : tie.Need-same-length-8 Inv-loop μ-loop
-same-length-8 c = search needs
 
 returns-2 : tie.Need-returns-2 Inv-loop μ-loop
 returns-2 c k lent u eq w =
@@ -125,9 +93,9 @@ returns-2 c k lent u eq w =
     let s : tie.Start Inv-loop μ-loop = search in
     let a = s .args in
     let l = in-loop .before .loop in
-    let f = c .before .before .before .before .before .before .before .before .choose in
+    let f = c .before .before .before .before .choose in
     let e = c .at-end2 .ensures in
-    let i = l .inv .7 k lent u eq w in
+    let i = l .inv .4 k lent u eq w in
     let x = a .samples .now in
     let was = i .stands (in-loop .loop-test .taken) in
     let most = chosen-most k (a .h .now) (a .sh) lent (s .pre .0) (a .starts .now) (a .counts .now) (s .pre .1) x (wbit (l .y)) (l .d) (l
@@ -136,13 +104,13 @@ returns-2 c k lent u eq w =
     let leads = chosen-leads k (a .h .now) (a .sh) lent (s .pre .0) (a .starts .now) (a .counts .now) (s .pre .1) x (wbit (l .y)) (l .d)
     (l .met)
     (l .kept) was (f .result .bit) (f .result .score) (f .ensures .2) in
-    let next = sized-flip x lent u (wbit (l .y)) (f .result .bit) (f .result .score) (f .ensures .1) (s .pre .7) most leads (s .pre .8)
+    let next = sized-flip x lent u (wbit (l .y)) (f .result .bit) (f .result .score) (f .ensures .1) (s .pre .4) most leads (s .pre .5)
     (λ z. omega (arith, z, i .left-is, in-loop .loop-test .taken)) (c .before .before .if1 .left) in
     record {
       runs = runs-as _ _ (e .0) (e .1) (ends-limit (bySize (smaller x) k) k (a .sh) (a .limit) (wbit (a .y .now)) (l .flips) (wbit (l .y)) _
           (i .going) _ _ next (c .before .if2 .taken));
       last = e .2 ∙ i .left-is;
-      differs = e .3 ∙ i .differs ∙ ap (λ z. differing k z (wbit (l .y))) (sym (s .pre .9));
+      differs = e .3 ∙ i .differs ∙ ap (λ z. differing k z (wbit (l .y))) (sym (s .pre .6));
     }
 
 sub-left : tie.Need-sub-left Inv-loop μ-loop
@@ -154,9 +122,9 @@ sub-left-2 c =
     let s : tie.Start Inv-loop μ-loop = search in
     let a = s .args in
     let l = in-loop .before .loop in
-    let f = c .before .before .before .before .before .before .before .before .choose in
-    let w = s .pre .10 in
-    let i = l .inv .7 (w .code) (w .lent) (w .unsent) (w .left-is) (w .stands) in
+    let f = c .before .before .before .before .choose in
+    let w = s .pre .7 in
+    let i = l .inv .4 (w .code) (w .lent) (w .unsent) (w .left-is) (w .stands) in
     let x = a .samples .now in
     let was = i .stands (in-loop .loop-test .taken) in
     let most = chosen-most (w .code) (a .h .now) (a .sh) (w .lent) (s .pre .0) (a .starts .now) (a .counts .now) (s .pre .1) x (wbit (l
@@ -168,7 +136,7 @@ sub-left-2 c =
     omega (
       arith,
       i .left-is,
-      sized-left x (w .lent) (w .unsent) (wbit (l .y)) (f .result .bit) (f .result .score) (f .ensures .1) (s .pre .7)
+      sized-left x (w .lent) (w .unsent) (wbit (l .y)) (f .result .bit) (f .result .score) (f .ensures .1) (s .pre .4)
           most leads (omega (arith, c .before .before .if1 .left)),
     )
 
@@ -176,24 +144,21 @@ pass-requires : tie.Need-pass-requires Inv-loop μ-loop
 pass-requires c κs =
     let after-choose : tie.After-choose Inv-loop μ-loop = search in
     let s : tie.Start Inv-loop μ-loop = search in
-    let l = after-choose .before .before .before .before .before .loop in
+    let l = after-choose .before .before .before .before .before .before .before .before .loop in
     let f = after-choose .choose in (
       f .ensures .0,
-      search needs,
-      l .inv .0,
-      l .inv .1,
-      s .pre .7,
-      omega (arith, s .pre .7, s .pre .0 .bits),
-      s .pre .8,
-      omega (arith, s .pre .7, f .ensures .1),
-      omega (arith, l .inv .3, l .inv .4, l .inv .5),
+      s .pre .4,
+      omega (arith, s .pre .4, s .pre .0 .bits),
+      s .pre .5,
+      omega (arith, s .pre .4, f .ensures .1),
+      omega (arith, l .inv .0, l .inv .1, l .inv .2),
     )
 
 add-flips : tie.Need-add-flips Inv-loop μ-loop
 add-flips c =
     let in-loop : tie.In-loop Inv-loop μ-loop = search in
     let l = in-loop .before .loop in
-    omega (arith, l .inv .3, l .inv .4)
+    omega (arith, l .inv .0, l .inv .1)
 
 loop-less : tie.Need-loop-less Inv-loop μ-loop
 loop-less c =
@@ -203,25 +168,22 @@ loop-less c =
 loop-again : tie.Need-loop-again Inv-loop μ-loop
 loop-again c =
     let else2 : tie.Else2 Inv-loop μ-loop = search in
-    let in-loop = let after-choose = else2 .before .before .before .before .before .before .before in
-    after-choose .before .before .before .before in
+    let in-loop = let after-choose = else2 .before .before .before in
+    after-choose .before .before .before .before .before .before .before in
     let s : tie.Start Inv-loop μ-loop = search in
     let a = s .args in
     let l = in-loop .before .loop in
-    let f = else2 .before .before .before .before .before .before .before .choose in
-    let t = c .before .before .before .before .before .before .before .before .pass in
+    let f = else2 .before .before .before .choose in
+    let t = c .pass in
     let x = a .samples .now in
     let bit = f .result .bit in
     let top = f .result .score in (
-      search needs,
-      search needs,
-      omega (arith, c .before .kept2 .given, else2 .before .before .before .before .kept .given, l .inv .2),
       omega (arith, else2 .if2 .left),
-      l .inv .4,
-      omega (arith, t .ensures .1, l .inv .5),
+      l .inv .1,
+      omega (arith, t .ensures .1, l .inv .2),
       t .ensures .0,
       λ k lent u eq w.
-          let i = l .inv .7 k lent u eq w in
+          let i = l .inv .4 k lent u eq w in
           let was = i .stands (in-loop .loop-test .taken) in
           let most = chosen-most k (a .h .now) (a .sh) lent (s .pre .0) (a .starts .now) (a .counts .now) (s .pre .1) x (wbit (l .y)) (l .d)
           (l .met) (l .kept) was bit top (f .ensures .2) in
@@ -229,9 +191,9 @@ loop-again c =
           .d)
           (l .met) (l .kept) was bit top (f .ensures .2) in
           let word = t .ensures .3 in
-          let next = sized-flip x lent u (wbit (l .y)) bit top (f .ensures .1) (s .pre .7) most leads (s .pre .8)
+          let next = sized-flip x lent u (wbit (l .y)) bit top (f .ensures .1) (s .pre .4) most leads (s .pre .5)
           (λ z. omega (arith, z, i .left-is, in-loop .loop-test .taken)) (else2 .before .if1 .left) in
-          let left = sized-left x lent u (wbit (l .y)) bit top (f .ensures .1) (s .pre .7) most leads (omega (
+          let left = sized-left x lent u (wbit (l .y)) bit top (f .ensures .1) (s .pre .4) most leads (omega (
             arith,
             else2 .before .if1 .left,
           )) in
@@ -253,31 +215,19 @@ loop-again c =
 at-end-requires-3 : tie.Need-at-end-requires-3 Inv-loop μ-loop
 at-end-requires-3 c κs = tt
 
-same-length-9 : tie.Need-same-length-9 Inv-loop μ-loop
-same-length-9 c = search needs
-
-same-length-10 : tie.Need-same-length-10 Inv-loop μ-loop
-same-length-10 c = search needs
-
-same-length-11 : tie.Need-same-length-11 Inv-loop μ-loop
-same-length-11 c = search needs
-
-same-length-12 : tie.Need-same-length-12 Inv-loop μ-loop
-same-length-12 c = search needs
-
 returns-3 : tie.Need-returns-3 Inv-loop μ-loop
 returns-3 c k lent u eq w =
     let s : tie.Start Inv-loop μ-loop = search in
     let a = s .args in
     let l = c .before .before .loop in
     let e = c .at-end3 .ensures in
-    let i = l .inv .7 k lent u eq w in
+    let i = l .inv .4 k lent u eq w in
     let none : broken k (wbit (l .y)) ≡ 0 = omega (arith, i .left-is, c .before .loop-test .left) in
     record {
       runs = runs-as _ _ (e .0) (e .1) (ends-quiet (bySize (smaller (a .samples .now)) k) k (a .sh) (a .limit) (wbit (a .y .now))
           (l .flips) (wbit (l .y)) _ (i .going) (sized-quiet (smaller (a .samples .now)) k (wbit (l .y)) none));
       last = e .2 ∙ sym none;
-      differs = e .3 ∙ i .differs ∙ ap (λ z. differing k z (wbit (l .y))) (sym (s .pre .9));
+      differs = e .3 ∙ i .differs ∙ ap (λ z. differing k z (wbit (l .y))) (sym (s .pre .6));
     }
 
 pub go-on-spec : {M : Type 1} → statement M
@@ -289,16 +239,8 @@ go-on-spec =
     loop-holds
     choose-requires
     at-end-requires
-    same-length
-    same-length-2
-    same-length-3
-    same-length-4
     returns
     at-end-requires-2
-    same-length-5
-    same-length-6
-    same-length-7
-    same-length-8
     returns-2
     sub-left
     sub-left-2
@@ -307,8 +249,4 @@ go-on-spec =
     loop-less
     loop-again
     at-end-requires-3
-    same-length-9
-    same-length-10
-    same-length-11
-    same-length-12
     returns-3)

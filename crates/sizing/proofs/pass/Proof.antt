@@ -14,26 +14,14 @@ flip-bit-requires c κs = search needs
 flip-requires : tie.Need-flip-requires
 flip-requires c κs =
     let s : tie.Start = search in
-    (s .pre .0, s .pre .1, s .pre .3, s .pre .4, s .pre .6, omega (arith, s .pre .4, s .pre .7))
-
-same-length : tie.Need-same-length
-same-length c = search needs
-
-same-length-2 : tie.Need-same-length-2
-same-length-2 c = search needs
-
-same-length-3 : tie.Need-same-length-3
-same-length-3 c = search needs
-
-same-length-4 : tie.Need-same-length-4
-same-length-4 c = search needs
+    (s .pre .0, search needs, search needs, s .pre .1, s .pre .3, omega (arith, s .pre .1, s .pre .4))
 
 returns : tie.Need-returns
 returns c =
     let after-flip-bit : tie.After-flip-bit = search in
     let s : tie.Start = search in
     let a = s .args in
-    let f = c .before .before .before .before .before .before .flip in
+    let f = c .flip in
     let n = after-flip-bit .before .before .counted in (
       f .ensures .0,
       n .ensures .0,
@@ -44,17 +32,14 @@ returns c =
           record { twice = e .0; knows = e .1 (was .knows) },
     )
 
-same-length-5 : tie.Need-same-length-5
-same-length-5 c = search needs
-
 returns-2 : tie.Need-returns-2
 returns-2 c =
     let s : tie.Start = search in
-    let n = c .before .before .before .before .before .counted in (
+    let n = c .before .before .before .counted in (
       s .pre .0,
       n .ensures .0,
       n .ensures .1,
-      c .before .before .before .flip-bit .ensures,
+      c .before .flip-bit .ensures,
       λ k h lent g l was. absurd (omega (arith, c .if1 .left)),
     )
 
@@ -65,10 +50,5 @@ pass-spec =
     counted-requires
     flip-bit-requires
     flip-requires
-    same-length
-    same-length-2
-    same-length-3
-    same-length-4
     returns
-    same-length-5
     returns-2)

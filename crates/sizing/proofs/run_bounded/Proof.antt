@@ -19,51 +19,30 @@ slice-aggregate-begin-3 c = search needs
 begin-requires : tie.Need-begin-requires
 begin-requires c κs = search needs
 
-slice-aggregate-go-on : tie.Need-slice-aggregate-go-on
-slice-aggregate-go-on c = search needs
-
-slice-aggregate-go-on-2 : tie.Need-slice-aggregate-go-on-2
-slice-aggregate-go-on-2 c = search needs
-
-slice-aggregate-go-on-3 : tie.Need-slice-aggregate-go-on-3
-slice-aggregate-go-on-3 c = search needs
-
-slice-aggregate-go-on-4 : tie.Need-slice-aggregate-go-on-4
-slice-aggregate-go-on-4 c = search needs
-
-slice-aggregate-go-on-5 : tie.Need-slice-aggregate-go-on-5
-slice-aggregate-go-on-5 c = search needs
-
 go-on-requires : tie.Need-go-on-requires
 go-on-requires c κs =
     let s : tie.Start = search needs in
     let a = s .args in
     let begun : tie.After-begin = search needs in
     let m = begun .begin in
-    let w = s .pre .7 in
+    let w = s .pre .5 in
     let k = w .begins in (
       s .pre .0,
       m .ensures .1,
       begun-ready (s .pre .0) (m .ensures .1) (search needs) (search needs),
-      search needs,
       s .pre .1,
-      search needs,
+      s .pre .2,
       s .pre .3,
       s .pre .4,
-      s .pre .5,
-      s .pre .6,
       record {
         code = w .code;
         lent = k .lent;
         unsent = k .unsent;
         left-is = k .broken;
         stands = begun-stands (w .code) (a .sh) (a .samples .now) _ _ (wbit (a .y .now)) _ _ (s .pre .0 .blocks)
-            (omega (arith, s .pre .4, s .pre .0 .bits)) (k .held) (m .ensures .0);
+            (omega (arith, s .pre .2, s .pre .0 .bits)) (k .held) (m .ensures .0);
       },
     )
-
-same-length : tie.Need-same-length
-same-length c = search needs
 
 returns : tie.Need-returns
 returns c k e =
@@ -71,8 +50,8 @@ returns c k e =
     let s : tie.Start = search needs in
     let a = s .args in
     let m = begun .begin in
-    c .before .before .before .before .before .go-on .ensures k (e .lent) (e .unsent) (e .broken)
-    (begun-stands k (a .sh) (a .samples .now) _ _ (wbit (a .y .now)) _ _ (s .pre .0 .blocks) (omega (arith, s .pre .4, s .pre .0 .bits))
+    c .go-on .ensures k (e .lent) (e .unsent) (e .broken)
+    (begun-stands k (a .sh) (a .samples .now) _ _ (wbit (a .y .now)) _ _ (s .pre .0 .blocks) (omega (arith, s .pre .2, s .pre .0 .bits))
     (e .held) (m .ensures .0))
 
 pub run-bounded-spec : {M : Type 1} → statement M
@@ -83,11 +62,5 @@ run-bounded-spec =
     slice-aggregate-begin-2
     slice-aggregate-begin-3
     begin-requires
-    slice-aggregate-go-on
-    slice-aggregate-go-on-2
-    slice-aggregate-go-on-3
-    slice-aggregate-go-on-4
-    slice-aggregate-go-on-5
     go-on-requires
-    same-length
     returns)

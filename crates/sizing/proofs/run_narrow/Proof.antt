@@ -18,7 +18,7 @@ keep-requires c κs = search needs
 run-narrow-requires : tie.Need-run-narrow-requires
 run-narrow-requires c κs =
     let s : tie.Start = search needs in
-    (s .pre .0, s .pre .1, s .pre .2, s .pre .3, s .pre .0 .some, λ some. (s .pre .4, refl), s .pre .5, s .pre .6)
+    (s .pre .0, search needs, search needs, s .pre .1, s .pre .0 .some, λ some. (s .pre .2, refl), s .pre .3, s .pre .4)
 
 slice-aggregate-unlike-words : tie.Need-slice-aggregate-unlike-words
 slice-aggregate-unlike-words c = search needs
@@ -31,17 +31,14 @@ unlike-words-requires c κs =
     let kept : tie.After-keep = search needs in
     let ran : tie.After-run-narrow = search needs in
     let s : tie.Start = search needs in
-    let few = narrow-few (s .args .sh) (s .pre .0) (s .pre .6) (s .pre .4) in
-    (omega (arith, few, kept .keep .kept .1 .0), omega (arith, few, s .pre .1, ran .run-narrow .kept .1 .0), omega (arith, few))
+    let few = narrow-few (s .args .sh) (s .pre .0) (s .pre .4) (s .pre .2) in
+    (omega (arith, few, kept .keep .kept .1 .0), omega (arith, few, search needs, ran .run-narrow .kept .1 .0), omega (arith, few))
 
 cast-at-end : tie.Need-cast-at-end
 cast-at-end c = search needs
 
 at-end-requires : tie.Need-at-end-requires
 at-end-requires c κs = search needs
-
-same-length : tie.Need-same-length
-same-length c = search needs
 
 returns : tie.Need-returns
 returns c k e =
@@ -51,13 +48,13 @@ returns c k e =
     let s : tie.Start = search needs in
     let a = s .args in
     let to = ran .run-narrow .ensures k e in
-    let few = narrow-few (a .sh) (s .pre .0) (s .pre .6) (s .pre .4) in
+    let few = narrow-few (a .sh) (s .pre .0) (s .pre .4) (s .pre .2) in
     record {
       runs = runs-as _ _ (c .at-end .ensures .0) (c .at-end .ensures .1) (to .0);
       last = c .at-end .ensures .2 ∙ to .1;
       differs = c .at-end .ensures .3 ∙ counted .unlike-words .ensures .0
-          ∙ differs-words (smaller (a .samples .now)) k (some-sent (e .lent) (s .pre .3) (s .pre .0 .some) (e .unsent)) (a .limit) _
-          (wbit (a .y .now)) _ _ (a .y .now) (omega (arith, e .lent .bits-are, s .pre .4)) (omega (arith, few)) (kept .keep .ensures) refl
+          ∙ differs-words (smaller (a .samples .now)) k (some-sent (e .lent) (s .pre .1) (s .pre .0 .some) (e .unsent)) (a .limit) _
+          (wbit (a .y .now)) _ _ (a .y .now) (omega (arith, e .lent .bits-are, s .pre .2)) (omega (arith, few)) (kept .keep .ensures) refl
           (to .0 .word);
     }
 
@@ -73,5 +70,4 @@ run-narrow-spec =
     unlike-words-requires
     cast-at-end
     at-end-requires
-    same-length
     returns)
