@@ -16,11 +16,11 @@ ghost use Rattle.sizing.specs.Passing.{Stands, Starting, SizesTo};
 ghost use Rattle.runs.specs.Passes.{Begins, Beginning};
 use layout::BLOCKS;
 use layout::ROWS;
+use layout::STARTS;
 use layout::SYNDROME;
+use layout::Shape;
 use layout::TABLE;
 use layout::WORD;
-use layout::STARTS;
-use layout::Shape;
 use runs::Ran;
 use smallest::UNKNOWN;
 

@@ -1,6 +1,7 @@
 -- `bounds::gather` meets its contract: after r passes the starts are those of the first r rows. Assumes nothing.
 use mathlib.Core.Path.{_≡_, refl, _∙_, subst}
 use Prim.Native.Nat.{ℕ, _+_, _-_, _*_, _≤_, _<_}
+use native.Mathlib.Nat.{mul-le-mul}
 use native.Mathlib.Omega.{arith}
 use borrow.Author.Needs.{needs}
 use lib.ListN.{length, getD}
@@ -11,25 +12,23 @@ use Rattle.bounds.proofs.gather.Tie as tie
 
 abbrev Inv-loop : tie.InvT-loop
 Inv-loop h sh b starts₀ m n₀ r₀ starts n r =
-    (r ≤ sh .rows) × (8 * b ≤ n) × (n ≤ 8 * b + 2 * r) × (length starts ≡ 128)
-    × Listed starts (8 * b) (n - 8 * b) (3072 + sh .size) (asked h sh b r)
-    × ((e : ℕ) → e < 8 * b → getD starts e 0 ≡ getD starts₀ e 0)
+    (r ≤ sh .rows) × (8 * b ≤ n) × (n ≤ 8 * b + 2 * r) × Listed starts (8 * b) (n - 8 * b) (3072 + sh .size) (asked h sh b r) × ((e : ℕ) →
+    e < 8 * b → getD starts e 0 ≡ getD starts₀ e 0)
 
 abbrev μ-loop : tie.MeasureT-loop
 μ-loop h sh b starts₀ m n₀ r₀ starts n r = sh .rows - r
 
 mul-n : tie.Need-mul-n Inv-loop μ-loop
-mul-n c = omega (arith, c .before .before .pre .0 .blocks)
+mul-n c = omega (arith, c .pre .0 .blocks)
 
 loop-holds : tie.Need-loop-holds Inv-loop μ-loop
 loop-holds c =
-    let s = c .before .before in
+    let s = c in
     let a = s .args in
     let none : 0 ≡ 8 * a .b - 8 * a .b = omega arith in (
       omega arith,
       omega arith,
       omega arith,
-      s .pre .2,
       subst (λ k. Listed (a .starts .now) (8 * a .b) k (3072 + a .sh .size) (asked (a .h .now) (a .sh) (a .b) 0)) none
           (listed-none (a .starts .now) (8 * a .b) (3072 + a .sh .size) (a .h .now) (a .sh) (a .b)),
       λ e h. refl,
@@ -37,29 +36,29 @@ loop-holds c =
 
 mul-at : tie.Need-mul-at Inv-loop μ-loop
 mul-at c =
-    let s = c .before .before .before .before .before .before in
+    let s = c .before .before .before .before in
     let inside = within (c .before .before .before .loop .r) (s .args .sh .rows) (s .args .sh .blocks) (omega arith) in
-    omega arith
+    omega (arith, mul-le-mul (s .pre .0 .rows) (s .pre .0 .blocks))
 
 add-at : tie.Need-add-at Inv-loop μ-loop
 add-at c =
-    let s = c .before .before .before .before .before .before in
+    let s = c .before .before .before .before in
     let inside = within (c .before .before .before .loop .r) (s .args .sh .rows) (s .args .sh .blocks) (omega arith) in
-    omega arith
+    omega (arith, mul-le-mul (s .pre .0 .rows) (s .pre .0 .blocks))
 
 mul-at-2 : tie.Need-mul-at-2 Inv-loop μ-loop
 mul-at-2 c =
-    let s = c .before .before .before .before .before .before in
+    let s = c .before .before .before .before in
     let inside = within (c .before .before .before .loop .r) (s .args .sh .rows) (s .args .sh .blocks) (omega arith) in
-    omega arith
+    omega (arith, mul-le-mul (s .pre .0 .rows) (s .pre .0 .blocks))
 
 mul-note : tie.Need-mul-note Inv-loop μ-loop
 mul-note c = omega arith
 
 note-requires : tie.Need-note-requires Inv-loop μ-loop
 note-requires c κs =
-    let s = c .before .before .before .before .before .before .before in
-    let inside = within (c .before .before .before .before .loop .r) (s .args .sh .rows) (s .args .sh .blocks) (omega arith) in
+    let s = c .before .before .before .before .before .before in
+    let inside = within (c .before .before .before .before .before .loop .r) (s .args .sh .rows) (s .args .sh .blocks) (omega arith) in
     (omega arith, omega (arith, s .pre .0 .blocks, s .pre .0 .rows), omega (arith, s .pre .0 .rows, s .pre .0 .held, s .pre .0 .words))
 
 add-note : tie.Need-add-note Inv-loop μ-loop
@@ -80,8 +79,8 @@ note-requires-2 c κs =
       omega arith,
       omega (
         arith,
-        noted-le (c .before .before .before .note .ensures),
-        c .before .before .before .note .ensures .long,
+        noted-le (c .before .before .note .ensures),
+        c .before .before .note .ensures .long,
         s .pre .0 .blocks,
         s .pre .0 .rows,
       ),
@@ -101,37 +100,33 @@ loop-again c =
     let a = s .args in
     let rows = s .pre .0 .rows in
     let l = then1 .before .before .loop in
-    let one = c .before .before .before .before .before .before .note in
-    let two = c .before .before .note2 in (
+    let one = c .before .before .before .note in
+    let two = c .note2 in (
       omega arith,
       omega (arith, noted-ge (one .ensures), noted-ge (two .ensures)),
       omega (arith, noted-le (one .ensures), noted-le (two .ensures)),
-      two .ensures .long ∙ one .ensures .long ∙ l .inv .3,
       gathered-row (a .h .now) (a .sh) (a .b) (l .r) (l .starts) _ _ (8 * a .b) (l .n) (one .result) (two .result) (3072 + a .sh .size)
-          (l .inv .1) (omega (arith, s .pre .0 .blocks)) (omega arith) (one .ensures) (two .ensures) (l .inv .4),
+          (l .inv .1) (omega (arith, s .pre .0 .blocks)) (omega arith) (one .ensures) (two .ensures) (l .inv .3),
       λ e h. noted-before (two .ensures) e (omega (arith, noted-ge (one .ensures))) ∙ noted-before (one .ensures) e (omega arith)
-          ∙ l .inv .5 e h,
+          ∙ l .inv .4 e h,
     )
 
 mul-result : tie.Need-mul-result Inv-loop μ-loop
-mul-result c = omega (arith, c .before .before .before .before .before .pre .0 .blocks)
+mul-result c = omega (arith, c .before .before .before .pre .0 .blocks)
 
 sub-result : tie.Need-sub-result Inv-loop μ-loop
 sub-result c = omega arith
 
-same-length : tie.Need-same-length Inv-loop μ-loop
-same-length c = search needs
-
 returns : tie.Need-returns Inv-loop μ-loop
 returns c =
-    let s = c .before .before .before .before .before in
+    let s = c .before .before .before in
     let a = s .args in
     let l = c .before .before .loop in
     let all : l .r ≡ a .sh .rows = omega arith in (
       omega (arith, s .pre .0 .rows),
       subst (λ k. Listed (l .starts) (8 * a .b) (l .n - 8 * a .b) (3072 + a .sh .size) (asked (a .h .now) (a .sh) (a .b) k)) all
-          (l .inv .4),
-      l .inv .5,
+          (l .inv .3),
+      l .inv .4,
     )
 
 pub gather-spec : {M : Type 1} → statement M
@@ -155,5 +150,4 @@ gather-spec =
     loop-again
     mul-result
     sub-result
-    same-length
     returns)

@@ -13,45 +13,42 @@ use Rattle.choice.proofs.look.Tie as tie
 
 bound-of-requires : tie.Need-bound-of-requires
 bound-of-requires c κs =
-    let s = c .before .before .before .before .before in
+    let s = c .before .before .before in
     let r = s .pre .0 in (
       omega (arith, r .counts-long, r .blocks),
       omega (arith, r .met-long, r .blocks),
-      r .low (s .args .b) (s .pre .3),
+      r .low (s .args .b) (s .pre .2),
       r .few (s .args .b)
-          (s .pre .3),
+          (s .pre .2),
     )
-
-same-length : tie.Need-same-length
-same-length c = search needs
 
 returns : tie.Need-returns
 returns c =
-    let s = c .before .before .before .before .before .before .before in
+    let s = c .before .before .before .before .before in
     let a = s .args in
     looked-past (a .sh) (a .from) (wbit (a .d .now)) (a .starts .now) (a .counts .now) (a .met .now) (a .b) (a .top) (s .pre .0)
-    (s .pre .2) (s .pre .3) (s .pre .4)
+    (s .pre .1) (s .pre .2) (s .pre .3)
     (λ e. c .if1 .taken (c .before .bound-of .ensures ∙ e))
 
-shared-slice-read-n : tie.Need-shared-slice-read-n
-shared-slice-read-n c =
-    let s = c .before .before .before .before .before .before .before .before in
-    omega (arith, s .pre .0 .counts-long, s .pre .0 .blocks, s .pre .3)
+element-copy-out-n : tie.Need-element-copy-out-n
+element-copy-out-n c =
+    let s = c .before .before .before .before .before in
+    omega (arith, s .pre .0 .counts-long, s .pre .0 .blocks, s .pre .2)
 
 cast-n : tie.Need-cast-n
 cast-n c =
-    let s = c .before .before .before .before .before .before .before .before in
-    omega (arith, s .pre .0 .low (s .args .b) (s .pre .3))
+    let s = c .before .before .before .before .before .before in
+    omega (arith, s .pre .0 .low (s .args .b) (s .pre .2))
 
-slice-read-first-light : tie.Need-slice-read-first-light
-slice-read-first-light c =
+element-copy-out-first-light : tie.Need-element-copy-out-first-light
+element-copy-out-first-light c =
     let s : tie.Start = search in
-    omega (arith, s .pre .0 .met-long, s .pre .0 .blocks, s .pre .3)
+    omega (arith, s .pre .0 .met-long, s .pre .0 .blocks, s .pre .2)
 
 cast-first-light : tie.Need-cast-first-light
 cast-first-light c =
     let s : tie.Start = search in
-    omega (arith, s .pre .0 .low (s .args .b) (s .pre .3), s .pre .0 .few (s .args .b) (s .pre .3))
+    omega (arith, s .pre .0 .low (s .args .b) (s .pre .2), s .pre .0 .few (s .args .b) (s .pre .2))
 
 begin-in-requires : tie.Need-begin-in-requires
 begin-in-requires c κs = search needs
@@ -65,57 +62,51 @@ first-light-requires c κs =
       r .held,
       r .close,
       r .words,
-      omega (arith, r .blocks, s .pre .3),
-      r .low b (s .pre .3),
-      r .few b (s .pre .3),
-      s .pre .1,
+      omega (arith, r .blocks, s .pre .2),
+      r .low b (s .pre .2),
+      r .few b (s .pre .2),
+      search needs,
       r .starts-long,
-      λ e h. r .near b e (s .pre .3) h,
+      λ e h. r .near b e (s .pre .2) h,
     )
-
-same-length-2 : tie.Need-same-length-2
-same-length-2 c = search needs
 
 returns-2 : tie.Need-returns-2
 returns-2 c =
     let s : tie.Start = search in
     let a = s .args in
     let f = c .before .before in
-    let m = f .before .before .before .before in
+    let m = f .before .before .before .before .before .before in
     looked-found (a .sh) (a .from) (wbit (a .d .now)) (a .starts .now) (a .counts .now) (a .met .now) (a .b) (a .top) (s .pre .0)
-    (s .pre .2) (s .pre .3) (s .pre .4)
+    (s .pre .1) (s .pre .2) (s .pre .3)
     (f .first-light .result) (sym (m .before .bound-of .ensures) ∙ m .if1 .left)
     (f .first-light .ensures ∙ ap (λ n. least (a .sh .size)
     (light (wbit (a .d .now)) (a .starts .now) (8 * a .b) (getD (a .counts .now) (a .b) 0) (getD (a .met .now) (a .b) 0) n (a .sh .size)))
     (f .before .begin-in .ensures))
     (c .if2 .taken)
 
-slice-read-met : tie.Need-slice-read-met
-slice-read-met c =
+element-copy-out-met : tie.Need-element-copy-out-met
+element-copy-out-met c =
     let s : tie.Start = search in
-    omega (arith, s .pre .0 .met-long, s .pre .0 .blocks, s .pre .3)
+    omega (arith, s .pre .0 .met-long, s .pre .0 .blocks, s .pre .2)
 
 add-met : tie.Need-add-met
 add-met c =
     let s : tie.Start = search in
-    omega (arith, s .pre .0 .low (s .args .b) (s .pre .3), s .pre .0 .few (s .args .b) (s .pre .3))
+    omega (arith, s .pre .0 .low (s .args .b) (s .pre .2), s .pre .0 .few (s .args .b) (s .pre .2))
 
-slice-write-met : tie.Need-slice-write-met
-slice-write-met c =
+element-write-met : tie.Need-element-write-met
+element-write-met c =
     let s : tie.Start = search in
-    omega (arith, s .pre .0 .met-long, s .pre .0 .blocks, s .pre .3)
-
-same-length-3 : tie.Need-same-length-3
-same-length-3 c = search needs
+    omega (arith, s .pre .0 .met-long, s .pre .0 .blocks, s .pre .2)
 
 returns-3 : tie.Need-returns-3
 returns-3 c =
     let s : tie.Start = search in
     let a = s .args in
     let f = c .before .before .before in
-    let m = f .before .before .before .before in
+    let m = f .before .before .before .before .before .before in
     looked-missed (a .sh) (a .from) (wbit (a .d .now)) (a .starts .now) (a .counts .now) (a .met .now) (a .b) (a .top) (s .pre .0)
-    (s .pre .2) (s .pre .3) (s .pre .4)
+    (s .pre .1) (s .pre .2) (s .pre .3)
     (f .first-light .result) (sym (m .before .bound-of .ensures) ∙ m .if1 .left)
     (f .first-light .ensures ∙ ap (λ n. least (a .sh .size)
     (light (wbit (a .d .now)) (a .starts .now) (8 * a .b) (getD (a .counts .now) (a .b) 0) (getD (a .met .now) (a .b) 0) n (a .sh .size)))
@@ -127,18 +118,15 @@ look-spec =
     tie.close
     (tie.spec
     bound-of-requires
-    same-length
     returns
-    shared-slice-read-n
+    element-copy-out-n
     cast-n
-    slice-read-first-light
+    element-copy-out-first-light
     cast-first-light
     begin-in-requires
     first-light-requires
-    same-length-2
     returns-2
-    slice-read-met
+    element-copy-out-met
     add-met
-    slice-write-met
-    same-length-3
+    element-write-met
     returns-3)
