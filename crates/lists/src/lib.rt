@@ -86,12 +86,12 @@ fn ended(
     l: Listing,
     flips: usize,
     word: &[u8],
-    y: &[u64],
+    y: &[u64; WORD],
     number: u8,
     bit: u32,
     excess: i8,
 ) -> Listing
-    requires { ⌜ Known (l .offer) × (length (now word) ≡ l .offer .word) × (length (now y) ≡ wordRoom) × (flips ≤ 65535) ⌝ }
+    requires { ⌜ Known (l .offer) × (length (now word) ≡ l .offer .word) × (flips ≤ 65535) ⌝ }
     ensures { λ r. ⌜ (r .goes ≡ false) × (r .place ≡ flips)
         × ((n limit : ℕ) → Ends n (now (word .entry)) limit l flips (wbit (now (y .entry))) number bit excess → (table : List Entry)
         → listedAs (r .answer) table ≡ endsWith n (now (word .entry)) limit table) ⌝ }
@@ -147,9 +147,9 @@ fn pass(
     l: Listing,
     flips: usize,
     word: &[u8],
-    h: &mut [u16],
-    y: &mut [u64],
-    z: &mut [u64],
+    h: &mut [u16; TABLE],
+    y: &mut [u64; WORD],
+    z: &mut [u64; SYNDROME],
 ) -> Listing
     requires { ⌜ Standing (now word) l flips (now h) (now y) (now z) ⌝ }
     ensures { λ r. ⌜ (r .place ≡ flips) × ((n limit room : ℕ)
@@ -174,7 +174,7 @@ fn pass(
 }
 
 // The next record of the list, or its end.
-pub fn next(l: Listing, word: &[u8], h: &mut [u16], y: &mut [u64], z: &mut [u64]) -> Listing
+pub fn next(l: Listing, word: &[u8], h: &mut [u16; TABLE], y: &mut [u64; WORD], z: &mut [u64; SYNDROME]) -> Listing
     requires { ⌜ Goes (now word) l (now h) (now y) (now z) ⌝ }
     ensures { λ r. ⌜ (r .place ≡ l .place + 1) × ((n limit room : ℕ)
         → Lists n (now (word .entry)) limit room l (now (h .entry)) (now (y .entry)) (now (z .entry))
@@ -229,9 +229,9 @@ fn begin_taken(
     word: &[u8],
     limit: u16,
     room: usize,
-    h: &mut [u16],
-    y: &mut [u64],
-    z: &mut [u64],
+    h: &mut [u16; TABLE],
+    y: &mut [u64; WORD],
+    z: &mut [u64; SYNDROME],
 ) -> Listing
     requires { ⌜ Known o × (length (now word) ≡ o .word) × Blank (now h) (now y) (now z) ⌝ }
     ensures { λ r. ⌜ (r .place ≡ 0) × ((n : ℕ) → offered n ≡ true → o ≡ offerOf n
@@ -273,9 +273,9 @@ pub fn begin(
     word: &[u8],
     limit: u16,
     room: usize,
-    h: &mut [u16],
-    y: &mut [u64],
-    z: &mut [u64],
+    h: &mut [u16; TABLE],
+    y: &mut [u64; WORD],
+    z: &mut [u64; SYNDROME],
 ) -> Listing
     requires { ⌜ Blank (now h) (now y) (now z) ⌝ }
     ensures { λ r. ⌜ (r .place ≡ 0) × Lists code (now (word .entry)) limit room r (now (h .exit)) (now (y .exit)) (now (z .exit)) ⌝ }

@@ -8,6 +8,7 @@ ghost use Rattle.rules.specs.Codes.{Code, bits as bitsOf};
 ghost use Rattle.rules.specs.Encoding.{lifted, written};
 ghost use Rattle.vectors.specs.Vectors.{wbit, Holds, upTo, from, later};
 ghost use Rattle.layout.specs.Rooms.{wordRoom};
+use layout::WORD;
 
 // The bits that the checks are over, from octets that are handed in, into a vector of zeros; the unsent ones stand in front as zeros.
 pub fn take(octets: &[u8], unsent: usize, y: &mut [u64])
@@ -23,9 +24,9 @@ pub fn take(octets: &[u8], unsent: usize, y: &mut [u64])
 
 // The octets of a word as it is sent: the unsent bits are left out, and zero bits follow the last of its bits, in one word with it.
 // Where none follow, all are sent.
-pub fn write(y: &mut [u64], unsent: usize, bits: usize, out: &mut [u8])
-    requires { ⌜ (length (now y) ≡ wordRoom) × (unsent ≤ 18) × (length (now out) ≤ 1022)
-        × (8 * length (now out) + unsent ≤ bits → unsent ≡ 0) × (8 * length (now out) + unsent ≤ 64 * (bits / 64 + 1)) ⌝ }
+pub fn write(y: &mut [u64; WORD], unsent: usize, bits: usize, out: &mut [u8])
+    requires { ⌜ (unsent ≤ 18) × (length (now out) ≤ 1022) × (8 * length (now out) + unsent ≤ bits → unsent ≡ 0)
+        × (8 * length (now out) + unsent ≤ 64 * (bits / 64 + 1)) ⌝ }
     ensures { λ _. ⌜ ((c : Code) → unsent ≡ c .unsent → bits ≡ bitsOf c → length (now (out .entry)) ≡ c .wordOctets
         → now (out .exit) ≡ written c (wbit (now (y .entry)))) ⌝ }
 {
