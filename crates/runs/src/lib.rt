@@ -195,15 +195,15 @@ fn go_on_narrow(
     let mut left = first;
     while left > 0 {
         let chosen = narrow::choose(samples, rows, h, sh, from);
-        let top = chosen.score;
-        if top <= 8 {
+        let high = chosen.score;
+        if high <= 8 {
             return at_end(5, flips, left);
         }
         if flips >= end {
             return at_end(6, flips, left);
         }
         narrow::flip(y, rows, h, sh, chosen.bit);
-        left -= top - 8;
+        left -= high - 8;
         flips += 1;
     }
     at_end(0, flips, 0)
