@@ -12,20 +12,8 @@ use borrow.Author.Tests.{eq-eqb, ne-eqb, lt-ltb, le-ltb}
 use Rattle.bits.specs.Bits.{if_then_else_}
 use Rattle.rules.specs.Codes.{code, code1, code3}
 use Rattle.answers.specs.Calls.{Encoded}
-use Rattle.units.specs.Units.{unitCode, tail, blocksFor, unit, unitLength, unitOctets, writeAnswer}
-use Rattle.units.proofs.Shapes.{both}
-
-pub if-is : {A : Type 0} (b : Bool) (a r : A) → b ≡ true → (if b then a else r) ≡ a
-if-is b a r e = ap (λ b. if b then a else r) e
-
-pub if-isnt : {A : Type 0} (b : Bool) (a r : A) → b ≡ false → (if b then a else r) ≡ r
-if-isnt b a r e = ap (λ b. if b then a else r) e
-
-pub not-is : {A : Type 0} (b : Bool) (a r : A) → b ≡ true → (if not b then a else r) ≡ r
-not-is b a r e = ap (λ b. if not b then a else r) e
-
-pub not-isnt : {A : Type 0} (b : Bool) (a r : A) → b ≡ false → (if not b then a else r) ≡ a
-not-isnt b a r e = ap (λ b. if not b then a else r) e
+use Rattle.unitrules.specs.Units.{unitCode, tail, blocksFor, unit, unitLength, unitOctets, writeAnswer}
+use Rattle.unitrules.proofs.Answering.{if-is, if-isnt, not-is, not-isnt}
 
 module _ (n long : ℕ) where
   pub octets-other : unitCode n ≡ false → unitOctets n long ≡ 0

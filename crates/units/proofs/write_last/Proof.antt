@@ -1,6 +1,7 @@
 -- `units::write_last`: the information that is left, then fill. Assumes nothing.
 use Rattle.rules.specs.Codes.{code}
-use Rattle.units.proofs.Blocks.{encodedOf, filled-part, filled-part-length}
+use Rattle.unitrules.proofs.Blocks.{encodedOf}
+use Rattle.units.proofs.Parts.{filled-part, filled-part-length}
 use mathlib.Core.Path.{_≡_, refl, sym, ap, ap₂, _∙_, subst}
 use native.Mathlib.Omega.{arith}
 use Rattle.randomiser.specs.Randomiser.{telecommand, randomised}
@@ -8,8 +9,7 @@ use Prim.Native.Nat.{ℕ}
 use mathlib.Core.List.{_++_}
 use lib.ListN.{length, drop, replicate, length-append, length-drop}
 use lib.Seq.{length-take-le}
-use Rattle.units.proofs.Shapes.{sizes}
-use Rattle.units.proofs.Blocks.{fill-part}
+use Rattle.unitrules.proofs.Shapes.{sizes}
 use borrow.Author.Needs.{needs}
 use Rattle.units.proofs.write_last.Statement.{statement}
 use Rattle.units.proofs.write_last.Tie as tie
