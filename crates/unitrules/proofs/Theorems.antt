@@ -380,13 +380,18 @@ module _ (s : Reading) (unit out : List ℕ) where
     pub none-again : blocksIn (s .code) unit ≤ s .place → readAnswer s unit out .next ≡ s
     none-again h = ap (λ x. x .next) (read-none s unit out u lo z h)
 
-    -- a refused codeblock is answered again with the same numbers, whatever is handed in, and the reading stays
-    pub refused-again : s .place < blocksIn (s .code) unit → (correctedAt s unit out .number ≡ 0 → ⊥) → (unit′ out′ : List ℕ)
-        → length out′ ≡ code (s .code) .informationOctets
-        → readAnswer (readAnswer s unit out .next) unit′ out′ ≡ handedAgain (readAnswer s unit out .next)
-        (withOut (readAnswer s unit out .corrected) out′) false
-    refused-again h d unit′ out′ lo′ =
-        let r : Corrected = correctedAt s unit out in
-        let is : readAnswer s unit out ≡ handedLast s r out = read-more s unit out u lo z h ∙ next-last s unit out r refl d in
-        subst (λ x. readAnswer (x .next) unit′ out′ ≡ handedAgain (x .next) (withOut (x .corrected) out′) false) (sym is)
-        (read-kept (handedLast s r out .next) unit′ out′ u lo′ d)
+    module _ (h : s .place < blocksIn (s .code) unit) (d : correctedAt s unit out .number ≡ 0 → ⊥) where
+      refused-is : readAnswer s unit out ≡ handedLast s (correctedAt s unit out) out
+      refused-is = read-more s unit out u lo z h ∙ next-last s unit out (correctedAt s unit out) refl d
+
+      -- a refused codeblock is not skipped
+      pub refused-stays : readAnswer s unit out .next .place ≡ s .place
+      refused-stays = ap (λ x. x .next .place) refused-is
+
+      -- it is answered again with the same numbers, whatever is handed in, and the reading stays
+      pub refused-again : (unit′ out′ : List ℕ) → length out′ ≡ code (s .code) .informationOctets
+          → readAnswer (readAnswer s unit out .next) unit′ out′ ≡ handedAgain (readAnswer s unit out .next)
+          (withOut (readAnswer s unit out .corrected) out′) false
+      refused-again unit′ out′ lo′ =
+          subst (λ x. readAnswer (x .next) unit′ out′ ≡ handedAgain (x .next) (withOut (x .corrected) out′) false) (sym refused-is)
+          (read-kept (handedLast s (correctedAt s unit out) out .next) unit′ out′ u lo′ d)
