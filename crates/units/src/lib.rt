@@ -11,6 +11,7 @@ ghost use Rattle.codes.specs.Answers.{asEncoded};
 ghost use Rattle.randomiser.specs.Randomiser.{telecommand, randomised};
 ghost use Rattle.unitrules.specs.Units.{unitCode, start, tail as tailOf, blocksFor, codeblock, codeblocks, unit as unitOf, unitLength};
 ghost use Rattle.unitrules.specs.Units.{unitOctets, writeAnswer};
+ghost use Rattle.units.specs.Numbers.{writeNumber};
 
 pub const START: [u8; 8] = [0x03, 0x47, 0x76, 0xC7, 0x27, 0x28, 0x95, 0xB0];
 
@@ -200,22 +201,33 @@ fn write_taken(code: u8, information: &[u8], out: &mut [u8])
     write_tail(code, &mut out[room..]);
 }
 
-// A unit of the information.
-pub fn write_unit(code: u8, information: &[u8], out: &mut [u8]) -> u8
-    ensures { λ r. ⌜ asEncoded r (now (out .exit)) ≡ writeAnswer code (now (information .entry)) (now (out .entry)) ⌝ }
+// The number of a writing: of so much information, into so much room.
+fn write_number(code: u8, long: usize, room: usize) -> u8
+    ensures { λ r. ⌜ r ≡ writeNumber code long room ⌝ }
 {
     if !is_unit_code(code) {
         return 1;
     }
-    if information.len() == 0 {
+    if long == 0 {
         return 2;
     }
-    let needed = unit_octets(code, information.len());
+    let needed = unit_octets(code, long);
     if needed == 0 {
         return 3;
     }
-    if out.len() != needed {
+    if room != needed {
         return 3;
+    }
+    0
+}
+
+// A unit of the information.
+pub fn write_unit(code: u8, information: &[u8], out: &mut [u8]) -> u8
+    ensures { λ r. ⌜ asEncoded r (now (out .exit)) ≡ writeAnswer code (now (information .entry)) (now (out .entry)) ⌝ }
+{
+    let number = write_number(code, information.len(), out.len());
+    if number != 0 {
+        return number;
     }
     write_taken(code, information, out);
     0

@@ -1,7 +1,7 @@
 -- `readings::read_on`: the answer that ended it, none, or the next codeblock. Assumes nothing.
-use mathlib.Core.Path.{_≡_, sym, ap, _∙_, subst}
+use mathlib.Core.Path.{_≡_, sym, ap, _∙_}
 use mathlib.Core.Bool.{true}
-use Prim.Native.Nat.{_≤_, _<_}
+use native.Mathlib.Omega.{arith}
 use Rattle.unitrules.specs.Units.{withOut, handedAgain}
 use Rattle.unitrules.proofs.Answering.{read-kept, read-none, read-more}
 use Rattle.readings.specs.Answers.{asReading}
@@ -37,10 +37,13 @@ returns-2 c =
     c .handed-again2 .ensures (a .args .out .now)
     ∙ ap (λ x. handedAgain s (withOut x (a .args .out .now)) true) (c .before .numbered .ensures)
     ∙ sym (read-none (asReading (a .args .state)) (a .args .unit .now) (a .args .out .now) (a .pre .0) (a .pre .1) (b .before .if1 .left)
-    (subst (λ z. z ≤ a .args .state .place) (b .blocks-in .ensures) (t .if2 .taken)))
+    (omega (arith, b .blocks-in .ensures, t .if2 .taken)))
 
 read-next-requires : tie.Need-read-next-requires
-read-next-requires c κs = search needs
+read-next-requires c κs =
+    let e = c .before in
+    let b = e .before .before in
+    let a = b .before .before .before .before .before in (a .pre .0, omega (arith, b .blocks-in .ensures, e .if2 .left), a .pre .1)
 
 same-length : tie.Need-same-length
 same-length c = search needs
@@ -53,7 +56,7 @@ returns-3 c =
     let a = b .before .before .before .before .before in
     r .read-next .ensures
     ∙ sym (read-more (asReading (a .args .state)) (a .args .unit .now) (a .args .out .now) (a .pre .0) (a .pre .1) (b .before .if1 .left)
-    (subst (λ z. a .args .state .place < z) (b .blocks-in .ensures) (e .if2 .left)))
+    (omega (arith, b .blocks-in .ensures, e .if2 .left)))
 
 pub read-on-spec : {M : Type 1} → statement M
 read-on-spec =
