@@ -115,10 +115,10 @@ fn fill() -> [u8; 32]
     [0x55; 32]
 }
 
-// The last part of the information, with its fill.
-fn write_last(code: u8, rest: &[u8], used: usize, out: &mut [u8])
-    requires { ⌜ (unitCode code ≡ true) × (length (now rest) < codeOf code .informationOctets)
-        × (length (now out) ≡ codeOf code .wordOctets) ⌝ }
+// The last part of the information, with its fill: `size` octets together.
+fn write_last(code: u8, rest: &[u8], size: usize, used: usize, out: &mut [u8])
+    requires { ⌜ (unitCode code ≡ true) × (size ≡ codeOf code .informationOctets)
+        × (length (now rest) < codeOf code .informationOctets) × (length (now out) ≡ codeOf code .wordOctets) ⌝ }
     ensures { λ _. ⌜ now (out .exit) ≡ randomised telecommand used
         (written (codeOf code) (encoded (codeOf code)
         (lifted (codeOf code) (bit (now (rest .entry) ++ replicate
@@ -127,7 +127,6 @@ fn write_last(code: u8, rest: &[u8], used: usize, out: &mut [u8])
     let mut part = fill();
     let long = rest.len();
     copy(rest, &mut part[..long]);
-    let size = information_octets(code);
     write_part(code, &part[..size], used, out);
 }
 
@@ -141,7 +140,7 @@ fn write_block(code: u8, information: &[u8], k: usize, used: usize, out: &mut [u
     let from = k * size;
     let left = information.len() - from;
     if left < size {
-        write_last(code, &information[from..], used, out);
+        write_last(code, &information[from..], size, used, out);
     } else {
         let end = from + size;
         write_part(code, &information[from..end], used, out);
