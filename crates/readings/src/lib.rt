@@ -1,6 +1,6 @@
 // Telecommand transmission units of codes 1 and 3, read codeblock by codeblock.
 ghost use mathlib.Core.Path.{_≡_};
-ghost use mathlib.Core.Bool.{true, false};
+ghost use mathlib.Core.Bool.{true};
 ghost use mathlib.Core.List.{List, []};
 ghost use Prim.Native.Nat.{ℕ, _+_, _-_, _/_, _^_, _<_};
 ghost use lib.Dec.{eqb};

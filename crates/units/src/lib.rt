@@ -1,9 +1,9 @@
 // Telecommand transmission units of codes 1 and 3, written; and their sequences and lengths, which the reader knows too.
 ghost use mathlib.Core.Path.{_≡_};
-ghost use mathlib.Core.Bool.{true, false};
-ghost use mathlib.Core.List.{List, _++_};
-ghost use Prim.Native.Nat.{ℕ, _+_, _-_, _*_, _/_, _%_, _^_, _<_, _≤_};
-ghost use lib.ListN.{length, take, drop, replicate};
+ghost use mathlib.Core.Bool.{true};
+ghost use mathlib.Core.List.{_++_};
+ghost use Prim.Native.Nat.{_+_, _-_, _*_, _<_, _≤_};
+ghost use lib.ListN.{length, replicate};
 ghost use Rattle.bits.specs.Bits.{bit};
 ghost use Rattle.rules.specs.Codes.{code as codeOf};
 ghost use Rattle.rules.specs.Encoding.{lifted, encoded, written};
