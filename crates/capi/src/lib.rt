@@ -7,8 +7,8 @@ ghost use Rattle.answers.specs.Lists.{listAnswer};
 ghost use Rattle.lists.specs.Answers.{asEntries, asListed};
 ghost use Rattle.samples.specs.Answers.{samplesAnswer};
 ghost use Rattle.codes.specs.Answers.{asEncoded, asChecked, asCorrected, asStepped};
-ghost use Rattle.units.specs.Units.{unitOctets, writeAnswer, readerAnswer, readAnswer};
-ghost use Rattle.units.specs.Answers.{asReading, asHanded};
+ghost use Rattle.unitrules.specs.Units.{unitOctets, writeAnswer, readerAnswer, readAnswer};
+ghost use Rattle.readings.specs.Answers.{asReading, asHanded};
 ghost use Rattle.bch.specs.Bch.{bchEncodeAnswer, bchCheckAnswer};
 ghost use Rattle.bch.specs.Answers.{asEncoded as asBchEncoded, asMended};
 use bch::Mended;
@@ -28,11 +28,11 @@ use lists::FlipRecord;
 use lists::Listed;
 use nearest::Reached;
 use quick::Answered;
+use readings::Handed;
+use readings::Reading;
 use taker::Made;
 use taker::Taken;
 use taker::Taker;
-use units::Handed;
-use units::Reading;
 
 // The octets of a word; 0 for a code that is not offered.
 #[no_mangle]
@@ -164,14 +164,14 @@ pub extern "C" fn pandoricchia_write_unit(code: u8, information: &[u8], out: &mu
 pub extern "C" fn pandoricchia_reader(code: u8, unit: &[u8], limit: u16) -> Reading
     ensures { λ r. ⌜ asReading r ≡ readerAnswer code (now (unit .entry)) limit ⌝ }
 {
-    units::reader(code, unit, limit)
+    readings::reader(code, unit, limit)
 }
 
 #[no_mangle]
 pub extern "C" fn pandoricchia_read(state: Reading, unit: &[u8], out: &mut [u8]) -> Handed
     ensures { λ r. ⌜ asHanded r (now (out .exit)) ≡ readAnswer (asReading state) (now (unit .entry)) (now (out .entry)) ⌝ }
 {
-    units::read(state, unit, out)
+    readings::read(state, unit, out)
 }
 
 #[no_mangle]

@@ -5,8 +5,8 @@ ghost use Prim.Native.Nat.{ℕ};
 ghost use lib.ListN.{replicate};
 ghost use Rattle.unitreader.specs.Named.{roomFor, handedAt, asBlock};
 use codes::Corrected;
-use units::Handed;
-use units::Reading;
+use readings::Handed;
+use readings::Reading;
 
 pub struct Reader<'a> {
     pub unit: &'a [u8],
@@ -53,7 +53,7 @@ pub fn block_at(unit: &[u8], place: usize, code: u8, limit: u16) -> Block
     };
     let size = room(code);
     let mut octets = buffer();
-    let handed = units::read(state, unit, &mut octets[..size]);
+    let handed = readings::read(state, unit, &mut octets[..size]);
     Block {
         handed: handed,
         octets: octets,

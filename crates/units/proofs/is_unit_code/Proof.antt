@@ -1,7 +1,7 @@
 -- `units::is_unit_code`: code 1, or code 3. Assumes nothing.
 use mathlib.Core.Path.{_≡_, refl, sym, ap, _∙_}
 use borrow.Author.Tests.{eq-eqb}
-use Rattle.units.proofs.Shapes.{one-unit, other-unit}
+use Rattle.unitrules.proofs.Shapes.{one-unit, other-unit}
 use Rattle.units.proofs.is_unit_code.Statement.{statement}
 use Rattle.units.proofs.is_unit_code.Tie as tie
 

@@ -3,7 +3,7 @@ use mathlib.Core.Path.{_≡_, refl, sym, ap, _∙_}
 use native.Mathlib.Omega.{arith}
 use borrow.Author.Needs.{needs}
 use borrow.Author.Tests.{not-true, not-false}
-use Rattle.units.proofs.Shapes.{three}
+use Rattle.unitrules.proofs.Shapes.{three}
 use Rattle.units.proofs.Lengths.{octets-other, octets-none, octets-fit, octets-great, length-one, length-three}
 use Rattle.units.proofs.unit_octets.Statement.{statement}
 use Rattle.units.proofs.unit_octets.Tie as tie

@@ -2,8 +2,8 @@
 use mathlib.Core.Path.{_≡_, refl, sym, ap, ap₂, _∙_, subst}
 use native.Mathlib.Omega.{arith}
 use lib.ListN.{length}
-use Rattle.units.specs.Units.{tail}
-use Rattle.units.proofs.Shapes.{three, none-long}
+use Rattle.unitrules.specs.Units.{tail}
+use Rattle.unitrules.proofs.Shapes.{three, none-long}
 use borrow.Author.Needs.{needs}
 use Rattle.units.proofs.write_tail.Statement.{statement}
 use Rattle.units.proofs.write_tail.Tie as tie
