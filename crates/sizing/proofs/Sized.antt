@@ -31,8 +31,9 @@ use Rattle.sizes.specs.Samples.{smaller, allFinite}
 use Rattle.sizes.specs.Sizes.{smallest, reaching, instead, smallestSent, bySize}
 use Rattle.sizes.proofs.Orders.{finite-ordered}
 use Rattle.sizes.proofs.Smallest.{Ordered, Is, smallest-one, smallest-same}
-use Rattle.smallest.specs.Knowing.{Ahead, Leads}
-use Rattle.smallest.proofs.Orders.{ahead-both, Over, smallest-over}
+use Rattle.raising.specs.Knowing.{Ahead}
+use Rattle.smallest.specs.Settling.{Leads}
+use Rattle.raising.proofs.Orders.{ahead-both, Over, smallest-over}
 
 module _ (samples : List Float) {c : Code} {h : List ℕ} {sh : Shape} (lent : Lent c h sh) (all : c .unsent ≡ 0) (x : Word) where
   abbrev end : ℕ

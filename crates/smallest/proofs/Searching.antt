@@ -20,9 +20,10 @@ use Rattle.bounds.specs.Reading.{hits, light}
 use Rattle.bounds.specs.Keeping.{bound, Ready, Scored}
 use Rattle.sizes.specs.Samples.{smaller, allFinite}
 use Rattle.sizes.proofs.Orders.{finite-ordered}
-use Rattle.smallest.specs.Knowing.{Ahead, Known, Knows, whole, Leads, Lightest, Settled}
-use Rattle.smallest.proofs.Orders.{ahead-self, ahead-onward}
-use Rattle.smallest.proofs.Seeing.{block-room, ready-set}
+use Rattle.raising.specs.Knowing.{Ahead, Known, Knows, whole}
+use Rattle.smallest.specs.Settling.{Leads, Lightest, Settled}
+use Rattle.raising.proofs.Orders.{ahead-self, ahead-onward}
+use Rattle.raising.proofs.Seeing.{block-room, ready-set}
 
 -- ---- a block, 64 bits after 64 bits
 

@@ -8,9 +8,9 @@ use lib.ListN.{length, getD}
 use Rattle.bits.proofs.Counting.{count-le}
 use Rattle.vectors.specs.Vectors.{wbit}
 use Rattle.sizes.specs.Samples.{smaller}
-use Rattle.smallest.specs.Knowing.{Ahead}
-use Rattle.smallest.proofs.Orders.{other-one}
-use Rattle.smallest.proofs.Seeing.{within-less}
+use Rattle.raising.specs.Knowing.{Ahead}
+use Rattle.raising.proofs.Orders.{other-one}
+use Rattle.raising.proofs.Seeing.{within-less}
 use borrow.Author.Needs.{needs}
 use Rattle.smallest.proofs.still.Statement.{statement}
 use Rattle.smallest.proofs.still.Tie as tie
