@@ -4,13 +4,13 @@ use mathlib.Core.Bool.{Bool, true, false, true≢false, not, _&&_, _||_}
 use mathlib.Core.List.{List}
 use mathlib.Core.Logic.{_⊎_, inl, inr}
 use Prim.Native.Nat.{ℕ, zero, suc, _+_, _-_, _*_, _/_, _%_, _≤_, _<_}
-use native.Mathlib.Nat.{lt-of-not-le, mod-lt, mod-eq-of-lt, add-mod-left, div-add-mod', div-lt-iff-lt-mul}
+use native.Mathlib.Nat.{lt-of-not-le, mod-lt, add-mod-left, div-add-mod', div-lt-iff-lt-mul}
 use native.Mathlib.Decide.{decLt, ℕ-discrete}
 use native.Mathlib.Omega.{arith}
-use borrow.Author.Tests.{eqb-true, eq-eqb, lt-ltb, le-ltb, le-leb, lt-leb, leb-true, leb-false}
-use lib.Dec.{eqb, leb, ltb}
+use borrow.Author.Tests.{eqb-true, eq-eqb, lt-ltb, le-ltb, le-leb, leb-true}
+use lib.Dec.{eqb, leb}
 use lib.Ieee.{Float}
-use lib.ListN.{length, getD}
+use lib.ListN.{getD}
 use Rattle.bits.specs.Bits.{Word, _⊕_, sum, count, tally, flipped, if_then_else_}
 use Rattle.rules.specs.Codes.{Code}
 use Rattle.layout.specs.declared.Shape.{Shape}
@@ -19,7 +19,7 @@ use Rattle.vectors.specs.Vectors.{wbit}
 use Rattle.bounds.specs.Reading.{Twice, other, hits, Gathered}
 use Rattle.bounds.specs.Keeping.{Ready}
 use Rattle.bounds.proofs.Flipped.{start-near, start-row, flipped-twice}
-use Rattle.raising.specs.Knowing.{Known, Knows, whole, covered, nearer, raised}
+use Rattle.raising.specs.Knowing.{Knows, whole, covered, nearer, raised}
 use Rattle.raising.proofs.Seeing.{or-left, or-right, and-true, knows-fewer}
 
 -- ---- one of several

@@ -7,7 +7,7 @@ use native.Mathlib.Nat.{lt-of-not-le}
 use native.Mathlib.Decide.{decLt, ℕ-discrete}
 use native.Mathlib.Omega.{arith}
 use Rattle.bits.specs.Bits.{if_then_else_}
-use Rattle.sizes.specs.Sizes.{smallerOf, smallest}
+use Rattle.sizes.specs.Sizes.{smallest}
 use Rattle.sizes.proofs.Smallest.{Ordered, Is, smallest-one}
 use Rattle.raising.specs.Knowing.{Ahead}
 

@@ -1,11 +1,11 @@
 -- `raising::broken_of`: a check more at each pass. Assumes nothing.
 use mathlib.Core.Path.{_≡_, sym, ap, _∙_}
 use mathlib.Core.Bool.{Bool, true, false}
-use Prim.Native.Nat.{ℕ, _+_, _-_, _≤_, _<_}
+use Prim.Native.Nat.{_+_, _-_, _≤_}
 use native.Mathlib.Omega.{arith}
 use lib.ListN.{getD}
 use Rattle.bits.specs.Bits.{tally}
-use Rattle.bits.proofs.Counting.{count-start, count-next, count-le}
+use Rattle.bits.proofs.Counting.{count-start, count-next}
 use Rattle.vectors.specs.Vectors.{wbit}
 use Rattle.bounds.specs.Reading.{hits}
 use Rattle.raising.proofs.broken_of.Statement.{statement}

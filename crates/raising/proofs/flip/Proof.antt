@@ -1,9 +1,7 @@
 -- `raising::flip`: the bits that have fewer checks met are those that are seen anew. Assumes nothing.
-use Prim.Native.Nat.{ℕ, _+_, _*_, _/_, _%_, _≤_, _<_}
+use Prim.Native.Nat.{_/_, _%_, _<_}
 use native.Mathlib.Nat.{mod-lt, div-lt-iff-lt-mul}
 use native.Mathlib.Omega.{arith}
-use lib.ListN.{length, getD}
-use Rattle.vectors.specs.Vectors.{wbit}
 use Rattle.raising.proofs.Flipping.{twice-flip, lowered, knows-lowered, knows-flip}
 use borrow.Author.Needs.{needs}
 use Rattle.raising.proofs.flip.Statement.{statement}

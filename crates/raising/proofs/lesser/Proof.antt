@@ -1,5 +1,4 @@
 -- `raising::lesser`: the later one only if it is smaller. Assumes nothing.
-use mathlib.Core.Logic.{_⊎_, inl, inr}
 use native.Mathlib.Omega.{arith}
 use lib.ListN.{length}
 use Rattle.sizes.specs.Samples.{smaller}

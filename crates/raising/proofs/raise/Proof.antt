@@ -1,14 +1,12 @@
 -- `raising::raise`: one check more at each pass. Assumes nothing.
 use mathlib.Core.Path.{_≡_, sym, ap, _∙_, subst}
-use mathlib.Core.Bool.{Bool, true, false, _&&_, _||_}
-use Prim.Native.Nat.{ℕ, _+_, _-_, _*_, _≤_, _<_}
+use mathlib.Core.Bool.{Bool, _||_}
+use Prim.Native.Nat.{ℕ, _-_, _≤_}
 use native.Mathlib.Omega.{arith}
-use lib.ListN.{getD}
 use Rattle.vectors.specs.Vectors.{wbit}
 use Rattle.bounds.specs.Keeping.{Ready}
 use Rattle.raising.specs.Knowing.{Knows, raised}
 use Rattle.raising.proofs.Seeing.{knows-fewer, seen-only, raised-none, raised-next, or-shifted}
-use borrow.Author.Needs.{needs}
 use Rattle.raising.proofs.raise.Statement.{statement}
 use Rattle.raising.proofs.raise.Tie as tie
 

@@ -1,9 +1,8 @@
 -- `raising::raise_block`: what is kept of the one block changes. Assumes nothing.
-use mathlib.Core.Path.{_∙_}
 use mathlib.Core.Bool.{_||_}
-use Prim.Native.Nat.{_*_, _<_}
+use Prim.Native.Nat.{_*_}
 use native.Mathlib.Omega.{arith}
-use lib.ListN.{getD, length-set}
+use lib.ListN.{getD}
 use Rattle.vectors.specs.Vectors.{wbit}
 use Rattle.raising.specs.Knowing.{covered}
 use Rattle.raising.proofs.Seeing.{block-room, block-within, known-fewer, knows-set, ready-set}

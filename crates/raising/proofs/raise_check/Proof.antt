@@ -1,7 +1,7 @@
 -- `raising::raise_check`: nothing is covered by a check that is met. Assumes nothing.
-use mathlib.Core.Path.{_≡_, sym, ap, _∙_, subst}
-use mathlib.Core.Bool.{Bool, true, false, _&&_, _||_}
-use Prim.Native.Nat.{ℕ, _*_}
+use mathlib.Core.Path.{_≡_, sym, _∙_, subst}
+use mathlib.Core.Bool.{true, false, _||_}
+use Prim.Native.Nat.{_*_}
 use borrow.Author.Tests.{not-true}
 use lib.ListN.{getD}
 use Rattle.vectors.specs.Vectors.{wbit}

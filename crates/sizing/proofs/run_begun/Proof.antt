@@ -3,7 +3,6 @@ use native.Mathlib.Omega.{arith}
 use Rattle.vectors.specs.Vectors.{wbit}
 use Rattle.runs.proofs.Passing.{begun-ready}
 use Rattle.sizing.proofs.Passes.{begun-stands}
-use borrow.Author.Needs.{needs}
 use Rattle.sizing.proofs.run_begun.Statement.{statement}
 use Rattle.sizing.proofs.run_begun.Tie as tie
 

@@ -1,8 +1,7 @@
 -- `smallest::choose`: where nothing is found, the greatest bound has gone down. Assumes nothing.
-use mathlib.Core.Path.{_≡_, sym, ap, _∙_, subst}
-use Prim.Native.Nat.{ℕ, _+_, _-_, _*_, _≤_, _<_}
+use mathlib.Core.Path.{sym, subst}
+use Prim.Native.Nat.{_≤_}
 use native.Mathlib.Omega.{arith}
-use lib.ListN.{length, getD}
 use Rattle.vectors.specs.Vectors.{wbit}
 use Rattle.bounds.specs.Keeping.{bound, Ready}
 use Rattle.choice.specs.Searching.{highest}

@@ -1,15 +1,13 @@
 -- `smallest::smallest_at`: one block more at each pass. Assumes nothing.
-use mathlib.Core.Path.{_≡_, sym, ap, _∙_, subst}
+use mathlib.Core.Path.{_≡_, subst}
 use Prim.Native.Nat.{ℕ, _+_, _-_, _*_, _≤_, _<_}
-use native.Mathlib.Decide.{ℕ-discrete}
 use native.Mathlib.Omega.{arith}
-use lib.ListN.{length, getD}
+use lib.ListN.{length}
 use Rattle.vectors.specs.Vectors.{wbit}
 use Rattle.bounds.specs.Keeping.{bound, Ready, Scored}
 use Rattle.raising.specs.Knowing.{Knows, whole}
 use Rattle.smallest.specs.Settling.{Leads}
 use Rattle.smallest.proofs.Searching.{leads-none, settled-lower, settled-none}
-use borrow.Author.Needs.{needs}
 use Rattle.smallest.proofs.smallest_at.Statement.{statement}
 use Rattle.smallest.proofs.smallest_at.Tie as tie
 

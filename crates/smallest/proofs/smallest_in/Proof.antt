@@ -1,5 +1,5 @@
 -- `smallest::smallest_in`: 64 bits more at each pass. Assumes nothing.
-use Prim.Native.Nat.{ℕ, _+_, _-_, _≤_, _<_}
+use Prim.Native.Nat.{_+_, _-_, _≤_}
 use native.Mathlib.Omega.{arith}
 use Rattle.vectors.specs.Vectors.{wbit}
 use Rattle.smallest.specs.Settling.{Lightest}

@@ -1,10 +1,10 @@
 -- `smallest::still`: the bit before stays ahead; or the known bit does, and it has no more checks met. Assumes nothing.
-use mathlib.Core.Path.{_≡_, refl, sym, ap, _∙_, subst}
-use mathlib.Core.Logic.{_⊎_, inl, inr}
-use Prim.Native.Nat.{ℕ, _+_, _%_, _≤_, _<_}
+use mathlib.Core.Path.{refl, subst}
+use mathlib.Core.Logic.{inl, inr}
+use Prim.Native.Nat.{_+_, _%_}
 use native.Mathlib.Nat.{mod-lt}
 use native.Mathlib.Omega.{arith}
-use lib.ListN.{length, getD}
+use lib.ListN.{getD}
 use Rattle.bits.proofs.Counting.{count-le}
 use Rattle.vectors.specs.Vectors.{wbit}
 use Rattle.sizes.specs.Samples.{smaller}

@@ -1,10 +1,8 @@
 -- `smallest::weigh`: the block's smallest bit is kept; or it has none, and its bound goes down. Assumes nothing.
-use Prim.Native.Nat.{ℕ, _+_, _*_, _≤_, _<_}
 use native.Mathlib.Omega.{arith}
-use lib.ListN.{length}
 use Rattle.vectors.specs.Vectors.{wbit}
 use Rattle.raising.proofs.Seeing.{block-room, block-within}
-use Rattle.smallest.proofs.Searching.{weighed-some, weighed-none, heavier}
+use Rattle.smallest.proofs.Searching.{weighed-some, weighed-none}
 use borrow.Author.Needs.{needs}
 use Rattle.smallest.proofs.weigh.Statement.{statement}
 use Rattle.smallest.proofs.weigh.Tie as tie
