@@ -75,29 +75,44 @@ fn bit_at(p: usize, s: usize, m: usize) -> usize
     m
 }
 
-// What is known of a block when one of its bits is seen too, of whose n checks so many are broken.
-fn meet(samples: &[f32], n: u8, broken: u8, bit: usize, low: Low) -> Low
-    requires { ⌜ (allFinite (now samples) ≡ true) × (bit < length (now samples)) × (n ≤ 8) × (broken ≤ n) × (low .met ≤ n) ⌝ }
-    ensures { λ r. ⌜ (r .met ≤ n) × ((d : Word) (starts : List ℕ) (from m first k : ℕ) (seen : ℕ → Bool) → k < m
-        → first + m ≤ length (now (samples .entry)) → bit ≡ first + k → broken ≡ hits d starts from n k
-        → Known (now (samples .entry)) d starts from n m first seen (low .met) (low .bit)
+// What is known of a block, by the number of checks that every bit has met and the smallest bit, when bit k of it is seen too, of whose n
+// checks so many are broken. It is made of numbers: a record that came in whole would be copied whole.
+fn meet(
+    samples: &[f32],
+    n: u8,
+    broken: u8,
+    first: usize,
+    k: usize,
+    met: u8,
+    known: usize,
+) -> Low
+    requires { ⌜ (allFinite (now samples) ≡ true) × (first + k < length (now samples)) × (n ≤ 8) × (broken ≤ n) × (met ≤ n) ⌝ }
+    ensures { λ r. ⌜ (r .met ≤ n) × ((d : Word) (starts : List ℕ) (from m : ℕ) (seen : ℕ → Bool) → k < m
+        → first + m ≤ length (now (samples .entry)) → broken ≡ hits d starts from n k
+        → Known (now (samples .entry)) d starts from n m first seen met known
         → Known (now (samples .entry)) d starts from n m first (λ j. seen j || eqb j k) (r .met) (r .bit)) ⌝ }
 {
-    if broken + low.met > n {
+    if broken + met > n {
         return Low {
             met: n - broken,
-            bit: bit,
+            bit: first + k,
         };
     }
-    if broken + low.met < n {
-        return low;
+    if broken + met < n {
+        return Low {
+            met: met,
+            bit: known,
+        };
     }
-    if low.bit >= samples.len() {
-        return low;
+    if known >= samples.len() {
+        return Low {
+            met: met,
+            bit: known,
+        };
     }
     Low {
-        met: low.met,
-        bit: lesser(samples, low.bit, bit),
+        met: met,
+        bit: lesser(samples, known, first + k),
     }
 }
 
@@ -123,7 +138,15 @@ fn look(
     if k >= m {
         return low;
     }
-    meet(samples, n, broken_of(d, starts, from, n, k), first + k, low)
+    meet(
+        samples,
+        n,
+        broken_of(d, starts, from, n, k),
+        first,
+        k,
+        low.met,
+        low.bit,
+    )
 }
 
 // What is known of a block when the bits that the check at p covers are seen too.

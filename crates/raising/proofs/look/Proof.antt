@@ -1,12 +1,10 @@
 -- `raising::look`: a bit past the block's end is none of its bits. Assumes nothing.
-use mathlib.Core.Path.{refl}
 use Prim.Native.Nat.{_+_}
 use native.Mathlib.Omega.{arith}
 use lib.ListN.{getD}
 use Rattle.bits.proofs.Counting.{count-le}
 use Rattle.vectors.specs.Vectors.{wbit}
 use Rattle.raising.proofs.Seeing.{within-less, look-past}
-use borrow.Author.Needs.{needs}
 use Rattle.raising.proofs.look.Statement.{statement}
 use Rattle.raising.proofs.look.Tie as tie
 
@@ -25,9 +23,6 @@ broken-of-requires c κs =
     let a = s .args in
     within-less (a .starts .now) (a .d .now) (a .from) (a .n) (a .m) (a .k) (s .pre .0) (omega (arith, c .if1 .left))
 
-add-meet : tie.Need-add-meet
-add-meet c = search needs
-
 meet-requires : tie.Need-meet-requires
 meet-requires c κs =
     let s : tie.Start = search in
@@ -45,8 +40,8 @@ returns-2 c =
     let a = s .args in
     let f = c .meet .ensures in (
       f .0,
-      λ seen was. f .1 (wbit (a .d .now)) (a .starts .now) (a .from) (a .m) (a .first) (a .k) seen (omega (arith, c .before .before .if1
-          .left)) (s .pre .2) refl (c .before .broken-of .ensures) was,
+      λ seen was. f .1 (wbit (a .d .now)) (a .starts .now) (a .from) (a .m) seen (omega (arith, c .before .before .if1 .left)) (s .pre .2)
+          (c .before .broken-of .ensures) was,
     )
 
 pub look-spec : {M : Type 1} → statement M
@@ -55,6 +50,5 @@ look-spec =
     (tie.spec
     returns
     broken-of-requires
-    add-meet
     meet-requires
     returns-2)
