@@ -77,15 +77,7 @@ fn bit_at(p: usize, s: usize, m: usize) -> usize
 
 // What is known of a block, by the number of checks that every bit has met and the smallest bit, when bit k of it is seen too, of whose n
 // checks so many are broken. It is made of numbers: a record that came in whole would be copied whole.
-fn meet(
-    samples: &[f32],
-    n: u8,
-    broken: u8,
-    first: usize,
-    k: usize,
-    met: u8,
-    known: usize,
-) -> Low
+fn meet(samples: &[f32], n: u8, broken: u8, first: usize, k: usize, met: u8, known: usize) -> Low
     requires { ⌜ (allFinite (now samples) ≡ true) × (first + k < length (now samples)) × (n ≤ 8) × (broken ≤ n) × (met ≤ n) ⌝ }
     ensures { λ r. ⌜ (r .met ≤ n) × ((d : Word) (starts : List ℕ) (from m : ℕ) (seen : ℕ → Bool) → k < m
         → first + m ≤ length (now (samples .entry)) → broken ≡ hits d starts from n k

@@ -104,7 +104,7 @@ pub pass-goes : {c : Code} {h : List ℕ} {sh : Shape} {samples : List Float} {l
     → (0 < r .left → Stands c sh samples (flipped (wbit y) (n .bit)) d′ starts counts met′ kept′)
     → Passes c sh samples limit x flips y′ d′ starts counts met′ kept′ left unlike r
 pass-goes {c} {h} {sh} {samples} {limit} {flips} {left} {unlike} {x} {y} {n = n} {r = r} lent was next go inside none less word counted
-  stands =
+    stands =
     record {
       goes = λ z. record {
         going = subst (λ v. Going (bySize (smaller samples) c) c sh limit x (flips + 1) v (laid c sh v)) (sym word)

@@ -20,8 +20,7 @@ returns c =
     let x = a .samples .now in
     let f = c .before .before .choose in
     let bit = f .result .bit in
-    let top = f .result .score in
-    (
+    let top = f .result .score in (
       f .ensures .0,
       f .ensures .1,
       λ z. absurd (omega (arith, z)),
@@ -48,8 +47,7 @@ returns-2 c =
     let x = a .samples .now in
     let f = c .before .before .before .choose in
     let bit = f .result .bit in
-    let top = f .result .score in
-    (
+    let top = f .result .score in (
       f .ensures .0,
       f .ensures .1,
       λ z. absurd (omega (arith, z)),
