@@ -4,16 +4,16 @@ use mathlib.Core.List.{List, [], _∷_, _++_, append-nil}
 use Prim.Native.Nat.{ℕ, _+_, _/_, _<_, _≤_}
 use native.Mathlib.Omega.{arith}
 use lib.ListN.{length, take, length-set}
-use Rattle.lines.specs.Log.{decimal}
-use Rattle.lines.proofs.Texts.{decimal-digit, decimal-more, digit-long, more-long, one-more}
+use Rattle.line.specs.Line.{decimal}
+use Rattle.line.proofs.Texts.{decimal-digit, decimal-more, digit-long, more-long, one-more}
 use borrow.Fn.Kinds.{In}
 use borrow.Fn.PlainCycle.{Measures, is, falls, and}
-use Rattle.lines.proofs.put.Reads as put
-use Rattle.lines.proofs.put.Kinds as put-kinds
-use Rattle.lines.proofs.+put.Lts-put as put-lts
-use Rattle.lines.proofs.glyph.Reads as glyph-reads
-use Rattle.lines.proofs.+put.{statement}
-use Rattle.lines.proofs.+put.Tie.{close}
+use Rattle.line.proofs.put.Reads as put
+use Rattle.line.proofs.put.Kinds as put-kinds
+use Rattle.line.proofs.+put.Lts-put as put-lts
+use Rattle.line.proofs.glyph.Reads as glyph-reads
+use Rattle.line.proofs.+put.{statement}
+use Rattle.line.proofs.+put.Tie.{close}
 
 abbrev μ-put : Measures 1 put-kinds.ps ℕ
 μ-put κs a = a .0

@@ -1,15 +1,15 @@
--- `lines::put_fields` meets its contract: after k numbers the text is their fields. Assumes nothing.
+-- `line::put_fields` meets its contract: after k numbers the text is their fields. Assumes nothing.
 use mathlib.Core.Path.{_≡_, refl, sym, ap, _∙_}
 use mathlib.Core.List.{List, _++_, append-nil}
 use Prim.Native.Nat.{ℕ, _+_, _-_, _*_, _≤_, _<_}
 use native.Mathlib.Omega.{arith}
 use lib.ListN.{length, take}
 use lib.Seq.{take-all}
-use Rattle.lines.specs.Log.{fields}
-use Rattle.lines.proofs.Texts.{fields-next}
+use Rattle.line.specs.Line.{fields}
+use Rattle.line.proofs.Texts.{fields-next}
 use borrow.Author.Needs.{needs}
-use Rattle.lines.proofs.put_fields.Statement.{statement}
-use Rattle.lines.proofs.put_fields.Tie as tie
+use Rattle.line.proofs.put_fields.Statement.{statement}
+use Rattle.line.proofs.put_fields.Tie as tie
 
 abbrev Inv-loop : tie.InvT-loop
 Inv-loop numbers text₀ at end₀ k₀ text end k =

@@ -1,14 +1,14 @@
--- `lines::put_line` meets its contract: index, numbers, the end of the line. Assumes nothing.
+-- `line::put_line` meets its contract: index, numbers, the end of the line. Assumes nothing.
 use mathlib.Core.Path.{sym, ap}
 use mathlib.Core.List.{[]}
 use Prim.Native.Nat.{_+_, _<_}
 use native.Mathlib.Omega.{arith}
 use lib.ListN.{length, take, length-set}
 use Rattle.codes.specs.Answers.{asCorrected}
-use Rattle.lines.proofs.Texts.{long64, line-whole}
+use Rattle.line.proofs.Texts.{long64, line-whole}
 use borrow.Author.Needs.{needs}
-use Rattle.lines.proofs.put_line.Statement.{statement}
-use Rattle.lines.proofs.put_line.Tie as tie
+use Rattle.line.proofs.put_line.Statement.{statement}
+use Rattle.line.proofs.put_line.Tie as tie
 
 numbers-requires : tie.Need-numbers-requires
 numbers-requires c κs = search needs

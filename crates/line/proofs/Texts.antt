@@ -15,7 +15,7 @@ use Rattle.rules.specs.Codes.{code, offered}
 use Rattle.rules.specs.Encoding.{lifted}
 use Rattle.rules.specs.Flipping.{byExcess, run}
 use Rattle.answers.specs.Calls.{refusal, unless, Corrected, refusedCorrect, ranCorrect, ranFrom, correctAnswer}
-use Rattle.lines.specs.Log.{digits, decimal, fields, numbers, line}
+use Rattle.line.specs.Line.{digits, decimal, fields, numbers, line}
 
 -- ---- the digits of a number
 

@@ -1,14 +1,14 @@
--- `lines::put_text` meets its contract: after k octets the text ends with the first k. Assumes nothing.
+-- `line::put_text` meets its contract: after k octets the text ends with the first k. Assumes nothing.
 use mathlib.Core.Path.{_≡_, refl, sym, ap, _∙_}
 use mathlib.Core.List.{List, _++_, append-nil}
 use Prim.Native.Nat.{ℕ, _+_, _-_, _≤_, _<_}
 use native.Mathlib.Omega.{arith}
 use lib.ListN.{length, getD, take, length-set}
 use lib.Seq.{take-all}
-use Rattle.lines.proofs.Texts.{text-more}
+use Rattle.line.proofs.Texts.{text-more}
 use borrow.Author.Needs.{needs}
-use Rattle.lines.proofs.put_text.Statement.{statement}
-use Rattle.lines.proofs.put_text.Tie as tie
+use Rattle.line.proofs.put_text.Statement.{statement}
+use Rattle.line.proofs.put_text.Tie as tie
 
 abbrev Inv-loop : tie.InvT-loop
 Inv-loop octets text₀ at end₀ k₀ text end k =

@@ -1,14 +1,14 @@
--- `lines::write_word` meets its contract: the answer of `codes::correct`, as a line. Assumes nothing.
+-- `line::write_word` meets its contract: the answer of `codes::correct`, as a line. Assumes nothing.
 use mathlib.Core.Path.{sym, ap, _∙_}
 use mathlib.Core.List.{List, _++_}
 use Prim.Native.Nat.{ℕ}
 use lib.ListN.{take, replicate, length-replicate}
 use Rattle.rules.specs.Codes.{code}
-use Rattle.lines.specs.Log.{line}
-use Rattle.lines.proofs.Texts.{same-line}
+use Rattle.line.specs.Line.{line}
+use Rattle.line.proofs.Texts.{same-line}
 use borrow.Author.Needs.{needs}
-use Rattle.lines.proofs.write_word.Statement.{statement}
-use Rattle.lines.proofs.write_word.Tie as tie
+use Rattle.line.proofs.write_word.Statement.{statement}
+use Rattle.line.proofs.write_word.Tie as tie
 
 correct-requires : tie.Need-correct-requires
 correct-requires c κs = search needs

@@ -1,9 +1,9 @@
--- `lines::put_header` meets its contract: the text in the code is the definition's. Assumes nothing.
+-- `line::put_header` meets its contract: the text in the code is the definition's. Assumes nothing.
 use native.Mathlib.Omega.{arith}
-use Rattle.lines.specs.Log.{ascii, header}
+use Rattle.line.specs.Line.{ascii, header}
 use borrow.Author.Needs.{needs}
-use Rattle.lines.proofs.put_header.Statement.{statement}
-use Rattle.lines.proofs.put_header.Tie as tie
+use Rattle.line.proofs.put_header.Statement.{statement}
+use Rattle.line.proofs.put_header.Tie as tie
 
 slice-aggregate-put-text : tie.Need-slice-aggregate-put-text
 slice-aggregate-put-text c = search needs

@@ -1,11 +1,11 @@
--- `lines::put_field` meets its contract: the space, and the digits. Assumes nothing.
+-- `line::put_field` meets its contract: the space, and the digits. Assumes nothing.
 use native.Mathlib.Omega.{arith}
 use lib.ListN.{length-set}
-use Rattle.lines.specs.Log.{decimal}
-use Rattle.lines.proofs.Texts.{long64, one-before}
+use Rattle.line.specs.Line.{decimal}
+use Rattle.line.proofs.Texts.{long64, one-before}
 use borrow.Author.Needs.{needs}
-use Rattle.lines.proofs.put_field.Statement.{statement}
-use Rattle.lines.proofs.put_field.Tie as tie
+use Rattle.line.proofs.put_field.Statement.{statement}
+use Rattle.line.proofs.put_field.Tie as tie
 
 slice-write-text : tie.Need-slice-write-text
 slice-write-text c = search needs

@@ -1,10 +1,10 @@
--- `lines::refusal` meets its contract: what correct answers to a code that is not offered. Assumes nothing.
+-- `line::refusal` meets its contract: what correct answers to a code that is not offered. Assumes nothing.
 use mathlib.Core.Path.{ap}
 use Rattle.answers.specs.Calls.{correctAnswer}
-use Rattle.lines.specs.Log.{line}
+use Rattle.line.specs.Line.{line}
 use borrow.Author.Needs.{needs}
-use Rattle.lines.proofs.refusal.Statement.{statement}
-use Rattle.lines.proofs.refusal.Tie as tie
+use Rattle.line.proofs.refusal.Statement.{statement}
+use Rattle.line.proofs.refusal.Tie as tie
 
 slice-aggregate-correct : tie.Need-slice-aggregate-correct
 slice-aggregate-correct c = search needs

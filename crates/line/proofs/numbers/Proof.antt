@@ -1,9 +1,9 @@
--- `lines::numbers` meets its contract, number by number. Assumes nothing.
+-- `line::numbers` meets its contract, number by number. Assumes nothing.
 use mathlib.Core.Path.{refl}
-use Rattle.lines.proofs.Texts.{both}
+use Rattle.line.proofs.Texts.{both}
 use borrow.Author.Needs.{needs}
-use Rattle.lines.proofs.numbers.Statement.{statement}
-use Rattle.lines.proofs.numbers.Tie as tie
+use Rattle.line.proofs.numbers.Statement.{statement}
+use Rattle.line.proofs.numbers.Tie as tie
 
 octet-requires : tie.Need-octet-requires
 octet-requires c κs = search needs
