@@ -1,6 +1,6 @@
 -- Numbers and lines as text.
 use mathlib.Core.Path.{_≡_, refl, sym, ap, ap₂, _∙_}
-use mathlib.Core.Bool.{Bool, true, false, not}
+use mathlib.Core.Bool.{Bool, true, false}
 use mathlib.Core.List.{List, [], _∷_, _++_, append-nil, append-assoc}
 use Prim.Native.Nat.{ℕ, zero, suc, _+_, _-_, _/_, _%_, _^_, _≤_, _<_}
 use native.Mathlib.Nat.{pow-suc, div-lt-iff-lt-mul}
@@ -10,10 +10,8 @@ use lib.Dec.{ltb, eqb}
 use lib.ListN.{length, getD, take, set, length-append}
 use lib.Seq.{take-suc, take-suc-set}
 use borrow.Author.Tests.{ltb-true, ltb-false, lt-ltb, le-ltb}
-use Rattle.bits.specs.Bits.{bit, if_then_else_}
+use Rattle.bits.specs.Bits.{if_then_else_}
 use Rattle.rules.specs.Codes.{code, offered}
-use Rattle.rules.specs.Encoding.{lifted}
-use Rattle.rules.specs.Flipping.{byExcess, run}
 use Rattle.answers.specs.Calls.{refusal, unless, Corrected, refusedCorrect, ranCorrect, ranFrom, correctAnswer}
 use Rattle.line.specs.Line.{digits, decimal, fields, numbers, line}
 

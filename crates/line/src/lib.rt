@@ -1,7 +1,7 @@
 // A line of the log, as text: the decimal digits of a number, the fields of an answer, the header.
 ghost use mathlib.Core.Path.{_≡_};
 ghost use mathlib.Core.List.{[], _∷_, _++_};
-ghost use Prim.Native.Nat.{ℕ, _+_, _*_, _≤_, _<_, _^_};
+ghost use Prim.Native.Nat.{_+_, _*_, _≤_, _<_, _^_};
 ghost use lib.ListN.{length, take};
 ghost use Rattle.rules.specs.Codes.{code as codeOf};
 ghost use Rattle.answers.specs.Calls.{refusedCorrect};

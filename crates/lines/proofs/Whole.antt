@@ -2,17 +2,17 @@
 use mathlib.Core.Path.{_≡_, refl, sym, ap, ap₂, subst, _∙_}
 use mathlib.Core.Bool.{Bool, true, false, not, _||_}
 use mathlib.Core.List.{List, [], _∷_, _++_, append-nil, append-assoc}
-use Prim.Native.Nat.{ℕ, zero, suc, _+_, _-_, _*_, _/_, _%_, _^_, _≤_, _<_}
+use Prim.Native.Nat.{ℕ, _+_, _-_, _*_, _/_, _%_, _^_, _≤_, _<_}
 use native.Mathlib.Nat.{zero-add, add-zero, add-assoc, div-add-mod', mul-add-div-right, div-eq-of-lt, div-le-self, add-mod, zero-mod}
 use native.Mathlib.Omega.{arith}
 use lib.Dec.{T, ltb}
-use lib.ListN.{length, drop, length-append, drop-of-length-le}
+use lib.ListN.{length, length-append, drop-of-length-le}
 use borrow.Author.Tests.{ltb-false, le-ltb, not-false}
 use Rattle.bits.specs.Bits.{if_then_else_}
 use Rattle.rules.specs.Codes.{code, offered}
 use Rattle.answers.specs.Calls.{refusedCorrect}
 use Rattle.line.specs.Line.{header, line}
-use Rattle.lines.specs.Log.{lines, words, codeIn, limitIn, restIn, bad, body, log}
+use Rattle.lines.specs.Log.{lines, words, codeIn, limitIn, bad, body, log}
 use Rattle.lines.specs.Parts.{Taken, sizeIn}
 use Rattle.lines.specs.Block.{counted, Numbered, Behind}
 use Rattle.lines.specs.declared.Block.{Block}

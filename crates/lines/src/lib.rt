@@ -1,8 +1,8 @@
 // The log of a recording, in parts: what its head gives, and what each block of words adds.
 ghost use mathlib.Core.Path.{_≡_};
-ghost use mathlib.Core.Bool.{true, false};
-ghost use mathlib.Core.List.{List, [], _++_};
-ghost use Prim.Native.Nat.{ℕ, _+_, _-_, _*_, _/_, _%_, _≤_, _<_, _^_};
+ghost use mathlib.Core.Bool.{true};
+ghost use mathlib.Core.List.{[], _++_};
+ghost use Prim.Native.Nat.{_+_, _-_, _*_, _/_, _%_, _≤_, _<_};
 ghost use lib.ListN.{length, take};
 ghost use Rattle.rules.specs.Codes.{code as codeOf, offered};
 ghost use Rattle.answers.specs.Calls.{refusedCorrect};
@@ -114,12 +114,14 @@ fn block_at(head: &[u8], read: u64, words: &[u8]) -> Block
 {
     let code = head[0];
     let size = word_octets(code);
+    let index = read / size as u64;
+    let count = (words.len() + (size - 1)) / size;
     Block {
         code,
         limit: limit(head[1], head[2]),
         size,
-        index: read / size as u64,
-        count: (words.len() + (size - 1)) / size,
+        index,
+        count,
     }
 }
 

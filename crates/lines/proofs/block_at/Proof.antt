@@ -12,6 +12,18 @@ word-octets-requires c κs =
     let s = c .before .before .before in
     good (s .args .head .now) (s .pre .1) .1
 
+div-index : tie.Need-div-index
+div-index c = search needs
+
+sub-count : tie.Need-sub-count
+sub-count c = search needs
+
+add-count : tie.Need-add-count
+add-count c = search needs
+
+div-count : tie.Need-div-count
+div-count c = search needs
+
 shared-slice-read-limit : tie.Need-shared-slice-read-limit
 shared-slice-read-limit c = search needs
 
@@ -20,18 +32,6 @@ shared-slice-read-limit-2 c = search needs
 
 limit-requires : tie.Need-limit-requires
 limit-requires c κs = search needs
-
-div-t13 : tie.Need-div-t13
-div-t13 c = search needs
-
-sub-t15 : tie.Need-sub-t15
-sub-t15 c = search needs
-
-add-t16 : tie.Need-add-t16
-add-t16 c = search needs
-
-div-t17 : tie.Need-div-t17
-div-t17 c = search needs
 
 returns : tie.Need-returns
 returns c = search needs
@@ -42,11 +42,11 @@ block-at-spec =
     (tie.spec
     shared-slice-read-code
     word-octets-requires
+    div-index
+    sub-count
+    add-count
+    div-count
     shared-slice-read-limit
     shared-slice-read-limit-2
     limit-requires
-    div-t13
-    sub-t15
-    add-t16
-    div-t17
     returns)
