@@ -19,11 +19,12 @@ ghost use Rattle.nearest.specs.Answers.{asReached};
 ghost use Rattle.taker.specs.Taking.{newTaker, takerForAnswer, takeAnswer};
 ghost use Rattle.taker.specs.Answers.{asTaker, asMade, asTaken};
 ghost use Rattle.blocks.specs.Blocks.{exportAnswer, exportRoom, importAnswer, importRoom};
-ghost use Rattle.blocks.specs.Answers.{asExported, asImported};
-use blocks::Imported;
+ghost use Rattle.importing.specs.Answers.{asImported};
+ghost use Rattle.exporting.specs.Answers.{asExported};
 use codes::Checked;
 use codes::Corrected;
 use codes::Stepped;
+use importing::Imported;
 use lists::FlipRecord;
 use lists::Listed;
 use nearest::Reached;
@@ -192,28 +193,28 @@ pub extern "C" fn pandoricchia_bch_check(detect_only: bool, word: &[u8], out: &m
 pub extern "C" fn pandoricchia_import_blocks(blocks: &[u8], out: &mut [u8]) -> Imported
     ensures { λ r. ⌜ asImported r (now (out .exit)) ≡ importAnswer (now (blocks .entry)) (now (out .entry)) ⌝ }
 {
-    blocks::import_blocks(blocks, out)
+    importing::import_blocks(blocks, out)
 }
 
 #[no_mangle]
 pub extern "C" fn pandoricchia_imported_octets(blocks: &[u8]) -> usize
     ensures { λ r. ⌜ r ≡ importRoom (now (blocks .entry)) ⌝ }
 {
-    blocks::imported_octets(blocks)
+    importing::imported_octets(blocks)
 }
 
 #[no_mangle]
 pub extern "C" fn pandoricchia_export_blocks(octets: &[u8], out: &mut [u8]) -> u8
     ensures { λ r. ⌜ asExported r (now (out .exit)) ≡ exportAnswer (now (octets .entry)) (now (out .entry)) ⌝ }
 {
-    blocks::export_blocks(octets, out)
+    exporting::export_blocks(octets, out)
 }
 
 #[no_mangle]
 pub extern "C" fn pandoricchia_exported_octets(octets_len: usize) -> usize
     ensures { λ r. ⌜ r ≡ exportRoom «octets_len» ⌝ }
 {
-    blocks::exported_octets(octets_len)
+    exporting::exported_octets(octets_len)
 }
 
 #[no_mangle]

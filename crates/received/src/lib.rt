@@ -1,7 +1,7 @@
 // Words as they are handed over: octets in, and octets out.
 ghost use mathlib.Core.Path.{_≡_};
 ghost use mathlib.Core.Bool.{false};
-ghost use Prim.Native.Nat.{_+_, _*_, _/_, _<_, _≤_};
+ghost use Prim.Native.Nat.{_+_, _-_, _*_, _/_, _<_, _≤_};
 ghost use lib.ListN.{length};
 ghost use Rattle.bits.specs.Bits.{bit, digit};
 ghost use Rattle.rules.specs.Codes.{Code, bits as bitsOf};
@@ -73,13 +73,21 @@ fn cut(octets: &[u8], p: usize, v: &mut [u64])
     v[7] = vectors::funnel(window(octets, last / 8, last % 8), 0, 1);
 }
 
+// The first 511 bits, cut short by the unsent ones.
+fn cut_short(octets: &[u8], unsent: usize, v: &mut [u64])
+    requires { ⌜ (64 ≤ length (now octets)) × (length (now octets) ≤ 1022) × (unsent ≤ 18) × (length (now v) ≡ 8) ⌝ }
+    ensures { λ _. ⌜ wbit (now (v .exit)) ≡ upTo (511 - unsent) (upTo 511 (from 0 (bit (now (octets .entry))))) ⌝ }
+{
+    cut(octets, 0, v);
+    vectors::trim(v, 511 - unsent);
+}
+
 // The first 511 bits, the unsent ones in front as zeros.
 fn cut_first(octets: &[u8], unsent: usize, v: &mut [u64])
     requires { ⌜ (64 ≤ length (now octets)) × (length (now octets) ≤ 1022) × (unsent ≤ 18) × (length (now v) ≡ 8) ⌝ }
     ensures { λ _. ⌜ wbit (now (v .exit)) ≡ upTo 511 (later unsent (bit (now (octets .entry)))) ⌝ }
 {
-    cut(octets, 0, v);
-    vectors::trim(v, 511 - unsent);
+    cut_short(octets, unsent, v);
     vectors::lift(v, unsent);
 }
 

@@ -48,10 +48,9 @@ slice-aggregate-next-3 c = search needs
 
 next-requires : tie.Need-next-requires Inv-loop μ-loop
 next-requires c κs =
-    let a : tie.Start Inv-loop μ-loop = search in
     record {
-      number = a .args .code;
-      limit = a .args .limit;
+      number = _;
+      limit = _;
       room = 511;
       on = c .before .before .before .before .loop-test .taken;
       lists =
@@ -67,12 +66,11 @@ loop-less c =
 
 loop-again : tie.Need-loop-again Inv-loop μ-loop
 loop-again c =
-    let in-loop : tie.In-loop Inv-loop μ-loop = search in
-    let a : tie.Start Inv-loop μ-loop = search in (
+    let in-loop : tie.In-loop Inv-loop μ-loop = search in (
       search needs,
       search needs,
       search needs,
-      c .before .before .before .next .ensures .1 (a .args .code) (a .args .limit) 511 (in-loop .before .loop .inv .3),
+      c .before .before .before .next .ensures .1 _ _ 511 (in-loop .before .loop .inv .3),
     )
 
 returns-2 : tie.Need-returns-2 Inv-loop μ-loop
