@@ -3,12 +3,6 @@ use borrow.Author.Needs.{needs}
 use Rattle.sizing.proofs.run_gathered.Statement.{statement}
 use Rattle.sizing.proofs.run_gathered.Tie as tie
 
-slice-aggregate-begin : tie.Need-slice-aggregate-begin
-slice-aggregate-begin c = search needs
-
-slice-aggregate-begin-2 : tie.Need-slice-aggregate-begin-2
-slice-aggregate-begin-2 c = search needs
-
 begin-requires : tie.Need-begin-requires
 begin-requires c κs = search needs
 
@@ -17,7 +11,7 @@ run-begun-requires c κs =
     let s : tie.Start = search in
     let begun : tie.After-begin = search in
     let m = begun .begin .ensures in
-    (s .pre .0, s .pre .1, s .pre .2, s .pre .3, s .pre .4, s .pre .5, m .0, m .1, search needs, search needs)
+    (s .pre .0, s .pre .1, s .pre .2, s .pre .3, s .pre .4, s .pre .5, m .0, m .1, m .2, m .3)
 
 returns : tie.Need-returns
 returns c = c .run-begun .ensures
@@ -26,8 +20,6 @@ pub run-gathered-spec : {M : Type 1} → statement M
 run-gathered-spec =
     tie.close
     (tie.spec
-    slice-aggregate-begin
-    slice-aggregate-begin-2
     begin-requires
     run-begun-requires
     returns)

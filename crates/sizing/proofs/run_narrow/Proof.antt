@@ -18,7 +18,7 @@ keep-requires c κs = search needs
 run-narrow-requires : tie.Need-run-narrow-requires
 run-narrow-requires c κs =
     let s : tie.Start = search in
-    (s .pre .0, search needs, search needs, s .pre .1, s .pre .0 .some, λ some. (s .pre .2, refl), s .pre .3, s .pre .4)
+    (s .pre .0, s .pre .1, s .pre .0 .some, λ some. (s .pre .2, refl), s .pre .3, s .pre .4)
 
 ended-narrow-requires : tie.Need-ended-narrow-requires
 ended-narrow-requires c κs =
