@@ -291,7 +291,8 @@ fn run_begun(
     first: u32,
 ) -> Ended
     requires { ⌜ Fit (now h) sh × (1 ≤ sh .blocks) × (length (now samples) ≡ sh .blocks * sh .size) × (allFinite (now samples) ≡ true)
-        × (wbit (now y) ≡ readOf (now samples)) × Beginning (now h) sh 0 first (wbit (now y)) (wbit (now z)) × Twice sh (sh .rows) (wbit (now z)) (wbit (now d))
+        × (wbit (now y) ≡ readOf (now samples)) × Beginning (now h) sh 0 first (wbit (now y)) (wbit (now z))
+        × Twice sh (sh .rows) (wbit (now z)) (wbit (now d))
         × Gathered (now h) sh (now starts) (now counts) (sh .blocks) × (length (now starts) ≡ 128) × (length (now counts) ≡ 16) ⌝ }
     ensures { λ r. ⌜ ((c : Code) → Begins c (now (h .entry)) sh 0 first (wbit (now (y .entry))) (wbit (now (z .entry)))
         → SizesTo c sh (now (samples .entry)) limit (wbit (now (y .entry))) r (wbit (now (y .exit)))) ⌝ }

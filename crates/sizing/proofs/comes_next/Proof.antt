@@ -25,8 +25,8 @@ returns c =
       f .ensures .1,
       λ z. absurd (omega (arith, z)),
       λ k h y lent u fit g some was.
-          let most = chosen-most k h (a .sh) lent fit (a .starts .now) (a .counts .now) g x y (a .d .now) (a .met .now) (a .kept .now) was bit
-          top (f .ensures .2) in
+          let most = chosen-most k h (a .sh) lent fit (a .starts .now) (a .counts .now) g x y (a .d .now) (a .met .now) (a .kept .now) was
+          bit top (f .ensures .2) in
           let leads = chosen-leads k h (a .sh) lent fit (a .starts .now) (a .counts .now) g x y (a .d .now) (a .met .now) (a .kept .now) was
           bit top (f .ensures .2) in
           let next = sized-stuck x lent u y bit top (f .ensures .1) (s .pre .2) most leads some (c .if1 .taken) in (
@@ -52,8 +52,8 @@ returns-2 c =
       f .ensures .1,
       λ z. absurd (omega (arith, z)),
       λ k h y lent u fit g some was.
-          let most = chosen-most k h (a .sh) lent fit (a .starts .now) (a .counts .now) g x y (a .d .now) (a .met .now) (a .kept .now) was bit
-          top (f .ensures .2) in
+          let most = chosen-most k h (a .sh) lent fit (a .starts .now) (a .counts .now) g x y (a .d .now) (a .met .now) (a .kept .now) was
+          bit top (f .ensures .2) in
           let leads = chosen-leads k h (a .sh) lent fit (a .starts .now) (a .counts .now) g x y (a .d .now) (a .met .now) (a .kept .now) was
           bit top (f .ensures .2) in
           let next = sized-flip x lent u y bit top (f .ensures .1) (s .pre .2) most leads (s .pre .3) some (c .before .if1 .left) in (
@@ -84,8 +84,8 @@ returns-3 c =
       f .ensures .1,
       λ z. omega (arith, more),
       λ k h y lent u fit g some was.
-          let most = chosen-most k h (a .sh) lent fit (a .starts .now) (a .counts .now) g x y (a .d .now) (a .met .now) (a .kept .now) was bit
-          top (f .ensures .2) in
+          let most = chosen-most k h (a .sh) lent fit (a .starts .now) (a .counts .now) g x y (a .d .now) (a .met .now) (a .kept .now) was
+          bit top (f .ensures .2) in
           let leads = chosen-leads k h (a .sh) lent fit (a .starts .now) (a .counts .now) g x y (a .d .now) (a .met .now) (a .kept .now) was
           bit top (f .ensures .2) in
           let next = sized-flip x lent u y bit top (f .ensures .1) (s .pre .2) most leads (s .pre .3) some high in (

@@ -61,8 +61,8 @@ returns c =
           let p = f .ensures .2 now in (
             p .0,
             λ h scored. (
-              all-under (a .samples .now) (a .sh) (wbit (a .d .now)) (a .starts .now) (a .counts .now) (l .met) (l .kept) (l .inv .0) (g .result)
-                  (λ b hb. subst (λ t. bound (a .counts .now) (l .met) b ≤ t) (sym (g .ensures))
+              all-under (a .samples .now) (a .sh) (wbit (a .d .now)) (a .starts .now) (a .counts .now) (l .met) (l .kept) (l .inv .0)
+                  (g .result) (λ b hb. subst (λ t. bound (a .counts .now) (l .met) b ≤ t) (sym (g .ensures))
                   (highest-above (a .counts .now) (l .met) (a .sh .blocks) b hb)) now h scored,
               p .1 h scored,
             ),
