@@ -199,7 +199,14 @@ pub fn unlike_after(o: Offer, word: &[u8], y: &[u64; WORD], flips: u32) -> u32
 }
 
 // The flipping run on a word of the right length; h, y and z are handed over as zeros, and y comes back as the word at its end.
-fn run_taken(o: Offer, word: &[u8], limit: u16, h: &mut [u16; TABLE], y: &mut [u64; WORD], z: &mut [u64; SYNDROME]) -> Course
+fn run_taken(
+    o: Offer,
+    word: &[u8],
+    limit: u16,
+    h: &mut [u16; TABLE],
+    y: &mut [u64; WORD],
+    z: &mut [u64; SYNDROME],
+) -> Course
     requires { ⌜ Known o × (length (now word) ≡ o .word) × (wbit (now y) ≡ (λ n. false)) × (wbit (now z) ≡ (λ n. false)) ⌝ }
     ensures { λ r. ⌜ ((n : ℕ) → offered n ≡ true → o ≡ offerOf n → RunEnds n (now (word .entry)) limit r (wbit (now (y .exit)))) ⌝ }
 {
@@ -263,7 +270,13 @@ pub fn correct(code: u8, word: &[u8], limit: u16, out: &mut [u8]) -> Corrected
 }
 
 // What comes next for a word of the right length; h, y and z are handed over as zeros, and y comes back as the word's bits.
-fn next_of(o: Offer, word: &[u8], h: &mut [u16; TABLE], y: &mut [u64; WORD], z: &mut [u64; SYNDROME]) -> Next
+fn next_of(
+    o: Offer,
+    word: &[u8],
+    h: &mut [u16; TABLE],
+    y: &mut [u64; WORD],
+    z: &mut [u64; SYNDROME],
+) -> Next
     requires { ⌜ Known o × (length (now word) ≡ o .word) × (wbit (now y) ≡ (λ n. false)) × (wbit (now z) ≡ (λ n. false)) ⌝ }
     ensures { λ r. ⌜ Within 8176 r × ((n : ℕ) → offered n ≡ true → o ≡ offerOf n
         → (wbit (now (y .exit)) ≡ lifted (codeOf n) (bit (now (word .entry))))

@@ -204,7 +204,13 @@ fn pass(
 }
 
 // The next record of the list, or its end.
-pub fn next(l: Listing, word: &[u8], h: &mut [u16; TABLE], y: &mut [u64; WORD], z: &mut [u64; SYNDROME]) -> Listing
+pub fn next(
+    l: Listing,
+    word: &[u8],
+    h: &mut [u16; TABLE],
+    y: &mut [u64; WORD],
+    z: &mut [u64; SYNDROME],
+) -> Listing
     requires { ⌜ Goes (now word) l (now h) (now y) (now z) ⌝ }
     ensures { λ r. ⌜ (r .place ≡ l .place + 1) × ((n limit room : ℕ)
         → Lists n (now (word .entry)) limit room l (now (h .entry)) (now (y .entry)) (now (z .entry))

@@ -47,7 +47,13 @@ fn measure_by(
 }
 
 // The parity table into h, its shape, the word's bits into y, and its syndrome into z; y and z are handed over as zeros.
-pub fn measure(o: Offer, word: &[u8], h: &mut [u16; TABLE], y: &mut [u64; WORD], z: &mut [u64; SYNDROME]) -> Shape
+pub fn measure(
+    o: Offer,
+    word: &[u8],
+    h: &mut [u16; TABLE],
+    y: &mut [u64; WORD],
+    z: &mut [u64; SYNDROME],
+) -> Shape
     requires { ⌜ Known o × (length (now word) ≡ o .word) × (wbit (now y) ≡ (λ n. false)) × (wbit (now z) ≡ (λ n. false)) ⌝ }
     ensures { λ r. ⌜ (r ≡ o .shape) × ((n : ℕ) → offered n ≡ true → o ≡ offerOf n
         → Measured n (now (word .entry)) (now (h .exit)) (wbit (now (y .exit))) (wbit (now (z .exit))) r) ⌝ }
