@@ -17,7 +17,7 @@ lowest-requires c κs =
     let after-checks : tie.After-checks = search in
     let k = s .pre .0 in
     let w = fitting (after-checks .checks .ensures (k .number) (k .offers) (k .is) .1 .fit) in
-    (search needs, w .0, w .1, w .2, w .3)
+    (w .0, w .1, w .2, w .3)
 
 returns : tie.Need-returns
 returns c n off is =

@@ -16,7 +16,7 @@ write-requires c κs =
     let s : tie.Start = search in
     let k = s .pre in
     let o = small (k .0) in
-    (search needs, o .unsent, omega (arith, k .3, o .word), λ h. o .plain (omega (arith, h, k .3)), omega (arith, k .3, o .ends))
+    (o .unsent, omega (arith, k .3, o .word), λ h. o .plain (omega (arith, h, k .3)), omega (arith, k .3, o .ends))
 
 same-length : tie.Need-same-length
 same-length c = search needs
