@@ -111,6 +111,24 @@ fn begin_in(b: usize, from: usize) -> usize
     0
 }
 
+// The first bit of block b that counts and has at most as many of its checks met as the block's bound says; M if there is none.
+fn first_met(
+    d: &[u64; ROWS],
+    starts: &[u16; STARTS],
+    counts: &[u8; BLOCKS],
+    met: &[u8; BLOCKS],
+    sh: Shape,
+    from: usize,
+    b: usize,
+) -> usize
+    requires { ⌜ Ready sh (now starts) (now counts) (now met) × (b < sh .blocks) ⌝ }
+    ensures { λ r. ⌜ r ≡ least (sh .size) (light (wbit (now (d .entry))) (now (starts .entry)) (8 * b) (getD (now (counts .entry)) b 0)
+        (getD (now (met .entry)) b 0) (beginIn b from) (sh .size)) ⌝ }
+{
+    let n = counts[b] as usize;
+    first_light(d, starts, b, n, met[b] as usize, begin_in(b, from), sh)
+}
+
 // The first bit of block b of score `top`, where its bound is not greater; M if there is none. If the bound was `top`, it goes down then.
 fn look(
     d: &[u64; ROWS],
@@ -130,8 +148,7 @@ fn look(
     if bound_of(counts, met, b) != top {
         return sh.size;
     }
-    let n = counts[b] as usize;
-    let k = first_light(d, starts, b, n, met[b] as usize, begin_in(b, from), sh);
+    let k = first_met(d, starts, counts, met, sh, from, b);
     if k < sh.size {
         return k;
     }

@@ -3,8 +3,9 @@ ghost use mathlib.Core.Path.{_≡_};
 ghost use mathlib.Core.Bool.{true, false};
 ghost use mathlib.Core.List.{List};
 ghost use Prim.Native.Nat.{ℕ, _<_};
+ghost use lib.Dec.{eqb};
 ghost use lib.ListN.{length};
-ghost use Rattle.bits.specs.Bits.{bit, flipped};
+ghost use Rattle.bits.specs.Bits.{bit, flipped, if_then_else_};
 ghost use Rattle.rules.specs.Codes.{code as codeOf, offered};
 ghost use Rattle.rules.specs.Checks.{lowest};
 ghost use Rattle.rules.specs.Encoding.{lifted, written};
@@ -221,6 +222,17 @@ fn run_taken(
     }
 }
 
+// The word y into an output of the right length, if its number says that it is taken.
+fn write_taken(o: Offer, number: u8, y: &mut [u64; WORD], out: &mut [u8])
+    requires { ⌜ Known o × (length (now out) ≡ o .word) ⌝ }
+    ensures { λ _. ⌜ ((n : ℕ) → offered n ≡ true → o ≡ offerOf n
+        → now (out .exit) ≡ (if eqb number 0 then written (codeOf n) (wbit (now (y .entry))) else now (out .entry))) ⌝ }
+{
+    if number == 0 {
+        received::write(y, o.unsent, o.bits, out);
+    }
+}
+
 // What correct gives of a run that has ended with the word y: its numbers, and the word where it is taken.
 fn finish(o: Offer, word: &[u8], y: &mut [u64; WORD], run: Course, out: &mut [u8]) -> Corrected
     requires { ⌜ Known o × (length (now word) ≡ o .word) × (length (now out) ≡ o .word) ⌝ }
@@ -231,9 +243,7 @@ fn finish(o: Offer, word: &[u8], y: &mut [u64; WORD], run: Course, out: &mut [u8
     let ran = ended.ran;
     let unlike = unlike_after(o, word, y, ran.flips);
     let number = judging::judge(o, y, ran.number);
-    if number == 0 {
-        received::write(y, o.unsent, o.bits, out);
-    }
+    write_taken(o, number, y, out);
     Corrected {
         number: number,
         flips: ran.flips,
