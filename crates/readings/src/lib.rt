@@ -86,7 +86,7 @@ fn is_tail(code: u8, end: &[u8]) -> bool
     requires { ⌜ unitCode code ≡ true ⌝ }
     ensures { λ r. ⌜ r ≡ sameOf (now (end .entry)) (tailOf code) ⌝ }
 {
-    if code == 1 {
+    if tail_octets(code) != 0 {
         same(end, &TAIL)
     } else {
         same(end, &TAIL[..0])

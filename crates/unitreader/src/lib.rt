@@ -27,10 +27,12 @@ fn buffer() -> [u8; 32]
     [0; 32]
 }
 
+// What a codeblock hands out; where no unit is of the code, what code 3's does, and then it is refused.
 fn room(code: u8) -> usize
     ensures { λ r. ⌜ r ≡ roomFor code ⌝ }
 {
-    if code == 1 { 8 } else { 32 }
+    let u = units::unit_of(code);
+    u.information
 }
 
 // The codeblock at a place of a unit.

@@ -6,20 +6,14 @@ use Prim.Native.Nat.{ℕ, zero, suc, _+_, _-_, _*_, _/_, _%_, _^_, _≤_, _<_}
 use native.Mathlib.Omega.{arith}
 use native.Mathlib.Decide.{ℕ-discrete}
 use lib.Dec.{T, eqb, leb, ltb}
-use borrow.Author.Tests.{eq-eqb, ne-eqb, eqb-true}
+use borrow.Author.Tests.{ne-eqb, eqb-true}
 use lib.ListN.{length, take, drop, replicate}
 use Rattle.rules.specs.Codes.{code, code1, code3, offered}
 use Rattle.unitrules.specs.Units.{unitCode, tail, blocksFor, unitLength, between, blocksIn}
 
 -- a unit code that is not 1 is 3
-pub one-unit : (n : ℕ) → n ≡ 1 → unitCode n ≡ true
-one-unit n e = ap (λ b. b || eqb n 3) (eq-eqb n 1 e)
-
-pub other-unit : (n : ℕ) → (n ≡ 1 → ⊥) → unitCode n ≡ eqb n 3
-other-unit n d = ap (λ b. b || eqb n 3) (ne-eqb n 1 d)
-
-pub three : (n : ℕ) → unitCode n ≡ true → (n ≡ 1 → ⊥) → n ≡ 3
-three n e d = eqb-true n 3 (sym (other-unit n d) ∙ e)
+three : (n : ℕ) → unitCode n ≡ true → (n ≡ 1 → ⊥) → n ≡ 3
+three n e d = eqb-true n 3 (sym (ap (λ b. b || eqb n 3) (ne-eqb n 1 d)) ∙ e)
 
 -- what holds of codes 1 and 3 holds of every unit code
 pub both : (P : ℕ → Type 0) → P 1 → P 3 → (n : ℕ) → unitCode n ≡ true → P n

@@ -1,8 +1,8 @@
 -- The lengths of units, as the calls compute them.
-use mathlib.Core.Path.{_≡_, refl, sym, ap, ap₂, _∙_, subst}
+use mathlib.Core.Path.{_≡_, refl, sym, ap, _∙_, subst}
 use mathlib.Core.Bool.{Bool, true, false, not}
 use mathlib.Core.List.{List}
-use Prim.Native.Nat.{ℕ, _+_, _-_, _*_, _/_, _^_, _≤_, _<_}
+use Prim.Native.Nat.{ℕ, _^_, _≤_, _<_}
 use native.Mathlib.Omega.{arith}
 use native.Mathlib.Decide.{decLt}
 use native.Mathlib.Nat.{lt-of-not-le}
@@ -10,9 +10,8 @@ use lib.Dec.{eqb, ltb}
 use lib.ListN.{length}
 use borrow.Author.Tests.{eq-eqb, ne-eqb, eqb-true, lt-ltb, le-ltb}
 use Rattle.bits.specs.Bits.{if_then_else_}
-use Rattle.rules.specs.Codes.{code, code1, code3}
 use Rattle.answers.specs.Calls.{Encoded}
-use Rattle.unitrules.specs.Units.{unitCode, tail, unit, unitLength, unitOctets, writeAnswer}
+use Rattle.unitrules.specs.Units.{unitCode, unit, unitLength, unitOctets, writeAnswer}
 use Rattle.unitrules.proofs.Answering.{if-is, if-isnt, not-is, not-isnt}
 use Rattle.units.specs.Numbers.{writeNumber}
 
@@ -36,21 +35,6 @@ module _ (n long : ℕ) where
   octets-great u d h =
       not-is (unitCode n) 0 _ u ∙ if-isnt (eqb long 0) 0 _ (ne-eqb long 0 d)
       ∙ not-isnt (ltb (unitLength n long) (2 ^ 64)) 0 (unitLength n long) (le-ltb (unitLength n long) (2 ^ 64) h)
-
--- what the calls compute of a length that is not 0
-pub length-one : (n long : ℕ) → n ≡ 1 → (long ≡ 0 → ⊥) → 16 * ((long - 1) / 8 + 1) + 24 ≡ unitLength n long
-unfolding code code1 tail
-length-one n long e d = go ∙ ap (λ z. unitLength z long) (sym e)
-  where
-    go : 16 * ((long - 1) / 8 + 1) + 24 ≡ 8 + ((long + 7) / 8 * 16 + 16)
-    go = omega arith
-
-pub length-three : (n long : ℕ) → n ≡ 3 → (long ≡ 0 → ⊥) → 64 * ((long - 1) / 32 + 1) + 8 ≡ unitLength n long
-unfolding code code3 tail
-length-three n long e d = go ∙ ap (λ z. unitLength z long) (sym e)
-  where
-    go : 64 * ((long - 1) / 32 + 1) + 8 ≡ 8 + ((long + 31) / 32 * 64 + 0)
-    go = omega arith
 
 -- ---- the writer's number
 

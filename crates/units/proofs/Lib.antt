@@ -1,3 +1,4 @@
+pub mod Offers
 pub mod Lengths
 pub mod Parts
 pub mod Assembled

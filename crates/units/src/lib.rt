@@ -12,6 +12,7 @@ ghost use Rattle.randomiser.specs.Randomiser.{telecommand, randomised};
 ghost use Rattle.unitrules.specs.Units.{unitCode, start, tail as tailOf, blocksFor, codeblock, codeblocks, unit as unitOf, unitLength};
 ghost use Rattle.unitrules.specs.Units.{unitOctets, writeAnswer};
 ghost use Rattle.units.specs.Numbers.{writeNumber};
+ghost use Rattle.units.specs.Offers.{unitOfferOf};
 
 pub const START: [u8; 8] = [0x03, 0x47, 0x76, 0xC7, 0x27, 0x28, 0x95, 0xB0];
 
@@ -34,54 +35,84 @@ pub const TAIL: [u8; 16] = [
     0x55,
 ];
 
-// Units are of codes 1 and 3.
+// What a code number fixes of units: whether they are of this code, the octets of a codeblock, of its information and of the tail,
+// and how many codeblocks no length can hold.
+pub struct UnitOffer {
+    pub offered: bool,
+    pub word: usize,
+    pub information: usize,
+    pub tail: usize,
+    pub most: usize,
+}
+
+// Units are of codes 1 and 3. Another number has code 3's octets, and is refused before they are used.
+pub fn unit_of(code: u8) -> UnitOffer
+    ensures { λ r. ⌜ r ≡ unitOfferOf code ⌝ }
+{
+    match code {
+        1 => UnitOffer {
+            offered: true,
+            word: 16,
+            information: 8,
+            tail: 16,
+            most: 0x0FFFFFFFFFFFFFFF,
+        },
+        _ => UnitOffer {
+            offered: code == 3,
+            word: 64,
+            information: 32,
+            tail: 0,
+            most: 0x0400000000000000,
+        },
+    }
+}
+
 pub fn is_unit_code(code: u8) -> bool
     ensures { λ r. ⌜ r ≡ unitCode code ⌝ }
 {
-    code == 1 || code == 3
+    let u = unit_of(code);
+    u.offered
 }
 
 pub fn word_octets(code: u8) -> usize
     requires { ⌜ unitCode code ≡ true ⌝ }
     ensures { λ r. ⌜ (r ≡ codeOf code .wordOctets) × (16 ≤ r) × (r ≤ 64) ⌝ }
 {
-    if code == 1 { 16 } else { 64 }
+    let u = unit_of(code);
+    u.word
 }
 
 pub fn information_octets(code: u8) -> usize
     requires { ⌜ unitCode code ≡ true ⌝ }
     ensures { λ r. ⌜ (r ≡ codeOf code .informationOctets) × (8 ≤ r) × (r ≤ 32) ⌝ }
 {
-    if code == 1 { 8 } else { 32 }
+    let u = unit_of(code);
+    u.information
 }
 
 pub fn tail_octets(code: u8) -> usize
     requires { ⌜ unitCode code ≡ true ⌝ }
     ensures { λ r. ⌜ (r ≡ length (tailOf code)) × (r ≤ 16) ⌝ }
 {
-    if code == 1 { 16 } else { 0 }
+    let u = unit_of(code);
+    u.tail
 }
 
 // The octets of a unit, 0 where there is none.
 pub fn unit_octets(code: u8, long: usize) -> usize
     ensures { λ r. ⌜ r ≡ unitOctets code long ⌝ }
 {
-    if !is_unit_code(code) {
+    let u = unit_of(code);
+    if !u.offered {
         return 0;
     }
     if long == 0 {
         return 0;
     }
-    if code == 1 {
-        let blocks = (long - 1) / 8 + 1;
-        if blocks < 0x0FFFFFFFFFFFFFFF {
-            return 16 * blocks + 24;
-        }
-        return 0;
-    }
-    let blocks = (long - 1) / 32 + 1;
-    if blocks < 0x0400000000000000 {
-        return 64 * blocks + 8;
+    let blocks = (long - 1) / u.information + 1;
+    if blocks < u.most {
+        let ends = 8 + u.tail;
+        return u.word * blocks + ends;
     }
     0
 }
@@ -168,7 +199,7 @@ fn write_tail(code: u8, out: &mut [u8])
     requires { ⌜ (unitCode code ≡ true) × (length (now out) ≡ length (tailOf code)) ⌝ }
     ensures { λ _. ⌜ now (out .exit) ≡ tailOf code ⌝ }
 {
-    if code == 1 {
+    if tail_octets(code) != 0 {
         copy(&TAIL, out);
     }
 }

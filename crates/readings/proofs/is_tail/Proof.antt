@@ -1,11 +1,14 @@
--- `readings::is_tail`: code 1 has a tail. Assumes nothing.
-use mathlib.Core.Path.{_≡_, refl, sym, ap, ap₂, _∙_, subst}
-use native.Mathlib.Omega.{arith}
+-- `readings::is_tail`: one code has a tail, and the other none. Assumes nothing.
+use mathlib.Core.Path.{_≡_, sym, ap, _∙_}
 use Rattle.unitrules.specs.Units.{tail, same as sameOf}
-use Rattle.unitrules.proofs.Shapes.{three}
+use Rattle.unitrules.proofs.Shapes.{none-long}
+use Rattle.units.proofs.Offers.{whole-tail}
 use borrow.Author.Needs.{needs}
 use Rattle.readings.proofs.is_tail.Statement.{statement}
 use Rattle.readings.proofs.is_tail.Tie as tie
+
+tail-octets-requires : tie.Need-tail-octets-requires
+tail-octets-requires c κs = search needs
 
 slice-aggregate-same : tie.Need-slice-aggregate-same
 slice-aggregate-same c = search needs
@@ -24,18 +27,26 @@ same-requires-2 c κs = search needs
 
 returns : tie.Need-returns
 unfolding tail
-returns c = let a = c .before .before .before .before in c .same .ensures
-    ∙ ap (λ n. sameOf (a .args .end .now) (tail n)) (sym (c .before .before .if1 .taken))
+returns c =
+    let i = c .before .before in
+    let t = i .before in
+    let a = t .before .before in
+    c .same .ensures
+    ∙ ap (sameOf (a .args .end .now)) (whole-tail (a .args .code) (a .pre) _ (t .tail-octets .ensures .0) (i .if1 .taken))
 
 returns-2 : tie.Need-returns-2
-unfolding tail
-returns-2 c = let a = c .before .before .before .before in c .same2 .ensures
-    ∙ ap (λ n. sameOf (a .args .end .now) (tail n)) (sym (three (a .args .code) (a .pre) (c .before .before .if1 .left)))
+returns-2 c =
+    let i = c .before .before in
+    let t = i .before in
+    let a = t .before .before in
+    let e = sym (t .tail-octets .ensures .0) ∙ i .if1 .left in
+    c .same2 .ensures ∙ ap (sameOf (a .args .end .now)) (sym (none-long (tail (a .args .code)) e))
 
 pub is-tail-spec : {M : Type 1} → statement M
 is-tail-spec =
     tie.close
     (tie.spec
+    tail-octets-requires
     slice-aggregate-same
     same-requires
     array-share-prefix-same
