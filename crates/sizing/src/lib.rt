@@ -62,7 +62,7 @@ fn counted(samples: &[f32], y: &[u64], bit: usize, unlike: u32) -> u32
 }
 
 // Flips a bit of the word y, and says in how many bits y differs from what was read then; before that in so many.
-fn turn(samples: &[f32], y: &mut [u64; WORD], bit: usize, unlike: u32) -> u32
+fn flip_counted(samples: &[f32], y: &mut [u64; WORD], bit: usize, unlike: u32) -> u32
     requires { ⌜ (length (now samples) ≤ 8176) × (bit < length (now samples)) × (unlike < 65536) ⌝ }
     ensures { λ r. ⌜ (r ≤ unlike + 1) × (wbit (now (y .exit)) ≡ flipped (wbit (now (y .entry))) bit)
         × (tally (readOf (now (samples .entry)) bit ⊕ wbit (now (y .entry)) bit) ≤ unlike
@@ -101,7 +101,7 @@ fn pass(
         → Stands c sh (now (samples .entry)) (flipped (wbit (now (y .entry))) bit) (now (d .exit)) (now (starts .entry))
         (now (counts .entry)) (now (met .exit)) (now (kept .exit))) ⌝ }
 {
-    let now = turn(samples, y, bit, unlike);
+    let now = flip_counted(samples, y, bit, unlike);
     let left = was - fewer;
     if left > 0 {
         raising::flip(samples, d, starts, counts, met, kept, sh, bit);

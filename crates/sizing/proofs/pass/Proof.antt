@@ -6,8 +6,8 @@ use borrow.Author.Needs.{needs}
 use Rattle.sizing.proofs.pass.Statement.{statement}
 use Rattle.sizing.proofs.pass.Tie as tie
 
-turn-requires : tie.Need-turn-requires
-turn-requires c κs = search needs
+flip-counted-requires : tie.Need-flip-counted-requires
+flip-counted-requires c κs = search needs
 
 sub-left : tie.Need-sub-left
 sub-left c = search needs
@@ -19,11 +19,11 @@ flip-requires c κs =
 
 returns : tie.Need-returns
 returns c =
-    let after-turn : tie.After-turn = search in
+    let flipped : tie.After-flip-counted = search in
     let s : tie.Start = search in
     let a = s .args in
     let f = c .flip .ensures in
-    let t = after-turn .turn .ensures in (
+    let t = flipped .flip-counted .ensures in (
       f .0,
       refl,
       refl,
@@ -38,14 +38,14 @@ returns c =
 returns-2 : tie.Need-returns-2
 returns-2 c =
     let s : tie.Start = search in
-    let t = c .before .turn .ensures in
+    let t = c .before .flip-counted .ensures in
     (s .pre .0, refl, refl, t .0, t .1, t .2, λ k h lent g l was. absurd (omega (arith, c .if1 .left)))
 
 pub pass-spec : {M : Type 1} → statement M
 pass-spec =
     tie.close
     (tie.spec
-    turn-requires
+    flip-counted-requires
     sub-left
     flip-requires
     returns

@@ -1,7 +1,7 @@
--- `sizing::turn`: the bit is counted, and flipped. Assumes nothing.
+-- `sizing::flip_counted`: the bit is counted, and flipped. Assumes nothing.
 use borrow.Author.Needs.{needs}
-use Rattle.sizing.proofs.turn.Statement.{statement}
-use Rattle.sizing.proofs.turn.Tie as tie
+use Rattle.sizing.proofs.flip_counted.Statement.{statement}
+use Rattle.sizing.proofs.flip_counted.Tie as tie
 
 counted-requires : tie.Need-counted-requires
 counted-requires c κs = search needs
@@ -14,8 +14,8 @@ returns c =
     let n = c .before .before .counted .ensures in
     (n .0, c .flip-bit .ensures, n .1)
 
-pub turn-spec : {M : Type 1} → statement M
-turn-spec =
+pub flip-counted-spec : {M : Type 1} → statement M
+flip-counted-spec =
     tie.close
     (tie.spec
     counted-requires
