@@ -2,5 +2,4 @@ pub mod Lists
 pub mod Writing
 pub mod Reading
 pub mod Answering
-pub mod Outcomes
 pub mod Recordings

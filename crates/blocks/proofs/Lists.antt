@@ -2,7 +2,7 @@
 use mathlib.Core.Path.{_≡_, refl, sym, ap, ap₂, _∙_}
 use mathlib.Core.Bool.{true, false, _&&_}
 use mathlib.Core.List.{List, [], _∷_, _++_, append-assoc}
-use Prim.Native.Nat.{ℕ, zero, suc, _+_, _-_, _/_, _%_, _≤_, _<_}
+use Prim.Native.Nat.{ℕ, suc, _+_, _-_, _/_, _%_, _≤_, _<_}
 use native.Mathlib.Omega.{arith}
 use native.Mathlib.Numerals.{add-one}
 use lib.ListN.{length, getD, take, drop, set, replicate, replicate-append-replicate, drop-of-length-le, length-append, length-drop}
@@ -75,34 +75,17 @@ last-part xs ys done a e f g =
     same : length xs - a ≡ length ys
     same = omega arith
 
--- the room behind a part that is put in front
-pub room-behind : (xs ys : List ℕ) (p q : ℕ) → length ys ≡ p → p + q ≤ length xs → length (take q (drop p (ys ++ drop p xs))) ≡ q
-room-behind xs ys p q e h =
-    length-take-le q (drop p (ys ++ drop p xs)) (omega (arith, length-drop p (ys ++ drop p xs), first-length xs ys p e (omega arith)))
+-- two parts, one after the other
+pub both-put : (o A B : List ℕ) (p : ℕ) → length A ≡ p → p + length B ≡ length o
+    → put p (length (A ++ drop p o) - p) (A ++ drop p o) B ≡ A ++ B
+both-put o A B p a h = last-part (A ++ drop p o) B A p a (first-part o A p a) (h ∙ sym (first-length o A p a (omega arith)))
 
--- three parts, one after another
-module _ (o A B C : List ℕ) (p q r : ℕ) (a : length A ≡ p) (b : length B ≡ q) (c : length C ≡ r) (long : length o ≡ p + q + r) where
-  abbrev pub one-put : List ℕ
-  one-put = A ++ drop p o
-
-  abbrev pub two-put : List ℕ
-  two-put = put p q one-put B
-
-  one-length : length one-put ≡ p + q + r
-  one-length = first-length o A p a (omega arith) ∙ long
-
-  two-length : length two-put ≡ p + q + r
-  two-length = put-length one-put B p q b (omega (arith, one-length)) ∙ one-length
-
-  pub two-front : take (p + q) two-put ≡ A ++ B
-  two-front = placed one-put B A p q a b (first-part o A p a)
-
-  pub front-length : length (take (p + q) two-put) ≡ p + q
-  front-length = ap length two-front ∙ length-append A B ∙ ap₂ (λ x y. x + y) a b
-
-  pub three-put : put (p + q) (length two-put - (p + q)) two-put C ≡ (A ++ B) ++ C
-  three-put =
-      last-part two-put C (A ++ B) (p + q) (length-append A B ∙ ap₂ (λ x y. x + y) a b) two-front (omega (arith, two-length))
+-- the room behind the first
+pub room-behind : (o A : List ℕ) (p : ℕ) → length A ≡ p → p ≤ length o
+    → length (take (length (A ++ drop p o) - p) (drop p (A ++ drop p o))) ≡ length o - p
+room-behind o A p a h =
+    length-take (length (A ++ drop p o) - p) (drop p (A ++ drop p o))
+    ∙ omega (arith, first-length o A p a h, length-drop p (A ++ drop p o))
 
 -- the two high octets of four
 pub high : (v : ℕ) → two (v / 65536) ≡ v / 16777216 % 256 ∷ v / 65536 % 256 ∷ []
@@ -114,8 +97,7 @@ pub data-put : (o used D Z : List ℕ) → length used ≤ length o → D ≡ us
     → put (length used) (length (D ++ drop (length used) o) - length used) (D ++ drop (length used) o) Z ≡ used ++ replicate
     (length o - length used) 0
 data-put o used D Z h e z =
-    last-part (D ++ drop n o) Z D n d (first-part o D n d) (omega (arith, whole, zeros))
-    ∙ ap₂ (λ x y. x ++ y) e (z ∙ ap (λ k. replicate k 0) room)
+    both-put o D Z n d (omega (arith, zeros)) ∙ ap₂ (λ x y. x ++ y) e (z ∙ ap (λ k. replicate k 0) room)
   where
     n : ℕ
     n = length used
@@ -123,11 +105,8 @@ data-put o used D Z h e z =
     d : length D ≡ n
     d = ap length e
 
-    whole : length (D ++ drop n o) ≡ length o
-    whole = first-length o D n d h
-
     room : length (take (length (D ++ drop n o) - n) (drop n (D ++ drop n o))) ≡ length o - n
-    room = length-take (length (D ++ drop n o) - n) (drop n (D ++ drop n o)) ∙ omega (arith, whole, length-drop n (D ++ drop n o))
+    room = room-behind o D n d h
 
     zeros : length Z ≡ length o - n
     zeros = ap length z ∙ length-replicate {A = ℕ} _ 0 ∙ room

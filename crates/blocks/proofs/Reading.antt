@@ -8,34 +8,15 @@ use native.Mathlib.Omega.{arith}
 use native.Mathlib.Numerals.{add-one}
 use native.Mathlib.Decide.{ℕ-discrete}
 use lib.Dec.{T, eqb, leb, eqb→eq, leb→le}
-use lib.ListN.{length, getD, take, drop, length-append, length-drop}
+use lib.ListN.{length, take, drop, length-append, length-drop}
 use lib.Seq.{length-take-le, drop-drop, take-take, take-nil}
 use borrow.Author.Tests.{eq-eqb, ne-eqb}
 use Rattle.bits.proofs.Sums.{eqb-iff, and-l, and-r}
-use Rattle.framecheck.specs.FrameCheck.{frameCheck, sound}
+use Rattle.framecheck.specs.FrameCheck.{sound}
 use Rattle.blocks.proofs.Lists.{put, placed}
 use Rattle.blocks.specs.Blocks.{numberIn, usedIn, dataIn, countRight, clear, fillingIn, fault, Fault, firstFault, imported}
 
 -- ---- the fault of one block
-
-module _ (b : List ℕ) (v p : ℕ) (over : v ≡ frameCheck (take 510 b)) (last : p ≡ 256 * getD b 510 0 + getD b 511 0) where
-  pub sound-yes : v ≡ p → sound 510 b ≡ true
-  unfolding sound
-  sound-yes e = eq-eqb (frameCheck (take 510 b)) (256 * getD b 510 0 + getD b 511 0) (sym over ∙ e ∙ last)
-
-  pub sound-no : (v ≡ p → ⊥) → sound 510 b ≡ false
-  unfolding sound
-  sound-no d = ne-eqb (frameCheck (take 510 b)) (256 * getD b 510 0 + getD b 511 0) (λ e. d (over ∙ e ∙ sym last))
-
-module _ (b : List ℕ) (p q place : ℕ) (first : p ≡ 256 * getD b 0 0 + getD b 1 0) (second : q ≡ 256 * getD b 2 0 + getD b 3 0) where
-  number-is : 65536 * p + q ≡ numberIn b
-  number-is = omega arith
-
-  pub number-yes : 65536 * p + q ≡ place → eqb (numberIn b) place ≡ true
-  number-yes e = eq-eqb (numberIn b) place (sym number-is ∙ e)
-
-  pub number-no : (65536 * p + q ≡ place → ⊥) → eqb (numberIn b) place ≡ false
-  number-no d = ne-eqb (numberIn b) place (λ e. d (number-is ∙ e))
 
 module _ (place : ℕ) (last : Bool) (b : List ℕ) where
   pub fault-check : sound 510 b ≡ false → fault place last b ≡ 21

@@ -8,7 +8,7 @@ use native.Mathlib.Nat.{not-suc-le-zero, suc-add, add-suc, add-zero, zero-add}
 use native.Mathlib.Omega.{arith}
 use native.Mathlib.Decide.{ℕ-discrete}
 use lib.Dec.{T, eqb, eqb→eq, lit<}
-use lib.ListN.{length, getD, take, drop, replicate, length-append, length-replicate, length-take, length-drop, take-append-drop}
+use lib.ListN.{length, getD, take, drop, replicate, length-replicate, length-take, length-drop, take-append-drop}
 use lib.ListN.{drop-of-length-le, List·getD-eq-default}
 use lib.Seq.{take-at, drop-at, take-all, drop-drop, length-take-le, take-add, getD-take, getD-drop}
 use borrow.Author.Tests.{eq-eqb, ne-eqb, le-leb, le-ltb}
@@ -21,20 +21,12 @@ use Rattle.framecheck.proofs.Frames.{sound-framed, framed-sound}
 use Rattle.framecheck.proofs.Noticed.{burst-noticed, one-noticed, two-noticed}
 use Rattle.blocks.specs.Blocks.{two, four, front, block, exported, blocksFor, Exported, exportAnswer, numberIn, usedIn, dataIn}
 use Rattle.blocks.specs.Blocks.{countRight, clear, fillingIn, fault, Fault, firstFault, imported, wholeBlocks, Imported, importAnswer}
-use Rattle.blocks.proofs.Writing.{block-long, exported-long}
+use Rattle.blocks.proofs.Writing.{front-long, block-long, exported-long}
 use Rattle.blocks.proofs.Reading.{Sound, sound-block, fault-none, fault-check, count-le, count-full, count-some, blockAt}
 use Rattle.blocks.proofs.Reading.{block-sound, room-is}
 use Rattle.blocks.proofs.Answering.{export-done, whole-is, import-whole, import-fault, import-room, import-done}
 
 -- ---- a block that is written is read back
-
-front-long : (place : ℕ) (used : List ℕ) → length used ≤ 504 → length (front place used) ≡ 510
-front-long place used h = omega (
-  arith,
-  length-append used (replicate (504 - length used) 0),
-  length-replicate {A = ℕ}
-      (504 - length used) 0,
-)
 
 clear-zeros : (n : ℕ) → clear (replicate n 0) ≡ true
 unfolding clear

@@ -9,48 +9,53 @@ use lib.ListN.{length, take, drop, replicate, length-append, length-replicate, l
 use lib.Seq.{drop-drop, take-all, length-take-le}
 use mathlib.Core.Logic.{⊎-elim}
 use Rattle.bits.proofs.Orders.{le-or-lt}
-use Rattle.framecheck.specs.FrameCheck.{frameCheck}
+use Rattle.framecheck.specs.FrameCheck.{frameCheck, framed}
 use Rattle.framecheck.proofs.Frames.{check-lt}
 use Rattle.blocks.specs.Blocks.{two, four, front, block, exported}
-use Rattle.blocks.proofs.Lists.{put, placed, put-length, three-put, two-front, front-length, room-behind}
+use Rattle.blocks.proofs.Lists.{put, placed, put-length, first-part, last-part, both-put, room-behind}
 
-module _ (o used H D : List ℕ) (place : ℕ) (long : length o ≡ 512) (few : length used ≤ 504) (h : H ≡ four place ++ two (length used))
-    (d : D ≡ used ++ replicate (length (take 504 (drop 6 (H ++ drop 6 o))) - length used) 0) where
-  abbrev so-far : List ℕ
-  so-far = put 6 504 (H ++ drop 6 o) D
+pub front-long : (place : ℕ) (used : List ℕ) → length used ≤ 504 → length (front place used) ≡ 510
+front-long place used h = omega (
+  arith,
+  length-append used (replicate (504 - length used) 0),
+  length-replicate {A = ℕ}
+      (504 - length used) 0,
+)
 
-  head-long : length H ≡ 6
-  head-long = ap length h
+-- head and data
+pub front-put : (o used H D : List ℕ) (place : ℕ) → length o ≡ 510 → length used ≤ 504 → H ≡ four place ++ two (length used)
+    → D ≡ used ++ replicate (length (take (length (H ++ drop 6 o) - 6) (drop 6 (H ++ drop 6 o))) - length used) 0
+    → put 6 (length (H ++ drop 6 o) - 6) (H ++ drop 6 o) D ≡ front place used
+front-put o used H D place long few h d = both-put o H D 6 (ap length h) (omega (arith, laid-long)) ∙ ap₂ (λ x y. x ++ y) h laid
+  where
+    room : length (take (length (H ++ drop 6 o) - 6) (drop 6 (H ++ drop 6 o))) ≡ 504
+    room = room-behind o H 6 (ap length h) (omega arith) ∙ omega arith
 
-  laid : D ≡ used ++ replicate (504 - length used) 0
-  laid = d ∙ ap (λ n. used ++ replicate (n - length used) 0) (room-behind o H 6 504 head-long (omega arith))
+    laid : D ≡ used ++ replicate (504 - length used) 0
+    laid = d ∙ ap (λ n. used ++ replicate (n - length used) 0) room
 
-  used-long : length D ≡ 504
-  used-long = ap length laid ∙ length-append used (replicate (504 - length used) 0)
-      ∙ omega (arith, length-replicate {A = ℕ} (504 - length used) 0)
+    laid-long : length D ≡ 504
+    laid-long = ap length laid ∙ length-append used (replicate (504 - length used) 0)
+        ∙ omega (arith, length-replicate {A = ℕ} (504 - length used) 0)
 
-  -- the first 510 octets are what is checked
-  pub checked-long : 510 ≡ length (take 510 so-far)
-  checked-long = sym (front-length o H D (two 0) 6 504 2 head-long used-long refl long)
+-- the check behind what it is made over
+pub check-put : (o C : List ℕ) (check : ℕ) → length o ≡ 512 → check ≡ frameCheck (take 510 o) → C ≡ two check
+    → put 510 (length o - 510) o C ≡ framed (take 510 o)
+check-put o C check long c e =
+    last-part o C (take 510 o) 510 (length-take-le 510 o (omega arith)) refl (omega (arith, ap length e))
+    ∙ ap (λ x. take 510 o ++ x) (e ∙ ap two c ∙ ap (λ z. z ∷ value % 256 ∷ []) (mod-eq-of-lt small))
+  where
+    value : ℕ
+    value = frameCheck (take 510 o)
 
-  checked : take 510 so-far ≡ front place used
-  checked = two-front o H D (two 0) 6 504 2 head-long used-long refl long ∙ ap₂ (λ x y. x ++ y) h laid
+    small : value / 256 < 256
+    small = omega (arith, check-lt (take 510 o))
 
-  pub block-put : (check : ℕ) (C : List ℕ) → check ≡ frameCheck (take 510 so-far) → C ≡ two check
-      → put 510 (length so-far - 510) so-far C ≡ block place used
-  unfolding block
-  block-put check C c e =
-      three-put o H D C 6 504 2 head-long used-long (ap length e) long
-      ∙ ap₂ (λ x y. x ++ y) (ap₂ (λ x y. x ++ y) h laid) (e ∙ ap two found ∙ ap (λ z. z ∷ value % 256 ∷ []) (mod-eq-of-lt small))
-    where
-      value : ℕ
-      value = frameCheck (front place used)
-
-      found : check ≡ value
-      found = c ∙ ap frameCheck checked
-
-      small : value / 256 < 256
-      small = omega (arith, check-lt (front place used))
+-- head, data and check
+pub block-put : (o F b : List ℕ) (place : ℕ) (used : List ℕ) → length used ≤ 504 → F ≡ front place used
+    → b ≡ framed (take 510 (F ++ drop 510 o)) → b ≡ block place used
+unfolding block
+block-put o F b place used few f e = e ∙ ap framed (first-part o F 510 (ap length f ∙ front-long place used few) ∙ f)
 
 -- ---- block by block
 

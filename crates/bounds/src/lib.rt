@@ -8,13 +8,18 @@ ghost use Rattle.rules.specs.Codes.{Code};
 ghost use Rattle.rules.specs.Checks.{metOf};
 ghost use Rattle.vectors.specs.Vectors.{wbit, Holds, upTo, from};
 ghost use Rattle.layout.specs.Lent.{Fit, Lent};
-ghost use Rattle.bounds.specs.Reading.{Twice, Placed, other, hits, light, Noted, Starts, Gathered};
+ghost use Rattle.bounds.specs.Reading.{Twice, Placed, other, hits, light, Noted, Listed, asked, Starts, Gathered};
 ghost use Rattle.bounds.specs.Keeping.{Ready, Kept};
 ghost use mathlib.Core.Bool.{_&&_};
 ghost use lib.Dec.{leb, ltb, eqb};
 ghost use Rattle.layout.specs.Rooms.{blocksRoom, rowsRoom, startsRoom, syndromeRoom};
 use layout::BLOCK;
+use layout::BLOCKS;
+use layout::ROWS;
+use layout::STARTS;
+use layout::SYNDROME;
 use layout::Shape;
+use layout::TABLE;
 use planes::add;
 use planes::all;
 use planes::spread;
@@ -39,19 +44,28 @@ fn note(h: &[u16], at: usize, m: usize, row: usize, starts: &mut [u16], n: usize
     }
 }
 
+// The starts of block b at its two places of row r, behind n others, and how many there are then.
+fn note_row(h: &[u16], sh: Shape, b: usize, r: usize, starts: &mut [u16], n: usize) -> usize
+    requires { ⌜ Fit (now h) sh × (b < sh .blocks) × (r < sh .rows) × (length (now starts) ≡ startsRoom) × (n + 1 < startsRoom) ⌝ }
+    ensures { λ k. ⌜ (n ≤ k) × (k ≤ n + 2) × ((e : ℕ) → e < n → getD (now (starts .exit)) e 0 ≡ getD (now (starts .entry)) e 0)
+        × ((first : ℕ) → first ≤ n → Listed (now (starts .entry)) first (n - first) (3072 + sh .size) (asked (now (h .entry)) sh b r)
+        → Listed (now (starts .exit)) first (k - first) (3072 + sh .size) (asked (now (h .entry)) sh b (r + 1))) ⌝ }
+{
+    let at = 2 * (r * sh.blocks + b);
+    let next = note(h, at, sh.size, 1024 * r, starts, n);
+    note(h, at + 1, sh.size, 1024 * r, starts, next)
+}
+
 // The starts of block b at its eight places, and how many they are.
 fn gather(h: &[u16], sh: Shape, b: usize, starts: &mut [u16]) -> usize
     requires { ⌜ Fit (now h) sh × (b < sh .blocks) × (length (now starts) ≡ startsRoom) ⌝ }
     ensures { λ r. ⌜ (r ≤ 8) × Starts (now (h .entry)) sh b (now (starts .exit)) r
         × ((e : ℕ) → e < 8 * b → getD (now (starts .exit)) e 0 ≡ getD (now (starts .entry)) e 0) ⌝ }
 {
-    let m = sh.size;
     let mut n = 8 * b;
     let mut r: usize = 0;
     while r < sh.rows {
-        let at = 2 * (r * sh.blocks + b);
-        n = note(h, at, m, 1024 * r, starts, n);
-        n = note(h, at + 1, m, 1024 * r, starts, n);
+        n = note_row(h, sh, b, r, starts, n);
         r += 1;
     }
     n - 8 * b
@@ -109,9 +123,8 @@ fn double_row(z: &[u64], at: usize, words: usize, m: usize, v: &mut [u64], d: &m
 }
 
 // Every row of the syndrome twice over.
-fn double_rows(z: &[u64], sh: Shape, v: &mut [u64], d: &mut [u64])
-    requires { ⌜ (1 ≤ sh .size) × (sh .size ≤ 64 * sh .words) × (sh .words ≤ 8) × (sh .rows ≤ 4) × (sh .rows * sh .words ≤ 16)
-        × (length (now z) ≡ syndromeRoom) × (length (now v) ≡ 8) × (length (now d) ≡ rowsRoom) ⌝ }
+fn double_rows(z: &[u64; SYNDROME], sh: Shape, v: &mut [u64; BLOCK], d: &mut [u64; ROWS])
+    requires { ⌜ (1 ≤ sh .size) × (sh .size ≤ 64 * sh .words) × (sh .words ≤ 8) × (sh .rows ≤ 4) × (sh .rows * sh .words ≤ 16) ⌝ }
     ensures { λ r. ⌜ Twice sh (sh .rows) (wbit (now (z .entry))) (wbit (now (d .exit))) ⌝ }
 {
     let words = sh.words;
@@ -124,11 +137,18 @@ fn double_rows(z: &[u64], sh: Shape, v: &mut [u64], d: &mut [u64])
 }
 
 // The doubled rows of the syndrome z, and the starts of every block. The bounds begin with no met check.
-pub fn begin(z: &[u64], h: &[u16], sh: Shape, d: &mut [u64], starts: &mut [u16], counts: &mut [u8])
-    requires { ⌜ Fit (now h) sh × (length (now z) ≡ syndromeRoom) × (length (now d) ≡ rowsRoom) × (length (now starts) ≡ startsRoom)
-        × (length (now counts) ≡ blocksRoom) ⌝ }
+pub fn begin(
+    z: &[u64; SYNDROME],
+    h: &[u16; TABLE],
+    sh: Shape,
+    d: &mut [u64; ROWS],
+    starts: &mut [u16; STARTS],
+    counts: &mut [u8; BLOCKS],
+)
+    requires { ⌜ Fit (now h) sh ⌝ }
     ensures { λ r. ⌜ Twice sh (sh .rows) (wbit (now (z .entry))) (wbit (now (d .exit)))
-        × Gathered (now (h .entry)) sh (now (starts .exit)) (now (counts .exit)) (sh .blocks) ⌝ }
+        × Gathered (now (h .entry)) sh (now (starts .exit)) (now (counts .exit)) (sh .blocks)
+        × (length (now (starts .exit)) ≡ startsRoom) × (length (now (counts .exit)) ≡ blocksRoom) ⌝ }
 {
     let mut v = [0u64; BLOCK];
     double_rows(z, sh, &mut v, d);
@@ -282,8 +302,15 @@ fn raise(met: &mut [u8], by: u8)
 }
 
 // Flips the checks of a bit and raises the bounds; the bit has as many met checks as the bound of its block says.
-pub fn flip(d: &mut [u64], starts: &[u16], counts: &[u8], met: &mut [u8], sh: Shape, bit: usize)
-    requires { ⌜ Ready sh (now starts) (now counts) (now met) × (length (now d) ≡ rowsRoom) × (bit < sh .blocks * sh .size) ⌝ }
+pub fn flip(
+    d: &mut [u64; ROWS],
+    starts: &[u16; STARTS],
+    counts: &[u8; BLOCKS],
+    met: &mut [u8; BLOCKS],
+    sh: Shape,
+    bit: usize,
+)
+    requires { ⌜ Ready sh (now starts) (now counts) (now met) × (bit < sh .blocks * sh .size) ⌝ }
     ensures { λ r. ⌜ Ready sh (now (starts .entry)) (now (counts .entry)) (now (met .exit))
         × ((c : Code) (h : List ℕ) (from : ℕ) (x : Word) → Lent c h sh
         → Gathered h sh (now (starts .entry)) (now (counts .entry)) (sh .blocks)

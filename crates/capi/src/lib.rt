@@ -7,8 +7,8 @@ ghost use Rattle.answers.specs.Lists.{listAnswer};
 ghost use Rattle.lists.specs.Answers.{asEntries, asListed};
 ghost use Rattle.samples.specs.Answers.{samplesAnswer};
 ghost use Rattle.codes.specs.Answers.{asEncoded, asChecked, asCorrected, asStepped};
-ghost use Rattle.units.specs.Units.{unitOctets, writeAnswer, readerAnswer, readAnswer};
-ghost use Rattle.units.specs.Answers.{asReading, asHanded};
+ghost use Rattle.unitrules.specs.Units.{unitOctets, writeAnswer, readerAnswer, readAnswer};
+ghost use Rattle.readings.specs.Answers.{asReading, asHanded};
 ghost use Rattle.bch.specs.Bch.{bchEncodeAnswer, bchCheckAnswer};
 ghost use Rattle.bch.specs.Answers.{asEncoded as asBchEncoded, asMended};
 use bch::Mended;
@@ -19,20 +19,21 @@ ghost use Rattle.nearest.specs.Answers.{asReached};
 ghost use Rattle.taker.specs.Taking.{newTaker, takerForAnswer, takeAnswer};
 ghost use Rattle.taker.specs.Answers.{asTaker, asMade, asTaken};
 ghost use Rattle.blocks.specs.Blocks.{exportAnswer, exportRoom, importAnswer, importRoom};
-ghost use Rattle.blocks.specs.Answers.{asExported, asImported};
-use blocks::Imported;
+ghost use Rattle.importing.specs.Answers.{asImported};
+ghost use Rattle.exporting.specs.Answers.{asExported};
 use codes::Checked;
 use codes::Corrected;
 use codes::Stepped;
+use importing::Imported;
 use lists::FlipRecord;
 use lists::Listed;
 use nearest::Reached;
 use quick::Answered;
+use readings::Handed;
+use readings::Reading;
 use taker::Made;
 use taker::Taken;
 use taker::Taker;
-use units::Handed;
-use units::Reading;
 
 // The octets of a word; 0 for a code that is not offered.
 #[no_mangle]
@@ -164,14 +165,14 @@ pub extern "C" fn pandoricchia_write_unit(code: u8, information: &[u8], out: &mu
 pub extern "C" fn pandoricchia_reader(code: u8, unit: &[u8], limit: u16) -> Reading
     ensures { λ r. ⌜ asReading r ≡ readerAnswer code (now (unit .entry)) limit ⌝ }
 {
-    units::reader(code, unit, limit)
+    readings::reader(code, unit, limit)
 }
 
 #[no_mangle]
 pub extern "C" fn pandoricchia_read(state: Reading, unit: &[u8], out: &mut [u8]) -> Handed
     ensures { λ r. ⌜ asHanded r (now (out .exit)) ≡ readAnswer (asReading state) (now (unit .entry)) (now (out .entry)) ⌝ }
 {
-    units::read(state, unit, out)
+    readings::read(state, unit, out)
 }
 
 #[no_mangle]
@@ -192,28 +193,28 @@ pub extern "C" fn pandoricchia_bch_check(detect_only: bool, word: &[u8], out: &m
 pub extern "C" fn pandoricchia_import_blocks(blocks: &[u8], out: &mut [u8]) -> Imported
     ensures { λ r. ⌜ asImported r (now (out .exit)) ≡ importAnswer (now (blocks .entry)) (now (out .entry)) ⌝ }
 {
-    blocks::import_blocks(blocks, out)
+    importing::import_blocks(blocks, out)
 }
 
 #[no_mangle]
 pub extern "C" fn pandoricchia_imported_octets(blocks: &[u8]) -> usize
     ensures { λ r. ⌜ r ≡ importRoom (now (blocks .entry)) ⌝ }
 {
-    blocks::imported_octets(blocks)
+    importing::imported_octets(blocks)
 }
 
 #[no_mangle]
 pub extern "C" fn pandoricchia_export_blocks(octets: &[u8], out: &mut [u8]) -> u8
     ensures { λ r. ⌜ asExported r (now (out .exit)) ≡ exportAnswer (now (octets .entry)) (now (out .entry)) ⌝ }
 {
-    blocks::export_blocks(octets, out)
+    exporting::export_blocks(octets, out)
 }
 
 #[no_mangle]
 pub extern "C" fn pandoricchia_exported_octets(octets_len: usize) -> usize
     ensures { λ r. ⌜ r ≡ exportRoom «octets_len» ⌝ }
 {
-    blocks::exported_octets(octets_len)
+    exporting::exported_octets(octets_len)
 }
 
 #[no_mangle]

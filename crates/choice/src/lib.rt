@@ -9,6 +9,9 @@ ghost use Rattle.bounds.specs.Reading.{light};
 ghost use Rattle.bounds.specs.Keeping.{bound, Ready};
 ghost use Rattle.choice.specs.Searching.{highest, beginIn, Lowered, Looked, Found, Sought};
 ghost use Rattle.layout.specs.Rooms.{rowsRoom, startsRoom};
+use layout::BLOCKS;
+use layout::ROWS;
+use layout::STARTS;
 use layout::Shape;
 
 // A bit, and its score.
@@ -108,18 +111,36 @@ fn begin_in(b: usize, from: usize) -> usize
     0
 }
 
+// The first bit of block b that counts and has at most as many of its checks met as the block's bound says; M if there is none.
+fn first_met(
+    d: &[u64; ROWS],
+    starts: &[u16; STARTS],
+    counts: &[u8; BLOCKS],
+    met: &[u8; BLOCKS],
+    sh: Shape,
+    from: usize,
+    b: usize,
+) -> usize
+    requires { ⌜ Ready sh (now starts) (now counts) (now met) × (b < sh .blocks) ⌝ }
+    ensures { λ r. ⌜ r ≡ least (sh .size) (light (wbit (now (d .entry))) (now (starts .entry)) (8 * b) (getD (now (counts .entry)) b 0)
+        (getD (now (met .entry)) b 0) (beginIn b from) (sh .size)) ⌝ }
+{
+    let n = counts[b] as usize;
+    first_light(d, starts, b, n, met[b] as usize, begin_in(b, from), sh)
+}
+
 // The first bit of block b of score `top`, where its bound is not greater; M if there is none. If the bound was `top`, it goes down then.
 fn look(
-    d: &[u64],
-    starts: &[u16],
-    counts: &[u8],
-    met: &mut [u8],
+    d: &[u64; ROWS],
+    starts: &[u16; STARTS],
+    counts: &[u8; BLOCKS],
+    met: &mut [u8; BLOCKS],
     sh: Shape,
     from: usize,
     b: usize,
     top: u8,
 ) -> usize
-    requires { ⌜ Ready sh (now starts) (now counts) (now met) × (length (now d) ≡ rowsRoom) × (from < sh .size) × (b < sh .blocks)
+    requires { ⌜ Ready sh (now starts) (now counts) (now met) × (from < sh .size) × (b < sh .blocks)
         × (bound (now counts) (now met) b ≤ top) ⌝ }
     ensures { λ r. ⌜ Looked sh from (wbit (now (d .entry))) (now (starts .entry)) (now (counts .entry)) b top r (now (met .entry))
         (now (met .exit)) ⌝ }
@@ -127,8 +148,7 @@ fn look(
     if bound_of(counts, met, b) != top {
         return sh.size;
     }
-    let n = counts[b] as usize;
-    let k = first_light(d, starts, b, n, met[b] as usize, begin_in(b, from), sh);
+    let k = first_met(d, starts, counts, met, sh, from, b);
     if k < sh.size {
         return k;
     }
@@ -138,15 +158,15 @@ fn look(
 
 // The first bit of score `top` from bit `from` on, where no bound is greater; the number of bits if there is none.
 fn first_at(
-    d: &[u64],
-    starts: &[u16],
-    counts: &[u8],
-    met: &mut [u8],
+    d: &[u64; ROWS],
+    starts: &[u16; STARTS],
+    counts: &[u8; BLOCKS],
+    met: &mut [u8; BLOCKS],
     sh: Shape,
     from: usize,
     top: u8,
 ) -> usize
-    requires { ⌜ Ready sh (now starts) (now counts) (now met) × (length (now d) ≡ rowsRoom) × (from < sh .size)
+    requires { ⌜ Ready sh (now starts) (now counts) (now met) × (from < sh .size)
         × ((b : ℕ) → b < sh .blocks → bound (now counts) (now met) b ≤ top) ⌝ }
     ensures { λ r. ⌜ Sought sh from (wbit (now (d .entry))) (now (starts .entry)) (now (counts .entry)) (now (met .entry)) top r
         (now (met .exit)) ⌝ }
@@ -164,14 +184,14 @@ fn first_at(
 
 // The bit of the greatest score from bit `from` on; of several, the lowest number.
 pub fn choose(
-    d: &[u64],
-    starts: &[u16],
-    counts: &[u8],
-    met: &mut [u8],
+    d: &[u64; ROWS],
+    starts: &[u16; STARTS],
+    counts: &[u8; BLOCKS],
+    met: &mut [u8; BLOCKS],
     sh: Shape,
     from: usize,
 ) -> Best
-    requires { ⌜ Ready sh (now starts) (now counts) (now met) × (length (now d) ≡ rowsRoom) × (1 ≤ sh .blocks) × (from < sh .size) ⌝ }
+    requires { ⌜ Ready sh (now starts) (now counts) (now met) × (1 ≤ sh .blocks) × (from < sh .size) ⌝ }
     ensures { λ r. ⌜ Lowered sh from (wbit (now (d .entry))) (now (starts .entry)) (now (counts .entry)) (now (met .entry))
         (now (met .exit)) × Found sh from (wbit (now (d .entry))) (now (starts .entry)) (now (counts .entry)) (now (met .entry)) (r .score)
         (r .bit) (now (met .exit)) ⌝ }

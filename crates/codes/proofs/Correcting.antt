@@ -11,8 +11,8 @@ use Rattle.bits.specs.Bits.{Word, bit, if_then_else_}
 use Rattle.rules.specs.Codes.{Code, code, bits}
 use Rattle.rules.specs.Checks.{broken, lowest}
 use Rattle.rules.specs.Encoding.{lifted, written}
-use Rattle.rules.specs.Flipping.{Next as NextOf, byExcess, run}
-use Rattle.answers.specs.Calls.{Corrected, differing, judged, ranCorrect, nextStep, ranFrom, steppedFrom}
+use Rattle.rules.specs.Flipping.{byExcess, run}
+use Rattle.answers.specs.Calls.{Corrected, differing, judged, ranCorrect, ranFrom}
 use Rattle.rules.proofs.Ways.{run-met}
 use Rattle.rules.proofs.Choosing.{by-excess}
 use Rattle.rules.proofs.Codewords.{lifted-unsent}
@@ -22,10 +22,11 @@ use Rattle.answers.proofs.Unlike.{run-near}
 use Rattle.layout.specs.declared.Shape.{Shape}
 use Rattle.layout.specs.Lent.{Fit, Lent, laid}
 use Rattle.measured.specs.Measured.{Measured}
-use Rattle.runs.specs.declared.Ran.{Ran}
 use Rattle.runs.specs.declared.Next.{Next}
-use Rattle.runs.specs.Passes.{Holding, Begins, Beginning, RunsTo, comesNext}
-use Rattle.codes.specs.Ends.{EndsAt}
+use Rattle.runs.specs.declared.Next.the-variants.{Quiet, Stuck, Flip}
+use Rattle.runs.specs.Passes.{Holding, Begins, Beginning, RunsTo, Within}
+use Rattle.codes.specs.declared.Course.{Course}
+use Rattle.codes.specs.Ends.{EndsAt, runOn, RunEnds}
 
 -- correct's numbers and the output, one by one
 abbrev numbers : ℕ → ℕ → ℕ → ℕ → ℕ → ℕ → List ℕ → Corrected
@@ -72,56 +73,51 @@ module _ (n : ℕ) (word h : List ℕ) (y z : Word) (sh : Shape) (m : Measured n
     pub beginning : (from : ℕ) → code n .unsent ≡ from → Beginning h sh from first y z
     beginning from e = record { code = code n; begins = begins from e }
 
-  module _ (limit : ℕ) (ran : Ran) (y′ z′ : Word) (to : RunsTo (byExcess (code n)) (code n) sh limit y ran y′ z′) where
-    same-run : run (byExcess (code n)) limit y ≡ run (byExcess (code n)) limit (lifted (code n) (bit word))
-    same-run = ap (run (byExcess (code n)) limit) (m .bits)
+  pub run-ends : (limit : ℕ) (r : Course) (y′ z′ : Word) → RunsTo (byExcess (code n)) (code n) sh limit y (r .ended .ran) y′ z′
+      → ((c : Code) (h : List ℕ) (sh : Shape) (x : Word) → Fit h sh → Lent c h sh → z ≡ laid c sh x → r .first ≡ broken c x)
+      → r .ended .last ≡ broken (code n) y′
+      → ((c : Code) (h : List ℕ) (x : Word) → Fit h sh → Lent c h sh → z ≡ laid c sh x → r .lowest ≡ lowest c x)
+      → RunEnds n word limit r y′
+  run-ends limit r y′ z′ to at-first at-last at-lowest =
+      let same = ap (run (byExcess (code n)) limit) (m .bits) in
+      record {
+        number = to .number ∙ ap (λ r. r .number) same;
+        flips = to .flips ∙ ap (λ r. length (r .flips)) same;
+        word-is = to .word ∙ ap (λ r. r .word) same;
+        first = at-first (code n) h sh y (m .lends .fit) (m .lends .lent) (m .held) ∙ ap (broken (code n)) (m .bits);
+        last = at-last;
+        lowest = at-lowest (code n) h y (m .lends .fit) (m .lends .lent) (m .held) ∙ ap (lowest (code n)) (m .bits);
+      }
 
-    pub ran-number : run (byExcess (code n)) limit (lifted (code n) (bit word)) .number ≡ ran .number
-    ran-number = sym (to .number ∙ ap (λ r. r .number) same-run)
+module _ (n : ℕ) (word : List ℕ) (limit : ℕ) (r : Course) (y : Word) (e : RunEnds n word limit r y) where
+  pub ran-met : code n .unsent < bits (code n) → r .ended .ran .number ≡ 0 → broken (code n) y ≡ 0
+  ran-met some z = ap (broken (code n)) (e .word-is)
+      ∙ run-met (by-excess (code n) some) limit (lifted (code n) (bit word)) (sym (e .number) ∙ z)
 
-    pub ran-word : run (byExcess (code n)) limit (lifted (code n) (bit word)) .word ≡ y′
-    ran-word = sym (to .word ∙ ap (λ r. r .word) same-run)
+  -- no bit that is not sent is set
+  pub ran-unsent : code n .unsent < bits (code n) → (k : ℕ) → k < code n .unsent → y k ≡ false
+  ran-unsent some k h =
+      ap (λ w. w k) (e .word-is)
+      ∙ unsent-stay (code n) (by-excess (code n) some) limit (lifted (code n) (bit word)) (lifted-unsent (code n) (bit word)) k h
 
-    pub ran-met : code n .unsent < bits (code n) → ran .number ≡ 0 → broken (code n) y′ ≡ 0
-    ran-met some e = ap (broken (code n)) (sym ran-word) ∙ run-met (by-excess (code n) some) limit (lifted (code n) (bit word)) (ran-number
-        ∙ e)
+  pub ran-ends : code n .unsent < bits (code n) → EndsAt (code n) (bit word) y (r .ended .ran .flips)
+  ran-ends some = ends-at (code n) some (bit word) y limit (r .ended .ran .flips) (e .word-is) (e .flips)
 
-    -- no bit that is not sent is set
-    pub ran-unsent : code n .unsent < bits (code n) → (k : ℕ) → k < code n .unsent → y′ k ≡ false
-    ran-unsent some k h =
-        ap (λ w. w k) (sym ran-word)
-        ∙ unsent-stay (code n) (by-excess (code n) some) limit (lifted (code n) (bit word)) (lifted-unsent (code n) (bit word)) k h
+  module _ (number unlike : ℕ) (judge : number ≡ judged (code n) (runOn n word limit))
+      (differs : unlike ≡ differing (code n) (lifted (code n) (bit word)) y) (out out′ : List ℕ)
+      (wrote : out′ ≡ (if eqb number 0 then written (code n) y else out)) where
+    pub corrected-is : numbers number (r .ended .ran .flips) (r .first) (r .ended .last) unlike (r .lowest) out′ ≡ ranFrom n word limit out
+    unfolding ranCorrect
+    corrected-is =
+        numbers-same judge (e .flips) (e .first) (e .last ∙ ap (broken (code n)) (e .word-is))
+        (differs ∙ ap (differing (code n) (lifted (code n) (bit word))) (e .word-is)) (e .lowest)
+        (wrote ∙ ap₂ (λ k w. if eqb k 0 then written (code n) w else out) judge (e .word-is))
 
-    pub ran-ends : code n .unsent < bits (code n) → EndsAt (code n) (bit word) y′ (ran .flips)
-    ran-ends some = ends-at (code n) some (bit word) y′ limit (ran .flips) (sym ran-word) (to .flips ∙ ap (λ r. length (r .flips)) same-run)
-
-    module _ (first last number unlike low : ℕ)
-        (at-first : (c : Code) (h : List ℕ) (sh : Shape) (x : Word) → Fit h sh → Lent c h sh → z ≡ laid c sh x → first ≡ broken c x)
-        (at-last : last ≡ broken (code n) y′)
-        (at-lowest : (c : Code) (h : List ℕ) (x : Word) → Fit h sh → Lent c h sh → z ≡ laid c sh x → low ≡ lowest c x)
-        (judge : number ≡ judged (code n) (run (byExcess (code n)) limit (lifted (code n) (bit word))))
-        (differs : unlike ≡ differing (code n) (lifted (code n) (bit word)) y′) (out out′ : List ℕ)
-        (wrote : out′ ≡ (if eqb number 0 then written (code n) y′ else out)) where
-      pub corrected-is : numbers number (ran .flips) first last unlike low out′ ≡ ranFrom n word limit out
-      unfolding ranCorrect
-      corrected-is =
-          numbers-same judge (to .flips ∙ ap (λ r. length (r .flips)) same-run)
-          (at-first (code n) h sh y (m .lends .fit) (m .lends .lent) (m .held) ∙ ap (broken (code n)) (m .bits))
-          (at-last ∙ ap (broken (code n)) (sym ran-word))
-          (differs ∙ ap (differing (code n) (lifted (code n) (bit word))) (sym ran-word))
-          (at-lowest (code n) h y (m .lends .fit) (m .lends .lent) (m .held) ∙ ap (lowest (code n)) (m .bits))
-          (wrote ∙ ap₂ (λ k w. if eqb k 0 then written (code n) w else out) judge (sym ran-word))
-
-  -- ---- step
-
-  module _ (out : List ℕ) (coming : Next) (nx : NextOf) (from : ℕ) (from-is : code n .unsent ≡ from)
-      (next : (c : Code) → Lent c h sh → c .unsent ≡ from → (x : Word) → z ≡ laid c sh x → byExcess c x ≡ comesNext coming)
-      (is : comesNext coming ≡ nx) where
-    comes : byExcess (code n) (lifted (code n) (bit word)) ≡ nx
-    comes = ap (byExcess (code n)) (sym (m .bits)) ∙ next (code n) (m .lends .lent) from-is y (m .held) ∙ is
-
-    pub stepped-is : nextStep (code n) word (lifted (code n) (bit word)) out nx ≡ steppedFrom n word out
-    stepped-is = ap (nextStep (code n) word (lifted (code n) (bit word)) out) (sym comes)
+-- a bit that is named is one of a word
+pub within-bits : (few : ℕ) (next : Next) → few ≤ 8176 → Within few next → Within 8176 next
+within-bits few Quiet l w = tt
+within-bits few (Stuck n e) l w = omega (arith, l, w)
+within-bits few (Flip n e) l w = omega (arith, l, w)
 
 -- the output of a run that was taken, and of one that was refused
 pub wrote-word : (number : ℕ) (w out out′ : List ℕ) → number ≡ 0 → out′ ≡ w → out′ ≡ (if eqb number 0 then w else out)

@@ -1,14 +1,32 @@
 -- What is known of the word at the end of a run.
 use mathlib.Core.Path.{_≡_}
 use mathlib.Core.Bool.{false}
+use mathlib.Core.List.{List}
 use Prim.Native.Nat.{ℕ, _+_, _%_, _≤_, _<_}
-use Rattle.bits.specs.Bits.{Word}
-use Rattle.rules.specs.Codes.{Code}
+use lib.ListN.{length}
+use Rattle.bits.specs.Bits.{Word, bit}
+use Rattle.rules.specs.Codes.{Code, code}
+use Rattle.rules.specs.Checks.{broken, lowest}
 use Rattle.rules.specs.Encoding.{lifted}
+use Rattle.rules.specs.Flipping.{Run, byExcess, run}
 use Rattle.answers.specs.Calls.{differing}
+use Rattle.codes.specs.declared.Course.{Course}
 
 -- It differs from the received word in no more bits than flips were made, both even or both odd; and no unsent bit is set.
 pub record EndsAt (c : Code) (received end : Word) (flips : ℕ) : Type 0 where
   pub within : differing c (lifted c received) end ≤ flips
   pub even : (differing c (lifted c received) end + flips) % 2 ≡ 0
   pub unsent : (i : ℕ) → i < c .unsent → end i ≡ false
+
+-- The run on a received word.
+abbrev pub runOn : ℕ → List ℕ → ℕ → Run
+runOn n word limit = run (byExcess (code n)) limit (lifted (code n) (bit word))
+
+-- It has ended with the word y, and these are its numbers.
+pub record RunEnds (n : ℕ) (word : List ℕ) (limit : ℕ) (r : Course) (y : Word) : Type 0 where
+  pub number : r .ended .ran .number ≡ runOn n word limit .number
+  pub flips : r .ended .ran .flips ≡ length (runOn n word limit .flips)
+  pub word-is : y ≡ runOn n word limit .word
+  pub first : r .first ≡ broken (code n) (lifted (code n) (bit word))
+  pub last : r .ended .last ≡ broken (code n) y
+  pub lowest : r .lowest ≡ lowest (code n) (lifted (code n) (bit word))

@@ -2,23 +2,26 @@
 ghost use mathlib.Core.Path.{_≡_};
 ghost use mathlib.Core.Bool.{true, false};
 ghost use mathlib.Core.List.{List};
-ghost use Prim.Native.Nat.{ℕ};
+ghost use Prim.Native.Nat.{ℕ, _<_};
+ghost use lib.Dec.{eqb};
 ghost use lib.ListN.{length};
-ghost use Rattle.bits.specs.Bits.{bit};
+ghost use Rattle.bits.specs.Bits.{bit, flipped, if_then_else_};
 ghost use Rattle.rules.specs.Codes.{code as codeOf, offered};
 ghost use Rattle.rules.specs.Checks.{lowest};
-ghost use Rattle.rules.specs.Encoding.{lifted};
-ghost use Rattle.answers.specs.Calls.{differing, sixSet, fault, ranFrom, steppedFrom, refusedCheck, refusedCorrect, refusedStep};
+ghost use Rattle.rules.specs.Encoding.{lifted, written};
+ghost use Rattle.rules.specs.Flipping.{byExcess};
+ghost use Rattle.answers.specs.Calls.{differing, sixSet, fault, ranFrom, steppedFrom, nextStep, refusedCheck, refusedCorrect, refusedStep};
 ghost use Rattle.answers.specs.Calls.{encodeAnswer, checkAnswer, openAnswer, correctAnswer, stepAnswer};
 ghost use Rattle.offer.specs.Offers.{offerOf, Known};
 ghost use Rattle.vectors.specs.Vectors.{wbit};
-ghost use Rattle.codes.specs.Ends.{EndsAt};
+ghost use Rattle.runs.specs.Passes.{Within, comesNext};
+ghost use Rattle.codes.specs.Ends.{EndsAt, RunEnds};
 ghost use Rattle.codes.specs.Answers.{asEncoded, asChecked, asOpened, asCorrected, asStepped};
-ghost use Rattle.layout.specs.Rooms.{wordRoom};
 use layout::SYNDROME;
 use layout::TABLE;
 use layout::WORD;
 use offer::Offer;
+use runs::Ended;
 use runs::Next;
 
 #[repr(C)]
@@ -49,6 +52,13 @@ pub struct Stepped {
 // What is wrong with a word, by number, and its lowest broken check.
 struct Found {
     number: u8,
+    lowest: u32,
+}
+
+// A run on a received word: its end, and how many checks are broken at its start and which is the lowest of them.
+struct Course {
+    ended: Ended,
+    first: u32,
     lowest: u32,
 }
 
@@ -178,8 +188,8 @@ pub fn open<'a>(code: u8, word: &'a [u8], number: &mut u8, lowest: &mut u32) -> 
 }
 
 // In how many bits the word at the end of a run differs from the received one: no flip leaves it, and one flips one bit.
-pub fn unlike_after(o: Offer, word: &[u8], y: &[u64], flips: u32) -> u32
-    requires { ⌜ Known o × (length (now word) ≡ o .word) × (length (now y) ≡ wordRoom) ⌝ }
+pub fn unlike_after(o: Offer, word: &[u8], y: &[u64; WORD], flips: u32) -> u32
+    requires { ⌜ Known o × (length (now word) ≡ o .word) ⌝ }
     ensures { λ r. ⌜ ((n : ℕ) → offered n ≡ true → o ≡ offerOf n → EndsAt (codeOf n) (bit (now (word .entry))) (wbit (now (y .entry))) flips
         → r ≡ differing (codeOf n) (lifted (codeOf n) (bit (now (word .entry)))) (wbit (now (y .entry)))) ⌝ }
 {
@@ -187,6 +197,61 @@ pub fn unlike_after(o: Offer, word: &[u8], y: &[u64], flips: u32) -> u32
         return flips;
     }
     unlike::unlike(word, y, o.unsent, o.bits - o.unsent) as u32
+}
+
+// The flipping run on a word of the right length; h, y and z are handed over as zeros, and y comes back as the word at its end.
+fn run_taken(
+    o: Offer,
+    word: &[u8],
+    limit: u16,
+    h: &mut [u16; TABLE],
+    y: &mut [u64; WORD],
+    z: &mut [u64; SYNDROME],
+) -> Course
+    requires { ⌜ Known o × (length (now word) ≡ o .word) × (wbit (now y) ≡ (λ n. false)) × (wbit (now z) ≡ (λ n. false)) ⌝ }
+    ensures { λ r. ⌜ ((n : ℕ) → offered n ≡ true → o ≡ offerOf n → RunEnds n (now (word .entry)) limit r (wbit (now (y .exit)))) ⌝ }
+{
+    let sh = measured::measure(o, word, h, y, z);
+    let first = syndromes::broken(z);
+    let lowest = syndromes::lowest(z, sh);
+    let ended = runs::run(y, z, h, sh, o.unsent, limit, first);
+    Course {
+        ended: ended,
+        first: first,
+        lowest: lowest,
+    }
+}
+
+// The word y into an output of the right length, if its number says that it is taken.
+fn write_taken(o: Offer, number: u8, y: &mut [u64; WORD], out: &mut [u8])
+    requires { ⌜ Known o × (length (now out) ≡ o .word) ⌝ }
+    ensures { λ _. ⌜ ((n : ℕ) → offered n ≡ true → o ≡ offerOf n
+        → now (out .exit) ≡ (if eqb number 0 then written (codeOf n) (wbit (now (y .entry))) else now (out .entry))) ⌝ }
+{
+    if number == 0 {
+        received::write(y, o.unsent, o.bits, out);
+    }
+}
+
+// What correct gives of a run that has ended with the word y: its numbers, and the word where it is taken.
+fn finish(o: Offer, word: &[u8], y: &mut [u64; WORD], run: Course, out: &mut [u8]) -> Corrected
+    requires { ⌜ Known o × (length (now word) ≡ o .word) × (length (now out) ≡ o .word) ⌝ }
+    ensures { λ r. ⌜ ((n limit : ℕ) → offered n ≡ true → o ≡ offerOf n → RunEnds n (now (word .entry)) limit run (wbit (now (y .entry)))
+        → asCorrected r (now (out .exit)) ≡ ranFrom n (now (word .entry)) limit (now (out .entry))) ⌝ }
+{
+    let ended = run.ended;
+    let ran = ended.ran;
+    let unlike = unlike_after(o, word, y, ran.flips);
+    let number = judging::judge(o, y, ran.number);
+    write_taken(o, number, y, out);
+    Corrected {
+        number: number,
+        flips: ran.flips,
+        first: run.first,
+        last: ended.last,
+        unlike: unlike,
+        lowest: run.lowest,
+    }
 }
 
 // The flipping run on a word of the right length, into an output of the right length.
@@ -198,24 +263,8 @@ fn correct_taken(o: Offer, word: &[u8], limit: u16, out: &mut [u8]) -> Corrected
     let mut h = [0u16; TABLE];
     let mut y = [0u64; WORD];
     let mut z = [0u64; SYNDROME];
-    let sh = measured::measure(o, word, &mut h, &mut y, &mut z);
-    let first = syndromes::broken(&z);
-    let lowest = syndromes::lowest(&z, sh);
-    let ended = runs::run(&mut y, &z, &h, sh, o.unsent, limit, first);
-    let ran = ended.ran;
-    let unlike = unlike_after(o, word, &y, ran.flips);
-    let number = judging::judge(o, &y, ran.number);
-    if number == 0 {
-        received::write(&mut y, o.unsent, o.bits, out);
-    }
-    Corrected {
-        number: number,
-        flips: ran.flips,
-        first: first,
-        last: ended.last,
-        unlike: unlike,
-        lowest: lowest,
-    }
+    let run = run_taken(o, word, limit, &mut h, &mut y, &mut z);
+    finish(o, word, &mut y, run, out)
 }
 
 // The flipping run on a received word, under a limit.
@@ -230,17 +279,40 @@ pub fn correct(code: u8, word: &[u8], limit: u16, out: &mut [u8]) -> Corrected
     correct_taken(o, word, limit, out)
 }
 
-// One flip of the run on a word of the right length, into an output of the right length.
-fn step_taken(o: Offer, word: &[u8], out: &mut [u8]) -> Stepped
-    requires { ⌜ Known o × (length (now word) ≡ o .word) × (length (now out) ≡ o .word) ⌝ }
-    ensures { λ r. ⌜ ((n : ℕ) → offered n ≡ true → o ≡ offerOf n
-        → asStepped r (now (out .exit)) ≡ steppedFrom n (now (word .entry)) (now (out .entry))) ⌝ }
+// What comes next for a word of the right length; h, y and z are handed over as zeros, and y comes back as the word's bits.
+fn next_of(
+    o: Offer,
+    word: &[u8],
+    h: &mut [u16; TABLE],
+    y: &mut [u64; WORD],
+    z: &mut [u64; SYNDROME],
+) -> Next
+    requires { ⌜ Known o × (length (now word) ≡ o .word) × (wbit (now y) ≡ (λ n. false)) × (wbit (now z) ≡ (λ n. false)) ⌝ }
+    ensures { λ r. ⌜ Within 8176 r × ((n : ℕ) → offered n ≡ true → o ≡ offerOf n
+        → (wbit (now (y .exit)) ≡ lifted (codeOf n) (bit (now (word .entry))))
+        × (byExcess (codeOf n) (lifted (codeOf n) (bit (now (word .entry)))) ≡ comesNext r)) ⌝ }
 {
-    let mut h = [0u16; TABLE];
-    let mut y = [0u64; WORD];
-    let mut z = [0u64; SYNDROME];
-    let sh = measured::measure(o, word, &mut h, &mut y, &mut z);
-    let next = runs::comes_next(&z, &h, sh, o.unsent);
+    let sh = measured::measure(o, word, h, y, z);
+    runs::comes_next(z, h, sh, o.unsent)
+}
+
+// A word with one bit flipped, into an output of the right length.
+fn write_flipped(o: Offer, y: &mut [u64; WORD], bit: usize, out: &mut [u8])
+    requires { ⌜ Known o × (bit < 8176) × (length (now out) ≡ o .word) ⌝ }
+    ensures { λ _. ⌜ ((n : ℕ) → offered n ≡ true → o ≡ offerOf n
+        → now (out .exit) ≡ written (codeOf n) (flipped (wbit (now (y .entry))) bit)) ⌝ }
+{
+    vectors::flip_bit(y, bit);
+    received::write(y, o.unsent, o.bits, out);
+}
+
+// What step gives of a word y and what comes next for it.
+fn step_out(o: Offer, word: &[u8], next: Next, y: &mut [u64; WORD], out: &mut [u8]) -> Stepped
+    requires { ⌜ Known o × (length (now word) ≡ o .word) × (length (now out) ≡ o .word) × Within 8176 next ⌝ }
+    ensures { λ r. ⌜ ((n : ℕ) → offered n ≡ true → o ≡ offerOf n → wbit (now (y .entry)) ≡ lifted (codeOf n) (bit (now (word .entry)))
+        → asStepped r (now (out .exit)) ≡ nextStep (codeOf n) (now (word .entry)) (lifted (codeOf n) (bit (now (word .entry))))
+        (now (out .entry)) (comesNext next)) ⌝ }
+{
     match next {
         Next::Quiet => {
             received::copy(word, out);
@@ -253,16 +325,29 @@ fn step_taken(o: Offer, word: &[u8], out: &mut [u8]) -> Stepped
         }
         Next::Stuck(_, _) => refused_step(5),
         Next::Flip(bit, excess) => {
-            vectors::flip_bit(&mut y, bit);
-            received::write(&mut y, o.unsent, o.bits, out);
+            write_flipped(o, y, bit, out);
+            let place = bit as u32;
             Stepped {
                 number: 0,
                 quiet: false,
-                bit: bit as u32,
+                bit: place,
                 excess: excess,
             }
         }
     }
+}
+
+// One flip of the run on a word of the right length, into an output of the right length.
+fn step_taken(o: Offer, word: &[u8], out: &mut [u8]) -> Stepped
+    requires { ⌜ Known o × (length (now word) ≡ o .word) × (length (now out) ≡ o .word) ⌝ }
+    ensures { λ r. ⌜ ((n : ℕ) → offered n ≡ true → o ≡ offerOf n
+        → asStepped r (now (out .exit)) ≡ steppedFrom n (now (word .entry)) (now (out .entry))) ⌝ }
+{
+    let mut h = [0u16; TABLE];
+    let mut y = [0u64; WORD];
+    let mut z = [0u64; SYNDROME];
+    let next = next_of(o, word, &mut h, &mut y, &mut z);
+    step_out(o, word, next, &mut y, out)
 }
 
 // One flip of the run, with the bit's number and excess; or quiet, in which case the word is copied.

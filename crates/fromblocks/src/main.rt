@@ -47,7 +47,7 @@ fn least(a: usize, b: usize) -> usize
 
 // The octets of the blocks into an output of the right length, and out.
 fn convert(blocks: &[u8], out: &mut [u8]) {
-    let answer = blocks::import_blocks(blocks, out);
+    let answer = importing::import_blocks(blocks, out);
     if answer.number != 0 {
         refuse(answer.number, answer.block);
         return;
@@ -58,7 +58,7 @@ fn convert(blocks: &[u8], out: &mut [u8]) {
 }
 
 fn all(blocks: &[u8], out: &mut [u8]) {
-    let n = least(blocks::imported_octets(blocks), out.len());
+    let n = least(importing::imported_octets(blocks), out.len());
     convert(blocks, &mut out[..n]);
 }
 

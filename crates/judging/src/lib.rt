@@ -15,11 +15,13 @@ ghost use Rattle.offer.specs.Offers.{offerOf, Known};
 ghost use Rattle.layout.specs.declared.Shape.{Shape};
 ghost use Rattle.measured.specs.Measured.{Measured};
 ghost use Rattle.layout.specs.Rooms.{syndromeRoom, wordRoom};
+use layout::SYNDROME;
+use layout::WORD;
 use offer::Offer;
 
 // Whether one of n bits from bit `at` on is set.
-fn some_set(y: &[u64], at: usize, n: usize) -> bool
-    requires { ⌜ (length (now y) ≡ wordRoom) × (n ≤ 64) × (at / 64 + 1 < 130) ⌝ }
+fn some_set(y: &[u64; WORD], at: usize, n: usize) -> bool
+    requires { ⌜ (n ≤ 64) × (at / 64 + 1 < 130) ⌝ }
     ensures { λ r. ⌜ r ≡ ltb 0 (count n (from at (wbit (now (y .entry))))) ⌝ }
 {
     let mut v = [0u64; 1];
@@ -28,8 +30,8 @@ fn some_set(y: &[u64], at: usize, n: usize) -> bool
 }
 
 // The number of a run: after a quiet end 8 for parity unlike the encoder's. No run sets an unsent bit, so 7 is never given.
-pub fn judge(o: Offer, y: &[u64], number: u8) -> u8
-    requires { ⌜ Known o × (length (now y) ≡ wordRoom) ⌝ }
+pub fn judge(o: Offer, y: &[u64; WORD], number: u8) -> u8
+    requires { ⌜ Known o ⌝ }
     ensures { λ r. ⌜ ((n : ℕ) → offered n ≡ true → o ≡ offerOf n → (run : Run) → run .number ≡ number → run .word ≡ wbit (now (y .entry))
         → (number ≡ 0 → broken (codeOf n) (wbit (now (y .entry))) ≡ 0)
         → ((i : ℕ) → i < codeOf n .unsent → wbit (now (y .entry)) i ≡ false) → r ≡ judged (codeOf n) run) ⌝ }
@@ -44,8 +46,8 @@ pub fn judge(o: Offer, y: &[u64], number: u8) -> u8
 }
 
 // What is wrong with a measured word: a broken check, a bit set after the parity, or parity unlike the encoder's; 0 for a codeword.
-pub fn fault(o: Offer, y: &[u64], z: &[u64]) -> u8
-    requires { ⌜ Known o × (length (now y) ≡ wordRoom) × (length (now z) ≡ syndromeRoom) ⌝ }
+pub fn fault(o: Offer, y: &[u64; WORD], z: &[u64; SYNDROME]) -> u8
+    requires { ⌜ Known o ⌝ }
     ensures { λ r. ⌜ ((n : ℕ) → offered n ≡ true → o ≡ offerOf n → (word h : List ℕ) (sh : Shape) → length word ≡ codeOf n .wordOctets
         → Measured n word h (wbit (now (y .entry))) (wbit (now (z .entry))) sh → r ≡ faultOf n word) ⌝ }
 {

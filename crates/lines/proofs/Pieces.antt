@@ -10,7 +10,8 @@ use borrow.Author.Tests.{leb-true, leb-false}
 use lib.ListN.{length, take, drop, length-drop}
 use lib.Seq.{take-all, drop-append-le, take-append-le, drop-append-add}
 use Rattle.rules.specs.Codes.{code, code1, code2, code3, code4, code5, offered}
-use Rattle.lines.specs.Log.{lines, wordLine, word}
+use Rattle.line.specs.Line.{wordLine}
+use Rattle.lines.specs.Log.{lines, word}
 use Rattle.rules.proofs.Numbers.{five}
 use Rattle.offer.proofs.Offers.{is-offered}
 

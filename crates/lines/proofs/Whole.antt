@@ -2,16 +2,20 @@
 use mathlib.Core.Path.{_≡_, refl, sym, ap, ap₂, subst, _∙_}
 use mathlib.Core.Bool.{Bool, true, false, not, _||_}
 use mathlib.Core.List.{List, [], _∷_, _++_, append-nil, append-assoc}
-use Prim.Native.Nat.{ℕ, zero, suc, _+_, _-_, _*_, _/_, _%_, _≤_, _<_}
-use native.Mathlib.Nat.{zero-add, add-zero, add-assoc, div-add-mod', mul-add-div-right, div-eq-of-lt, add-mod, zero-mod}
+use Prim.Native.Nat.{ℕ, _+_, _-_, _*_, _/_, _%_, _^_, _≤_, _<_}
+use native.Mathlib.Nat.{zero-add, add-zero, add-assoc, div-add-mod', mul-add-div-right, div-eq-of-lt, div-le-self, add-mod, zero-mod}
 use native.Mathlib.Omega.{arith}
 use lib.Dec.{T, ltb}
-use lib.ListN.{length, drop, length-append, drop-of-length-le}
+use lib.ListN.{length, length-append, drop-of-length-le}
 use borrow.Author.Tests.{ltb-false, le-ltb, not-false}
 use Rattle.bits.specs.Bits.{if_then_else_}
 use Rattle.rules.specs.Codes.{code, offered}
 use Rattle.answers.specs.Calls.{refusedCorrect}
-use Rattle.lines.specs.Log.{header, line, lines, words, codeIn, limitIn, restIn, bad, body, log}
+use Rattle.line.specs.Line.{header, line}
+use Rattle.lines.specs.Log.{lines, words, codeIn, limitIn, bad, body, log}
+use Rattle.lines.specs.Parts.{Taken, sizeIn}
+use Rattle.lines.specs.Block.{counted, Numbered, Behind}
+use Rattle.lines.specs.declared.Block.{Block}
 use Rattle.lines.proofs.Pieces.{at-least, in-parts}
 
 neither : (a b : Bool) → a || b ≡ false → (a ≡ false) × (b ≡ false)
@@ -99,16 +103,27 @@ grows h before octets l e m =
     )
     ∙ sym (append-assoc header (body (h ++ before)) (lines n (limitIn h) j octets (words n octets)))
 
--- the same, as the code has it
-pub adds : (h octets text : List ℕ) (read size limit : ℕ) → length h ≡ 3 → bad h ≡ false → read % code (codeIn h) .wordOctets ≡ 0
-    → size ≡ code (codeIn h) .wordOctets → limit ≡ limitIn h → text ≡ lines (codeIn h) limit (read / size) octets (words (codeIn h) octets)
+-- each word of a block has an index
+pub numbered : (h octets : List ℕ) (read : ℕ) (b : Block) → Behind h read octets b → read + length octets < 2 ^ 64
+    → Numbered (b .code) (b .size) (b .index) octets
+numbered h octets read b e l =
+    (e .2 ∙ ap (λ n. code n .wordOctets) (sym (e .0)), e .3, omega (arith, e .4, div-le-self read (b .size)))
+
+-- what a block adds, as the code has it
+pub adds : (h octets text : List ℕ) (read : ℕ) (b : Block) → Taken h → read % sizeIn h ≡ 0 → Behind h read octets b
+    → text ≡ lines (b .code) (b .limit) (b .index) octets (b .count)
     → (before : List ℕ) → length before ≡ read → log (h ++ (before ++ octets)) ≡ log (h ++ before) ++ text
-adds h octets text read size limit l e m z f g before k =
+adds h octets text read b t m e g before k =
     let n = codeIn h in
-    let w = code n .wordOctets in
-    let i : length before / w ≡ read / size = ap₂ (λ x y. x / y) k (sym z) in
-    grows h before octets l e (ap (λ x. x % w) k ∙ m)
-    ∙ ap (λ (t : List ℕ). log (h ++ before) ++ t) (ap₂ (λ x y. lines n x y octets (words n octets)) (sym f) i ∙ sym g)
+    let w = sizeIn h in
+    let i : b .index ≡ length before / w = e .4 ∙ ap₂ (λ x y. x / y) (sym k) (e .2) in
+    let j : b .count ≡ words n octets = e .5 ∙ ap (λ y. counted y octets) (e .2) in
+    grows h before octets (t .0) (t .1) (ap (λ x. x % w) k ∙ m)
+    ∙ ap (λ (l : List ℕ). log (h ++ before) ++ l) (sym (
+    g
+    ∙ ap₂ (λ x y. lines x y (b .index) octets (b .count)) (e .0) (e .1)
+    ∙ ap₂ (λ x y. lines n (limitIn h) x octets y) i j
+    ))
 
 -- ---- block after block
 

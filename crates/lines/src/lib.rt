@@ -1,121 +1,23 @@
 // The log of a recording, in parts: what its head gives, and what each block of words adds.
 ghost use mathlib.Core.Path.{_≡_};
-ghost use mathlib.Core.Bool.{true, false};
-ghost use mathlib.Core.List.{List, [], _∷_, _++_};
-ghost use Prim.Native.Nat.{ℕ, _+_, _-_, _*_, _/_, _%_, _≤_, _<_, _^_};
+ghost use mathlib.Core.Bool.{true};
+ghost use mathlib.Core.List.{[], _++_};
+ghost use Prim.Native.Nat.{_+_, _-_, _*_, _/_, _%_, _≤_, _<_};
 ghost use lib.ListN.{length, take};
 ghost use Rattle.rules.specs.Codes.{code as codeOf, offered};
 ghost use Rattle.answers.specs.Calls.{refusedCorrect};
-ghost use Rattle.codes.specs.Answers.{asCorrected};
-ghost use Rattle.lines.specs.Log.{decimal, fields, numbers as numbersOf, header, line as lineOf, wordLine};
-ghost use Rattle.lines.specs.Log.{lines as linesOf, words as wordsOf, bad, log};
+ghost use Rattle.line.specs.Line.{header, line as lineOf, wordLine};
+ghost use Rattle.lines.specs.Log.{word, lines as linesOf, bad, log};
 ghost use Rattle.lines.specs.Parts.{Taken, Room, Counted, Adds};
+ghost use Rattle.lines.specs.Block.{counted, Numbered, Behind};
 
-fn octet(n: u8) -> u64
-    ensures { λ r. ⌜ (r ≡ n) × (r < 2 ^ 8) ⌝ }
-{
-    n as u64
-}
-
-fn wide(n: u32) -> u64
-    ensures { λ r. ⌜ (r ≡ n) × (r < 2 ^ 32) ⌝ }
-{
-    n as u64
-}
-
-// One digit, as it is printed.
-fn glyph(d: u64) -> u8
-    requires { ⌜ d < 10 ⌝ }
-    ensures { λ r. ⌜ r ≡ 48 + d ⌝ }
-{
-    48 + d as u8
-}
-
-// A number behind the text so far: answers where the text ends then.
-fn put(n: u64, text: &mut [u8], at: usize) -> usize
-    requires { ⌜ at + length (decimal n) ≤ length (now text) ⌝ }
-    ensures { λ r. ⌜ (r ≡ at + length (decimal n)) × (take r (now (text .exit)) ≡ take at (now (text .entry)) ++ decimal n) ⌝ }
-{
-    if n < 10 {
-        text[at] = glyph(n);
-        return at + 1;
-    }
-    let end = put(n / 10, text, at);
-    text[end] = glyph(n % 10);
-    end + 1
-}
-
-// A space and a number. 21 octets hold any.
-fn put_field(n: u64, text: &mut [u8], at: usize) -> usize
-    requires { ⌜ at + 21 ≤ length (now text) ⌝ }
-    ensures { λ r. ⌜ (r ≤ at + 21) × (take r (now (text .exit)) ≡ take at (now (text .entry)) ++ (32 ∷ decimal n)) ⌝ }
-{
-    text[at] = b' ';
-    put(n, text, at + 1)
-}
-
-// Numbers, a space before each.
-fn put_fields(numbers: &[u64], text: &mut [u8], at: usize) -> usize
-    requires { ⌜ at + 21 * length (now numbers) ≤ length (now text) ⌝ }
-    ensures { λ r. ⌜ r ≤ at + 21 * length (now (numbers .entry)) ⌝ }
-    ensures { λ r. ⌜ take r (now (text .exit)) ≡ take at (now (text .entry)) ++ fields (now (numbers .entry)) ⌝ }
-{
-    let mut end = at;
-    let mut k: usize = 0;
-    while k < numbers.len() {
-        end = put_field(numbers[k], text, end);
-        k += 1;
-    }
-    end
-}
-
-// What a line gives of an answer. A further field of the answer is one entry here, one in the definition, and one in the proof.
-fn numbers(a: codes::Corrected) -> [u64; 5]
-    ensures { λ r. ⌜ r ≡ numbersOf (asCorrected a []) ⌝ }
-{
-    [
-        octet(a.number),
-        wide(a.flips),
-        wide(a.first),
-        wide(a.last),
-        wide(a.unlike),
-    ]
-}
-
-// The line of an answer. 128 octets hold any.
-fn put_line(index: u64, a: codes::Corrected, text: &mut [u8], at: usize) -> usize
-    requires { ⌜ at + 128 ≤ length (now text) ⌝ }
-    ensures { λ r. ⌜ (r ≤ at + 128) × (take r (now (text .exit)) ≡ take at (now (text .entry)) ++ lineOf index (asCorrected a [])) ⌝ }
-{
-    let values = numbers(a);
-    let start = put(index, text, at);
-    let end = put_fields(&values, text, start);
-    text[end] = b'\n';
-    end + 1
-}
-
-// A text as it stands, behind the text so far.
-fn put_text(octets: &[u8], text: &mut [u8], at: usize) -> usize
-    requires { ⌜ at + length (now octets) ≤ length (now text) ⌝ }
-    ensures { λ r. ⌜ r ≡ at + length (now (octets .entry)) ⌝ }
-    ensures { λ r. ⌜ take r (now (text .exit)) ≡ take at (now (text .entry)) ++ now (octets .entry) ⌝ }
-{
-    let mut end = at;
-    let mut k: usize = 0;
-    while k < octets.len() {
-        text[end] = octets[k];
-        end += 1;
-        k += 1;
-    }
-    end
-}
-
-// The header, at the start of the text.
-fn put_header(text: &mut [u8]) -> usize
-    requires { ⌜ 128 ≤ length (now text) ⌝ }
-    ensures { λ r. ⌜ (r ≤ 128) × (take r (now (text .exit)) ≡ header) ⌝ }
-{
-    put_text(b"word answer flips first last unlike\n", text, 0)
+// What the words of a block are corrected and numbered by.
+struct Block {
+    code: u8,
+    limit: u16,
+    size: usize,
+    index: u64,
+    count: usize,
 }
 
 // The lesser of two numbers.
@@ -123,33 +25,6 @@ fn least(a: usize, b: usize) -> usize
     ensures { λ r. ⌜ r ≡ a - (a - b) ⌝ }
 {
     if a < b { a } else { b }
-}
-
-// Corrects a word into out, and writes its line.
-fn write_word(
-    code: u8,
-    limit: u16,
-    index: u64,
-    word: &[u8],
-    out: &mut [u8],
-    text: &mut [u8],
-    at: usize,
-) -> usize
-    requires { ⌜ (length (now out) ≡ codeOf code .wordOctets) × (at + 128 ≤ length (now text)) ⌝ }
-    ensures { λ r. ⌜ r ≤ at + 128 ⌝ }
-    ensures { λ r. ⌜ take r (now (text .exit)) ≡ take at (now (text .entry)) ++ wordLine code limit index (now (word .entry)) ⌝ }
-{
-    let answer = codes::correct(code, word, limit, out);
-    put_line(index, answer, text, at)
-}
-
-// Refusal 1, from correct itself, to which code 0 is not offered: a further field of the answer is no change here.
-fn refusal() -> codes::Corrected
-    ensures { λ r. ⌜ lineOf 0 (asCorrected r []) ≡ lineOf 0 (refusedCorrect [] 1) ⌝ }
-{
-    let word = [0u8; 1];
-    let mut out = [0u8; 1];
-    codes::correct(0, &word, 0, &mut out)
 }
 
 // The octets of a word.
@@ -169,36 +44,57 @@ pub fn block_octets(code: u8) -> usize
     65536 / size * size
 }
 
+// Corrects word k of those that are numbered from index on, and writes its line.
+fn write_at(
+    code: u8,
+    limit: u16,
+    size: usize,
+    index: u64,
+    k: usize,
+    words: &[u8],
+    out: &mut [u8],
+    text: &mut [u8],
+    at: usize,
+) -> usize
+    requires { ⌜ Numbered code size index (now words) × (k < counted size (now words)) ⌝ }
+    requires { ⌜ (length (now out) ≡ size) × (at + 128 ≤ length (now text)) ⌝ }
+    ensures { λ r. ⌜ r ≤ at + 128 ⌝ }
+    ensures { λ r. ⌜ take r (now (text .exit))
+        ≡ take at (now (text .entry)) ++ wordLine code limit (index + k) (word code (now (words .entry)) k) ⌝ }
+{
+    let from = k * size;
+    let to = least(from + size, words.len());
+    line::write_word(
+        code,
+        limit,
+        index + k as u64,
+        &words[from..to],
+        out,
+        text,
+        at,
+    )
+}
+
 // Corrects words that are numbered from index on, one after another, and writes their lines: answers where the text ends.
 fn write_words(
     code: u8,
     limit: u16,
+    size: usize,
     index: u64,
+    count: usize,
     words: &[u8],
     out: &mut [u8],
     text: &mut [u8],
 ) -> usize
-    requires { ⌜ (offered code ≡ true) × (length (now out) ≡ codeOf code .wordOctets) ⌝ }
-    requires { ⌜ (8 * length (now words) + 128 ≤ length (now text)) × (index + length (now words) < 2 ^ 64) ⌝ }
+    requires { ⌜ Numbered code size index (now words) × (count ≡ counted size (now words)) ⌝ }
+    requires { ⌜ (length (now out) ≡ size) × (8 * length (now words) + 128 ≤ length (now text)) ⌝ }
     ensures { λ r. ⌜ r ≤ length (now (text .exit)) ⌝ }
-    ensures { λ r. ⌜ take r (now (text .exit)) ≡ linesOf code limit index (now (words .entry)) (wordsOf code (now (words .entry))) ⌝ }
+    ensures { λ r. ⌜ take r (now (text .exit)) ≡ linesOf code limit index (now (words .entry)) count ⌝ }
 {
-    let size = word_octets(code);
-    let count = (words.len() + (size - 1)) / size;
     let mut end: usize = 0;
     let mut k: usize = 0;
     while k < count {
-        let at = k * size;
-        let stop = least(at + size, words.len());
-        end = write_word(
-            code,
-            limit,
-            index + k as u64,
-            &words[at..stop],
-            out,
-            text,
-            end,
-        );
+        end = write_at(code, limit, size, index, k, words, out, text, end);
         k += 1;
     }
     end
@@ -211,6 +107,24 @@ fn limit(high: u8, low: u8) -> u16
     256 * high as u16 + low as u16
 }
 
+// A block of words, before which so many octets of words were read. Its last word may be short.
+fn block_at(head: &[u8], read: u64, words: &[u8]) -> Block
+    requires { ⌜ Taken (now head) ⌝ }
+    ensures { λ r. ⌜ Behind (now (head .entry)) read (now (words .entry)) r ⌝ }
+{
+    let code = head[0];
+    let size = word_octets(code);
+    let index = read / size as u64;
+    let count = (words.len() + (size - 1)) / size;
+    Block {
+        code,
+        limit: limit(head[1], head[2]),
+        size,
+        index,
+        count,
+    }
+}
+
 // Whether a recording has fewer than three octets, or a bad code.
 pub fn is_bad(head: &[u8]) -> bool
     ensures { λ r. ⌜ r ≡ bad (now (head .entry)) ⌝ }
@@ -218,16 +132,24 @@ pub fn is_bad(head: &[u8]) -> bool
     head.len() < 3 || !offer::is_offered(head[0])
 }
 
+// The log of a bad head: the header, and the line of refusal 1.
+fn put_bad(text: &mut [u8]) -> usize
+    requires { ⌜ 256 ≤ length (now text) ⌝ }
+    ensures { λ r. ⌜ (r ≤ 256) × (take r (now (text .exit)) ≡ header ++ lineOf 0 (refusedCorrect [] 1)) ⌝ }
+{
+    let end = line::put_header(text);
+    line::put_line(0, line::refusal(), text, end)
+}
+
 // The log of a recording's first three octets, or of the fewer that it has.
 pub fn begin(head: &[u8], text: &mut [u8]) -> usize
     requires { ⌜ (length (now head) ≤ 3) × (256 ≤ length (now text)) ⌝ }
     ensures { λ r. ⌜ (r ≤ length (now (text .exit))) × (take r (now (text .exit)) ≡ log (now (head .entry))) ⌝ }
 {
-    let end = put_header(text);
     if is_bad(head) {
-        return put_line(0, refusal(), text, end);
+        return put_bad(text);
     }
-    end
+    line::put_header(text)
 }
 
 // What the log grows by: corrects a block of words, before which so many octets of words were read, and writes their lines.
@@ -235,7 +157,6 @@ pub fn go_on(head: &[u8], read: u64, words: &[u8], out: &mut [u8], text: &mut [u
     requires { ⌜ Taken (now head) × Room (now head) (now words) (now out) (now text) × Counted (now head) read (now words) ⌝ }
     ensures { λ r. ⌜ (r ≤ length (now (text .exit))) × Adds (now (head .entry)) read (now (words .entry)) (take r (now (text .exit))) ⌝ }
 {
-    let code = head[0];
-    let index = read / word_octets(code) as u64;
-    write_words(code, limit(head[1], head[2]), index, words, out, text)
+    let b = block_at(head, read, words);
+    write_words(b.code, b.limit, b.size, b.index, b.count, words, out, text)
 }

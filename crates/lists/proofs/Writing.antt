@@ -147,11 +147,11 @@ module _ (n : ℕ) (off : offered n ≡ true) (word : List ℕ) (o : Offer) (is 
         )))
 
     -- a run that is begun
-    pub starts : (h y z : List ℕ) (sh : Shape) → Measured n word h (wbit y) (wbit z) sh → sh ≡ o .shape → length y ≡ 130 → length z ≡ 16
+    pub starts : (h y z : List ℕ) (sh : Shape) → Measured n word h (wbit y) (wbit z) sh → sh ≡ o .shape
         → (first low : ℕ) → first ≡ broken (code n) (wbit y) → low ≡ lowest (code n) (wbit y)
         → leb (length (runOf n word limit .flips)) room ≡ true → (l : Listing) → l .offer ≡ o → l .limit ≡ limit → l .answer .first ≡ first
         → l .answer .lowest ≡ low → l .record .left ≡ first → Stands n word limit room l 0 h y z
-    starts h y z sh m shape ly ls first low f lo some l offers lim at-first at-low left = record {
+    starts h y z sh m shape first low f lo some l offers lim at-first at-low left = record {
       measures = record {
         offers = off;
         is = offers ∙ is;
@@ -160,8 +160,6 @@ module _ (n : ℕ) (off : offered n ≡ true) (word : List ℕ) (o : Offer) (is 
         first = at-first ∙ f ∙ ap (broken (code n)) (m .bits);
         lowest = at-low ∙ lo ∙ ap (lowest (code n)) (m .bits);
       };
-      y-long = ly;
-      z-long = ls;
       lends = subst (Lends n h) same (m .lends);
       left = left ∙ f;
       going = subst (λ w. Going (byExcess (code n)) (code n) w limit (wordOf n word) 0 (wbit y) (wbit z)) same
@@ -295,12 +293,12 @@ module _ (n : ℕ) (word : List ℕ) (limit room : ℕ) (l : Listing) (flips : �
 
     -- one flip more
     pub went-lists : (k : ℕ) (ex ex′ : ℤ) → ex′ ≡ ex → byExcess (code n) (wbit y) ≡ flip k ex → flips < limit → (left : ℕ) (y′ z′ : List ℕ)
-        → length y′ ≡ 130 → length z′ ≡ 16 → wbit y′ ≡ flipped (wbit y) k → wbit z′ ≡ laid (code n) (l .offer .shape) (flipped (wbit y) k)
+        → wbit y′ ≡ flipped (wbit y) k → wbit z′ ≡ laid (code n) (l .offer .shape) (flipped (wbit y) k)
         → left ≡ broken (code n) (flipped (wbit y) k) → (l′ : Listing) → l′ .goes ≡ true → l′ .place ≡ flips
         → l′ .record ≡ record { bit = k; excess = ex′; left = left } → l′ .answer ≡ l .answer → l′ .limit ≡ l .limit
         → l′ .offer ≡ l .offer → Lists n word limit room l′ h y′ z′
     unfolding entries
-    went-lists k ex ex′ same e q left y′ z′ ly ls here held lf l′ on at rec ans lim off = record {
+    went-lists k ex ex′ same e q left y′ z′ here held lf l′ on at rec ans lim off = record {
       goes = λ _. record {
         measures = record {
           offers = m .offers;
@@ -310,8 +308,6 @@ module _ (n : ℕ) (word : List ℕ) (limit room : ℕ) (l : Listing) (flips : �
           first = ap (λ u. u .first) ans ∙ m .first;
           lowest = ap (λ u. u .lowest) ans ∙ m .lowest;
         };
-        y-long = ly;
-        z-long = ls;
         lends = subst (λ u. Lends n h (u .shape)) (sym off) (st .lends);
         left = ap (λ u. u .left) rec ∙ lf ∙ ap (broken (code n)) (sym here);
         going = subst (λ u. Going (byExcess (code n)) (code n) (u .shape) limit (wordOf n word) (l′ .place + 1) (wbit y′) (wbit z′)) (sym

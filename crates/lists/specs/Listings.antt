@@ -13,7 +13,6 @@ use Rattle.rules.specs.Flipping.{byExcess, Run, run}
 use Rattle.answers.specs.Calls.{ranCorrect}
 use Rattle.answers.specs.Lists.{Entry, entries, reason, Listed as ListedAnswer, listedBy, listAnswer}
 use Rattle.vectors.specs.Vectors.{wbit}
-use Rattle.layout.specs.Rooms.{syndromeRoom, tableRoom, wordRoom}
 use Rattle.offer.specs.Offers.{offerOf}
 use Rattle.tables.specs.Flat.{Lends}
 use Rattle.runs.specs.Passes.{Going}
@@ -40,8 +39,8 @@ endsWith n word limit table =
     listedBy (ranCorrect (code n) (wordOf n word) (runOf n word limit) []) (reason (code n) (runOf n word limit)) table
 
 -- Room for what is measured of a word, as zeros.
-abbrev pub Blank : List ℕ → List ℕ → List ℕ → Type 0
-Blank h y z = (length h ≡ tableRoom) × (length y ≡ wordRoom) × (length z ≡ syndromeRoom) × (wbit y ≡ (λ n. false)) × (wbit z ≡ (λ n. false))
+abbrev pub Blank : List ℕ → List ℕ → Type 0
+Blank y z = (wbit y ≡ (λ n. false)) × (wbit z ≡ (λ n. false))
 
 -- The list is of this code, word and limit, and knows what was measured of the word.
 pub record Measures (n : ℕ) (word : List ℕ) (limit : ℕ) (l : Listing) : Type 0 where
@@ -64,8 +63,6 @@ pub record Ends (n : ℕ) (word : List ℕ) (limit : ℕ) (l : Listing) (flips :
 -- The run has come to y after so many flips, and its list goes on from there; a table of this room serves.
 pub record Stands (n : ℕ) (word : List ℕ) (limit room : ℕ) (l : Listing) (flips : ℕ) (h y z : List ℕ) : Type 0 where
   pub measures : Measures n word limit l
-  pub y-long : length y ≡ wordRoom
-  pub z-long : length z ≡ syndromeRoom
   pub lends : Lends n h (l .offer .shape)
   pub left : l .record .left ≡ broken (code n) (wbit y)
   pub going : Going (byExcess (code n)) (code n) (l .offer .shape) limit (wordOf n word) flips (wbit y) (wbit z)

@@ -2,21 +2,21 @@
 ghost use mathlib.Core.Path.{_≡_};
 ghost use mathlib.Core.Bool.{true, false};
 ghost use mathlib.Core.List.{List};
-ghost use Prim.Native.Nat.{ℕ, _+_, _≤_};
+ghost use Prim.Native.Nat.{ℕ, _+_, _*_, _≤_, _<_};
 ghost use lib.Dec.{leb};
 ghost use lib.ListN.{length};
 ghost use Rattle.bits.specs.Bits.{Word};
-ghost use Rattle.rules.specs.Codes.{offered};
-ghost use Rattle.rules.specs.Codes.{code as codeOf};
+ghost use Rattle.rules.specs.Codes.{Code, offered, code as codeOf};
 ghost use Rattle.rules.specs.Checks.{broken};
-ghost use Rattle.rules.specs.Flipping.{byExcess, run};
+ghost use Rattle.rules.specs.Flipping.{byExcess, flip, run};
 ghost use Rattle.answers.specs.Lists.{Entry, listAnswer, refusedList};
 ghost use Rattle.vectors.specs.Vectors.{wbit};
+ghost use Rattle.layout.specs.Lent.{Fit, Lent, laid};
 ghost use Rattle.offer.specs.Offers.{offerOf, Known};
+ghost use Rattle.runs.specs.Passes.{Holding, Within, comesNext};
 ghost use Rattle.lists.specs.Answers.{asEntries, asListed, listedAs};
 ghost use Rattle.lists.specs.declared.FlipRecord.{FlipRecord};
 ghost use Rattle.lists.specs.Listings.{wordOf, runOf, endsWith, Blank, Ends, Stands, Standing, Lists, Goes};
-ghost use Rattle.layout.specs.Rooms.{wordRoom};
 use layout::SYNDROME;
 use layout::TABLE;
 use layout::WORD;
@@ -86,12 +86,12 @@ fn ended(
     l: Listing,
     flips: usize,
     word: &[u8],
-    y: &[u64],
+    y: &[u64; WORD],
     number: u8,
     bit: u32,
     excess: i8,
 ) -> Listing
-    requires { ⌜ Known (l .offer) × (length (now word) ≡ l .offer .word) × (length (now y) ≡ wordRoom) × (flips ≤ 65535) ⌝ }
+    requires { ⌜ Known (l .offer) × (length (now word) ≡ l .offer .word) × (flips ≤ 65535) ⌝ }
     ensures { λ r. ⌜ (r .goes ≡ false) × (r .place ≡ flips)
         × ((n limit : ℕ) → Ends n (now (word .entry)) limit l flips (wbit (now (y .entry))) number bit excess → (table : List Entry)
         → listedAs (r .answer) table ≡ endsWith n (now (word .entry)) limit table) ⌝ }
@@ -142,39 +142,75 @@ fn went(l: Listing, flips: usize, bit: u32, excess: i8, left: u32) -> Listing
     }
 }
 
+// What comes next for the word whose syndrome is z.
+fn coming(l: Listing, h: &[u16; TABLE], z: &[u64; SYNDROME]) -> Next
+    requires { ⌜ Known (l .offer) × Fit (now h) (l .offer .shape) × Holding (now h) (l .offer .shape) (wbit (now z)) ⌝ }
+    ensures { λ r. ⌜ Within (l .offer .shape .blocks * l .offer .shape .size) r
+        × ((c : Code) → Lent c (now (h .entry)) (l .offer .shape) → c .unsent ≡ l .offer .unsent → (x : Word)
+        → wbit (now (z .entry)) ≡ laid c (l .offer .shape) x → byExcess c x ≡ comesNext r) ⌝ }
+{
+    let o = l.offer;
+    let sh = o.shape;
+    runs::comes_next(z, h, sh, o.unsent)
+}
+
+// The list after one flip more, or at the limit.
+fn flip_on(
+    l: Listing,
+    flips: usize,
+    word: &[u8],
+    bit: usize,
+    excess: i8,
+    h: &[u16; TABLE],
+    y: &mut [u64; WORD],
+    z: &mut [u64; SYNDROME],
+) -> Listing
+    requires { ⌜ Standing (now word) l flips (now h) (now y) (now z) × (bit < l .offer .shape .blocks * l .offer .shape .size) ⌝ }
+    ensures { λ r. ⌜ (r .place ≡ flips) × ((n limit room : ℕ)
+        → Stands n (now (word .entry)) limit room l flips (now (h .entry)) (now (y .entry)) (now (z .entry))
+        → byExcess (codeOf n) (wbit (now (y .entry))) ≡ flip bit excess
+        → Lists n (now (word .entry)) limit room r (now (h .entry)) (now (y .exit)) (now (z .exit))) ⌝ }
+{
+    if flips >= l.limit as usize {
+        return ended(l, flips, word, y, 6, 0, 0);
+    }
+    let o = l.offer;
+    let sh = o.shape;
+    syndromes::flip(y, z, h, sh, bit);
+    let left = syndromes::broken(z);
+    went(l, flips, bit as u32, excess, left)
+}
+
 // What comes after so many flips: one more, or the end.
 fn pass(
     l: Listing,
     flips: usize,
     word: &[u8],
-    h: &mut [u16],
-    y: &mut [u64],
-    z: &mut [u64],
+    h: &mut [u16; TABLE],
+    y: &mut [u64; WORD],
+    z: &mut [u64; SYNDROME],
 ) -> Listing
     requires { ⌜ Standing (now word) l flips (now h) (now y) (now z) ⌝ }
     ensures { λ r. ⌜ (r .place ≡ flips) × ((n limit room : ℕ)
         → Stands n (now (word .entry)) limit room l flips (now (h .entry)) (now (y .entry)) (now (z .entry))
         → Lists n (now (word .entry)) limit room r (now (h .exit)) (now (y .exit)) (now (z .exit))) ⌝ }
 {
-    let o = l.offer;
-    let sh = o.shape;
-    let next = runs::comes_next(z, h, sh, o.unsent);
+    let next = coming(l, h, z);
     match next {
         Next::Quiet => ended(l, flips, word, y, 0, 0, 0),
         Next::Stuck(bit, excess) => ended(l, flips, word, y, 5, bit as u32, excess),
-        Next::Flip(bit, excess) => {
-            if flips >= l.limit as usize {
-                return ended(l, flips, word, y, 6, 0, 0);
-            }
-            syndromes::flip(y, z, h, sh, bit);
-            let left = syndromes::broken(z);
-            went(l, flips, bit as u32, excess, left)
-        }
+        Next::Flip(bit, excess) => flip_on(l, flips, word, bit, excess, h, y, z),
     }
 }
 
 // The next record of the list, or its end.
-pub fn next(l: Listing, word: &[u8], h: &mut [u16], y: &mut [u64], z: &mut [u64]) -> Listing
+pub fn next(
+    l: Listing,
+    word: &[u8],
+    h: &mut [u16; TABLE],
+    y: &mut [u64; WORD],
+    z: &mut [u64; SYNDROME],
+) -> Listing
     requires { ⌜ Goes (now word) l (now h) (now y) (now z) ⌝ }
     ensures { λ r. ⌜ (r .place ≡ l .place + 1) × ((n limit room : ℕ)
         → Lists n (now (word .entry)) limit room l (now (h .entry)) (now (y .entry)) (now (z .entry))
@@ -223,27 +259,12 @@ fn serves(o: Offer, word: &[u8], limit: u16, first: u32, room: usize) -> bool
     count_flips(o, word, limit) <= room
 }
 
-// The list of the run on a word of the right length.
-fn begin_taken(
-    o: Offer,
-    word: &[u8],
-    limit: u16,
-    room: usize,
-    h: &mut [u16],
-    y: &mut [u64],
-    z: &mut [u64],
-) -> Listing
-    requires { ⌜ Known o × (length (now word) ≡ o .word) × Blank (now h) (now y) (now z) ⌝ }
-    ensures { λ r. ⌜ (r .place ≡ 0) × ((n : ℕ) → offered n ≡ true → o ≡ offerOf n
-        → Lists n (now (word .entry)) limit room r (now (h .exit)) (now (y .exit)) (now (z .exit))) ⌝ }
+// The list before the first flip, of a word of which so many checks are broken, and this the lowest.
+fn begun(o: Offer, limit: u16, first: u32, lowest: u32) -> Listing
+    ensures { λ r. ⌜ (r .place ≡ 0) × (r .record .left ≡ first) × (r .answer .first ≡ first) × (r .answer .lowest ≡ lowest)
+        × (r .limit ≡ limit) × (r .offer ≡ o) ⌝ }
 {
-    let sh = measured::measure(o, word, h, y, z);
-    let first = syndromes::broken(z);
-    let lowest = syndromes::lowest(z, sh);
-    if !serves(o, word, limit, first, room) {
-        return refused(10);
-    }
-    let l = Listing {
+    Listing {
         goes: false,
         place: 0,
         record: FlipRecord {
@@ -263,7 +284,48 @@ fn begin_taken(
         },
         limit: limit,
         offer: o,
-    };
+    }
+}
+
+// The list of a word of the right length before the first flip; h, y and z are handed over as zeros.
+fn measured_list(
+    o: Offer,
+    word: &[u8],
+    limit: u16,
+    h: &mut [u16; TABLE],
+    y: &mut [u64; WORD],
+    z: &mut [u64; SYNDROME],
+) -> Listing
+    requires { ⌜ Known o × (length (now word) ≡ o .word) × Blank (now y) (now z) ⌝ }
+    ensures { λ r. ⌜ ((n : ℕ) → offered n ≡ true → o ≡ offerOf n → (r .answer .first ≡ broken (codeOf n) (wordOf n (now (word .entry))))
+        × ((room : ℕ) → leb (length (runOf n (now (word .entry)) limit .flips)) room ≡ true
+        → Stands n (now (word .entry)) limit room r 0 (now (h .exit)) (now (y .exit)) (now (z .exit)))) ⌝ }
+{
+    let sh = measured::measure(o, word, h, y, z);
+    let first = syndromes::broken(z);
+    let lowest = syndromes::lowest(z, sh);
+    begun(o, limit, first, lowest)
+}
+
+// The list of the run on a word of the right length.
+fn begin_taken(
+    o: Offer,
+    word: &[u8],
+    limit: u16,
+    room: usize,
+    h: &mut [u16; TABLE],
+    y: &mut [u64; WORD],
+    z: &mut [u64; SYNDROME],
+) -> Listing
+    requires { ⌜ Known o × (length (now word) ≡ o .word) × Blank (now y) (now z) ⌝ }
+    ensures { λ r. ⌜ (r .place ≡ 0) × ((n : ℕ) → offered n ≡ true → o ≡ offerOf n
+        → Lists n (now (word .entry)) limit room r (now (h .exit)) (now (y .exit)) (now (z .exit))) ⌝ }
+{
+    let l = measured_list(o, word, limit, h, y, z);
+    let answer = l.answer;
+    if !serves(o, word, limit, answer.first, room) {
+        return refused(10);
+    }
     pass(l, 0, word, h, y, z)
 }
 
@@ -273,11 +335,11 @@ pub fn begin(
     word: &[u8],
     limit: u16,
     room: usize,
-    h: &mut [u16],
-    y: &mut [u64],
-    z: &mut [u64],
+    h: &mut [u16; TABLE],
+    y: &mut [u64; WORD],
+    z: &mut [u64; SYNDROME],
 ) -> Listing
-    requires { ⌜ Blank (now h) (now y) (now z) ⌝ }
+    requires { ⌜ Blank (now y) (now z) ⌝ }
     ensures { λ r. ⌜ (r .place ≡ 0) × Lists code (now (word .entry)) limit room r (now (h .exit)) (now (y .exit)) (now (z .exit)) ⌝ }
 {
     let o = offer::of(code);

@@ -11,14 +11,16 @@ ghost use Rattle.offer.specs.Offers.{offerOf, Known};
 ghost use Rattle.tables.specs.Flat.{Lends};
 ghost use Rattle.measured.specs.Measured.{Size, Measured};
 ghost use Rattle.layout.specs.Rooms.{syndromeRoom, tableRoom, wordRoom};
+use layout::SYNDROME;
 use layout::Shape;
+use layout::TABLE;
+use layout::WORD;
 use offer::Offer;
 
 // The parity table of blocks of this size into h, its shape, and the syndrome of the bits that y holds into z, which is handed over
 // as zeros.
-pub fn checks(size: usize, y: &[u64], h: &mut [u16], z: &mut [u64]) -> Shape
-    requires { ⌜ Size size × (length (now y) ≡ wordRoom) × (length (now h) ≡ tableRoom) × (length (now z) ≡ syndromeRoom)
-        × (wbit (now z) ≡ (λ n. false)) ⌝ }
+pub fn checks(size: usize, y: &[u64; WORD], h: &mut [u16; TABLE], z: &mut [u64; SYNDROME]) -> Shape
+    requires { ⌜ Size size × (wbit (now z) ≡ (λ n. false)) ⌝ }
     ensures { λ r. ⌜ ((n : ℕ) → offered n ≡ true → size ≡ offerOf n .shape .size → (r ≡ offerOf n .shape) × Lends n (now (h .exit)) r
         × (wbit (now (z .exit)) ≡ laid (codeOf n) r (wbit (now (y .entry))))) ⌝ }
 {
@@ -32,12 +34,11 @@ fn measure_by(
     unsent: usize,
     size: usize,
     word: &[u8],
-    h: &mut [u16],
-    y: &mut [u64],
-    z: &mut [u64],
+    h: &mut [u16; TABLE],
+    y: &mut [u64; WORD],
+    z: &mut [u64; SYNDROME],
 ) -> Shape
-    requires { ⌜ Size size × (unsent ≤ 18) × (length (now word) ≤ 1022) × (length (now h) ≡ tableRoom) × (length (now y) ≡ wordRoom)
-        × (length (now z) ≡ syndromeRoom) × (wbit (now y) ≡ (λ n. false)) × (wbit (now z) ≡ (λ n. false)) ⌝ }
+    requires { ⌜ Size size × (unsent ≤ 18) × (length (now word) ≤ 1022) × (wbit (now y) ≡ (λ n. false)) × (wbit (now z) ≡ (λ n. false)) ⌝ }
     ensures { λ r. ⌜ ((n : ℕ) → offered n ≡ true → unsent ≡ offerOf n .unsent → size ≡ offerOf n .shape .size → (r ≡ offerOf n .shape)
         × Measured n (now (word .entry)) (now (h .exit)) (wbit (now (y .exit))) (wbit (now (z .exit))) r) ⌝ }
 {
@@ -46,9 +47,14 @@ fn measure_by(
 }
 
 // The parity table into h, its shape, the word's bits into y, and its syndrome into z; y and z are handed over as zeros.
-pub fn measure(o: Offer, word: &[u8], h: &mut [u16], y: &mut [u64], z: &mut [u64]) -> Shape
-    requires { ⌜ Known o × (length (now word) ≡ o .word) × (length (now h) ≡ tableRoom) × (length (now y) ≡ wordRoom)
-        × (length (now z) ≡ syndromeRoom) × (wbit (now y) ≡ (λ n. false)) × (wbit (now z) ≡ (λ n. false)) ⌝ }
+pub fn measure(
+    o: Offer,
+    word: &[u8],
+    h: &mut [u16; TABLE],
+    y: &mut [u64; WORD],
+    z: &mut [u64; SYNDROME],
+) -> Shape
+    requires { ⌜ Known o × (length (now word) ≡ o .word) × (wbit (now y) ≡ (λ n. false)) × (wbit (now z) ≡ (λ n. false)) ⌝ }
     ensures { λ r. ⌜ (r ≡ o .shape) × ((n : ℕ) → offered n ≡ true → o ≡ offerOf n
         → Measured n (now (word .entry)) (now (h .exit)) (wbit (now (y .exit))) (wbit (now (z .exit))) r) ⌝ }
 {

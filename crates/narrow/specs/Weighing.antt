@@ -5,7 +5,7 @@ use mathlib.Core.List.{List}
 use Prim.Native.Nat.{ℕ, _+_, _-_, _*_, _%_, _≤_, _<_}
 use lib.Dec.{eqb, leb, ltb}
 use lib.Ieee.{Float}
-use lib.ListN.{getD}
+use lib.ListN.{length, getD}
 use Rattle.bits.specs.Bits.{Word, if_then_else_, countOf}
 use Rattle.rules.specs.Codes.{Code}
 use Rattle.rules.specs.Checks.{check}
@@ -13,7 +13,7 @@ use Rattle.vectors.specs.Vectors.{Holds, upTo, from as bitsFrom}
 use Rattle.planes.specs.Ranges.{Top}
 use Rattle.choice.specs.declared.Best.{Best}
 use Rattle.layout.specs.declared.Shape.{Shape}
-use Rattle.layout.specs.Lent.{Lent, total, shiftsOf, score}
+use Rattle.layout.specs.Lent.{Fit, Lent, total, shiftsOf, score}
 use Rattle.sizes.specs.Samples.{smaller}
 use Rattle.sizes.specs.Sizes.{smallest}
 use Rattle.narrow.specs.declared.Weights.{Weights}
@@ -82,6 +82,21 @@ pub record Marks (marked : ℕ → Bool) (sh : Shape) (scores masks : List ℕ) 
 pub record Marked (sh : Shape) (scores masks : List ℕ) (top : ℕ) : Type 0 where
   pub marked : ℕ → Bool
   pub marks : Marks marked sh scores masks top
+
+-- The blocks of a word have been weighed so under a code whose table is lent; there are as many samples as bits, of which all are sent, or
+-- none.
+pub record Told (sh : Shape) (samples : List Float) (scores masks : List ℕ) : Type 0 where
+  pub code : Code
+  pub table : List ℕ
+  pub from : ℕ
+  pub word : Word
+  pub fit : Fit table sh
+  pub lent : Lent code table sh
+  pub narrow : sh .words ≡ 1
+  pub some : 1 ≤ sh .blocks
+  pub begin : from < sh .size
+  pub long : 0 < length samples → (length samples ≡ sh .blocks * sh .size) × (from ≡ 0)
+  pub weighed : Weighed code sh from word scores masks (sh .blocks)
 
 -- No bit that is sent has a greater score than this one. If the score is above 8, `low` is the first that has it, and the bit is the
 -- smallest of all that have it.

@@ -1,6 +1,7 @@
 // Codes whose blocks one word holds: the rows of the syndrome over and over in a word each, and the bits of greatest excess from them.
 ghost use mathlib.Core.Path.{_≡_};
 ghost use mathlib.Core.Bool.{Bool, true, _&&_};
+ghost use mathlib.Core.List.{List};
 ghost use Prim.Native.Nat.{ℕ, _+_, _-_, _*_, _%_, _^_, _<_, _≤_};
 ghost use lib.Count.{leadingZeros};
 ghost use lib.Dec.{eqb, ltb};
@@ -10,13 +11,15 @@ ghost use Rattle.rules.specs.Codes.{Code};
 ghost use Rattle.vectors.specs.Vectors.{wbit, Holds, upTo, from as bitsFrom};
 ghost use Rattle.planes.specs.Ranges.{Top};
 ghost use Rattle.layout.specs.Lent.{Fit, Lent, laid, score, entries, shiftsOf, total};
-ghost use Rattle.layout.specs.Rooms.{blocksRoom, syndromeRoom, wordRoom};
+ghost use Rattle.layout.specs.Rooms.{blocksRoom, syndromeRoom};
 ghost use Rattle.sizes.specs.Samples.{smaller};
 ghost use Rattle.sizes.specs.Sizes.{smallest};
-ghost use Rattle.narrow.specs.Weighing.{around, Rows, Held, Weighs, broke, sent, Peaked, Weighed, Greatest, Marks, Marked, Chosen};
+ghost use Rattle.narrow.specs.Weighing.{around, Rows, Held, Weighs, broke, sent, Peaked, Weighed, Greatest, Marks, Marked, Told, Chosen};
 use choice::Best;
 use layout::BLOCKS;
 use layout::Shape;
+use layout::TABLE;
+use layout::WORD;
 
 // Of the bits of a block, those that have none, at most one and at most two of some checks met; and how many checks these are.
 struct Weights {
@@ -263,19 +266,16 @@ fn smallest_peak(
     best
 }
 
-// The bit of the greatest score above 8 from bit `from` on; of several the one with the smallest sample, then the lowest number; without
-// samples the lowest. A score of 8 says that there is none.
-pub fn choose(samples: &[f32], rows: &[u64], h: &[u16], sh: Shape, from: usize) -> Best
-    requires { ⌜ Fit (now h) sh × (sh .words ≡ 1) × (1 ≤ sh .blocks) × (length (now rows) ≡ 4) × (from < sh .size)
-        × (0 < length (now samples) → (length (now samples) ≡ sh .blocks * sh .size) × (from ≡ 0)) × Held (now h) sh (now rows) ⌝ }
-    ensures { λ r. ⌜ ((c : Code) (x : Word) → Lent c (now (h .entry)) sh → Rows c sh x (now (rows .entry))
-        → Chosen c sh from x (now (samples .entry)) r) ⌝ }
+// The bit of the greatest score above 8 where the blocks have been weighed; of several the one with the smallest sample, then the lowest
+// number; without samples the lowest. A score of 8 says that there is none.
+fn best_of(samples: &[f32], scores: &[u32; BLOCKS], masks: &[u64; BLOCKS], sh: Shape) -> Best
+    requires { ⌜ Told sh (now samples) (now scores) (now masks) ⌝ }
+    ensures { λ r. ⌜ ((c : Code) (h : List ℕ) (from : ℕ) (x : Word) → Fit h sh → Lent c h sh → from < sh .size
+        → (0 < length (now (samples .entry)) → from ≡ 0)
+        → Weighed c sh from x (now (scores .entry)) (now (masks .entry)) (sh .blocks) → Chosen c sh from x (now (samples .entry)) r) ⌝ }
 {
-    let mut scores = [0u32; BLOCKS];
-    let mut masks = [0u64; BLOCKS];
-    weigh_all(rows, h, sh, from, &mut scores, &mut masks);
-    let p = greatest(&scores, sh.blocks);
-    let low = first_bit(&masks, p.block, sh.size);
+    let p = greatest(scores, sh.blocks);
+    let low = first_bit(masks, p.block, sh.size);
     if p.score <= 8 {
         return Best {
             score: p.score,
@@ -290,8 +290,21 @@ pub fn choose(samples: &[f32], rows: &[u64], h: &[u16], sh: Shape, from: usize) 
     }
     Best {
         score: p.score,
-        bit: smallest_peak(samples, &scores, &masks, sh, p.score, low),
+        bit: smallest_peak(samples, scores, masks, sh, p.score, low),
     }
+}
+
+// The best bit from bit `from` on, after all blocks have been weighed.
+pub fn choose(samples: &[f32], rows: &[u64; 4], h: &[u16; TABLE], sh: Shape, from: usize) -> Best
+    requires { ⌜ Fit (now h) sh × (sh .words ≡ 1) × (1 ≤ sh .blocks) × (from < sh .size)
+        × (0 < length (now samples) → (length (now samples) ≡ sh .blocks * sh .size) × (from ≡ 0)) × Held (now h) sh (now rows) ⌝ }
+    ensures { λ r. ⌜ ((c : Code) (x : Word) → Lent c (now (h .entry)) sh → Rows c sh x (now (rows .entry))
+        → Chosen c sh from x (now (samples .entry)) r) ⌝ }
+{
+    let mut scores = [0u32; BLOCKS];
+    let mut masks = [0u64; BLOCKS];
+    weigh_all(rows, h, sh, from, &mut scores, &mut masks);
+    best_of(samples, &scores, &masks, sh)
 }
 
 // Flips the check of a row that covers bit k by the shift s; a number that is m or more is no shift. `each` has the first bit of
@@ -316,21 +329,28 @@ fn flip_row(row: u64, each: u64, h: &[u16], at: usize, k: usize, m: usize) -> u6
     flip_place(v, each, h[at + 1] as usize, k, m)
 }
 
+// Flips the checks that cover bit k of block b, row after row. `each` has the first bit of every M set.
+fn flip_rows(rows: &mut [u64], h: &[u16], sh: Shape, each: u64, b: usize, k: usize)
+    requires { ⌜ Fit (now h) sh × (sh .words ≡ 1) × (length (now rows) ≡ 4) × (b < sh .blocks) × (k < sh .size)
+        × Holds each (around (sh .size) (eqb 0)) ⌝ }
+    ensures { λ _. ⌜ ((q : ℕ) → q < 4 → (f : Word) → Holds (getD (now (rows .entry)) q 0) f → Holds (getD (now (rows .exit)) q 0)
+        (λ i. f i ⊕ over (shiftsOf sh (now (h .entry)) q b) (λ s. eqb (i % sh .size) ((k + (sh .size - s)) % sh .size)))) ⌝ }
+{
+    let mut r = 0;
+    while r < 4 {
+        rows[r] = flip_row(rows[r], each, h, 2 * (r * sh.blocks + b), k, sh.size);
+        r += 1;
+    }
+}
+
 // Flips a bit of a word, and its checks with it.
-pub fn flip(y: &mut [u64], rows: &mut [u64], h: &[u16], sh: Shape, bit: usize)
-    requires { ⌜ Fit (now h) sh × (sh .words ≡ 1) × (length (now y) ≡ wordRoom) × (length (now rows) ≡ 4)
-        × (bit < sh .blocks * sh .size) ⌝ }
+pub fn flip(y: &mut [u64; WORD], rows: &mut [u64; 4], h: &[u16; TABLE], sh: Shape, bit: usize)
+    requires { ⌜ Fit (now h) sh × (sh .words ≡ 1) × (bit < sh .blocks * sh .size) ⌝ }
     ensures word { λ _. ⌜ wbit (now (y .exit)) ≡ flipped (wbit (now (y .entry))) bit ⌝ }
     ensures checks { λ _. ⌜ ((c : Code) (x : Word) → Lent c (now (h .entry)) sh → Rows c sh x (now (rows .entry))
         → Rows c sh (flipped x bit) (now (rows .exit))) ⌝ }
 {
     vectors::flip_bit(y, bit);
     let each = repeated(1u64 << 63, sh.size);
-    let b = bit / sh.size;
-    let k = bit % sh.size;
-    let mut r = 0;
-    while r < 4 {
-        rows[r] = flip_row(rows[r], each, h, 2 * (r * sh.blocks + b), k, sh.size);
-        r += 1;
-    }
+    flip_rows(rows, h, sh, each, bit / sh.size, bit % sh.size);
 }

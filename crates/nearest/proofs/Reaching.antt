@@ -7,10 +7,10 @@ use native.Mathlib.Nat.{zero-add}
 use lib.Dec.{eqb, ltb}
 use lib.ListN.{length}
 use borrow.Author.Tests.{eq-eqb, ne-eqb, lt-ltb, le-ltb}
-use Rattle.bits.specs.Bits.{Word, bit, octets, if_then_else_}
+use Rattle.bits.specs.Bits.{Word, bit, if_then_else_}
 use Rattle.vectors.specs.Vectors.{from}
 use Rattle.nearest.specs.Nearest.{Found, none, list, Reached, refused, found, searched, nearestAnswer}
-use Rattle.nearest.specs.Answers.{held, heldFlipped}
+use Rattle.nearest.specs.Answers.{held, HandedOut}
 use Rattle.nearest.specs.declared.Listed.{Listed}
 
 -- ---- the refusals, in their order
@@ -58,12 +58,12 @@ module _ (x : Word) (out : List ℕ) (f : Found) (l : Listed) (is : l ≡ held f
       go none q = refl
       go (list bits) q = absurd (true≢false (sym (ap (λ (z : Listed). z .found) q) ∙ e))
 
-  pub found-list : (y : Word) (out′ : List ℕ) → l .found ≡ true → heldFlipped l x y → out′ ≡ octets 16 y
+  pub found-list : (out′ : List ℕ) → l .found ≡ true → HandedOut l x out′
       → record { number = 0; least = l .count; bits = l .bits; out = out′ } ≡ found x out f
   unfolding held found
-  found-list y out′ e t w = go f is
+  found-list out′ e t = go f is
     where
       go : (f : Found) → l ≡ held f → record { number = 0; least = l .count; bits = l .bits; out = out′ } ≡ found x out f
       go none q = absurd (true≢false (sym e ∙ ap (λ (z : Listed). z .found) q))
       go (list bits) q =
-          ap₂ (λ (z : Listed) o. record { number = 0; least = z .count; bits = z .bits; out = o }) q (w ∙ ap (octets 16) (t bits q))
+          ap₂ (λ (z : Listed) o. record { number = 0; least = z .count; bits = z .bits; out = o }) q (t bits q)

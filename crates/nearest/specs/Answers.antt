@@ -5,7 +5,7 @@ use mathlib.Core.List.{List, [], _∷_}
 use Prim.Native.Nat.{ℕ, zero, suc, _-_}
 use lib.Dec.{eqb}
 use lib.ListN.{length, getD}
-use Rattle.bits.specs.Bits.{Word, if_then_else_}
+use Rattle.bits.specs.Bits.{Word, if_then_else_, octets}
 use Rattle.rules.specs.Codes.{code}
 use Rattle.rules.specs.Checks.{check}
 use Rattle.vectors.specs.Vectors.{Holds}
@@ -66,6 +66,10 @@ held (list bits) = record { found = true; count = length bits; bits = places bit
 -- The word that a list which is held makes of a word.
 abbrev pub heldFlipped : Listed → Word → Word → Type 0
 heldFlipped l x y = (bits : List ℕ) → l ≡ held (list bits) → y ≡ flips bits x
+
+-- The output octets where the word that it makes is handed out.
+abbrev pub HandedOut : Listed → Word → List ℕ → Type 0
+HandedOut l x out = (bits : List ℕ) → l ≡ held (list bits) → out ≡ octets 16 (flips bits x)
 
 -- the output octets afterwards are part of the answer
 abbrev pub asReached : Reached → List ℕ → ReachedAnswer

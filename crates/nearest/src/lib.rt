@@ -7,7 +7,7 @@ ghost use lib.ListN.{length, getD};
 ghost use Rattle.bits.specs.Bits.{Word, bit};
 ghost use Rattle.vectors.specs.Vectors.{wbit};
 ghost use Rattle.nearest.specs.Nearest.{none, firstList, fewest, refused, searched as searchedFor, nearestAnswer};
-ghost use Rattle.nearest.specs.Answers.{columnList, Broken, lowestFrom, held, heldFlipped, asReached};
+ghost use Rattle.nearest.specs.Answers.{columnList, Broken, lowestFrom, held, heldFlipped, HandedOut, asReached};
 
 // The places of bits that are not used are 0.
 #[repr(C)]
@@ -277,28 +277,51 @@ fn refused_by(number: u8) -> Reached
     }
 }
 
-// A word and an output of the right length, and a reach that is offered. The columns are lent as a copy, since a constant is made anew
-// wherever it is read.
-fn searched(word: &[u8], reach: u8, out: &mut [u8]) -> Reached
-    requires { ⌜ (length (now word) ≡ 16) × (length (now out) ≡ 16) × (reach ≤ 3) ⌝ }
-    ensures { λ r. ⌜ asReached r (now (out .exit)) ≡ searchedFor reach (bit (now (word .entry))) (now (out .entry)) ⌝ }
+// The list for a word. The columns are lent as a copy, since a constant is made anew wherever it is read.
+fn list_for(y: &[u64; 3], reach: u8) -> Listed
+    requires { ⌜ reach ≤ 3 ⌝ }
+    ensures { λ r. ⌜ r ≡ held (fewest reach (wbit (now (y .entry)))) ⌝ }
 {
     let columns = COLUMNS;
-    let mut y = [0u64; 3];
-    vectors::load(word, &mut y);
-    let z = syndrome(&columns, &y);
-    let l = fewest_of(&columns, z, reach);
+    let z = syndrome(&columns, y);
+    fewest_of(&columns, z, reach)
+}
+
+// The word with the bits of its list flipped, handed out.
+fn hand_out(y: &mut [u64; 3], l: Listed, out: &mut [u8])
+    requires { ⌜ (length (now out) ≡ 16) × (l .count ≤ 3) × ((k : ℕ) → getD (l .bits) k 0 < 128) ⌝ }
+    ensures { λ _. ⌜ HandedOut l (wbit (now (y .entry))) (now (out .exit)) ⌝ }
+{
+    flip_listed(y, l);
+    vectors::store(y, 0, out);
+}
+
+// A word, an output of the right length, and a reach that is offered.
+fn mended(y: &mut [u64; 3], reach: u8, out: &mut [u8]) -> Reached
+    requires { ⌜ (length (now out) ≡ 16) × (reach ≤ 3) ⌝ }
+    ensures { λ r. ⌜ asReached r (now (out .exit)) ≡ searchedFor reach (wbit (now (y .entry))) (now (out .entry)) ⌝ }
+{
+    let l = list_for(y, reach);
     if !l.found {
         return refused_by(17);
     }
-    flip_listed(&mut y, l);
-    vectors::store(&y, 0, out);
+    hand_out(y, l, out);
     let b = l.bits;
     Reached {
         number: 0,
         least: l.count,
         bits: b,
     }
+}
+
+// The same of a word's octets.
+fn searched(word: &[u8], reach: u8, out: &mut [u8]) -> Reached
+    requires { ⌜ (length (now word) ≡ 16) × (length (now out) ≡ 16) × (reach ≤ 3) ⌝ }
+    ensures { λ r. ⌜ asReached r (now (out .exit)) ≡ searchedFor reach (bit (now (word .entry))) (now (out .entry)) ⌝ }
+{
+    let mut y = [0u64; 3];
+    vectors::load(word, &mut y);
+    mended(&mut y, reach, out)
 }
 
 // The fewest flips up to a reach that give a codeword, the first such list of bits in increasing order, and the mended word.

@@ -265,6 +265,45 @@ fn line(n: usize, digits: usize, caught: usize, entries: usize, found: usize)
     text(b"\n");
 }
 
+// How many are tried, and how many of them noticed.
+struct Tried {
+    tried: usize,
+    noticed: usize,
+}
+
+fn try_digits(
+    m: usize,
+    rows: usize,
+    count: usize,
+    parts: usize,
+    digits: usize,
+    parity: &[u16],
+    generator: &mut [u64],
+) -> Tried
+    requires { ⌜ Sizes m rows count parts (now parity) (now generator) × (0 < digits) × (digits ≤ 16) × (length (now generator) < 65536) ⌝ }
+    ensures { λ r. ⌜ (r .tried < 2 ^ 62) × (r .noticed < 2 ^ 62) ⌝ }
+{
+    let tried = generator.len() * digits * 15;
+    let noticed = digits_noticed(m, rows, count, parts, digits, parity, generator);
+    Tried { tried, noticed }
+}
+
+fn try_entries(
+    m: usize,
+    rows: usize,
+    count: usize,
+    parts: usize,
+    parity: &mut [u16],
+    generator: &[u64],
+) -> Tried
+    requires { ⌜ Sizes m rows count parts (now parity) (now generator) × (length (now parity) < 65536) ⌝ }
+    ensures { λ r. ⌜ (r .tried < 2 ^ 62) × (r .noticed < 2 ^ 62) ⌝ }
+{
+    let tried = entries_tried(m, parity);
+    let noticed = entries_noticed(m, rows, count, parts, parity, generator);
+    Tried { tried, noticed }
+}
+
 fn try_code(
     n: usize,
     m: usize,
@@ -278,11 +317,9 @@ fn try_code(
     requires { ⌜ Sizes m rows count parts (now parity) (now generator) × (0 < digits) × (digits ≤ 16) × (length (now parity) < 65536)
         × (length (now generator) < 65536) ⌝ }
 {
-    let tried = generator.len() * digits * 15;
-    let caught = digits_noticed(m, rows, count, parts, digits, parity, generator);
-    let entries = entries_tried(m, parity);
-    let found = entries_noticed(m, rows, count, parts, parity, generator);
-    line(n, tried, caught, entries, found);
+    let d = try_digits(m, rows, count, parts, digits, parity, generator);
+    let e = try_entries(m, rows, count, parts, parity, generator);
+    line(n, d.tried, d.noticed, e.tried, e.noticed);
 }
 
 fn answer(n: u8)

@@ -1,3 +1,2 @@
 pub mod Quick
-pub mod Groups
 pub mod Answers

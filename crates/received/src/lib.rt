@@ -1,13 +1,14 @@
 // Words as they are handed over: octets in, and octets out.
 ghost use mathlib.Core.Path.{_≡_};
 ghost use mathlib.Core.Bool.{false};
-ghost use Prim.Native.Nat.{_+_, _*_, _/_, _<_, _≤_};
+ghost use Prim.Native.Nat.{_+_, _-_, _*_, _/_, _<_, _≤_};
 ghost use lib.ListN.{length};
 ghost use Rattle.bits.specs.Bits.{bit, digit};
 ghost use Rattle.rules.specs.Codes.{Code, bits as bitsOf};
 ghost use Rattle.rules.specs.Encoding.{lifted, written};
 ghost use Rattle.vectors.specs.Vectors.{wbit, Holds, upTo, from, later};
 ghost use Rattle.layout.specs.Rooms.{wordRoom};
+use layout::WORD;
 
 // The bits that the checks are over, from octets that are handed in, into a vector of zeros; the unsent ones stand in front as zeros.
 pub fn take(octets: &[u8], unsent: usize, y: &mut [u64])
@@ -23,9 +24,9 @@ pub fn take(octets: &[u8], unsent: usize, y: &mut [u64])
 
 // The octets of a word as it is sent: the unsent bits are left out, and zero bits follow the last of its bits, in one word with it.
 // Where none follow, all are sent.
-pub fn write(y: &mut [u64], unsent: usize, bits: usize, out: &mut [u8])
-    requires { ⌜ (length (now y) ≡ wordRoom) × (unsent ≤ 18) × (length (now out) ≤ 1022)
-        × (8 * length (now out) + unsent ≤ bits → unsent ≡ 0) × (8 * length (now out) + unsent ≤ 64 * (bits / 64 + 1)) ⌝ }
+pub fn write(y: &mut [u64; WORD], unsent: usize, bits: usize, out: &mut [u8])
+    requires { ⌜ (unsent ≤ 18) × (length (now out) ≤ 1022) × (8 * length (now out) + unsent ≤ bits → unsent ≡ 0)
+        × (8 * length (now out) + unsent ≤ 64 * (bits / 64 + 1)) ⌝ }
     ensures { λ _. ⌜ ((c : Code) → unsent ≡ c .unsent → bits ≡ bitsOf c → length (now (out .entry)) ≡ c .wordOctets
         → now (out .exit) ≡ written c (wbit (now (y .entry)))) ⌝ }
 {
@@ -72,13 +73,21 @@ fn cut(octets: &[u8], p: usize, v: &mut [u64])
     v[7] = vectors::funnel(window(octets, last / 8, last % 8), 0, 1);
 }
 
+// The first 511 bits, cut short by the unsent ones.
+fn cut_short(octets: &[u8], unsent: usize, v: &mut [u64])
+    requires { ⌜ (64 ≤ length (now octets)) × (length (now octets) ≤ 1022) × (unsent ≤ 18) × (length (now v) ≡ 8) ⌝ }
+    ensures { λ _. ⌜ wbit (now (v .exit)) ≡ upTo (511 - unsent) (upTo 511 (from 0 (bit (now (octets .entry))))) ⌝ }
+{
+    cut(octets, 0, v);
+    vectors::trim(v, 511 - unsent);
+}
+
 // The first 511 bits, the unsent ones in front as zeros.
 fn cut_first(octets: &[u8], unsent: usize, v: &mut [u64])
     requires { ⌜ (64 ≤ length (now octets)) × (length (now octets) ≤ 1022) × (unsent ≤ 18) × (length (now v) ≡ 8) ⌝ }
     ensures { λ _. ⌜ wbit (now (v .exit)) ≡ upTo 511 (later unsent (bit (now (octets .entry)))) ⌝ }
 {
-    cut(octets, 0, v);
-    vectors::trim(v, 511 - unsent);
+    cut_short(octets, unsent, v);
     vectors::lift(v, unsent);
 }
 

@@ -1,24 +1,27 @@
 // What comes next for a word whose syndrome is held, and the flipping run.
 ghost use mathlib.Core.Path.{_≡_};
-ghost use Prim.Native.Nat.{_*_, _≤_, _<_};
-ghost use lib.ListN.{length};
-ghost use Rattle.bits.specs.Bits.{Word};
+ghost use mathlib.Core.List.{List};
+ghost use Prim.Native.Nat.{ℕ, _*_, _/_, _≤_, _<_};
+ghost use lib.ListN.{length, getD};
+ghost use Rattle.bits.specs.Bits.{Word, flipped};
 ghost use Rattle.rules.specs.Codes.{Code};
-ghost use Rattle.rules.specs.Checks.{broken};
+ghost use Rattle.rules.specs.Checks.{broken, metOf};
 ghost use Rattle.rules.specs.Flipping.{byExcess};
 ghost use Rattle.vectors.specs.Vectors.{wbit};
 ghost use Rattle.layout.specs.Lent.{Fit, Lent, laid};
 ghost use Rattle.bounds.specs.Reading.{Gathered};
 ghost use Rattle.sizes.specs.Samples.{smaller};
 ghost use Rattle.sizes.specs.Sizes.{bySize};
-ghost use Rattle.bounds.specs.Keeping.{Ready};
+ghost use Rattle.bounds.specs.Keeping.{Ready, Kept};
 ghost use Rattle.runs.specs.Passes.{Holding, Begins, Beginning, Carried, Continuing, CarriedNarrow, ContinuingNarrow};
 ghost use Rattle.runs.specs.Passes.{Within, comesNext, RunsTo};
-ghost use Rattle.layout.specs.Rooms.{rowsRoom, syndromeRoom, wordRoom};
 use layout::BLOCKS;
 use layout::ROWS;
 use layout::STARTS;
+use layout::SYNDROME;
 use layout::Shape;
+use layout::TABLE;
+use layout::WORD;
 
 // What comes next: quiet; or stuck, with the greatest excess and the lowest bit that has it; or this bit, of this excess, is to be flipped.
 pub enum Next {
@@ -39,9 +42,8 @@ pub struct Ended {
 }
 
 // What comes next for a word that has a broken check and the syndrome z, by the bounds of its blocks; bits before bit `from` are not sent.
-fn next_bounded(z: &[u64], h: &[u16], sh: Shape, from: usize) -> Next
-    requires { ⌜ Fit (now h) sh × (length (now z) ≡ syndromeRoom) × (1 ≤ sh .blocks) × (from < sh .size)
-        × Holding (now h) sh (wbit (now z)) ⌝ }
+fn next_bounded(z: &[u64; SYNDROME], h: &[u16; TABLE], sh: Shape, from: usize) -> Next
+    requires { ⌜ Fit (now h) sh × (1 ≤ sh .blocks) × (from < sh .size) × Holding (now h) sh (wbit (now z)) ⌝ }
     ensures { λ r. ⌜ Within (sh .blocks * sh .size) r
         × ((c : Code) → Lent c (now (h .entry)) sh → c .unsent ≡ from → (x : Word) → wbit (now (z .entry)) ≡ laid c sh x
         → (broken c x ≡ 0 → ⊥) → byExcess c x ≡ comesNext r) ⌝ }
@@ -60,9 +62,8 @@ fn next_bounded(z: &[u64], h: &[u16], sh: Shape, from: usize) -> Next
 }
 
 // The same where one word holds a block: a bit that is to be flipped shows at once. All bits have equal sizes.
-fn next_narrow(z: &[u64], h: &[u16], sh: Shape, from: usize) -> Next
-    requires { ⌜ Fit (now h) sh × (length (now z) ≡ syndromeRoom) × (1 ≤ sh .blocks) × (from < sh .size)
-        × Holding (now h) sh (wbit (now z)) × (sh .words ≡ 1) ⌝ }
+fn next_narrow(z: &[u64; SYNDROME], h: &[u16; TABLE], sh: Shape, from: usize) -> Next
+    requires { ⌜ Fit (now h) sh × (1 ≤ sh .blocks) × (from < sh .size) × Holding (now h) sh (wbit (now z)) × (sh .words ≡ 1) ⌝ }
     ensures { λ r. ⌜ Within (sh .blocks * sh .size) r
         × ((c : Code) → Lent c (now (h .entry)) sh → c .unsent ≡ from → (x : Word) → wbit (now (z .entry)) ≡ laid c sh x
         → (broken c x ≡ 0 → ⊥) → byExcess c x ≡ comesNext r) ⌝ }
@@ -72,15 +73,15 @@ fn next_narrow(z: &[u64], h: &[u16], sh: Shape, from: usize) -> Next
     narrow::begin(z, sh, &mut rows);
     let best = narrow::choose(&equal, &rows, h, sh, from);
     if best.score > 8 {
-        return Next::Flip(best.bit, best.score as i8 - 8);
+        let excess = best.score as i8 - 8;
+        return Next::Flip(best.bit, excess);
     }
     next_bounded(z, h, sh, from)
 }
 
 // What comes next for the word whose syndrome is z; bits before bit `from` are not sent.
-pub fn comes_next(z: &[u64], h: &[u16], sh: Shape, from: usize) -> Next
-    requires { ⌜ Fit (now h) sh × (length (now z) ≡ syndromeRoom) × (1 ≤ sh .blocks) × (from < sh .size)
-        × Holding (now h) sh (wbit (now z)) ⌝ }
+pub fn comes_next(z: &[u64; SYNDROME], h: &[u16; TABLE], sh: Shape, from: usize) -> Next
+    requires { ⌜ Fit (now h) sh × (1 ≤ sh .blocks) × (from < sh .size) × Holding (now h) sh (wbit (now z)) ⌝ }
     ensures { λ r. ⌜ Within (sh .blocks * sh .size) r × ((c : Code) → Lent c (now (h .entry)) sh → c .unsent ≡ from → (x : Word)
         → wbit (now (z .entry)) ≡ laid c sh x → byExcess c x ≡ comesNext r) ⌝ }
 {
@@ -106,22 +107,45 @@ fn at_end(number: u8, flips: u32, last: u32) -> Ended
     }
 }
 
+// Flips a bit of a word, and its checks in what is kept of it; the bit has as many met checks as the bound of its block says.
+fn flip(
+    y: &mut [u64; WORD],
+    d: &mut [u64; ROWS],
+    starts: &[u16; STARTS],
+    counts: &[u8; BLOCKS],
+    met: &mut [u8; BLOCKS],
+    sh: Shape,
+    bit: usize,
+)
+    requires { ⌜ Ready sh (now starts) (now counts) (now met) × (bit < sh .blocks * sh .size) × (sh .blocks * sh .size ≤ 8176) ⌝ }
+    ensures word { λ _. ⌜ wbit (now (y .exit)) ≡ flipped (wbit (now (y .entry))) bit ⌝ }
+    ensures checks { λ _. ⌜ Ready sh (now (starts .entry)) (now (counts .entry)) (now (met .exit))
+        × ((c : Code) (h : List ℕ) (from : ℕ) (x : Word) → Lent c h sh
+        → Gathered h sh (now (starts .entry)) (now (counts .entry)) (sh .blocks)
+        → Kept c sh from x (now (d .entry)) (now (counts .entry)) (now (met .entry))
+        → metOf c x bit ≡ getD (now (met .entry)) (bit / sh .size) 0
+        → Kept c sh from (flipped x bit) (now (d .exit)) (now (counts .entry)) (now (met .exit))) ⌝ }
+{
+    vectors::flip_bit(y, bit);
+    bounds::flip(d, starts, counts, met, sh, bit);
+}
+
 // The run from the word y, of which d, starts, counts and met are kept, under a limit: flips until it ends. So many checks are broken.
 fn go_on(
-    y: &mut [u64],
-    d: &mut [u64],
-    starts: &[u16],
-    counts: &[u8],
-    met: &mut [u8],
-    h: &[u16],
+    y: &mut [u64; WORD],
+    d: &mut [u64; ROWS],
+    starts: &[u16; STARTS],
+    counts: &[u8; BLOCKS],
+    met: &mut [u8; BLOCKS],
+    h: &[u16; TABLE],
     sh: Shape,
     from: usize,
     limit: u16,
     first: u32,
 ) -> Ended
     requires { ⌜ Fit (now h) sh × Gathered (now h) sh (now starts) (now counts) (sh .blocks)
-        × Ready sh (now starts) (now counts) (now met) × (length (now y) ≡ wordRoom) × (length (now d) ≡ rowsRoom) × (1 ≤ sh .blocks)
-        × (from < sh .size) × Continuing (now h) sh from first (wbit (now y)) (now d) (now counts) (now met) ⌝ }
+        × Ready sh (now starts) (now counts) (now met) × (1 ≤ sh .blocks) × (from < sh .size)
+        × Continuing (now h) sh from first (wbit (now y)) (now d) (now counts) (now met) ⌝ }
     ensures { λ r. ⌜ ((c : Code) → Lent c (now (h .entry)) sh → c .unsent ≡ from
         → Carried c sh from first (wbit (now (y .entry))) (now (d .entry)) (now (counts .entry)) (now (met .entry))
         → RunsTo (byExcess c) c sh limit (wbit (now (y .entry))) (r .ran) (wbit (now (y .exit))) (laid c sh (wbit (now (y .exit))))
@@ -132,15 +156,15 @@ fn go_on(
     let mut left = first;
     while left > 0 {
         let best = choice::choose(d, starts, counts, met, sh, from);
-        if best.score <= 8 {
+        let top = best.score;
+        if top <= 8 {
             return at_end(5, flips, left);
         }
         if flips >= most {
             return at_end(6, flips, left); // no flip more
         }
-        vectors::flip_bit(y, best.bit);
-        bounds::flip(d, starts, counts, met, sh, best.bit);
-        left -= best.score - 8;
+        flip(y, d, starts, counts, met, sh, best.bit);
+        left -= top - 8;
         flips += 1;
     }
     at_end(0, flips, 0)
@@ -150,16 +174,16 @@ fn go_on(
 // it ends. So many checks are broken.
 fn go_on_narrow(
     samples: &[f32],
-    y: &mut [u64],
-    rows: &mut [u64],
-    h: &[u16],
+    y: &mut [u64; WORD],
+    rows: &mut [u64; 4],
+    h: &[u16; TABLE],
     sh: Shape,
     from: usize,
     limit: u16,
     first: u32,
 ) -> Ended
-    requires { ⌜ Fit (now h) sh × (sh .words ≡ 1) × (length (now y) ≡ wordRoom) × (length (now rows) ≡ 4) × (1 ≤ sh .blocks)
-        × (from < sh .size) × (0 < length (now samples) → (length (now samples) ≡ sh .blocks * sh .size) × (from ≡ 0))
+    requires { ⌜ Fit (now h) sh × (sh .words ≡ 1) × (1 ≤ sh .blocks) × (from < sh .size)
+        × (0 < length (now samples) → (length (now samples) ≡ sh .blocks * sh .size) × (from ≡ 0))
         × ContinuingNarrow (now h) sh from first (wbit (now y)) (now rows) ⌝ }
     ensures { λ r. ⌜ ((c : Code) → Lent c (now (h .entry)) sh → c .unsent ≡ from
         → CarriedNarrow c sh first (wbit (now (y .entry))) (now (rows .entry))
@@ -171,14 +195,15 @@ fn go_on_narrow(
     let mut left = first;
     while left > 0 {
         let chosen = narrow::choose(samples, rows, h, sh, from);
-        if chosen.score <= 8 {
+        let high = chosen.score;
+        if high <= 8 {
             return at_end(5, flips, left);
         }
         if flips >= end {
             return at_end(6, flips, left);
         }
         narrow::flip(y, rows, h, sh, chosen.bit);
-        left -= chosen.score - 8;
+        left -= high - 8;
         flips += 1;
     }
     at_end(0, flips, 0)
@@ -186,16 +211,15 @@ fn go_on_narrow(
 
 // The run from the word y with the syndrome z, of which so many checks are broken, by the bounds of its blocks.
 fn run_bounded(
-    y: &mut [u64],
-    z: &[u64],
-    h: &[u16],
+    y: &mut [u64; WORD],
+    z: &[u64; SYNDROME],
+    h: &[u16; TABLE],
     sh: Shape,
     from: usize,
     limit: u16,
     first: u32,
 ) -> Ended
-    requires { ⌜ Fit (now h) sh × (length (now y) ≡ wordRoom) × (length (now z) ≡ syndromeRoom) × (1 ≤ sh .blocks) × (from < sh .size)
-        × Beginning (now h) sh from first (wbit (now y)) (wbit (now z)) ⌝ }
+    requires { ⌜ Fit (now h) sh × (1 ≤ sh .blocks) × (from < sh .size) × Beginning (now h) sh from first (wbit (now y)) (wbit (now z)) ⌝ }
     ensures { λ r. ⌜ ((c : Code) → Begins c (now (h .entry)) sh from first (wbit (now (y .entry))) (wbit (now (z .entry)))
         → RunsTo (byExcess c) c sh limit (wbit (now (y .entry))) (r .ran) (wbit (now (y .exit))) (laid c sh (wbit (now (y .exit))))
         × (r .last ≡ broken c (wbit (now (y .exit))))) ⌝ }
@@ -222,15 +246,15 @@ fn run_bounded(
 // The run by the sizes of the samples, where one word holds a block: as many samples as bits, or none, where all bits have equal sizes.
 pub fn run_narrow(
     samples: &[f32],
-    y: &mut [u64],
-    z: &[u64],
-    h: &[u16],
+    y: &mut [u64; WORD],
+    z: &[u64; SYNDROME],
+    h: &[u16; TABLE],
     sh: Shape,
     from: usize,
     limit: u16,
     first: u32,
 ) -> Ended
-    requires { ⌜ Fit (now h) sh × (length (now y) ≡ wordRoom) × (length (now z) ≡ syndromeRoom) × (1 ≤ sh .blocks) × (from < sh .size)
+    requires { ⌜ Fit (now h) sh × (1 ≤ sh .blocks) × (from < sh .size)
         × (0 < length (now samples) → (length (now samples) ≡ sh .blocks * sh .size) × (from ≡ 0))
         × Beginning (now h) sh from first (wbit (now y)) (wbit (now z)) × (sh .words ≡ 1) ⌝ }
     ensures { λ r. ⌜ ((c : Code) → Begins c (now (h .entry)) sh from first (wbit (now (y .entry))) (wbit (now (z .entry)))
@@ -244,16 +268,15 @@ pub fn run_narrow(
 
 // The run from the word y with the syndrome z, of which so many checks are broken, under a limit: flips until it ends.
 pub fn run(
-    y: &mut [u64],
-    z: &[u64],
-    h: &[u16],
+    y: &mut [u64; WORD],
+    z: &[u64; SYNDROME],
+    h: &[u16; TABLE],
     sh: Shape,
     from: usize,
     limit: u16,
     first: u32,
 ) -> Ended
-    requires { ⌜ Fit (now h) sh × (length (now y) ≡ wordRoom) × (length (now z) ≡ syndromeRoom) × (1 ≤ sh .blocks) × (from < sh .size)
-        × Beginning (now h) sh from first (wbit (now y)) (wbit (now z)) ⌝ }
+    requires { ⌜ Fit (now h) sh × (1 ≤ sh .blocks) × (from < sh .size) × Beginning (now h) sh from first (wbit (now y)) (wbit (now z)) ⌝ }
     ensures { λ r. ⌜ ((c : Code) → Begins c (now (h .entry)) sh from first (wbit (now (y .entry))) (wbit (now (z .entry)))
         → RunsTo (byExcess c) c sh limit (wbit (now (y .entry))) (r .ran) (wbit (now (y .exit))) (laid c sh (wbit (now (y .exit))))
         × (r .last ≡ broken c (wbit (now (y .exit))))) ⌝ }

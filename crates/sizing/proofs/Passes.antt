@@ -2,8 +2,7 @@
 use mathlib.Core.Path.{_≡_, refl, sym, ap, _∙_, subst}
 use mathlib.Core.Bool.{Bool, true, false}
 use mathlib.Core.List.{List}
-use Prim.Native.Nat.{ℕ, zero, suc, _+_, _*_, _≤_, _<_}
-use native.Mathlib.Nat.{add-zero}
+use Prim.Native.Nat.{ℕ, zero, suc, _+_, _-_, _*_, _≤_, _<_}
 use native.Mathlib.Omega.{arith}
 use lib.Ieee.{Float}
 use lib.ListN.{length, getD, replicate}
@@ -11,6 +10,7 @@ use Rattle.bits.specs.Bits.{Word, tally, _⊕_, flipped}
 use Rattle.bits.proofs.Counting.{count-le}
 use Rattle.bits.proofs.Octets.{zeros-at}
 use Rattle.rules.specs.Codes.{Code, bits}
+use Rattle.rules.specs.Checks.{broken}
 use Rattle.answers.specs.Calls.{differing}
 use Rattle.answers.proofs.Differing.{differ-flip}
 use Rattle.vectors.specs.Vectors.{wbit}
@@ -19,9 +19,17 @@ use Rattle.layout.specs.Lent.{Fit, Lent, laid, score}
 use Rattle.bounds.specs.Reading.{Twice, Gathered}
 use Rattle.bounds.specs.Keeping.{Scored}
 use Rattle.bounds.proofs.Turned.{scored}
-use Rattle.sizes.specs.Samples.{read}
-use Rattle.smallest.specs.Knowing.{Knows, whole, Leads}
-use Rattle.sizing.specs.Passing.{Stands}
+use Rattle.runs.specs.Passes.{Going}
+use Rattle.runs.proofs.Passing.{ends-quiet, runs-as}
+use Rattle.runs.proofs.Sizes.{sized-quiet}
+use Rattle.sizes.specs.Samples.{read, smaller}
+use Rattle.sizes.specs.Sizes.{bySize}
+use Rattle.raising.specs.Knowing.{Knows, whole}
+use Rattle.smallest.specs.Settling.{Leads}
+use Rattle.sizing.specs.declared.Chosen.{Chosen}
+use Rattle.sizing.specs.declared.Passed.{Passed}
+use Rattle.sizing.specs.declared.Ended.{Ended}
+use Rattle.sizing.specs.Passing.{Stands, Coming, Chooses, Passes, SizesTo}
 
 few : (b : Bool) → tally b ≤ 1
 few true = omega arith
@@ -83,3 +91,53 @@ module _ (c : Code) (h : List ℕ) (sh : Shape) (lent : Lent c h sh) (fit : Fit 
 
   pub chosen-stands : Stands c sh samples y d starts counts met′ kept′
   chosen-stands = record { twice = was .twice; knows = chose (was .knows) .0 }
+
+-- ---- a pass
+
+-- one that flips the bit that comes next
+pub pass-goes : {c : Code} {h : List ℕ} {sh : Shape} {samples : List Float} {limit flips left unlike : ℕ} {x : Word}
+    {y y′ d d′ starts counts met met′ kept kept′ : List ℕ} {n : Chosen} {r : Passed} → Lent c h sh
+    → Coming c sh samples limit x flips y d starts counts met kept left unlike → Chooses c sh samples limit flips (wbit y) n
+    → n .number ≡ 0 → n .bit < sh .blocks * sh .size → r .number ≡ 0 → r .left ≡ left - n .fewer → wbit y′ ≡ flipped (wbit y) (n .bit)
+    → (tally (read samples (n .bit) ⊕ wbit y (n .bit)) ≤ unlike
+    → r .unlike + 2 * tally (read samples (n .bit) ⊕ wbit y (n .bit)) ≡ unlike + 1)
+    → (0 < r .left → Stands c sh samples (flipped (wbit y) (n .bit)) d′ starts counts met′ kept′)
+    → Passes c sh samples limit x flips y′ d′ starts counts met′ kept′ left unlike r
+pass-goes {c} {h} {sh} {samples} {limit} {flips} {left} {unlike} {x} {y} {n = n} {r = r} lent was next go inside none less word counted
+    stands =
+    record {
+      goes = λ z. record {
+        going = subst (λ v. Going (bySize (smaller samples) c) c sh limit x (flips + 1) v (laid c sh v)) (sym word)
+            (next .goes go x (was .going));
+        left-is = omega (arith, less, next .fewer go, was .left-is, ap (broken c) word);
+        stands = λ some. stands-as (sym word) (stands some);
+        differs = differs-flip c samples (wbit y) (n .bit) (omega (arith, lent .bits-are)) unlike (r .unlike) (was .differs) counted
+            ∙ ap (differing c (read samples)) (sym word);
+      };
+      ends = λ e. absurd (e none);
+      last = λ e. absurd (e none);
+      differs = λ e. absurd (e none);
+    }
+
+module _ {c : Code} {sh : Shape} {samples : List Float} {limit flips left unlike : ℕ} {x : Word} {y d starts counts met kept : List ℕ} where
+  -- one in which the run ends
+  pub pass-ends : {r : Passed} → Passes c sh samples limit x flips y d starts counts met kept left unlike r → (r .number ≡ 0 → ⊥)
+      → x ≡ read samples → (e : Ended) → e .ran .number ≡ r .number → e .ran .flips ≡ flips → e .last ≡ left → e .unlike ≡ unlike
+      → SizesTo c sh samples limit x e (wbit y)
+  pass-ends p end first e is-number is-flips is-last is-unlike = record {
+    runs = runs-as _ _ is-number is-flips (p .ends end);
+    last = is-last ∙ p .last end;
+    differs = is-unlike ∙ p .differs end ∙ ap (λ z. differing c z (wbit y)) (sym first);
+  }
+
+  -- none is left to be made
+  pub comes-quiet : Coming c sh samples limit x flips y d starts counts met kept left unlike → left ≤ 0 → x ≡ read samples → (e : Ended)
+      → e .ran .number ≡ 0 → e .ran .flips ≡ flips → e .last ≡ 0 → e .unlike ≡ unlike → SizesTo c sh samples limit x e (wbit y)
+  comes-quiet was quiet first e is-number is-flips is-last is-unlike =
+      let none : broken c (wbit y) ≡ 0 = omega (arith, was .left-is) in
+      record {
+        runs = runs-as _ _ is-number is-flips (ends-quiet (bySize (smaller samples) c) c sh limit x flips (wbit y) _ (was .going)
+            (sized-quiet (smaller samples) c (wbit y) none));
+        last = is-last ∙ sym none;
+        differs = is-unlike ∙ was .differs ∙ ap (λ z. differing c z (wbit y)) (sym first);
+      }

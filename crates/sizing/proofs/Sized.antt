@@ -1,38 +1,34 @@
 -- What comes next by sizes, from the greatest score and the bit of that score that is ahead of all others.
 use mathlib.Core.Path.{_≡_, refl, sym, ap, _∙_, subst}
-use mathlib.Core.Bool.{Bool, true, not}
+use mathlib.Core.Bool.{Bool, true}
 use mathlib.Core.List.{List}
 use mathlib.Core.Logic.{inl, inr}
 use Prim.Native.Nat.{ℕ, _+_, _-_, _*_, _≤_, _<_, zero-le}
 use native.Mathlib.Nat.{lt-of-not-le, zero-add}
-use native.Mathlib.Decide.{decLe, decLt}
+use native.Mathlib.Decide.{decLt}
 use native.Mathlib.Omega.{arith}
-use lib.Dec.{leb, ltb}
+use lib.Dec.{leb}
 use lib.Ieee.{Float}
 use lib.IntN.{subℕ}
 use lib.ListN.{length}
-use lib.Signed.{ltZ}
-use borrow.Author.Tests.{le-leb, lt-leb, lt-ltb, le-ltb, leb-true, leb-false}
+use borrow.Author.Tests.{le-leb, leb-true, leb-false}
 use Rattle.bits.specs.Bits.{Word, flipped, least}
 use Rattle.bits.proofs.Leasts.{least-below, least-holds}
 use Rattle.rules.specs.Codes.{Code, bits}
 use Rattle.rules.specs.Checks.{broken}
-use Rattle.rules.specs.Flipping.{quiet, stuck, flip}
-use Rattle.rules.proofs.Flips.{broken-met, broken-flip, sub-order}
-use Rattle.rules.proofs.Choosing.{quiet-next}
+use Rattle.rules.specs.Flipping.{stuck, flip}
 use Rattle.layout.specs.declared.Shape.{Shape}
 use Rattle.layout.specs.Lent.{Lent, score}
 use Rattle.planes.specs.Ranges.{Top}
 use Rattle.planes.proofs.Ranges.{top-ends}
-use Rattle.choice.proofs.Excesses.{score-excess, degree-le}
 use Rattle.runs.proofs.Passing.{next-stuck}
 use Rattle.runs.proofs.Sizes.{score-left, sized-next}
 use Rattle.sizes.specs.Samples.{smaller, allFinite}
-use Rattle.sizes.specs.Sizes.{smallest, reaching, instead, smallestSent, bySize}
+use Rattle.sizes.specs.Sizes.{smallest, instead, smallestSent, bySize}
 use Rattle.sizes.proofs.Orders.{finite-ordered}
-use Rattle.sizes.proofs.Smallest.{Ordered, Is, smallest-one, smallest-same}
-use Rattle.smallest.specs.Knowing.{Ahead, Leads}
-use Rattle.smallest.proofs.Orders.{ahead-both, Over, smallest-over}
+use Rattle.sizes.proofs.Smallest.{Ordered, Is, smallest-one}
+use Rattle.smallest.specs.Settling.{Leads}
+use Rattle.raising.proofs.Orders.{ahead-both, Over, smallest-over}
 
 module _ (samples : List Float) {c : Code} {h : List ℕ} {sh : Shape} (lent : Lent c h sh) (all : c .unsent ≡ 0) (x : Word) where
   abbrev end : ℕ

@@ -2,30 +2,48 @@
 ghost use mathlib.Core.Path.{_≡_};
 ghost use mathlib.Core.Bool.{true};
 ghost use mathlib.Core.List.{List};
-ghost use Prim.Native.Nat.{ℕ, _+_, _*_, _<_, _≤_};
+ghost use Prim.Native.Nat.{ℕ, _+_, _-_, _*_, _/_, _<_, _≤_};
 ghost use lib.ListN.{length, getD};
-ghost use Rattle.bits.specs.Bits.{tally, _⊕_, flipped};
+ghost use Rattle.bits.specs.Bits.{Word, count, tally, _⊕_, flipped};
 ghost use Rattle.rules.specs.Codes.{Code};
 ghost use Rattle.rules.specs.Checks.{broken};
 ghost use Rattle.vectors.specs.Vectors.{wbit};
 ghost use Rattle.layout.specs.Lent.{Fit, Lent};
-ghost use Rattle.bounds.specs.Reading.{Gathered};
+ghost use Rattle.bounds.specs.Reading.{Twice, Gathered};
 ghost use Rattle.bounds.specs.Keeping.{Ready};
 ghost use Rattle.sizes.specs.Samples.{read as readOf, allFinite};
-ghost use Rattle.sizing.specs.Passing.{Stands, Starting, SizesTo};
+ghost use Rattle.sizing.specs.Passing.{Stands, Starting, Coming, Chooses, Passes, SizesTo};
 ghost use Rattle.runs.specs.Passes.{Begins, Beginning};
 use layout::BLOCKS;
 use layout::ROWS;
 use layout::STARTS;
+use layout::SYNDROME;
 use layout::Shape;
+use layout::TABLE;
+use layout::WORD;
+use raising::UNKNOWN;
 use runs::Ran;
-use smallest::UNKNOWN;
 
 // A run, the broken checks at its end, and in how many bits the word then differs from the one that was read.
 pub struct Ended {
     pub ran: Ran,
     pub last: u32,
     pub unlike: u32,
+}
+
+// What comes next: number 0, the bit that is flipped and by how many checks fewer are broken then; or the number that the run ends with.
+struct Chosen {
+    number: u8,
+    bit: usize,
+    fewer: u32,
+}
+
+// What a pass comes to: number 0, the broken checks that are left and in how many bits the word differs then; or the number that the run
+// ends with.
+struct Passed {
+    number: u8,
+    left: u32,
+    unlike: u32,
 }
 
 // In how many bits the word y differs from the one that was read, once bit `bit` is flipped; before that in so many.
@@ -43,40 +61,152 @@ fn counted(samples: &[f32], y: &[u64], bit: usize, unlike: u32) -> u32
     unlike - 1
 }
 
-// Flips a bit in y, and in what is kept if `left` checks, one or more, are broken then; and says in how many bits y differs from what
-// was read.
+// Flips a bit of the word y, and says in how many bits y differs from what was read then; before that in so many.
+fn flip_counted(samples: &[f32], y: &mut [u64; WORD], bit: usize, unlike: u32) -> u32
+    requires { ⌜ (length (now samples) ≤ 8176) × (bit < length (now samples)) × (unlike < 65536) ⌝ }
+    ensures { λ r. ⌜ (r ≤ unlike + 1) × (wbit (now (y .exit)) ≡ flipped (wbit (now (y .entry))) bit)
+        × (tally (readOf (now (samples .entry)) bit ⊕ wbit (now (y .entry)) bit) ≤ unlike
+        → r + 2 * tally (readOf (now (samples .entry)) bit ⊕ wbit (now (y .entry)) bit) ≡ unlike + 1) ⌝ }
+{
+    let r = counted(samples, y, bit, unlike);
+    vectors::flip_bit(y, bit);
+    r
+}
+
+// Flips a bit in y, and in what is kept if a check is broken then: so many fewer than before are.
 fn pass(
     samples: &[f32],
-    y: &mut [u64],
-    d: &mut [u64],
-    starts: &[u16],
-    counts: &[u8],
-    met: &mut [u8],
-    kept: &mut [usize],
+    y: &mut [u64; WORD],
+    d: &mut [u64; ROWS],
+    starts: &[u16; STARTS],
+    counts: &[u8; BLOCKS],
+    met: &mut [u8; BLOCKS],
+    kept: &mut [usize; BLOCKS],
     sh: Shape,
     bit: usize,
-    left: u32,
+    fewer: u32,
+    was: u32,
     unlike: u32,
-) -> u32
-    requires { ⌜ Ready sh (now starts) (now counts) (now met) × (length (now kept) ≡ 16) × (length (now y) ≡ 130) × (length (now d) ≡ 65)
-        × (length (now samples) ≡ sh .blocks * sh .size) × (length (now samples) ≤ 8176) × (allFinite (now samples) ≡ true)
-        × (bit < length (now samples)) × (unlike < 65536) ⌝ }
-    ensures { λ r. ⌜ Ready sh (now (starts .entry)) (now (counts .entry)) (now (met .exit)) × (r ≤ unlike + 1)
+) -> Passed
+    requires { ⌜ Ready sh (now starts) (now counts) (now met) × (length (now samples) ≡ sh .blocks * sh .size)
+        × (length (now samples) ≤ 8176) × (allFinite (now samples) ≡ true) × (bit < length (now samples)) × (fewer ≤ was)
+        × (unlike < 65536) ⌝ }
+    ensures { λ r. ⌜ Ready sh (now (starts .entry)) (now (counts .entry)) (now (met .exit)) × (r .number ≡ 0)
+        × (r .left ≡ was - fewer) × (r .unlike ≤ unlike + 1) × (wbit (now (y .exit)) ≡ flipped (wbit (now (y .entry))) bit)
         × (tally (readOf (now (samples .entry)) bit ⊕ wbit (now (y .entry)) bit) ≤ unlike
-        → r + 2 * tally (readOf (now (samples .entry)) bit ⊕ wbit (now (y .entry)) bit) ≡ unlike + 1)
-        × (wbit (now (y .exit)) ≡ flipped (wbit (now (y .entry))) bit)
-        × ((c : Code) (h : List ℕ) → Lent c h sh → Gathered h sh (now (starts .entry)) (now (counts .entry)) (sh .blocks) → 0 < left
+        → r .unlike + 2 * tally (readOf (now (samples .entry)) bit ⊕ wbit (now (y .entry)) bit) ≡ unlike + 1)
+        × ((c : Code) (h : List ℕ) → Lent c h sh → Gathered h sh (now (starts .entry)) (now (counts .entry)) (sh .blocks) → 0 < r .left
         → Stands c sh (now (samples .entry)) (wbit (now (y .entry))) (now (d .entry)) (now (starts .entry)) (now (counts .entry))
         (now (met .entry)) (now (kept .entry))
         → Stands c sh (now (samples .entry)) (flipped (wbit (now (y .entry))) bit) (now (d .exit)) (now (starts .entry))
         (now (counts .entry)) (now (met .exit)) (now (kept .exit))) ⌝ }
 {
-    let r = counted(samples, y, bit, unlike);
-    vectors::flip_bit(y, bit);
+    let now = flip_counted(samples, y, bit, unlike);
+    let left = was - fewer;
     if left > 0 {
-        smallest::flip(samples, d, starts, counts, met, kept, sh, bit);
+        raising::flip(samples, d, starts, counts, met, kept, sh, bit);
     }
-    r
+    Passed {
+        number: 0,
+        left: left,
+        unlike: now,
+    }
+}
+
+// What comes next for a word of which d, starts, counts, met and kept are kept, and that has a broken check: the bit that is flipped; or
+// the run ends, with 5 if it is stuck, or with 6 if it has flipped as many as the limit allows.
+fn comes_next(
+    samples: &[f32],
+    d: &[u64; ROWS],
+    starts: &[u16; STARTS],
+    counts: &[u8; BLOCKS],
+    met: &mut [u8; BLOCKS],
+    kept: &mut [usize; BLOCKS],
+    sh: Shape,
+    limit: u16,
+    flips: u32,
+) -> Chosen
+    requires { ⌜ Ready sh (now starts) (now counts) (now met) × (1 ≤ sh .blocks) × (length (now samples) ≡ sh .blocks * sh .size)
+        × (allFinite (now samples) ≡ true) ⌝ }
+    ensures { λ r. ⌜ Ready sh (now (starts .entry)) (now (counts .entry)) (now (met .exit)) × (r .bit < sh .blocks * sh .size)
+        × (r .number ≡ 0 → flips < limit) × ((c : Code) (h : List ℕ) (y : Word) → Lent c h sh → c .unsent ≡ 0 → Fit h sh
+        → Gathered h sh (now (starts .entry)) (now (counts .entry)) (sh .blocks) → (broken c y ≡ 0 → ⊥)
+        → Stands c sh (now (samples .entry)) y (now (d .entry)) (now (starts .entry)) (now (counts .entry)) (now (met .entry))
+        (now (kept .entry))
+        → Stands c sh (now (samples .entry)) y (now (d .entry)) (now (starts .entry)) (now (counts .entry)) (now (met .exit))
+        (now (kept .exit)) × Chooses c sh (now (samples .entry)) limit flips y r) ⌝ }
+{
+    let best = smallest::choose(samples, d, starts, counts, met, kept, sh);
+    if best.score <= 8 {
+        return Chosen {
+            number: 5,
+            bit: best.bit,
+            fewer: 0,
+        };
+    }
+    if flips >= limit as u32 {
+        return Chosen {
+            number: 6,
+            bit: best.bit,
+            fewer: 0,
+        };
+    }
+    Chosen {
+        number: 0,
+        bit: best.bit,
+        fewer: best.score - 8,
+    }
+}
+
+// A pass of the run, for a word y with so many broken checks, one or more: a bit is flipped, or the run ends.
+fn go_once(
+    samples: &[f32],
+    y: &mut [u64; WORD],
+    d: &mut [u64; ROWS],
+    starts: &[u16; STARTS],
+    counts: &[u8; BLOCKS],
+    met: &mut [u8; BLOCKS],
+    kept: &mut [usize; BLOCKS],
+    h: &[u16; TABLE],
+    sh: Shape,
+    limit: u16,
+    flips: u32,
+    left: u32,
+    unlike: u32,
+) -> Passed
+    requires { ⌜ Fit (now h) sh × Gathered (now h) sh (now starts) (now counts) (sh .blocks)
+        × Ready sh (now starts) (now counts) (now met) × (1 ≤ sh .blocks) × (length (now samples) ≡ sh .blocks * sh .size)
+        × (allFinite (now samples) ≡ true) × (unlike < 65536) × (0 < left)
+        × Starting (now h) sh (now samples) left (wbit (now y)) (now d) (now starts) (now counts) (now met) (now kept) ⌝ }
+    ensures { λ r. ⌜ Ready sh (now (starts .entry)) (now (counts .entry)) (now (met .exit)) × (r .number ≡ 0 → flips < limit)
+        × (r .unlike ≤ unlike + 1) × ((c : Code) (x : Word) → Lent c (now (h .entry)) sh → c .unsent ≡ 0
+        → Coming c sh (now (samples .entry)) limit x flips (now (y .entry)) (now (d .entry)) (now (starts .entry)) (now (counts .entry))
+        (now (met .entry)) (now (kept .entry)) left unlike
+        → Passes c sh (now (samples .entry)) limit x flips (now (y .exit)) (now (d .exit)) (now (starts .entry)) (now (counts .entry))
+        (now (met .exit)) (now (kept .exit)) left unlike r) ⌝ }
+{
+    let next = comes_next(samples, d, starts, counts, met, kept, sh, limit, flips);
+    if next.number != 0 {
+        return Passed {
+            number: next.number,
+            left: left,
+            unlike: unlike,
+        };
+    }
+    pass(
+        samples,
+        y,
+        d,
+        starts,
+        counts,
+        met,
+        kept,
+        sh,
+        next.bit,
+        next.fewer,
+        left,
+        unlike,
+    )
 }
 
 // A run that ends.
@@ -97,40 +227,31 @@ fn at_end(number: u8, flips: u32, last: u32, unlike: u32) -> Ended
 // checks are broken.
 fn go_on(
     samples: &[f32],
-    y: &mut [u64],
-    d: &mut [u64],
-    starts: &[u16],
-    counts: &[u8],
-    met: &mut [u8],
-    kept: &mut [usize],
-    h: &[u16],
+    y: &mut [u64; WORD],
+    d: &mut [u64; ROWS],
+    starts: &[u16; STARTS],
+    counts: &[u8; BLOCKS],
+    met: &mut [u8; BLOCKS],
+    kept: &mut [usize; BLOCKS],
+    h: &[u16; TABLE],
     sh: Shape,
     limit: u16,
     first: u32,
 ) -> Ended
-    requires { ⌜ Fit (now h) sh × Gathered (now h) sh (now starts) (now counts) (sh .blocks) × Ready sh (now starts) (now counts) (now met)
-        × (length (now kept) ≡ 16) × (length (now y) ≡ 130) × (length (now d) ≡ 65) × (1 ≤ sh .blocks)
-        × (length (now samples) ≡ sh .blocks * sh .size) × (allFinite (now samples) ≡ true) × (wbit (now y) ≡ readOf (now samples))
+    requires { ⌜ Fit (now h) sh × Gathered (now h) sh (now starts) (now counts) (sh .blocks)
+        × Ready sh (now starts) (now counts) (now met) × (1 ≤ sh .blocks) × (length (now samples) ≡ sh .blocks * sh .size)
+        × (allFinite (now samples) ≡ true) × (wbit (now y) ≡ readOf (now samples))
         × Starting (now h) sh (now samples) first (wbit (now y)) (now d) (now starts) (now counts) (now met) (now kept) ⌝ }
     ensures { λ r. ⌜ ((c : Code) → Lent c (now (h .entry)) sh → c .unsent ≡ 0 → first ≡ broken c (wbit (now (y .entry)))
         → Stands c sh (now (samples .entry)) (wbit (now (y .entry))) (now (d .entry)) (now (starts .entry)) (now (counts .entry))
         (now (met .entry)) (now (kept .entry))
         → SizesTo c sh (now (samples .entry)) limit (wbit (now (y .entry))) r (wbit (now (y .exit)))) ⌝ }
 {
-    let most = limit as u32;
     let mut flips: u32 = 0;
     let mut left = first;
     let mut unlike: u32 = 0;
     while left > 0 {
-        let best = smallest::choose(samples, d, starts, counts, met, kept, sh);
-        if best.score <= 8 {
-            return at_end(5, flips, left, unlike);
-        }
-        if flips >= most {
-            return at_end(6, flips, left, unlike);
-        }
-        left -= best.score - 8;
-        unlike = pass(
+        let passed = go_once(
             samples,
             y,
             d,
@@ -138,44 +259,52 @@ fn go_on(
             counts,
             met,
             kept,
+            h,
             sh,
-            best.bit,
+            limit,
+            flips,
             left,
             unlike,
         );
+        if passed.number != 0 {
+            return at_end(passed.number, flips, left, unlike);
+        }
+        left = passed.left;
+        unlike = passed.unlike;
         flips += 1;
     }
     at_end(0, flips, 0, unlike)
 }
 
-// The run from the word y that was read, with the syndrome z, of which so many checks are broken, by the bounds of its blocks.
-fn run_bounded(
+// The run from the word y that was read, with the syndrome z, of which d, starts and counts are kept. No bit is known yet, and no met check
+// is counted on.
+fn run_begun(
     samples: &[f32],
-    y: &mut [u64],
-    z: &[u64],
-    h: &[u16],
+    y: &mut [u64; WORD],
+    z: &[u64; SYNDROME],
+    d: &mut [u64; ROWS],
+    starts: &[u16; STARTS],
+    counts: &[u8; BLOCKS],
+    h: &[u16; TABLE],
     sh: Shape,
     limit: u16,
     first: u32,
 ) -> Ended
-    requires { ⌜ Fit (now h) sh × (length (now y) ≡ 130) × (length (now z) ≡ 16) × (1 ≤ sh .blocks)
-        × (length (now samples) ≡ sh .blocks * sh .size) × (allFinite (now samples) ≡ true) × (wbit (now y) ≡ readOf (now samples))
-        × Beginning (now h) sh 0 first (wbit (now y)) (wbit (now z)) ⌝ }
+    requires { ⌜ Fit (now h) sh × (1 ≤ sh .blocks) × (length (now samples) ≡ sh .blocks * sh .size) × (allFinite (now samples) ≡ true)
+        × (wbit (now y) ≡ readOf (now samples)) × Beginning (now h) sh 0 first (wbit (now y)) (wbit (now z))
+        × Twice sh (sh .rows) (wbit (now z)) (wbit (now d))
+        × Gathered (now h) sh (now starts) (now counts) (sh .blocks) × (length (now starts) ≡ 128) × (length (now counts) ≡ 16) ⌝ }
     ensures { λ r. ⌜ ((c : Code) → Begins c (now (h .entry)) sh 0 first (wbit (now (y .entry))) (wbit (now (z .entry)))
         → SizesTo c sh (now (samples .entry)) limit (wbit (now (y .entry))) r (wbit (now (y .exit)))) ⌝ }
 {
-    let mut d = [0u64; ROWS];
-    let mut starts = [0u16; STARTS];
-    let mut counts = [0u8; BLOCKS];
     let mut met = [0u8; BLOCKS];
     let mut kept = [UNKNOWN; BLOCKS];
-    bounds::begin(z, h, sh, &mut d, &mut starts, &mut counts);
     go_on(
         samples,
         y,
-        &mut d,
-        &starts,
-        &counts,
+        d,
+        starts,
+        counts,
         &mut met,
         &mut kept,
         h,
@@ -185,12 +314,53 @@ fn run_bounded(
     )
 }
 
+// The same from the start: the rows are doubled, and the starts of every block gathered.
+fn run_gathered(
+    samples: &[f32],
+    y: &mut [u64; WORD],
+    z: &[u64; SYNDROME],
+    d: &mut [u64; ROWS],
+    h: &[u16; TABLE],
+    sh: Shape,
+    limit: u16,
+    first: u32,
+) -> Ended
+    requires { ⌜ Fit (now h) sh × (1 ≤ sh .blocks) × (length (now samples) ≡ sh .blocks * sh .size) × (allFinite (now samples) ≡ true)
+        × (wbit (now y) ≡ readOf (now samples)) × Beginning (now h) sh 0 first (wbit (now y)) (wbit (now z)) ⌝ }
+    ensures { λ r. ⌜ ((c : Code) → Begins c (now (h .entry)) sh 0 first (wbit (now (y .entry))) (wbit (now (z .entry)))
+        → SizesTo c sh (now (samples .entry)) limit (wbit (now (y .entry))) r (wbit (now (y .exit)))) ⌝ }
+{
+    let mut starts = [0u16; STARTS];
+    let mut counts = [0u8; BLOCKS];
+    bounds::begin(z, h, sh, d, &mut starts, &mut counts);
+    run_begun(samples, y, z, d, &starts, &counts, h, sh, limit, first)
+}
+
+// The run from the word y that was read, with the syndrome z, of which so many checks are broken, by the bounds of its blocks.
+fn run_bounded(
+    samples: &[f32],
+    y: &mut [u64; WORD],
+    z: &[u64; SYNDROME],
+    h: &[u16; TABLE],
+    sh: Shape,
+    limit: u16,
+    first: u32,
+) -> Ended
+    requires { ⌜ Fit (now h) sh × (1 ≤ sh .blocks) × (length (now samples) ≡ sh .blocks * sh .size) × (allFinite (now samples) ≡ true)
+        × (wbit (now y) ≡ readOf (now samples)) × Beginning (now h) sh 0 first (wbit (now y)) (wbit (now z)) ⌝ }
+    ensures { λ r. ⌜ ((c : Code) → Begins c (now (h .entry)) sh 0 first (wbit (now (y .entry))) (wbit (now (z .entry)))
+        → SizesTo c sh (now (samples .entry)) limit (wbit (now (y .entry))) r (wbit (now (y .exit)))) ⌝ }
+{
+    let mut d = [0u64; ROWS];
+    run_gathered(samples, y, z, &mut d, h, sh, limit, first)
+}
+
 // The words that hold a word whose blocks one word holds each.
 const NARROW: usize = 16;
 
 // The first words of y.
-fn keep(y: &[u64], x: &mut [u64])
-    requires { ⌜ (length (now y) ≡ 130) × (length (now x) ≡ 16) ⌝ }
+fn keep(y: &[u64; WORD], x: &mut [u64])
+    requires { ⌜ length (now x) ≡ 16 ⌝ }
     ensures { λ _. ⌜ ((j : ℕ) → j < 16 → getD (now (x .exit)) j 0 ≡ getD (now (y .entry)) j 0) ⌝ }
 {
     let mut j = 0;
@@ -200,42 +370,51 @@ fn keep(y: &[u64], x: &mut [u64])
     }
 }
 
+// The run of `runs` that ended so, and in how many bits the words y at its end differ from x, as they were read.
+fn ended_narrow(samples: &[f32], x: &[u64; NARROW], y: &[u64; WORD], end: runs::Ended) -> Ended
+    requires { ⌜ length (now samples) ≤ 1024 ⌝ }
+    ensures { λ r. ⌜ (r .ran .number ≡ end .ran .number) × (r .ran .flips ≡ end .ran .flips) × (r .last ≡ end .last)
+        × (r .unlike ≡ count (64 * ((length (now (samples .entry)) + 63) / 64))
+        (λ i. wbit (now (x .entry)) i ⊕ wbit (now (y .entry)) i)) ⌝ }
+{
+    let ran = end.ran;
+    let unlike = unlike::unlike_words(x, y, (samples.len() + 63) / 64);
+    at_end(ran.number, ran.flips, end.last, unlike as u32)
+}
+
 // The same where one word holds a block: the run of `runs`, and the words as they were read beside those at its end.
 fn run_narrow(
     samples: &[f32],
-    y: &mut [u64],
-    z: &[u64],
-    h: &[u16],
+    y: &mut [u64; WORD],
+    z: &[u64; SYNDROME],
+    h: &[u16; TABLE],
     sh: Shape,
     limit: u16,
     first: u32,
 ) -> Ended
-    requires { ⌜ Fit (now h) sh × (length (now y) ≡ 130) × (length (now z) ≡ 16) × (1 ≤ sh .blocks)
-        × (length (now samples) ≡ sh .blocks * sh .size) × Beginning (now h) sh 0 first (wbit (now y)) (wbit (now z)) × (sh .words ≡ 1) ⌝ }
+    requires { ⌜ Fit (now h) sh × (1 ≤ sh .blocks) × (length (now samples) ≡ sh .blocks * sh .size)
+        × Beginning (now h) sh 0 first (wbit (now y)) (wbit (now z)) × (sh .words ≡ 1) ⌝ }
     ensures { λ r. ⌜ ((c : Code) → Begins c (now (h .entry)) sh 0 first (wbit (now (y .entry))) (wbit (now (z .entry)))
         → SizesTo c sh (now (samples .entry)) limit (wbit (now (y .entry))) r (wbit (now (y .exit)))) ⌝ }
 {
     let mut x = [0u64; NARROW];
     keep(y, &mut x);
     let end = runs::run_narrow(samples, y, z, h, sh, 0, limit, first);
-    let ran = end.ran;
-    let unlike = unlike::unlike_words(&x, y, (samples.len() + 63) / 64);
-    at_end(ran.number, ran.flips, end.last, unlike as u32)
+    ended_narrow(samples, &x, y, end)
 }
 
 // The run from the word y that was read, with the syndrome z, of which so many checks are broken, under a limit: flips until it ends.
 pub fn run(
     samples: &[f32],
-    y: &mut [u64],
-    z: &[u64],
-    h: &[u16],
+    y: &mut [u64; WORD],
+    z: &[u64; SYNDROME],
+    h: &[u16; TABLE],
     sh: Shape,
     limit: u16,
     first: u32,
 ) -> Ended
-    requires { ⌜ Fit (now h) sh × (length (now y) ≡ 130) × (length (now z) ≡ 16) × (1 ≤ sh .blocks)
-        × (length (now samples) ≡ sh .blocks * sh .size) × (allFinite (now samples) ≡ true) × (wbit (now y) ≡ readOf (now samples))
-        × Beginning (now h) sh 0 first (wbit (now y)) (wbit (now z)) ⌝ }
+    requires { ⌜ Fit (now h) sh × (1 ≤ sh .blocks) × (length (now samples) ≡ sh .blocks * sh .size) × (allFinite (now samples) ≡ true)
+        × (wbit (now y) ≡ readOf (now samples)) × Beginning (now h) sh 0 first (wbit (now y)) (wbit (now z)) ⌝ }
     ensures { λ r. ⌜ ((c : Code) → Begins c (now (h .entry)) sh 0 first (wbit (now (y .entry))) (wbit (now (z .entry)))
         → SizesTo c sh (now (samples .entry)) limit (wbit (now (y .entry))) r (wbit (now (y .exit)))) ⌝ }
 {

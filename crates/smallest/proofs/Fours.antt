@@ -12,7 +12,8 @@ use Rattle.bits.proofs.Counting.{tally-le}
 use Rattle.vectors.specs.Vectors.{Holds, upTo, from as bitsFrom}
 use Rattle.vectors.proofs.Places.{and-none}
 use Rattle.bounds.specs.Reading.{light}
-use Rattle.smallest.specs.Knowing.{Within, allSet}
+use Rattle.raising.specs.Knowing.{Within}
+use Rattle.smallest.specs.Settling.{allSet}
 use Rattle.smallest.proofs.Masks.{no-digit}
 
 all-four : (f : Word) → (((f 0 && f 1) && f 2) && f 3) ≡ leb 4 (count 4 f + 0)

@@ -17,8 +17,8 @@ use Rattle.sizes.specs.Samples.{smaller, allFinite}
 use Rattle.sizes.specs.Sizes.{smallest}
 use Rattle.sizes.proofs.Orders.{finite-ordered}
 use Rattle.sizes.proofs.Smallest.{Is, smallest-one}
-use Rattle.smallest.specs.Knowing.{Ahead}
-use Rattle.smallest.proofs.Orders.{Over, smallest-over, ahead-self}
+use Rattle.raising.specs.Knowing.{Ahead}
+use Rattle.raising.proofs.Orders.{Over, smallest-over, ahead-self}
 
 pub no-digit : (v i : ℕ) → v ≡ 0 → digit 64 v i ≡ false
 no-digit v i e = ap (λ z. digit 64 z i) e ∙ digit-zero 64 i

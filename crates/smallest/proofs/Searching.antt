@@ -1,17 +1,17 @@
 -- A search for the smallest bit, word after word and block after block.
 use mathlib.Core.Path.{_≡_, refl, sym, ap, ap₂, _∙_, subst}
-use mathlib.Core.Bool.{Bool, true, false, true≢false, _&&_, and-eq-true-iff}
+use mathlib.Core.Bool.{true, false, _&&_, and-eq-true-iff}
 use mathlib.Core.List.{List}
 use mathlib.Core.Logic.{_⊎_, inl, inr}
-use Prim.Native.Nat.{ℕ, zero, suc, _+_, _-_, _*_, _/_, _%_, _≤_, _<_, zero-le}
+use Prim.Native.Nat.{ℕ, _+_, _-_, _*_, _/_, _%_, _≤_, _<_, zero-le}
 use native.Mathlib.Nat.{lt-of-not-le, mod-lt, div-add-mod', div-lt-iff-lt-mul, zero-mul}
-use native.Mathlib.Decide.{decLt, decLe, ℕ-discrete}
+use native.Mathlib.Decide.{decLt, ℕ-discrete}
 use native.Mathlib.Omega.{arith}
 use borrow.Author.Tests.{lt-ltb, ltb-true, le-leb, leb-true, leb-false}
 use lib.Arith.{digits-mod}
 use lib.Dec.{leb, ltb}
 use lib.Ieee.{Float}
-use lib.ListN.{length, getD, set, length-set}
+use lib.ListN.{length, getD, set}
 use lib.Seq.{getD-set-same, getD-set-other}
 use Rattle.bits.specs.Bits.{Word, digit}
 use Rattle.vectors.specs.Vectors.{Holds, from as bitsFrom}
@@ -20,9 +20,10 @@ use Rattle.bounds.specs.Reading.{hits, light}
 use Rattle.bounds.specs.Keeping.{bound, Ready, Scored}
 use Rattle.sizes.specs.Samples.{smaller, allFinite}
 use Rattle.sizes.proofs.Orders.{finite-ordered}
-use Rattle.smallest.specs.Knowing.{Ahead, Known, Knows, whole, Leads, Lightest, Settled}
-use Rattle.smallest.proofs.Orders.{ahead-self, ahead-onward}
-use Rattle.smallest.proofs.Seeing.{block-room, ready-set}
+use Rattle.raising.specs.Knowing.{Ahead, Known, Knows, whole}
+use Rattle.smallest.specs.Settling.{Leads, Lightest, Settled}
+use Rattle.raising.proofs.Orders.{ahead-self, ahead-onward}
+use Rattle.raising.proofs.Seeing.{block-room, ready-set}
 
 -- ---- a block, 64 bits after 64 bits
 

@@ -1,1 +1,1 @@
-pub mod Knowing
+pub mod Settling

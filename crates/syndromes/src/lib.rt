@@ -1,7 +1,10 @@
 // The syndrome of a word, row after row, for whatever table is lent.
 use layout::BLOCK;
 use layout::DOUBLED;
+use layout::SYNDROME;
 use layout::Shape;
+use layout::TABLE;
+use layout::WORD;
 use vectors::Pair;
 ghost use mathlib.Core.Path.{_≡_};
 ghost use mathlib.Core.Bool.{false};
@@ -12,7 +15,7 @@ ghost use lib.ListN.{length, getD};
 ghost use Rattle.bits.specs.Bits.{Word, flipped};
 ghost use Rattle.rules.specs.Codes.{Code};
 ghost use Rattle.rules.specs.Checks.{broken, lowest};
-ghost use Rattle.vectors.specs.Vectors.{wbit, both, added};
+ghost use Rattle.vectors.specs.Vectors.{wbit, both, added, from, upTo, twice};
 ghost use Rattle.layout.specs.Lent.{Fit, Lent, placeOf, laid};
 ghost use Rattle.syndromes.specs.Rows.{plus, rowed, within, wide, entry, spread, turned, summed, covering};
 ghost use Rattle.layout.specs.Rooms.{syndromeRoom, wordRoom};
@@ -72,18 +75,49 @@ pub fn add_block(d: &[u64], h: &[u16], sh: Shape, b: usize, acc: &mut [u64])
     }
 }
 
-// Adds every block of y to the rows; part and d have room for a block, and for a doubled one.
-fn add_blocks(y: &[u64], h: &[u16], sh: Shape, part: &mut [u64], d: &mut [u64], acc: &mut [u64])
-    requires { ⌜ Fit (now h) sh × (length (now y) ≡ wordRoom) × (length (now part) ≡ sh .words) × (length (now d) ≡ 2 * sh .words)
-        × (length (now acc) ≡ syndromeRoom) × (wbit (now acc) ≡ (λ n. false)) ⌝ }
+// The m bits of y from bit p on, doubled into d; part has room for them.
+fn double_block(y: &[u64; WORD], p: usize, m: usize, part: &mut [u64], d: &mut [u64])
+    requires { ⌜ (1 ≤ m) × (m ≤ 64 * length (now part)) × (length (now d) ≡ 2 * length (now part)) × (p / 64 + length (now part) < wordRoom) ⌝ }
+    ensures { λ q. ⌜ wbit (now (d .exit)) ≡ twice m (upTo m (from p (wbit (now (y .entry))))) ⌝ }
+{
+    vectors::cut(y, p, m, part);
+    vectors::double(part, m, d);
+}
+
+// Adds block b of y to every row; part and d have room for a block, and for a doubled one.
+fn add_wide_block(
+    y: &[u64; WORD],
+    h: &[u16; TABLE],
+    sh: Shape,
+    b: usize,
+    part: &mut [u64],
+    d: &mut [u64],
+    acc: &mut [u64; SYNDROME],
+)
+    requires { ⌜ Fit (now h) sh × (length (now part) ≡ sh .words) × (length (now d) ≡ 2 * sh .words) × (b < sh .blocks) ⌝ }
+    ensures { λ q. ⌜ wbit (now (acc .exit)) ≡ plus (wbit (now (acc .entry))) (rowed (wide sh) (sh .rows)
+        (spread sh (now (h .entry)) b (turned (twice (sh .size) (upTo (sh .size) (from (b * sh .size) (wbit (now (y .entry))))))))) ⌝ }
+{
+    double_block(y, b * sh.size, sh.size, part, d);
+    add_block(d, h, sh, b, acc);
+}
+
+// Adds every block of y to the rows.
+fn add_blocks(
+    y: &[u64; WORD],
+    h: &[u16; TABLE],
+    sh: Shape,
+    part: &mut [u64],
+    d: &mut [u64],
+    acc: &mut [u64; SYNDROME],
+)
+    requires { ⌜ Fit (now h) sh × (length (now part) ≡ sh .words) × (length (now d) ≡ 2 * sh .words) × (wbit (now acc) ≡ (λ n. false)) ⌝ }
     ensures { λ q. ⌜ wbit (now (acc .exit)) ≡ rowed (wide sh) (sh .rows)
         (summed sh (now (h .entry)) (wbit (now (y .entry))) (sh .blocks)) ⌝ }
 {
     let mut b = 0;
     while b < sh.blocks {
-        vectors::cut(y, b * sh.size, sh.size, part);
-        vectors::double(part, sh.size, d);
-        add_block(d, h, sh, b, acc);
+        add_wide_block(y, h, sh, b, part, d, acc);
         b += 1;
     }
 }
@@ -124,9 +158,8 @@ pub fn add_narrow_block(d: Pair, h: &[u16], sh: Shape, b: usize, acc: &mut [u64]
 }
 
 // Adds every block of y to the rows.
-fn add_narrow_blocks(y: &[u64], h: &[u16], sh: Shape, acc: &mut [u64])
-    requires { ⌜ Fit (now h) sh × (sh .words ≡ 1) × (length (now y) ≡ wordRoom) × (length (now acc) ≡ syndromeRoom)
-        × (wbit (now acc) ≡ (λ n. false)) ⌝ }
+fn add_narrow_blocks(y: &[u64; WORD], h: &[u16; TABLE], sh: Shape, acc: &mut [u64; SYNDROME])
+    requires { ⌜ Fit (now h) sh × (sh .words ≡ 1) × (wbit (now acc) ≡ (λ n. false)) ⌝ }
     ensures { λ q. ⌜ wbit (now (acc .exit)) ≡ rowed (wide sh) (sh .rows)
         (summed sh (now (h .entry)) (wbit (now (y .entry))) (sh .blocks)) ⌝ }
 {
@@ -139,8 +172,8 @@ fn add_narrow_blocks(y: &[u64], h: &[u16], sh: Shape, acc: &mut [u64])
 }
 
 // Adds every block of y to the rows, of whatever width.
-fn add_all(y: &[u64], h: &[u16], sh: Shape, acc: &mut [u64])
-    requires { ⌜ Fit (now h) sh × (length (now y) ≡ wordRoom) × (length (now acc) ≡ syndromeRoom) × (wbit (now acc) ≡ (λ n. false)) ⌝ }
+fn add_all(y: &[u64; WORD], h: &[u16; TABLE], sh: Shape, acc: &mut [u64; SYNDROME])
+    requires { ⌜ Fit (now h) sh × (wbit (now acc) ≡ (λ n. false)) ⌝ }
     ensures { λ q. ⌜ wbit (now (acc .exit)) ≡ rowed (wide sh) (sh .rows)
         (summed sh (now (h .entry)) (wbit (now (y .entry))) (sh .blocks)) ⌝ }
 {
@@ -180,8 +213,8 @@ pub fn trim_rows(z: &mut [u64], sh: Shape)
 }
 
 // The syndrome of y, made from zeros.
-pub fn syndrome(y: &[u64], h: &[u16], sh: Shape, z: &mut [u64])
-    requires { ⌜ Fit (now h) sh × (length (now y) ≡ wordRoom) × (length (now z) ≡ syndromeRoom) × (wbit (now z) ≡ (λ n. false)) ⌝ }
+pub fn syndrome(y: &[u64; WORD], h: &[u16; TABLE], sh: Shape, z: &mut [u64; SYNDROME])
+    requires { ⌜ Fit (now h) sh × (wbit (now z) ≡ (λ n. false)) ⌝ }
     ensures { λ q. ⌜ ((c : Code) → Lent c (now (h .entry)) sh → wbit (now (z .exit)) ≡ laid c sh (wbit (now (y .entry)))) ⌝ }
 {
     add_all(y, h, sh, z);
@@ -189,8 +222,7 @@ pub fn syndrome(y: &[u64], h: &[u16], sh: Shape, z: &mut [u64])
 }
 
 // How many checks are broken.
-pub fn broken(z: &[u64]) -> u32
-    requires { ⌜ length (now z) ≡ syndromeRoom ⌝ }
+pub fn broken(z: &[u64; SYNDROME]) -> u32
     ensures { λ n. ⌜ ((c : Code) (h : List ℕ) (sh : Shape) (x : Word) → Fit h sh → Lent c h sh → wbit (now (z .entry)) ≡ laid c sh x
         → n ≡ broken c x) ⌝ }
 {
@@ -198,8 +230,7 @@ pub fn broken(z: &[u64]) -> u32
 }
 
 // Whether no check is broken.
-pub fn is_quiet(z: &[u64]) -> bool
-    requires { ⌜ length (now z) ≡ syndromeRoom ⌝ }
+pub fn is_quiet(z: &[u64; SYNDROME]) -> bool
     ensures { λ n. ⌜ ((c : Code) (h : List ℕ) (sh : Shape) (x : Word) → Fit h sh → Lent c h sh → wbit (now (z .entry)) ≡ laid c sh x
         → n ≡ eqb (broken c x) 0) ⌝ }
 {
@@ -207,8 +238,8 @@ pub fn is_quiet(z: &[u64]) -> bool
 }
 
 // The lowest broken check, or the number of checks if none is broken.
-pub fn lowest(z: &[u64], sh: Shape) -> u32
-    requires { ⌜ (length (now z) ≡ syndromeRoom) × (1 ≤ sh .words) × (sh .words ≤ 8) × (sh .rows ≤ 4) × (sh .size ≤ 64 * sh .words) ⌝ }
+pub fn lowest(z: &[u64; SYNDROME], sh: Shape) -> u32
+    requires { ⌜ (1 ≤ sh .words) × (sh .words ≤ 8) × (sh .rows ≤ 4) × (sh .size ≤ 64 * sh .words) ⌝ }
     ensures { λ n. ⌜ ((c : Code) (h : List ℕ) (x : Word) → Fit h sh → Lent c h sh → wbit (now (z .entry)) ≡ laid c sh x
         → n ≡ lowest c x) ⌝ }
 {
@@ -260,8 +291,8 @@ fn flip_checks(z: &mut [u64], h: &[u16], sh: Shape, b: usize, k: usize)
 }
 
 // Flips bit n of a word, and its checks with it.
-pub fn flip(y: &mut [u64], z: &mut [u64], h: &[u16], sh: Shape, n: usize)
-    requires { ⌜ Fit (now h) sh × (length (now y) ≡ wordRoom) × (length (now z) ≡ syndromeRoom) × (n < sh .blocks * sh .size) ⌝ }
+pub fn flip(y: &mut [u64; WORD], z: &mut [u64; SYNDROME], h: &[u16; TABLE], sh: Shape, n: usize)
+    requires { ⌜ Fit (now h) sh × (n < sh .blocks * sh .size) ⌝ }
     ensures word { λ q. ⌜ wbit (now (y .exit)) ≡ flipped (wbit (now (y .entry))) n ⌝ }
     ensures checks { λ q. ⌜ ((c : Code) → Lent c (now (h .entry)) sh → (x : Word) → wbit (now (z .entry)) ≡ laid c sh x
         → wbit (now (z .exit)) ≡ laid c sh (flipped x n)) ⌝ }

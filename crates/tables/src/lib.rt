@@ -295,3 +295,36 @@ pub fn lend(size: usize, h: &mut [u16]) -> Shape
         rows: 2,
     }
 }
+
+// The same where one word holds a row. `lend` has the one caller that its speed rests on, so it does not call this.
+pub fn lend_narrow(size: usize, h: &mut [u16]) -> Shape
+    requires { ⌜ (length (now h) ≡ tableRoom) × (size ≡ 511 → ⊥) ⌝ }
+    ensures { λ r. ⌜ ((n : ℕ) → offered n ≡ true → size ≡ offerOf n .shape .size → (r ≡ offerOf n .shape) × Lends n (now (h .exit)) r)
+        × (r .size ≤ 64) ⌝ }
+{
+    if size == 16 {
+        lend16(h);
+        return Shape {
+            size: 16,
+            words: 1,
+            blocks: 8,
+            rows: 4,
+        };
+    }
+    if size == 32 {
+        lend32(h);
+        return Shape {
+            size: 32,
+            words: 1,
+            blocks: 8,
+            rows: 4,
+        };
+    }
+    lend64(h);
+    Shape {
+        size: 64,
+        words: 1,
+        blocks: 8,
+        rows: 4,
+    }
+}

@@ -447,14 +447,22 @@ fn extend(octets: &mut [u8])
     }
 }
 
+// As many octets of the second sequence.
+fn lay_second(octets: &mut [u8])
+    requires { ⌜ 136 ≤ length (now octets) ⌝ }
+    ensures { λ _. ⌜ Begins (length (now (octets .entry))) (now (octets .exit)) ⌝ }
+{
+    lay(octets, &START);
+    extend(octets);
+}
+
 // The second sequence, added to a word of 1020 octets in place.
 fn add_second(word: &mut [u8])
     requires { ⌜ length (now word) ≡ 1020 ⌝ }
     ensures { λ _. ⌜ now (word .exit) ≡ randomised second 0 (now (word .entry)) ⌝ }
 {
     let mut sequence = buffer();
-    lay(&mut sequence, &START);
-    extend(&mut sequence);
+    lay_second(&mut sequence);
     randomiser::add(word, &sequence, 0);
 }
 

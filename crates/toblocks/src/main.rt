@@ -45,7 +45,7 @@ fn least(a: usize, b: usize) -> usize
 
 // The blocks of the octets into an output of the right length, and out.
 fn convert(octets: &[u8], out: &mut [u8]) {
-    let number = blocks::export_blocks(octets, out);
+    let number = exporting::export_blocks(octets, out);
     if number != 0 {
         refuse(number);
         return;
@@ -56,7 +56,7 @@ fn convert(octets: &[u8], out: &mut [u8]) {
 }
 
 fn all(octets: &[u8], out: &mut [u8]) {
-    let n = least(blocks::exported_octets(octets.len()), out.len());
+    let n = least(exporting::exported_octets(octets.len()), out.len());
     convert(octets, &mut out[..n]);
 }
 

@@ -92,11 +92,11 @@ fn line(index: u64, r: codes::Corrected, out: &[u8]) -> bool {
 }
 
 // One codeblock after another; no unit that is held has more than 8,192.
-fn lines(first: units::Reading, unit: &[u8], out: &mut [u8]) {
+fn lines(first: readings::Reading, unit: &[u8], out: &mut [u8]) {
     let mut state = first;
     let mut index: u64 = 0;
     while index < 8192 {
-        let handed = units::read(state, unit, out);
+        let handed = readings::read(state, unit, out);
         if handed.none {
             return;
         }
@@ -126,7 +126,7 @@ fn main() {
     if !ended() {
         return;
     }
-    let state = units::reader(head[0], &unit[..n], limit_of(head[1], head[2]));
+    let state = readings::reader(head[0], &unit[..n], limit_of(head[1], head[2]));
     let kept = state.kept;
     if kept.number != 0 {
         line(0, kept, b"");

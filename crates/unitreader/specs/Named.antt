@@ -4,8 +4,8 @@ use Prim.Native.Nat.{ℕ}
 use lib.Dec.{eqb}
 use lib.ListN.{take, replicate}
 use Rattle.bits.specs.Bits.{if_then_else_}
-use Rattle.units.specs.Units.{Handed, readingFrom, readAnswer}
-use Rattle.units.specs.Answers.{asHanded}
+use Rattle.unitrules.specs.Units.{Handed, readingFrom, readAnswer}
+use Rattle.readings.specs.Answers.{asHanded}
 use Rattle.unitreader.specs.declared.Block.{Block}
 
 -- The information octets of a code, 1 or 3.

@@ -5,8 +5,8 @@ ghost use Prim.Native.Nat.{ℕ};
 ghost use lib.ListN.{replicate};
 ghost use Rattle.unitreader.specs.Named.{roomFor, handedAt, asBlock};
 use codes::Corrected;
-use units::Handed;
-use units::Reading;
+use readings::Handed;
+use readings::Reading;
 
 pub struct Reader<'a> {
     pub unit: &'a [u8],
@@ -27,10 +27,12 @@ fn buffer() -> [u8; 32]
     [0; 32]
 }
 
+// What a codeblock hands out; where no unit is of the code, what code 3's does, and then it is refused.
 fn room(code: u8) -> usize
     ensures { λ r. ⌜ r ≡ roomFor code ⌝ }
 {
-    if code == 1 { 8 } else { 32 }
+    let u = units::unit_of(code);
+    u.information
 }
 
 // The codeblock at a place of a unit.
@@ -53,7 +55,7 @@ pub fn block_at(unit: &[u8], place: usize, code: u8, limit: u16) -> Block
     };
     let size = room(code);
     let mut octets = buffer();
-    let handed = units::read(state, unit, &mut octets[..size]);
+    let handed = readings::read(state, unit, &mut octets[..size]);
     Block {
         handed: handed,
         octets: octets,

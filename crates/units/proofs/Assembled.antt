@@ -1,18 +1,18 @@
 -- Parts put in their places.
 use mathlib.Core.Path.{_≡_, refl, sym, ap, ap₂, _∙_, subst}
-use mathlib.Core.List.{List, [], _∷_, _++_, append-nil, append-assoc}
+use mathlib.Core.List.{List, _++_, append-nil, append-assoc}
 use Prim.Native.Nat.{ℕ, zero, suc, _+_, _-_, _*_, _≤_, _<_}
 use native.Mathlib.Nat.{suc-mul}
 use native.Mathlib.Numerals.{add-one}
 use native.Mathlib.Omega.{arith}
-use lib.ListN.{length, take, drop, length-append, length-drop, drop-of-length-le}
-use lib.Seq.{take-at, drop-at, drop-drop, drop-append-add, take-append-add, drop-length, length-take-le}
+use lib.ListN.{length, drop, length-append, length-drop, drop-of-length-le}
+use lib.Seq.{take-at, drop-at, drop-drop}
 use borrow.Rule.Slice.PartMut.{putMid}
 use Rattle.rules.specs.Codes.{code}
 use Rattle.randomiser.specs.Randomiser.{telecommand, randomised}
 use Rattle.randomiser.proofs.Randomising.{length-randomised}
-use Rattle.units.specs.Units.{codeblock, codeblocks}
-use Rattle.units.proofs.Blocks.{length-codeblocks, length-codeblock, randomised-codeblocks}
+use Rattle.unitrules.specs.Units.{codeblock, codeblocks}
+use Rattle.unitrules.proofs.Blocks.{length-codeblocks, length-codeblock, randomised-codeblocks}
 
 -- a part behind a front that is done
 pub put-behind : (front out₀ new : List ℕ) (at more : ℕ) → length front ≡ at
@@ -50,16 +50,12 @@ more-length n information out out₀ new k at word ew ea room eo en =
     ∙ length-append (randomised telecommand 0 done) (drop (at + word) out₀)
     ∙ omega (arith, e, length-randomised telecommand 0 done, length-drop (at + word) out₀)
 
--- start, codeblocks and tail
-pub assembled : (out S B T : List ℕ) (room : ℕ) → length S ≡ 8 → 8 ≤ room → length B ≡ room - 8 → room ≤ length out
-    → length T ≡ length out - room
-    → putMid room (length (putMid 8 (room - 8) (S ++ drop 8 out) B) - room) (putMid 8 (room - 8) (S ++ drop 8 out) B) T ≡ S ++ (B ++ T)
-assembled out S B T room es some eb fits et =
-    let M : List ℕ = putMid 8 (room - 8) (S ++ drop 8 out) B in
-    let split : M ≡ (S ++ B) ++ drop (8 + (room - 8)) out = put-behind S out B 8 (room - 8) es in
-    let long : length (S ++ B) ≡ room = omega (arith, length-append S B) in
-    let whole : room ≤ length M = omega (arith, ap length split, length-append (S ++ B) (drop (8 + (room - 8)) out), long) in
-    let past : drop (length M - room) (drop room M) ≡ [] = drop-drop (length M - room) room M
-    ∙ drop-of-length-le M {i = room + (length M - room)} (omega arith) in
-    ap₂ (λ x y. x ++ (T ++ y)) (ap (take room) split ∙ take-at (S ++ B) (drop (8 + (room - 8)) out) room long) past
-    ∙ ap (λ z. (S ++ B) ++ z) (append-nil T) ∙ append-assoc S B T
+-- and one that ends where the output ends
+pub put-last : (front out new : List ℕ) (at : ℕ) → length front ≡ at → at ≤ length out
+    → putMid at (length (front ++ drop at out) - at) (front ++ drop at out) new ≡ front ++ new
+put-last front out new at e fits =
+    let more : ℕ = length (front ++ drop at out) - at in
+    let long : at + more ≡ length out = omega (arith, e, length-append front (drop at out), length-drop at out) in
+    put-behind front out new at more e
+    ∙ ap (λ z. (front ++ new) ++ z) (drop-of-length-le out {i = at + more} (omega (arith, long)))
+    ∙ append-nil (front ++ new)

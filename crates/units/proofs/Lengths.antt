@@ -1,31 +1,19 @@
 -- The lengths of units, as the calls compute them.
-use mathlib.Core.Path.{_≡_, refl, sym, ap, ap₂, _∙_, subst}
-use mathlib.Core.Bool.{Bool, true, false, not, _&&_, _||_}
-use mathlib.Core.List.{List, [], _∷_, _++_}
-use Prim.Native.Nat.{ℕ, zero, suc, _+_, _-_, _*_, _/_, _%_, _^_, _≤_, _<_}
+use mathlib.Core.Path.{_≡_, refl, sym, ap, _∙_, subst}
+use mathlib.Core.Bool.{Bool, true, false, not}
+use mathlib.Core.List.{List}
+use Prim.Native.Nat.{ℕ, _^_, _≤_, _<_}
 use native.Mathlib.Omega.{arith}
 use native.Mathlib.Decide.{decLt}
 use native.Mathlib.Nat.{lt-of-not-le}
-use lib.Dec.{T, eqb, leb, ltb}
-use lib.ListN.{length, take, drop, replicate}
-use borrow.Author.Tests.{eq-eqb, ne-eqb, lt-ltb, le-ltb}
+use lib.Dec.{eqb, ltb}
+use lib.ListN.{length}
+use borrow.Author.Tests.{eq-eqb, ne-eqb, eqb-true, lt-ltb, le-ltb}
 use Rattle.bits.specs.Bits.{if_then_else_}
-use Rattle.rules.specs.Codes.{code, code1, code3}
 use Rattle.answers.specs.Calls.{Encoded}
-use Rattle.units.specs.Units.{unitCode, tail, blocksFor, unit, unitLength, unitOctets, writeAnswer}
-use Rattle.units.proofs.Shapes.{both}
-
-pub if-is : {A : Type 0} (b : Bool) (a r : A) → b ≡ true → (if b then a else r) ≡ a
-if-is b a r e = ap (λ b. if b then a else r) e
-
-pub if-isnt : {A : Type 0} (b : Bool) (a r : A) → b ≡ false → (if b then a else r) ≡ r
-if-isnt b a r e = ap (λ b. if b then a else r) e
-
-pub not-is : {A : Type 0} (b : Bool) (a r : A) → b ≡ true → (if not b then a else r) ≡ r
-not-is b a r e = ap (λ b. if not b then a else r) e
-
-pub not-isnt : {A : Type 0} (b : Bool) (a r : A) → b ≡ false → (if not b then a else r) ≡ a
-not-isnt b a r e = ap (λ b. if not b then a else r) e
+use Rattle.unitrules.specs.Units.{unitCode, unit, unitLength, unitOctets, writeAnswer}
+use Rattle.unitrules.proofs.Answering.{if-is, if-isnt, not-is, not-isnt}
+use Rattle.units.specs.Numbers.{writeNumber}
 
 module _ (n long : ℕ) where
   pub octets-other : unitCode n ≡ false → unitOctets n long ≡ 0
@@ -48,48 +36,71 @@ module _ (n long : ℕ) where
       not-is (unitCode n) 0 _ u ∙ if-isnt (eqb long 0) 0 _ (ne-eqb long 0 d)
       ∙ not-isnt (ltb (unitLength n long) (2 ^ 64)) 0 (unitLength n long) (le-ltb (unitLength n long) (2 ^ 64) h)
 
--- what the calls compute of a length that is not 0
-pub length-one : (n long : ℕ) → n ≡ 1 → (long ≡ 0 → ⊥) → 16 * ((long - 1) / 8 + 1) + 24 ≡ unitLength n long
-unfolding code code1 tail
-length-one n long e d = go ∙ ap (λ z. unitLength z long) (sym e)
-  where
-    go : 16 * ((long - 1) / 8 + 1) + 24 ≡ 8 + ((long + 7) / 8 * 16 + 16)
-    go = omega arith
+-- ---- the writer's number
 
-pub length-three : (n long : ℕ) → n ≡ 3 → (long ≡ 0 → ⊥) → 64 * ((long - 1) / 32 + 1) + 8 ≡ unitLength n long
-unfolding code code3 tail
-length-three n long e d = go ∙ ap (λ z. unitLength z long) (sym e)
-  where
-    go : 64 * ((long - 1) / 32 + 1) + 8 ≡ 8 + ((long + 31) / 32 * 64 + 0)
-    go = omega arith
+abbrev ladder : Bool → Bool → Bool → ℕ
+ladder a b c = if not a then 1 else if b then 2 else if not c then 3 else 0
 
+module _ (n long room : ℕ) where
+  pub number-one : unitCode n ≡ false → writeNumber n long room ≡ 1
+  unfolding writeNumber
+  number-one e = not-isnt (unitCode n) 1 _ e
+
+  module _ (u : unitCode n ≡ true) where
+    pub number-two : long ≡ 0 → writeNumber n long room ≡ 2
+    unfolding writeNumber
+    number-two e = not-is (unitCode n) 1 _ u ∙ if-is (eqb long 0) 2 _ (eq-eqb long 0 e)
+
+    module _ (d : long ≡ 0 → ⊥) where
+      pub number-three : (room ≡ unitLength n long → ⊥) → writeNumber n long room ≡ 3
+      unfolding writeNumber
+      number-three x =
+          not-is (unitCode n) 1 _ u ∙ if-isnt (eqb long 0) 2 _ (ne-eqb long 0 d)
+          ∙ not-isnt (eqb room (unitLength n long)) 3 0 (ne-eqb room (unitLength n long) x)
+
+      pub number-none : room ≡ unitLength n long → writeNumber n long room ≡ 0
+      unfolding writeNumber
+      number-none x =
+          not-is (unitCode n) 1 _ u ∙ if-isnt (eqb long 0) 2 _ (ne-eqb long 0 d)
+          ∙ not-is (eqb room (unitLength n long)) 3 0 (eq-eqb room (unitLength n long) x)
+
+  -- by number 0 alone: the code is a unit's, and the room as long as needed
+  pub none-says : writeNumber n long room ≡ 0 → (unitCode n ≡ true) × (room ≡ unitLength n long)
+  unfolding writeNumber
+  none-says e = let b = says (unitCode n) (eqb long 0) (eqb room (unitLength n long)) e in (b .0, eqb-true room (unitLength n long) (b .1))
+    where
+      says : (a b c : Bool) → ladder a b c ≡ 0 → (a ≡ true) × (c ≡ true)
+      says true true c e = absurd (omega (arith, e))
+      says true false true e = (refl, refl)
+      says true false false e = absurd (omega (arith, e))
+      says false b c e = absurd (omega (arith, e))
+
+-- the answer by its number
 module _ (n : ℕ) (information out : List ℕ) where
-  pub write-one : unitCode n ≡ false → writeAnswer n information out ≡ record { number = 1; out = out }
-  unfolding writeAnswer
-  write-one e = not-isnt (unitCode n) (record { number = 1; out = out }) _ e
+  abbrev numbered : ℕ → Encoded
+  numbered r = if eqb r 0 then record { number = 0; out = unit n information } else record { number = r; out = out }
 
-  pub write-two : unitCode n ≡ true → length information ≡ 0 → writeAnswer n information out ≡ record { number = 2; out = out }
-  unfolding writeAnswer
-  write-two u e = not-is (unitCode n) (record { number = 1; out = out }) _ u
-      ∙ if-is (eqb (length information) 0) (record { number = 2; out = out }) _ (eq-eqb (length information) 0 e)
+  write-by : writeAnswer n information out ≡ numbered (writeNumber n (length information) (length out))
+  unfolding writeAnswer writeNumber
+  write-by = by (unitCode n) (eqb (length information) 0) (eqb (length out) (unitLength n (length information)))
+    where
+      by : (a b c : Bool) → (if not a then record { number = 1; out = out }
+          else if b then record { number = 2; out = out }
+          else if not c then record { number = 3; out = out }
+          else record { number = 0; out = unit n information }) ≡ numbered (ladder a b c)
+      by true true c = refl
+      by true false true = refl
+      by true false false = refl
+      by false b c = refl
 
-  pub write-three : unitCode n ≡ true → (length information ≡ 0 → ⊥) → (length out ≡ unitLength n (length information) → ⊥)
-      → writeAnswer n information out ≡ record { number = 3; out = out }
-  unfolding writeAnswer
-  write-three u d x =
-      not-is (unitCode n) (record { number = 1; out = out }) _ u
-      ∙ if-isnt (eqb (length information) 0) (record { number = 2; out = out }) _ (ne-eqb (length information) 0 d)
-      ∙ not-isnt (eqb (length out) (unitLength n (length information))) (record { number = 3; out = out })
-      (record { number = 0; out = unit n information }) (ne-eqb (length out) (unitLength n (length information)) x)
+  module _ (r : ℕ) (e : r ≡ writeNumber n (length information) (length out)) where
+    pub write-refused : (r ≡ 0 → ⊥) → writeAnswer n information out ≡ record { number = r; out = out }
+    write-refused d = write-by ∙ ap numbered (sym e)
+        ∙ if-isnt (eqb r 0) (record { number = 0; out = unit n information }) (record { number = r; out = out }) (ne-eqb r 0 d)
 
-  pub write-done : unitCode n ≡ true → (length information ≡ 0 → ⊥) → length out ≡ unitLength n (length information)
-      → writeAnswer n information out ≡ record { number = 0; out = unit n information }
-  unfolding writeAnswer
-  write-done u d x =
-      not-is (unitCode n) (record { number = 1; out = out }) _ u
-      ∙ if-isnt (eqb (length information) 0) (record { number = 2; out = out }) _ (ne-eqb (length information) 0 d)
-      ∙ not-is (eqb (length out) (unitLength n (length information))) (record { number = 3; out = out })
-      (record { number = 0; out = unit n information }) (eq-eqb (length out) (unitLength n (length information)) x)
+    pub write-done : r ≡ 0 → writeAnswer n information out ≡ record { number = 0; out = unit n information }
+    write-done z = write-by ∙ ap numbered (sym e)
+        ∙ if-is (eqb r 0) (record { number = 0; out = unit n information }) (record { number = r; out = out }) (eq-eqb r 0 z)
 
 -- a length that is given is the unit's
 pub octets-some : (n long r : ℕ) → unitCode n ≡ true → (long ≡ 0 → ⊥) → r ≡ unitOctets n long → (r ≡ 0 → ⊥) → r ≡ unitLength n long

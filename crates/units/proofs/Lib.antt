@@ -1,8 +1,5 @@
-pub mod Shapes
+pub mod Offers
 pub mod Lengths
-pub mod Blocks
+pub mod Parts
 pub mod Assembled
-pub mod Compared
-pub mod Answering
-pub mod Theorems
 pub mod Outcomes

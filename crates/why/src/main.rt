@@ -118,13 +118,17 @@ fn put_reached(r: nearest::Reached) -> bool {
     put_end()
 }
 
-// For a word of code 1 whose run stuck or came to its limit: the nearest codeword within three flips, or that there is none.
-fn put_nearest(code: u8, word: &[u8], a: lists::Listed) -> bool {
-    if code != 1 || a.number < 5 || a.number > 6 {
+// For a word whose run stuck or came to its limit: the nearest codeword within three flips, or that there is none. Words of another
+// length than code 1's are refused by 2, and nothing is said of them.
+fn put_nearest(word: &[u8], a: lists::Listed) -> bool {
+    if a.number < 5 || a.number > 6 {
         return true;
     }
     let mut out = [0u8; 16];
     let r = nearest::nearest(word, 3, &mut out);
+    if r.number == 2 {
+        return true;
+    }
     if r.number == 0 {
         return put_reached(r);
     }
@@ -140,7 +144,7 @@ fn explain(index: u64, code: u8, limit: u16, word: &[u8]) -> bool {
         return false;
     }
     let shown = follow(code, limit, word, true);
-    !shown.goes && put_reason(a) && put_nearest(code, word, a)
+    !shown.goes && put_reason(a) && put_nearest(word, a)
 }
 
 // Word after word; the last may be short, and is refused.

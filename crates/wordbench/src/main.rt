@@ -114,16 +114,22 @@ fn all(head: &[u8])
     blocks(head, &mut words[..full], &mut out[..size], &mut text);
 }
 
+// The log of a head, and of the words behind it where it is taken.
+fn log(head: &[u8])
+    requires { ⌜ length (now head) ≤ 3 ⌝ }
+{
+    let mut text = [0u8; 256];
+    let end = lines::begin(head, &mut text);
+    if write(&text[..end]) && !lines::is_bad(head) {
+        all(head);
+    }
+}
+
 fn main() {
     let mut head = [0u8; 3];
     let input = fill(&mut head);
     let n = input.octets;
-    if input.failed {
-        return;
-    }
-    let mut text = [0u8; 256];
-    let end = lines::begin(&head[..n], &mut text);
-    if write(&text[..end]) && !lines::is_bad(&head[..n]) {
-        all(&head[..n]);
+    if !input.failed {
+        log(&head[..n]);
     }
 }

@@ -12,19 +12,20 @@ use Rattle.bounds.proofs.double_rows.Statement.{statement}
 use Rattle.bounds.proofs.double_rows.Tie as tie
 
 abbrev Inv-loop : tie.InvT-loop
-Inv-loop z sh v₀ d₀ words m r₀ v d r = (r ≤ sh .rows) × (length v ≡ 8) × (length d ≡ 65) × Twice sh r (wbit z) (wbit d)
+Inv-loop z sh v₀ d₀ words m r₀ v d r =
+    (r ≤ sh .rows) × Twice sh r (wbit z) (wbit d)
 
 abbrev μ-loop : tie.MeasureT-loop
 μ-loop z sh v₀ d₀ words m r₀ v d r = sh .rows - r
 
 loop-holds : tie.Need-loop-holds Inv-loop μ-loop
-loop-holds c = (omega arith, omega arith, omega arith, λ q n hq. absurd (omega arith))
+loop-holds c = (omega arith, λ q n hq. absurd (omega arith))
 
 mul-double-row : tie.Need-mul-double-row Inv-loop μ-loop
 mul-double-row c = omega (
   arith,
-  within (c .before .before .loop .r) (c .before .before .before .before .before .before .args .sh .rows)
-      (c .before .before .before .before .before .before .args .sh .words) (omega arith),
+  within (c .before .before .before .loop .r) (c .before .before .before .before .args .sh .rows)
+      (c .before .before .before .before .args .sh .words) (omega arith),
 )
 
 mul-double-row-2 : tie.Need-mul-double-row-2 Inv-loop μ-loop
@@ -32,8 +33,8 @@ mul-double-row-2 c = omega arith
 
 double-row-requires : tie.Need-double-row-requires Inv-loop μ-loop
 double-row-requires c κs =
-    let s = c .before .before .before .before .before .before .before .before in
-    let l = c .before .before .before .before .loop in
+    let s = c .before .before .before .before .before .before in
+    let l = c .before .before .before .before .before .loop in
     let w = within (l .r) (s .args .sh .rows) (s .args .sh .words) (omega arith) in
     (omega arith, omega arith, omega arith, omega arith, omega arith, omega arith)
 
@@ -51,20 +52,12 @@ loop-again c =
     let l = then1 .before .before .loop in
     let small = s .pre in (
       omega arith,
-      omega arith,
-      omega arith,
-      twice-more (a .sh) (wbit (a .z .now)) (wbit (l .d)) _ (l .r) (omega arith) (l .inv .3)
-          (c .before .before .before .before .double-row .ensures),
+      twice-more (a .sh) (wbit (a .z .now)) (wbit (l .d)) _ (l .r) (omega arith) (l .inv .1)
+          (c .double-row .ensures),
     )
 
-same-length : tie.Need-same-length Inv-loop μ-loop
-same-length c = search needs
-
-same-length-2 : tie.Need-same-length-2 Inv-loop μ-loop
-same-length-2 c = search needs
-
 returns : tie.Need-returns Inv-loop μ-loop
-returns c r n hr = c .before .before .loop .inv .3 r n (omega arith)
+returns c r n hr = c .before .before .loop .inv .1 r n (omega arith)
 
 pub double-rows-spec : {M : Type 1} → statement M
 double-rows-spec =
@@ -79,6 +72,4 @@ double-rows-spec =
     add-r
     loop-less
     loop-again
-    same-length
-    same-length-2
     returns)

@@ -11,25 +11,25 @@ use Rattle.bounds.proofs.flip.Tie as tie
 div-b : tie.Need-div-b
 div-b c = search needs
 
-shared-slice-read-n : tie.Need-shared-slice-read-n
-shared-slice-read-n c =
-    let s = c .before .before .before .before .before .before in
+element-copy-out-n : tie.Need-element-copy-out-n
+element-copy-out-n c =
+    let s = c .before in
     let a = s .args in
-    let hb : a .bit / a .sh .size < a .sh .blocks = div-lt-iff-lt-mul (s .pre .0 .some) .1 (s .pre .2) in
+    let hb : a .bit / a .sh .size < a .sh .blocks = div-lt-iff-lt-mul (s .pre .0 .some) .1 (s .pre .1) in
     omega (arith, s .pre .0 .counts-long, s .pre .0 .blocks)
 
 cast-n : tie.Need-cast-n
 cast-n c =
-    let s = c .before .before .before .before .before .before in
+    let s = c .before .before in
     let a = s .args in
-    let hb : a .bit / a .sh .size < a .sh .blocks = div-lt-iff-lt-mul (s .pre .0 .some) .1 (s .pre .2) in
+    let hb : a .bit / a .sh .size < a .sh .blocks = div-lt-iff-lt-mul (s .pre .0 .some) .1 (s .pre .1) in
     omega (arith, s .pre .0 .low (a .bit / a .sh .size) hb)
 
 mul-flip-checks : tie.Need-mul-flip-checks
 mul-flip-checks c =
-    let s = c .before .before .before .before .before .before .before in
+    let s = c .before .before .before .before in
     let a = s .args in
-    let hb : a .bit / a .sh .size < a .sh .blocks = div-lt-iff-lt-mul (s .pre .0 .some) .1 (s .pre .2) in
+    let hb : a .bit / a .sh .size < a .sh .blocks = div-lt-iff-lt-mul (s .pre .0 .some) .1 (s .pre .1) in
     omega (arith, s .pre .0 .blocks)
 
 rem-flip-checks : tie.Need-rem-flip-checks
@@ -37,44 +37,38 @@ rem-flip-checks c = search needs
 
 flip-checks-requires : tie.Need-flip-checks-requires
 flip-checks-requires c κs =
-    let s = c .before .before .before .before .before .before .before .before in
+    let s = c .before .before .before .before .before in
     let a = s .args in
     let r = s .pre .0 in
     let b = a .bit / a .sh .size in
-    let hb : b < a .sh .blocks = div-lt-iff-lt-mul (r .some) .1 (s .pre .2) in
+    let hb : b < a .sh .blocks = div-lt-iff-lt-mul (r .some) .1 (s .pre .1) in
     let hk : a .bit % a .sh .size < a .sh .size = mod-lt (a .bit) (r .some) in (
       r .some,
       omega (arith, r .held, r .words),
       omega (arith, r .low b hb, r .starts-long, r .blocks),
       omega (arith, r .starts-long),
-      s .pre .1,
+      search needs,
       λ e h. (omega (arith, r .near b e hb h, r .held, r .words), r .inside b e (a .bit % a .sh .size) hb h hk),
     )
 
-slice-read-by : tie.Need-slice-read-by
-slice-read-by c =
+element-copy-out-by : tie.Need-element-copy-out-by
+element-copy-out-by c =
     let s : tie.Start = search in
     let a = s .args in
-    let hb : a .bit / a .sh .size < a .sh .blocks = div-lt-iff-lt-mul (s .pre .0 .some) .1 (s .pre .2) in
+    let hb : a .bit / a .sh .size < a .sh .blocks = div-lt-iff-lt-mul (s .pre .0 .some) .1 (s .pre .1) in
     omega (arith, s .pre .0 .met-long, s .pre .0 .blocks)
 
 raise-requires : tie.Need-raise-requires
 raise-requires c κs = search needs
 
-same-length : tie.Need-same-length
-same-length c = search needs
-
-same-length-2 : tie.Need-same-length-2
-same-length-2 c = search needs
-
 returns : tie.Need-returns
 returns c =
     let s : tie.Start = search in
     let a = s .args in
-    let r = c .before .before .raise in
-    let t = c .before .before .before .before .before .before .before .flip-checks in (
+    let r = c .raise in
+    let t = c .before .before .before .flip-checks in (
       ready-fewer (getD (a .met .now) (a .bit / a .sh .size) 0) (s .pre .0) (search needs) (r .ensures),
-      kept-flip (a .sh) (a .starts .now) (a .counts .now) (a .met .now) _ (a .d .now) _ (a .bit) (s .pre .0) (s .pre .2) (r .ensures)
+      kept-flip (a .sh) (a .starts .now) (a .counts .now) (a .met .now) _ (a .d .now) _ (a .bit) (s .pre .0) (s .pre .1) (r .ensures)
           (t .ensures),
     )
 
@@ -83,13 +77,11 @@ flip-spec =
     tie.close
     (tie.spec
     div-b
-    shared-slice-read-n
+    element-copy-out-n
     cast-n
     mul-flip-checks
     rem-flip-checks
     flip-checks-requires
-    slice-read-by
+    element-copy-out-by
     raise-requires
-    same-length
-    same-length-2
     returns)

@@ -5,25 +5,25 @@ use native.Mathlib.Omega.{arith}
 use borrow.Author.Needs.{needs}
 use lib.ListN.{length, getD}
 use Rattle.bounds.specs.Reading.{Listed, asked}
-use Rattle.bounds.proofs.Entries.{within, noted-le, noted-ge, noted-before, listed-none, gathered-row}
+use Rattle.bounds.proofs.Entries.{listed-none}
 use Rattle.bounds.proofs.gather.Statement.{statement}
 use Rattle.bounds.proofs.gather.Tie as tie
 
 abbrev Inv-loop : tie.InvT-loop
-Inv-loop h sh b starts₀ m n₀ r₀ starts n r =
+Inv-loop h sh b starts₀ n₀ r₀ starts n r =
     (r ≤ sh .rows) × (8 * b ≤ n) × (n ≤ 8 * b + 2 * r) × (length starts ≡ 128)
     × Listed starts (8 * b) (n - 8 * b) (3072 + sh .size) (asked h sh b r)
     × ((e : ℕ) → e < 8 * b → getD starts e 0 ≡ getD starts₀ e 0)
 
 abbrev μ-loop : tie.MeasureT-loop
-μ-loop h sh b starts₀ m n₀ r₀ starts n r = sh .rows - r
+μ-loop h sh b starts₀ n₀ r₀ starts n r = sh .rows - r
 
 mul-n : tie.Need-mul-n Inv-loop μ-loop
 mul-n c = omega (arith, c .before .before .pre .0 .blocks)
 
 loop-holds : tie.Need-loop-holds Inv-loop μ-loop
 loop-holds c =
-    let s = c .before .before in
+    let s : tie.Start Inv-loop μ-loop = search in
     let a = s .args in
     let none : 0 ≡ 8 * a .b - 8 * a .b = omega arith in (
       omega arith,
@@ -35,58 +35,11 @@ loop-holds c =
       λ e h. refl,
     )
 
-mul-at : tie.Need-mul-at Inv-loop μ-loop
-mul-at c =
-    let s = c .before .before .before .before .before .before in
-    let inside = within (c .before .before .before .loop .r) (s .args .sh .rows) (s .args .sh .blocks) (omega arith) in
-    omega arith
-
-add-at : tie.Need-add-at Inv-loop μ-loop
-add-at c =
-    let s = c .before .before .before .before .before .before in
-    let inside = within (c .before .before .before .loop .r) (s .args .sh .rows) (s .args .sh .blocks) (omega arith) in
-    omega arith
-
-mul-at-2 : tie.Need-mul-at-2 Inv-loop μ-loop
-mul-at-2 c =
-    let s = c .before .before .before .before .before .before in
-    let inside = within (c .before .before .before .loop .r) (s .args .sh .rows) (s .args .sh .blocks) (omega arith) in
-    omega arith
-
-mul-note : tie.Need-mul-note Inv-loop μ-loop
-mul-note c = omega arith
-
-note-requires : tie.Need-note-requires Inv-loop μ-loop
-note-requires c κs =
-    let s = c .before .before .before .before .before .before .before in
-    let inside = within (c .before .before .before .before .loop .r) (s .args .sh .rows) (s .args .sh .blocks) (omega arith) in
-    (omega arith, omega (arith, s .pre .0 .blocks, s .pre .0 .rows), omega (arith, s .pre .0 .rows, s .pre .0 .held, s .pre .0 .words))
-
-add-note : tie.Need-add-note Inv-loop μ-loop
-add-note c =
+note-row-requires : tie.Need-note-row-requires Inv-loop μ-loop
+note-row-requires c κs =
     let s : tie.Start Inv-loop μ-loop = search in
-    let inside = within (c .before .before .before .before .before .before .before .loop .r) (s .args .sh .rows) (s .args .sh .blocks)
-    (omega arith) in
-    omega arith
-
-mul-note-2 : tie.Need-mul-note-2 Inv-loop μ-loop
-mul-note-2 c = omega arith
-
-note-requires-2 : tie.Need-note-requires-2 Inv-loop μ-loop
-note-requires-2 c κs =
-    let s : tie.Start Inv-loop μ-loop = search in
-    let inside = within (c .before .before .before .before .before .before .before .before .loop .r) (s .args .sh .rows)
-    (s .args .sh .blocks) (omega arith) in (
-      omega arith,
-      omega (
-        arith,
-        noted-le (c .before .before .before .note .ensures),
-        c .before .before .before .note .ensures .long,
-        s .pre .0 .blocks,
-        s .pre .0 .rows,
-      ),
-      omega (arith, s .pre .0 .rows, s .pre .0 .held, s .pre .0 .words),
-    )
+    let at : tie.At-loop Inv-loop μ-loop = search in
+    (s .pre .0, s .pre .1, search needs, at .loop .inv .3, omega (arith, s .pre .0 .blocks, s .pre .0 .rows))
 
 add-r : tie.Need-add-r Inv-loop μ-loop
 add-r c = omega arith
@@ -96,25 +49,22 @@ loop-less c = omega arith
 
 loop-again : tie.Need-loop-again Inv-loop μ-loop
 loop-again c =
-    let then1 : tie.Then1 Inv-loop μ-loop = search in
     let s : tie.Start Inv-loop μ-loop = search in
-    let a = s .args in
-    let rows = s .pre .0 .rows in
-    let l = then1 .before .before .loop in
-    let one = c .before .before .before .before .before .before .note in
-    let two = c .before .before .note2 in (
+    let at : tie.At-loop Inv-loop μ-loop = search in
+    let l = at .loop in
+    let row = c .before .before .note-row in (
       omega arith,
-      omega (arith, noted-ge (one .ensures), noted-ge (two .ensures)),
-      omega (arith, noted-le (one .ensures), noted-le (two .ensures)),
-      two .ensures .long ∙ one .ensures .long ∙ l .inv .3,
-      gathered-row (a .h .now) (a .sh) (a .b) (l .r) (l .starts) _ _ (8 * a .b) (l .n) (one .result) (two .result) (3072 + a .sh .size)
-          (l .inv .1) (omega (arith, s .pre .0 .blocks)) (omega arith) (one .ensures) (two .ensures) (l .inv .4),
-      λ e h. noted-before (two .ensures) e (omega (arith, noted-ge (one .ensures))) ∙ noted-before (one .ensures) e (omega arith)
-          ∙ l .inv .5 e h,
+      omega (arith, row .ensures .0, l .inv .1),
+      omega (arith, row .ensures .1, l .inv .2),
+      search needs,
+      row .ensures .3 (8 * s .args .b) (l .inv .1) (l .inv .4),
+      λ e h. row .ensures .2 e (omega (arith, l .inv .1)) ∙ l .inv .5 e h,
     )
 
 mul-result : tie.Need-mul-result Inv-loop μ-loop
-mul-result c = omega (arith, c .before .before .before .before .before .pre .0 .blocks)
+mul-result c =
+    let s : tie.Start Inv-loop μ-loop = search in
+    omega (arith, s .pre .0 .blocks)
 
 sub-result : tie.Need-sub-result Inv-loop μ-loop
 sub-result c = omega arith
@@ -124,9 +74,10 @@ same-length c = search needs
 
 returns : tie.Need-returns Inv-loop μ-loop
 returns c =
-    let s = c .before .before .before .before .before in
+    let s : tie.Start Inv-loop μ-loop = search in
     let a = s .args in
-    let l = c .before .before .loop in
+    let at : tie.At-loop Inv-loop μ-loop = search in
+    let l = at .loop in
     let all : l .r ≡ a .sh .rows = omega arith in (
       omega (arith, s .pre .0 .rows),
       subst (λ k. Listed (l .starts) (8 * a .b) (l .n - 8 * a .b) (3072 + a .sh .size) (asked (a .h .now) (a .sh) (a .b) k)) all
@@ -142,14 +93,7 @@ gather-spec =
     μ-loop
     mul-n
     loop-holds
-    mul-at
-    add-at
-    mul-at-2
-    mul-note
-    note-requires
-    add-note
-    mul-note-2
-    note-requires-2
+    note-row-requires
     add-r
     loop-less
     loop-again

@@ -19,16 +19,16 @@ abbrev μ-loop : tie.MeasureT-loop
 
 mul-end : tie.Need-mul-end Inv-loop μ-loop
 mul-end c =
-    let s = c .before .before .before .before .before in
+    let s = c .before in
     let ready = s .pre .0 in
     omega (arith, ready .held, ready .words, mul-le-mul-right {m = s .args .sh .blocks} {n = 16} (s .args .sh .size) (ready .blocks))
 
 loop-holds : tie.Need-loop-holds Inv-loop μ-loop
-loop-holds c = record { ready = c .before .before .before .before .before .pre .0; under = λ g w u. u }
+loop-holds c = record { ready = c .before .pre .0; under = λ g w u. u }
 
 greatest-requires : tie.Need-greatest-requires Inv-loop μ-loop
 greatest-requires c κs =
-    let ready = c .before .loop .inv .ready in (
+    let ready = c .before .before .before .loop .inv .ready in (
       omega (arith, ready .counts-long, ready .blocks),
       omega (arith, ready .met-long, ready .blocks),
       λ b h.
@@ -39,23 +39,19 @@ first-at-requires : tie.Need-first-at-requires Inv-loop μ-loop
 first-at-requires c κs =
     let s : tie.Start Inv-loop μ-loop = search in
     let a = s .args in
-    let l = c .before .before .before .loop in (
+    let l = c .before .before .before .before .before .loop in (
       l .inv .ready,
-      s .pre .1,
-      s .pre .3,
+      s .pre .2,
       λ b h. subst (λ t. bound (a .counts .now) (l .met) b ≤ t) (sym (c .before .greatest .ensures))
           (highest-above (a .counts .now) (l .met) (a .sh .blocks) b h),
     )
 
-cast-t15 : tie.Need-cast-t15 Inv-loop μ-loop
-cast-t15 c = search needs
-
-same-length : tie.Need-same-length Inv-loop μ-loop
-same-length c = search needs
+cast-t16 : tie.Need-cast-t16 Inv-loop μ-loop
+cast-t16 c = search needs
 
 returns : tie.Need-returns Inv-loop μ-loop
 returns c =
-    let f = c .before .before .before .first-at in
+    let f = c .before .first-at in
     let l = c .before .before .before .before .before .before .before .loop in
     (lowered-twice (l .inv) (f .ensures .lowered), found-later (l .inv) (f .ensures .found (c .if1 .taken)))
 
@@ -64,13 +60,13 @@ loop-less c =
     let s : tie.Start Inv-loop μ-loop = search in
     let a = s .args in
     let l = c .before .before .before .before .before .before .before .loop in
-    let f = c .before .before .before .first-at in
-    highest-less (a .counts .now) (l .met) _ (a .sh .blocks) (c .before .before .before .before .before .greatest .result) (s .pre .2)
-    (c .before .before .before .before .before .greatest .ensures) (f .ensures .none (c .if1 .left))
+    let f = c .before .first-at in
+    highest-less (a .counts .now) (l .met) _ (a .sh .blocks) (c .before .before .before .greatest .result) (s .pre .1)
+    (c .before .before .before .greatest .ensures) (f .ensures .none (c .if1 .left))
 
 loop-again : tie.Need-loop-again Inv-loop μ-loop
 loop-again c = lowered-twice (c .before .before .before .before .before .before .before .loop .inv)
-    (c .before .before .before .first-at .ensures .lowered)
+    (c .before .first-at .ensures .lowered)
 
 pub choose-spec : {M : Type 1} → statement M
 choose-spec =
@@ -82,8 +78,7 @@ choose-spec =
     loop-holds
     greatest-requires
     first-at-requires
-    cast-t15
-    same-length
+    cast-t16
     returns
     loop-less
     loop-again)

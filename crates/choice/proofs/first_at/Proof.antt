@@ -20,14 +20,14 @@ abbrev μ-loop : tie.MeasureT-loop
 
 loop-holds : tie.Need-loop-holds Inv-loop μ-loop
 loop-holds c =
-    let s = c .before .before .before .before in
-    (omega arith, record { ready = s .pre .0; under = λ g w u. u }, s .pre .3, λ j h. absurd (omega arith))
+    let s = c in
+    (omega arith, record { ready = s .pre .0; under = λ g w u. u }, s .pre .2, λ j h. absurd (omega arith))
 
 look-requires : tie.Need-look-requires Inv-loop μ-loop
 look-requires c κs =
-    let s = c .before .before .before .before .before .before .before .before in
+    let s = c .before .before .before .before in
     let l = c .before .before .before .loop in
-    (l .inv .1 .ready, s .pre .1, s .pre .2, omega arith, l .inv .2 (l .b) (omega arith))
+    (l .inv .1 .ready, s .pre .1, omega arith, l .inv .2 (l .b) (omega arith))
 
 mul-result : tie.Need-mul-result Inv-loop μ-loop
 mul-result c =
@@ -59,16 +59,13 @@ add-result c =
           (omega (arith, ready .blocks)),
     )
 
-same-length : tie.Need-same-length Inv-loop μ-loop
-same-length c = search needs
-
 returns : tie.Need-returns Inv-loop μ-loop
 returns c =
     let then1 : tie.Then1 Inv-loop μ-loop = search in
     let s : tie.Start Inv-loop μ-loop = search in
     let a = s .args in
     let l = then1 .before .before .loop in
-    let k = c .before .before .before .before .before .look in
+    let k = c .before .before .before .look in
     let more = lowered-more (a .sh) (a .from) (wbit (a .d .now)) (a .starts .now) (a .counts .now) (a .met .now) (l .met) _ (l .b) (a .top)
     (k .result) (l .inv .1) (l .inv .2) (l .inv .3) (omega arith) (k .ensures) in
     let here = found-here (a .sh) (a .from) (wbit (a .d .now)) (a .starts .now) (a .counts .now) (a .met .now) (l .met) _ (l .b) (a .top)
@@ -87,8 +84,8 @@ loop-again : tie.Need-loop-again Inv-loop μ-loop
 loop-again c =
     let s : tie.Start Inv-loop μ-loop = search in
     let a = s .args in
-    let l = c .before .before .before .before .before .before .before .before .loop in
-    let k = c .before .before .before .before .look in (
+    let l = c .before .before .before .before .before .before .loop in
+    let k = c .before .before .look in (
       omega arith,
       lowered-more (a .sh) (a .from) (wbit (a .d .now)) (a .starts .now) (a .counts .now) (a .met .now) (l .met) _ (l .b) (a .top)
           (k .result) (l .inv .1) (l .inv .2) (l .inv .3) (omega arith) (k .ensures),
@@ -100,16 +97,13 @@ loop-again c =
 
 mul-result-2 : tie.Need-mul-result-2 Inv-loop μ-loop
 mul-result-2 c =
-    let s = c .before .before .before .before .before .before .before .before in
+    let s = c .before .before .before .before in
     let ready = s .pre .0 in
     omega (arith, ready .held, ready .words, mul-le-mul-right {m = s .args .sh .blocks} {n = 16} (s .args .sh .size) (ready .blocks))
 
-same-length-2 : tie.Need-same-length-2 Inv-loop μ-loop
-same-length-2 c = search needs
-
 returns-2 : tie.Need-returns-2 Inv-loop μ-loop
 returns-2 c =
-    let s = c .before .before .before .before .before .before .before .before in
+    let s = c .before .before .before .before in
     let l = c .before .before .before .loop in
     record { lowered = l .inv .1; found = λ h. absurd (omega arith); none = λ h j hj. l .inv .3 j (omega arith) }
 
@@ -123,11 +117,9 @@ first-at-spec =
     look-requires
     mul-result
     add-result
-    same-length
     returns
     add-b
     loop-less
     loop-again
     mul-result-2
-    same-length-2
     returns-2)

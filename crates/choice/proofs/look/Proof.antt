@@ -13,132 +13,71 @@ use Rattle.choice.proofs.look.Tie as tie
 
 bound-of-requires : tie.Need-bound-of-requires
 bound-of-requires c κs =
-    let s = c .before .before .before .before .before in
+    let s : tie.Start = search in
     let r = s .pre .0 in (
       omega (arith, r .counts-long, r .blocks),
       omega (arith, r .met-long, r .blocks),
-      r .low (s .args .b) (s .pre .3),
+      r .low (s .args .b) (s .pre .2),
       r .few (s .args .b)
-          (s .pre .3),
+          (s .pre .2),
     )
-
-same-length : tie.Need-same-length
-same-length c = search needs
 
 returns : tie.Need-returns
 returns c =
-    let s = c .before .before .before .before .before .before .before in
+    let s : tie.Start = search in
     let a = s .args in
     looked-past (a .sh) (a .from) (wbit (a .d .now)) (a .starts .now) (a .counts .now) (a .met .now) (a .b) (a .top) (s .pre .0)
-    (s .pre .2) (s .pre .3) (s .pre .4)
+    (s .pre .1) (s .pre .2) (s .pre .3)
     (λ e. c .if1 .taken (c .before .bound-of .ensures ∙ e))
 
-shared-slice-read-n : tie.Need-shared-slice-read-n
-shared-slice-read-n c =
-    let s = c .before .before .before .before .before .before .before .before in
-    omega (arith, s .pre .0 .counts-long, s .pre .0 .blocks, s .pre .3)
-
-cast-n : tie.Need-cast-n
-cast-n c =
-    let s = c .before .before .before .before .before .before .before .before in
-    omega (arith, s .pre .0 .low (s .args .b) (s .pre .3))
-
-slice-read-first-light : tie.Need-slice-read-first-light
-slice-read-first-light c =
-    let s : tie.Start = search in
-    omega (arith, s .pre .0 .met-long, s .pre .0 .blocks, s .pre .3)
-
-cast-first-light : tie.Need-cast-first-light
-cast-first-light c =
-    let s : tie.Start = search in
-    omega (arith, s .pre .0 .low (s .args .b) (s .pre .3), s .pre .0 .few (s .args .b) (s .pre .3))
-
-begin-in-requires : tie.Need-begin-in-requires
-begin-in-requires c κs = search needs
-
-first-light-requires : tie.Need-first-light-requires
-first-light-requires c κs =
-    let s : tie.Start = search in
-    let r = s .pre .0 in
-    let b = s .args .b in (
-      r .some,
-      r .held,
-      r .close,
-      r .words,
-      omega (arith, r .blocks, s .pre .3),
-      r .low b (s .pre .3),
-      r .few b (s .pre .3),
-      s .pre .1,
-      r .starts-long,
-      λ e h. r .near b e (s .pre .3) h,
-    )
-
-same-length-2 : tie.Need-same-length-2
-same-length-2 c = search needs
+first-met-requires : tie.Need-first-met-requires
+first-met-requires c κs = search needs
 
 returns-2 : tie.Need-returns-2
 returns-2 c =
     let s : tie.Start = search in
     let a = s .args in
-    let f = c .before .before in
-    let m = f .before .before .before .before in
+    let f : tie.After-first-met = search in
+    let m : tie.Else1 = search in
     looked-found (a .sh) (a .from) (wbit (a .d .now)) (a .starts .now) (a .counts .now) (a .met .now) (a .b) (a .top) (s .pre .0)
-    (s .pre .2) (s .pre .3) (s .pre .4)
-    (f .first-light .result) (sym (m .before .bound-of .ensures) ∙ m .if1 .left)
-    (f .first-light .ensures ∙ ap (λ n. least (a .sh .size)
-    (light (wbit (a .d .now)) (a .starts .now) (8 * a .b) (getD (a .counts .now) (a .b) 0) (getD (a .met .now) (a .b) 0) n (a .sh .size)))
-    (f .before .begin-in .ensures))
-    (c .if2 .taken)
+    (s .pre .1) (s .pre .2) (s .pre .3)
+    (f .first-met .result) (sym (m .before .bound-of .ensures) ∙ m .if1 .left) (f .first-met .ensures) (c .if2 .taken)
 
-slice-read-met : tie.Need-slice-read-met
-slice-read-met c =
+element-copy-out-met : tie.Need-element-copy-out-met
+element-copy-out-met c =
     let s : tie.Start = search in
-    omega (arith, s .pre .0 .met-long, s .pre .0 .blocks, s .pre .3)
+    omega (arith, s .pre .0 .met-long, s .pre .0 .blocks, s .pre .2)
 
 add-met : tie.Need-add-met
 add-met c =
     let s : tie.Start = search in
-    omega (arith, s .pre .0 .low (s .args .b) (s .pre .3), s .pre .0 .few (s .args .b) (s .pre .3))
+    omega (arith, s .pre .0 .low (s .args .b) (s .pre .2), s .pre .0 .few (s .args .b) (s .pre .2))
 
-slice-write-met : tie.Need-slice-write-met
-slice-write-met c =
+element-write-met : tie.Need-element-write-met
+element-write-met c =
     let s : tie.Start = search in
-    omega (arith, s .pre .0 .met-long, s .pre .0 .blocks, s .pre .3)
-
-same-length-3 : tie.Need-same-length-3
-same-length-3 c = search needs
+    omega (arith, s .pre .0 .met-long, s .pre .0 .blocks, s .pre .2)
 
 returns-3 : tie.Need-returns-3
 returns-3 c =
     let s : tie.Start = search in
     let a = s .args in
-    let f = c .before .before .before in
-    let m = f .before .before .before .before in
+    let f : tie.After-first-met = search in
+    let m : tie.Else1 = search in
+    let e : tie.Else2 = search in
     looked-missed (a .sh) (a .from) (wbit (a .d .now)) (a .starts .now) (a .counts .now) (a .met .now) (a .b) (a .top) (s .pre .0)
-    (s .pre .2) (s .pre .3) (s .pre .4)
-    (f .first-light .result) (sym (m .before .bound-of .ensures) ∙ m .if1 .left)
-    (f .first-light .ensures ∙ ap (λ n. least (a .sh .size)
-    (light (wbit (a .d .now)) (a .starts .now) (8 * a .b) (getD (a .counts .now) (a .b) 0) (getD (a .met .now) (a .b) 0) n (a .sh .size)))
-    (f .before .begin-in .ensures))
-    (c .before .if2 .left)
+    (s .pre .1) (s .pre .2) (s .pre .3)
+    (f .first-met .result) (sym (m .before .bound-of .ensures) ∙ m .if1 .left) (f .first-met .ensures) (e .if2 .left)
 
 pub look-spec : {M : Type 1} → statement M
 look-spec =
     tie.close
     (tie.spec
     bound-of-requires
-    same-length
     returns
-    shared-slice-read-n
-    cast-n
-    slice-read-first-light
-    cast-first-light
-    begin-in-requires
-    first-light-requires
-    same-length-2
+    first-met-requires
     returns-2
-    slice-read-met
+    element-copy-out-met
     add-met
-    slice-write-met
-    same-length-3
+    element-write-met
     returns-3)

@@ -28,15 +28,6 @@ returns c =
     ∙ sym (check-refused (a .args .code) (a .args .word .now) _
     (check-refusal (a .args .code) (f .before .of .ensures) _ (f .refusal .ensures)) (c .before .if1 .taken))
 
-slice-aggregate-measure : tie.Need-slice-aggregate-measure
-slice-aggregate-measure c = search needs
-
-slice-aggregate-measure-2 : tie.Need-slice-aggregate-measure-2
-slice-aggregate-measure-2 c = search needs
-
-slice-aggregate-measure-3 : tie.Need-slice-aggregate-measure-3
-slice-aggregate-measure-3 c = search needs
-
 measure-requires : tie.Need-measure-requires
 measure-requires c κs =
     let i = c .before .before .before in
@@ -45,20 +36,14 @@ measure-requires c κs =
     let o = f .before .of .result in
     let t = taken (a .args .code) (f .before .of .ensures) (o .offered) (offered-by (a .args .code) (f .before .of .ensures))
     (length (a .args .word .now)) _ 0 0 (f .refusal .ensures) (i .if1 .left) in
-    (t .known, t .input-is, refl, refl, refl, zero-words 130, zero-words 16)
-
-slice-aggregate-broken : tie.Need-slice-aggregate-broken
-slice-aggregate-broken c = search needs
+    (t .known, t .input-is, zero-words 130, zero-words 16)
 
 broken-requires : tie.Need-broken-requires
 broken-requires c κs = search needs
 
-slice-aggregate-lowest : tie.Need-slice-aggregate-lowest
-slice-aggregate-lowest c = search needs
-
 lowest-requires : tie.Need-lowest-requires
 lowest-requires c κs =
-    let m = c .before .before .before .before .before .before in
+    let m = c .before .before .before in
     let i = m .before .before .before .before in
     let f = i .before in
     let a = f .before .before .before in
@@ -67,12 +52,12 @@ lowest-requires c κs =
     let t = taken n is (f .before .of .result .offered) (offered-by n is) (length (a .args .word .now)) _ 0 0 (f .refusal .ensures)
     (i .if1 .left) in
     let w = fitting (m .measure .ensures .1 n (t .offers) is .lends .fit) in
-    (search needs, w .0, w .1, w .2, w .3)
+    (w .0, w .1, w .2, w .3)
 
 returns-2 : tie.Need-returns-2
 returns-2 c =
     let b = c .before .before in
-    let m = b .before .before .before .before .before in
+    let m = b .before .before in
     let i = m .before .before .before .before in
     let f = i .before in
     let a = f .before .before .before in
@@ -94,12 +79,7 @@ check-spec =
     refusal-requires
     refused-check-requires
     returns
-    slice-aggregate-measure
-    slice-aggregate-measure-2
-    slice-aggregate-measure-3
     measure-requires
-    slice-aggregate-broken
     broken-requires
-    slice-aggregate-lowest
     lowest-requires
     returns-2)

@@ -26,8 +26,7 @@ unlike-requires c κs =
       omega (arith, f .fits, a .pre .1),
       omega (arith, f .full, a .pre .1),
       omega (arith, f .word, a .pre .1),
-      omega
-          (arith, f .bits, a .pre .2),
+      omega (arith, f .bits, c .before .unlike-arg .given),
       omega (arith, f .unsent),
     )
 
@@ -44,4 +43,9 @@ returns-2 c =
     (bit (a .args .word .now)) (wbit (a .args .y .now)) (ends .unsent)
 
 pub unlike-after-spec : {M : Type 1} → statement M
-unlike-after-spec = tie.close (tie.spec returns sub-unlike unlike-requires cast-result returns-2)
+unlike-after-spec = tie.close (tie.spec
+    returns
+    sub-unlike
+    unlike-requires
+    cast-result
+    returns-2)

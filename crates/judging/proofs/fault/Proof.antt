@@ -15,7 +15,7 @@ is-quiet-requires c κs = search needs
 returns : tie.Need-returns
 returns c =
     let q = c .before in
-    let a = q .before .before .before in
+    let a = q .before in
     λ n off is word h sh long m.
     finds-broken n off (a .args .o) is (wbit (a .args .y .now)) (wbit (a .args .z .now)) word h sh long m _ (q .is-quiet .ensures)
     (not-true _ (c .if1 .taken))
@@ -24,23 +24,23 @@ returns-2 : tie.Need-returns-2
 returns-2 c =
     let i = c .before .before in
     let q = i .before in
-    let a = q .before .before .before in
+    let a = q .before in
     λ n off is word h sh long m.
     finds-telecommand n off (a .args .o) is (wbit (a .args .y .now)) (wbit (a .args .z .now)) word h sh long m _ (q .is-quiet .ensures)
     (not-false _ (i .if1 .left)) (not-true _ (c .if2 .taken))
 
 some-set-requires : tie.Need-some-set-requires
 some-set-requires c κs =
-    let a = c .before .before .before .before .before .before in
-    let f = small (a .pre .0) in
-    (a .pre .1, omega (arith, f .fill), omega (arith, f .bits))
+    let a = c .before .before .before .before in
+    let f = small (a .pre) in
+    (omega (arith, f .fill), omega (arith, f .bits))
 
 returns-3 : tie.Need-returns-3
 returns-3 c =
     let u = c .before in
     let i = u .before .before .before in
     let q = i .before in
-    let a = q .before .before .before in
+    let a = q .before in
     λ n off is word h sh long m.
     finds-fill n off (a .args .o) is (wbit (a .args .y .now)) (wbit (a .args .z .now)) word h sh long m _ (q .is-quiet .ensures)
     (not-false _ (i .if1 .left)) (not-false _ (u .before .if2 .left)) (sym (c .if3 .taken) ∙ u .some-set .ensures)
@@ -51,11 +51,11 @@ own-parity-requires c κs = search needs
 returns-4 : tie.Need-returns-4
 returns-4 c =
     let w = c .before in
-    let j = w .before in
+    let j = w .before .before in
     let u = j .before in
     let i = u .before .before .before in
     let q = i .before in
-    let a = q .before .before .before in
+    let a = q .before in
     λ n off is word h sh long m.
     finds-own n off (a .args .o) is (wbit (a .args .y .now)) (wbit (a .args .z .now)) word h sh long m _ (q .is-quiet .ensures)
     (not-false _ (i .if1 .left)) (not-false _ (u .before .if2 .left)) (sym (j .if3 .left) ∙ u .some-set .ensures) _
@@ -64,11 +64,11 @@ returns-4 c =
 returns-5 : tie.Need-returns-5
 returns-5 c =
     let w = c .before in
-    let j = w .before in
+    let j = w .before .before in
     let u = j .before in
     let i = u .before .before .before in
     let q = i .before in
-    let a = q .before .before .before in
+    let a = q .before in
     λ n off is word h sh long m.
     finds-other n off (a .args .o) is (wbit (a .args .y .now)) (wbit (a .args .z .now)) word h sh long m _ (q .is-quiet .ensures)
     (not-false _ (i .if1 .left)) (not-false _ (u .before .if2 .left)) (sym (j .if3 .left) ∙ u .some-set .ensures) _

@@ -27,4 +27,9 @@ returns c =
 pub some-set-spec : {M : Type 1} → statement M
 some-set-spec =
     tie.close
-    (tie.spec slice-aggregate-cut cut-requires slice-aggregate-ones ones-requires returns)
+    (tie.spec
+    slice-aggregate-cut
+    cut-requires
+    slice-aggregate-ones
+    ones-requires
+    returns)

@@ -1,95 +1,52 @@
 -- `lines::write_words` meets its contract: after k words the text is the lines of the first k. Assumes nothing.
-use mathlib.Core.Path.{_≡_, refl, ap, ap₂, _∙_}
+use mathlib.Core.Path.{_≡_, refl, ap, _∙_}
 use mathlib.Core.List.{List, _++_}
-use Prim.Native.Nat.{ℕ, _+_, _-_, _*_, _/_, _≤_, _<_}
+use Prim.Native.Nat.{ℕ, _+_, _-_, _*_, _≤_, _<_}
 use native.Mathlib.Numerals.{add-one}
 use native.Mathlib.Omega.{arith}
 use borrow.Author.Needs.{needs}
-use lib.ListN.{length, take, drop}
-use Rattle.lines.specs.Log.{lines, wordLine, words, word}
-use Rattle.lines.proofs.Pieces.{starts-before, piece}
+use lib.ListN.{length, take}
+use Rattle.line.specs.Line.{wordLine}
+use Rattle.lines.specs.Log.{word, lines}
+use Rattle.lines.proofs.Pieces.{starts-before}
 use Rattle.lines.proofs.write_words.Statement.{statement}
 use Rattle.lines.proofs.write_words.Tie as tie
 use Rattle.lines.proofs.write_words.Reads as reads
 use Rattle.lines.proofs.write_words.Lts as lts
-use Rattle.lines.proofs.least.Reads as least-reads
-use Rattle.lines.proofs.write_word.Reads as write-word-reads
-use Rattle.lines.proofs.word_octets.Reads as word-octets-reads
+use Rattle.lines.proofs.write_at.Reads as write-at-reads
 
 abbrev Inv-loop : tie.InvT-loop
-Inv-loop code limit index words out₀ text₀ size count end₀ k₀ out text end k =
+Inv-loop code limit size index count words out₀ text₀ end₀ k₀ out text end k =
     (k ≤ count) × (end ≤ 128 * k) × (end ≤ length text₀) × (length out ≡ length out₀) × (length text ≡ length text₀)
     × (take end text ≡ lines code limit index words k)
 
 abbrev μ-loop : tie.MeasureT-loop
-μ-loop code limit index words out₀ text₀ size count end₀ k₀ out text end k = count - k
+μ-loop code limit size index count words out₀ text₀ end₀ k₀ out text end k = count - k
 
 -- in the loop a word starts before the end
-starts : (c : lts.In-loop (
-  word-octets-reads.Asked,
-  word-octets-reads.Learnt,
-  least-reads.Asked,
-  least-reads.Learnt,
-  write-word-reads.Asked,
-  write-word-reads.Learnt,
-) reads.Pre reads.Post Inv-loop μ-loop)
-    → (c .before .loop .k * c .before .before .word-octets .result < length
-    (c .before .before .before .before .before .before .args .words .now))
-    × (16 * c .before .loop .k ≤ c .before .loop .k * c .before .before .word-octets .result)
+starts : (c : lts.In-loop (write-at-reads.Asked, write-at-reads.Learnt) reads.Pre reads.Post Inv-loop μ-loop)
+    → let a = c .before .before .before .before .before .args in
+    let k = c .before .loop .k in
+    (k * a .size < length (a .words .now)) × (16 * k ≤ k * a .size)
 starts c =
-    let s = c .before .before .before .before .before .before in
-    starts-before (length (s .args .words .now)) (c .before .before .word-octets .result) (c .before .loop .k)
-    (c .before .before .word-octets .ensures .1) (omega arith)
-
-word-octets-requires : tie.Need-word-octets-requires Inv-loop μ-loop
-word-octets-requires c κs = c .before .before .before .pre .0 .0
-
-sub-count : tie.Need-sub-count Inv-loop μ-loop
-sub-count c = omega arith
-
-add-count : tie.Need-add-count Inv-loop μ-loop
-add-count c = omega arith
-
-div-count : tie.Need-div-count Inv-loop μ-loop
-div-count c = omega arith
+    let s = c .before .before .before .before .before in
+    starts-before (length (s .args .words .now)) (s .args .size) (c .before .loop .k) (s .pre .0 .0 .1) (omega (arith, s .pre .0 .1))
 
 loop-holds : tie.Need-loop-holds Inv-loop μ-loop
 unfolding lines
 loop-holds c = (omega arith, omega arith, omega arith, refl, refl, refl)
 
-mul-at : tie.Need-mul-at Inv-loop μ-loop
-mul-at c = omega (arith, starts c .0)
-
-add-least : tie.Need-add-least Inv-loop μ-loop
-add-least c = omega (arith, starts c .0)
-
-least-requires : tie.Need-least-requires Inv-loop μ-loop
-least-requires c κs = tt
-
-add-write-word : tie.Need-add-write-word Inv-loop μ-loop
-add-write-word c = omega (arith, starts (c .before) .0, starts (c .before) .1)
-
-sub-write-word : tie.Need-sub-write-word Inv-loop μ-loop
-sub-write-word c = omega (arith, starts (c .before) .0)
-
-part-write-word-start : tie.Need-part-write-word-start Inv-loop μ-loop
-part-write-word-start c = omega (arith, starts (c .before) .0)
-
-part-write-word-end : tie.Need-part-write-word-end Inv-loop μ-loop
-part-write-word-end c = search needs
-
-write-word-requires : tie.Need-write-word-requires Inv-loop μ-loop
-write-word-requires c κs =
-    let s : tie.Start Inv-loop μ-loop = search in (
-      c .before .before .before .before .before .loop .inv .3
-          ∙ s .pre .0 .1,
-      omega (arith, starts (c .before .before .before .before) .0, starts (c .before .before .before .before) .1),
-    )
+write-at-requires : tie.Need-write-at-requires Inv-loop μ-loop
+write-at-requires c κs =
+    let s = c .before .before .before .before .before .before .before in
+    let h = c .before .before .before .loop in
+    let b = starts (c .before .before) in
+    ((s .pre .0 .0, omega (arith, s .pre .0 .1)), (h .inv .3 ∙ s .pre .1 .0, omega (arith, b .0, b .1)))
 
 add-k : tie.Need-add-k Inv-loop μ-loop
 add-k c =
-    let in-loop : tie.In-loop Inv-loop μ-loop = search in
-    omega (arith, starts (in-loop) .0, starts (in-loop) .1)
+    let b = starts (c .before .before .before .before .before .before .before) in
+    omega (arith, b .0, b .1)
 
 loop-less : tie.Need-loop-less Inv-loop μ-loop
 loop-less c = omega arith
@@ -97,24 +54,19 @@ loop-less c = omega arith
 loop-again : tie.Need-loop-again Inv-loop μ-loop
 unfolding lines
 loop-again c =
-    let in-loop : tie.In-loop Inv-loop μ-loop = search in
-    let s : tie.Start Inv-loop μ-loop = search in
-    let ws = s .args .words .now in
-    let z = in-loop .before .before .word-octets in
+    let in-loop = c .before .before .before .before .before .before .before in
     let h = in-loop .before .loop in
-    let l = c .before .before .before .before .before .before .before .before .least in
-    let w = c .before .before .before .before .write-word in
-    let b = starts (in-loop) in
-    let at = h .k * z .result in
-    let e : take (l .result - at) (drop at ws) ≡ word (s .args .code) ws (h .k) =
-    piece ws at (z .result) (l .result) (l .ensures) ∙ ap (λ m. take m (drop (h .k * m) ws)) (z .ensures .0) in (
+    let w = c .before .before .before .before .write-at in
+    let b = starts in-loop in
+    let s : tie.Start Inv-loop μ-loop = search in
+    let a = s .args in (
       omega arith,
       omega arith,
       omega (arith, b .0, b .1),
       omega arith,
       omega arith,
-      rw add-one (w .ensures .1 ∙ ap₂ (λ (p q : List ℕ). p ++ q) (h .inv .5)
-          (ap (λ o. wordLine (s .args .code) (s .args .limit) (s .args .index + h .k) o) e)),
+      rw add-one (w .ensures .1 ∙ ap (λ (p : List ℕ). p ++ wordLine (a .code) (a .limit) (a .index + h .k)
+          (word (a .code) (a .words .now) (h .k))) (h .inv .5)),
     )
 
 same-length : tie.Need-same-length Inv-loop μ-loop
@@ -125,15 +77,10 @@ same-length-2 c = search needs
 
 returns : tie.Need-returns Inv-loop μ-loop
 returns c =
-    let s = c .before .before .before .before .before .before .args in
-    let z = c .before .before .word-octets in
+    let a = c .before .before .before .before .before .args in
     let h = c .before .loop in
-    let long = length (s .words .now) in
-    let e : h .k ≡ (long + (z .result - 1)) / z .result = omega arith in (
-      omega arith,
-      h .inv .5 ∙ ap (λ m. lines (s .code) (s .limit) (s .index) (s .words .now) m) (e
-          ∙ ap (λ m. (long + (m - 1)) / m) (z .ensures .0)),
-    )
+    let e : h .k ≡ a .count = omega arith in
+    (omega arith, h .inv .5 ∙ ap (λ m. lines (a .code) (a .limit) (a .index) (a .words .now) m) e)
 
 pub write-words-spec : {M : Type 1} → statement M
 write-words-spec =
@@ -141,19 +88,8 @@ write-words-spec =
     (tie.spec
     Inv-loop
     μ-loop
-    word-octets-requires
-    sub-count
-    add-count
-    div-count
     loop-holds
-    mul-at
-    add-least
-    least-requires
-    add-write-word
-    sub-write-word
-    part-write-word-start
-    part-write-word-end
-    write-word-requires
+    write-at-requires
     add-k
     loop-less
     loop-again

@@ -20,7 +20,7 @@ refused-requires c κs = search needs
 returns : tie.Need-returns
 returns c =
     let f = c .before .before in
-    let a = c .before .before .before .before .before .before .before .before in
+    let a = c .before .before .before .before .before in
     let n = a .args .code in
     let r = c .refused in (
       r .ensures .1,
@@ -38,15 +38,6 @@ begin-taken-requires c κs =
     (c .before .before .before .if1 .left) in
     (t .known, t .input-is, a .pre)
 
-same-length : tie.Need-same-length
-same-length c = search needs
-
-same-length-2 : tie.Need-same-length-2
-same-length-2 c = search needs
-
-same-length-3 : tie.Need-same-length-3
-same-length-3 c = search needs
-
 returns-2 : tie.Need-returns-2
 returns-2 c =
     let else1 : tie.Else1 = search in
@@ -56,7 +47,7 @@ returns-2 c =
     let is = f .before .of .ensures in
     let t = taken n is (f .before .of .result .offered) (offered-by n is) (length (a .args .word .now)) (f .before .of .result .word) 0 0
     (f .refusal .ensures) (else1 .if1 .left) in
-    let b = c .before .before .before .before .before .before .begin-taken .ensures in
+    let b = c .begin-taken .ensures in
     (b .0, b .1 n (t .offers) is)
 
 pub begin-spec : {M : Type 1} → statement M
@@ -68,7 +59,4 @@ begin-spec =
     refused-requires
     returns
     begin-taken-requires
-    same-length
-    same-length-2
-    same-length-3
     returns-2)

@@ -20,7 +20,7 @@ judge-requires c κs = search needs
 
 returns : tie.Need-returns
 returns c =
-    let a = c .before .before .before .before .before .before .before in
+    let a = c .before .before .before .before .before .before in
     let fits : SFits w8 (a .args .excess) = search needs in (
       refl,
       refl,
@@ -34,4 +34,8 @@ returns c =
     )
 
 pub ended-spec : {M : Type 1} → statement M
-ended-spec = tie.close (tie.spec cast-count unlike-after-requires judge-requires returns)
+ended-spec = tie.close (tie.spec
+    cast-count
+    unlike-after-requires
+    judge-requires
+    returns)

@@ -25,7 +25,7 @@ use contract.Running.{givenOf, tables, tablesOf}
 use types.Kit.{Given, Item, Sq, runs, lands, ‵, raw, mean, _⊛_, some, given, later, ⋆, anyQ, atRet, _$_, _∵_, !, qed, by, move, keep, drop}
 use types.Kit.{use1, use3, split, join, pick, learn, rewrite, fsplit, fjoin, suffices, frame, await, updating, now as at-once, show}
 use types.Kit.{check, done}
-use types.Part.{whole, sub, look-in, agg}
+use types.Part.{whole, sub, look-in}
 use types.Run.{look, store, store-raw, init, forget, stop, hop, fld, from, load, lit, addr, of-opd, bin, and-then, no-more, assigns}
 use types.Run.{land, land-last, stays, leaves-loop, returns, enter, alloc1, alloc0, params1, pass1, pass0, free1, free0, exec}
 use types.Tokens.{lft-new, lft-end}
@@ -36,11 +36,11 @@ use denote.Memory.{pointee, partAt}
 use denote.Shadow.{pureI}
 use denote.Laws.{Is, shows}
 use denote.Plain.{uint-vals, uint-tells, uint-makes, uint-copy, uint-lawful}
-use denote.Ref.{RefT, now}
+use denote.Ref.{RefT, MutRef, now}
 use denote.Array.{Array}
-use denote.Slice.{sliceTy, sliceVal, MutSlice, ShrSlice, heres, Room, finally, slice-vals, mut-slice-tells, shr-slice-tells, shr-slice-copy}
+use denote.Slice.{sliceTy, sliceVal, MutSlice, ShrSlice, heres, Room, slice-vals, mut-slice-tells, shr-slice-tells, shr-slice-copy}
 use denote.Slice.{at-slice, codedHoleys}
-use denote.Lend.{Held}
+use denote.Lend.{Held, lends-ref, ref-back}
 use denote.Index.{place-is, elem-out, elem-put, opens-slice, closes-slice}
 use denote.Signature.{plain, shrSliceOf}
 use denote.Builtin.{u8, u16, u64, usize}
@@ -62,7 +62,7 @@ use Rattle.lists.specs.Listings.{listOf, soFar, Blank, Lists, Goes}
 use Rattle.lists.specs.declared.FlipRecord.{FlipRecord}
 use Rattle.lists.specs.declared.Listed.{Listed}
 use Rattle.lists.specs.declared.Listing.{Listing}
-use Rattle.lists.proofs.Lending.{lends-array, array-back, fills}
+use Rattle.lists.proofs.Lending.{Behind, Last, fills}
 use Rattle.lists.proofs.Writing.{in-table, put-next}
 use Rattle.lists.proofs.FlipRecord as T
 use Rattle.lists.proofs.FlipRecord.Laws as T′
@@ -120,12 +120,6 @@ ref16 n = tyRef erased mut (tyArray (tyInt w16) n)
 abbrev ref64 : ℕ → Ty
 ref64 n = tyRef erased mut (tyArray (tyInt w64) n)
 
-abbrev slice16 : Ty
-slice16 = sliceTy (tyRef erased mut (tyInt w16))
-
-abbrev slice64 : Ty
-slice64 = sliceTy (tyRef erased mut (tyInt w64))
-
 -- the lists of the three arrays; what a call gives back with its result; three lifetimes and three names
 abbrev Three : Type 0
 Three = List ℕ × (List ℕ × List ℕ)
@@ -181,8 +175,8 @@ module _ {M : Type 1} (𝓤 : URA M) (H : Heap 𝓤) (A : Atoms 𝓤) (W : Given
   abbrev zeros : Three
   zeros = (replicate 64 0, (replicate 130 0, replicate 16 0))
 
-  blank : Blank (zeros .0) (zeros .1 .0) (zeros .1 .1)
-  blank = (refl, refl, refl, zero-words 130, zero-words 16)
+  blank : Blank (zeros .1 .0) (zeros .1 .1)
+  blank = (zero-words 130, zero-words 16)
 
   -- a list that goes on or has ended, and the table with its records so far
   abbrev Good : Listing → Three → List FlipRecord → Type 0
@@ -229,41 +223,41 @@ module _ {M : Type 1} (𝓤 : URA M) (H : Heap 𝓤) (A : Atoms 𝓤) (W : Given
     abbrev tokens : Loan → Item 𝓤
     tokens q = ‵ (flft (q .0 .0 ∷ []) fullShare) ⊛ (‵ (flft (q .0 .1 .0 ∷ []) fullShare) ⊛ ‵ (flft (q .0 .1 .1 ∷ []) fullShare))
 
-    abbrev slices : Loan → Three → Item 𝓤
-    slices q a = ‵ (MutSlice (named 1) (q .0 .0 ∷ []) u16 .own (t-ref q a) (sliceVal (l₅, 0) 64 ∷ []))
-        ⊛ (‵ (MutSlice (named 2) (q .0 .1 .0 ∷ []) u64 .own (y-ref q a) (sliceVal (l₆, 0) 130 ∷ []))
-        ⊛ ‵ (MutSlice (named 3) (q .0 .1 .1 ∷ []) u64 .own (s-ref q a) (sliceVal (l₇, 0) 16 ∷ [])))
+    abbrev refs : Loan → Three → Item 𝓤
+    refs q a = ‵ (MutRef (named 1) (q .0 .0 ∷ []) (Array u16 64) .own (t-ref q a) (vptr l₅ 0 ∷ []))
+        ⊛ (‵ (MutRef (named 2) (q .0 .1 .0 ∷ []) (Array u64 130) .own (y-ref q a) (vptr l₆ 0 ∷ []))
+        ⊛ ‵ (MutRef (named 3) (q .0 .1 .1 ∷ []) (Array u64 16) .own (s-ref q a) (vptr l₇ 0 ∷ [])))
 
     abbrev keeps : Loan → Item 𝓤
-    keeps q = ‵ (flent (q .0 .0 ∷ []) (Held u16 64 l₅ 0 (q .1 .0)))
-        ⊛ (‵ (flent (q .0 .1 .0 ∷ []) (Held u64 130 l₆ 0 (q .1 .1 .0))) ⊛ ‵ (flent (q .0 .1 .1 ∷ []) (Held u64 16 l₇ 0 (q .1 .1 .1))))
+    keeps q = ‵ (flent (q .0 .0 ∷ []) (Behind u16 64 l₅ (q .1 .0)))
+        ⊛ (‵ (flent (q .0 .1 .0 ∷ []) (Behind u64 130 l₆ (q .1 .1 .0))) ⊛ ‵ (flent (q .0 .1 .1 ∷ []) (Behind u64 16 l₇ (q .1 .1 .1))))
 
     abbrev fins : Loan → Three → Fml
-    fins q a = fsep (finally u16 (q .1 .0) (a .0)) (fsep (finally u64 (q .1 .1 .0) (a .1 .0)) (finally u64 (q .1 .1 .1) (a .1 .1)))
+    fins q a = fsep (Last u16 64 (q .1 .0) (a .0)) (fsep (Last u64 130 (q .1 .1 .0) (a .1 .0)) (Last u64 16 (q .1 .1 .1) (a .1 .1)))
 
     lends : (a : Three) → ent 𝓤 (sem 𝓤 H A (arrays a))
-        (H .⇛ (ex 𝓤 (λ (q : Loan). sep 𝓤 (sep 𝓤 (mean 𝓤 H A (tokens q)) (mean 𝓤 H A (slices q a))) (mean 𝓤 H A (keeps q)))))
+        (H .⇛ (ex 𝓤 (λ (q : Loan). sep 𝓤 (sep 𝓤 (mean 𝓤 H A (tokens q)) (mean 𝓤 H A (refs q a))) (mean 𝓤 H A (keeps q)))))
     lends a =
         qed W (‵ (arrays a) ∷ []) ∵ updating ! $ fsplit ! $ move ! (1 ∷ []) $ fsplit ! $
         lft-new ! tt (λ νs. lft-new ! tt (λ νy. lft-new ! tt (λ νt. move ! (5 ∷ []) $
         use1 W (later (some (λ (γt : GName).
-        ‵ (MutSlice (named 1) (νt ∷ []) u16 .own (record { ptr = (l₅, 0); name = γt; now = a .0 }) (sliceVal (l₅, 0) 64 ∷ []))
-        ⊛ ‵ (flent (νt ∷ []) (Held u16 64 l₅ 0 γt)))))
-        (lends-array 𝓤 H A W u16 tt 64 (lit< tt, lit< tt) l₅ 0 (named 1) (νt ∷ []) (a .0)) $ await ! tt $ pick ! (λ γt. split ! $
+        ‵ (MutRef (named 1) (νt ∷ []) (Array u16 64) .own (record { ptr = (l₅, 0); name = γt; now = a .0 }) (vptr l₅ 0 ∷ []))
+        ⊛ ‵ (flent (νt ∷ []) (Behind u16 64 l₅ γt)))))
+        (lends-ref 𝓤 H A W (Array u16 64) (named 1) (νt ∷ []) (a .0) l₅ 0) $ await ! tt $ pick ! (λ γt. split ! $
         move ! (5 ∷ []) $
         use1 W (later (some (λ (γy : GName).
-        ‵ (MutSlice (named 2) (νy ∷ []) u64 .own (record { ptr = (l₆, 0); name = γy; now = a .1 .0 }) (sliceVal (l₆, 0) 130 ∷ []))
-        ⊛ ‵ (flent (νy ∷ []) (Held u64 130 l₆ 0 γy)))))
-        (lends-array 𝓤 H A W u64 tt 130 (lit< tt, lit< tt) l₆ 0 (named 2) (νy ∷ []) (a .1 .0)) $ await ! tt $ pick ! (λ γy. split ! $
+        ‵ (MutRef (named 2) (νy ∷ []) (Array u64 130) .own (record { ptr = (l₆, 0); name = γy; now = a .1 .0 }) (vptr l₆ 0 ∷ []))
+        ⊛ ‵ (flent (νy ∷ []) (Behind u64 130 l₆ γy)))))
+        (lends-ref 𝓤 H A W (Array u64 130) (named 2) (νy ∷ []) (a .1 .0) l₆ 0) $ await ! tt $ pick ! (λ γy. split ! $
         move ! (7 ∷ []) $
         use1 W (later (some (λ (γs : GName).
-        ‵ (MutSlice (named 3) (νs ∷ []) u64 .own (record { ptr = (l₇, 0); name = γs; now = a .1 .1 }) (sliceVal (l₇, 0) 16 ∷ []))
-        ⊛ ‵ (flent (νs ∷ []) (Held u64 16 l₇ 0 γs)))))
-        (lends-array 𝓤 H A W u64 tt 16 (lit< tt, lit< tt) l₇ 0 (named 3) (νs ∷ []) (a .1 .1)) $ await ! tt $ pick ! (λ γs. split ! $
+        ‵ (MutRef (named 3) (νs ∷ []) (Array u64 16) .own (record { ptr = (l₇, 0); name = γs; now = a .1 .1 }) (vptr l₇ 0 ∷ []))
+        ⊛ ‵ (flent (νs ∷ []) (Behind u64 16 l₇ γs)))))
+        (lends-ref 𝓤 H A W (Array u64 16) (named 3) (νs ∷ []) (a .1 .1) l₇ 0) $ await ! tt $ pick ! (λ γs. split ! $
         -- [z; its loan; y; its loan; h; its loan; the tokens of h, y and z]
         move ! (7 ∷ 8 ∷ []) $ join ! $ move ! (7 ∷ 0 ∷ []) $ join ! $ move ! (3 ∷ 1 ∷ []) $ join ! $ move ! (4 ∷ 0 ∷ []) $ join ! $
         move ! (3 ∷ 2 ∷ []) $ join ! $ move ! (3 ∷ 0 ∷ []) $ join ! $ move ! (2 ∷ 1 ∷ 0 ∷ []) $ join ! $ at-once ! $
-        show ! (λ (q : Loan). sep 𝓤 (sep 𝓤 (mean 𝓤 H A (tokens q)) (mean 𝓤 H A (slices q a))) (mean 𝓤 H A (keeps q)))
+        show ! (λ (q : Loan). sep 𝓤 (sep 𝓤 (mean 𝓤 H A (tokens q)) (mean 𝓤 H A (refs q a))) (mean 𝓤 H A (keeps q)))
         ((νt, (νy, νs)), (γt, (γy, γs))) $ done !))))))
 
     comes-back : (q : Loan) (a : Three) → ent 𝓤 (sep 𝓤 (mean 𝓤 H A (tokens q)) (sep 𝓤 (mean 𝓤 H A (keeps q)) (sem 𝓤 H A (fins q a))))
@@ -274,11 +268,11 @@ module _ {M : Type 1} (𝓤 : URA M) (H : Heap 𝓤) (A : Atoms 𝓤) (W : Given
         move ! (3 ∷ []) $ split ! $ move ! (1 ∷ []) $ split ! $ move ! (6 ∷ []) $ fsplit ! $ move ! (1 ∷ []) $ fsplit ! $
         -- [last y, z, h; the loans of y, z, h; h, z and y are over]
         move ! (8 ∷ 3 ∷ 0 ∷ []) $ use3 W (later (‵ (partAt (Array u64 130) fullShare (a .1 .0) l₆ 0)))
-        (array-back 𝓤 H A W u64 tt 130 (lit< tt, lit< tt) l₆ 0 (q .0 .1 .0 ∷ []) (q .1 .1 .0) (a .1 .0)) $ await ! tt $
+        (ref-back 𝓤 H A W (Array u64 130) (q .0 .1 .0 ∷ []) (q .1 .1 .0) (a .1 .0) l₆ 0) $ await ! tt $
         move ! (6 ∷ 3 ∷ 1 ∷ []) $ use3 W (later (‵ (partAt (Array u64 16) fullShare (a .1 .1) l₇ 0)))
-        (array-back 𝓤 H A W u64 tt 16 (lit< tt, lit< tt) l₇ 0 (q .0 .1 .1 ∷ []) (q .1 .1 .1) (a .1 .1)) $ await ! tt $
+        (ref-back 𝓤 H A W (Array u64 16) (q .0 .1 .1 ∷ []) (q .1 .1 .1) (a .1 .1) l₇ 0) $ await ! tt $
         move ! (4 ∷ 3 ∷ 2 ∷ []) $ use3 W (later (‵ (partAt (Array u16 64) fullShare (a .0) l₅ 0)))
-        (array-back 𝓤 H A W u16 tt 64 (lit< tt, lit< tt) l₅ 0 (q .0 .0 ∷ []) (q .1 .0) (a .0)) $ await ! tt $
+        (ref-back 𝓤 H A W (Array u16 64) (q .0 .0 ∷ []) (q .1 .0) (a .0) l₅ 0) $ await ! tt $
         move ! (2 ∷ 1 ∷ []) $ fjoin ! $ move ! (1 ∷ 0 ∷ []) $ fjoin ! $ at-once ! $ done !
 
     -- ---- the calls
@@ -296,16 +290,16 @@ module _ {M : Type 1} (𝓤 : URA M) (H : Heap 𝓤) (A : Atoms 𝓤) (W : Given
         (qw, (fullShare, (fullShare, (fullShare, tt)))),
         tt,
         nextArg l a q,
-        (mach l ∷ [], (wv ∷ [], (sliceVal (l₅, 0) 64 ∷ [], (sliceVal (l₆, 0) 130 ∷ [], (sliceVal (l₇, 0) 16 ∷ [], tt))))),
+        (mach l ∷ [], (wv ∷ [], (vptr l₅ 0 ∷ [], (vptr l₆ 0 ∷ [], (vptr l₇ 0 ∷ [], tt))))),
       ),
       tt,
     )
 
     goes-next : (l : Listing) (a : Three) (q : Loan) → Is L.the-row l (mach l ∷ []) → Goes (now w) l (a .0) (a .1 .0) (a .1 .1)
-        → ent 𝓤 (sep 𝓤 (A .lft κw qw) (sep 𝓤 (sem 𝓤 H A word-own) (sep 𝓤 (mean 𝓤 H A (tokens q)) (mean 𝓤 H A (slices q a)))))
+        → ent 𝓤 (sep 𝓤 (A .lft κw qw) (sep 𝓤 (sem 𝓤 H A word-own) (sep 𝓤 (mean 𝓤 H A (tokens q)) (mean 𝓤 H A (refs q a)))))
         (Next 𝓤 H A mem run .pre (to-next l a q))
     goes-next l a q gl goes =
-        qed W (‵ (flft κw qw) ∷ ‵ word-own ∷ tokens q ∷ slices q a ∷ []) ∵ says ! goes $
+        qed W (‵ (flft κw qw) ∷ ‵ word-own ∷ tokens q ∷ refs q a ∷ []) ∵ says ! goes $
         move ! (2 ∷ []) $ split ! $ move ! (1 ∷ []) $ split ! $ nothing ! $ move ! (2 ∷ 0 ∷ []) $ join ! $ move ! (1 ∷ 0 ∷ []) $ join ! $
         move ! (1 ∷ 0 ∷ []) $ join ! $ move ! (1 ∷ 0 ∷ []) $ join ! $ frame ! $
         move ! (1 ∷ []) $ split ! $ move ! (1 ∷ []) $ split ! $ nothing ! $ move ! (2 ∷ 0 ∷ []) $ fjoin ! $ move ! (1 ∷ 0 ∷ []) $ fjoin ! $
@@ -343,8 +337,8 @@ module _ {M : Type 1} (𝓤 : URA M) (H : Heap 𝓤) (A : Atoms 𝓤) (W : Given
         (id⊢ 𝓤 _) $ pick ! (λ ws. split ! $ move ! (1 ∷ []) $
         heard ! (Told l a (r, (ws .1 .1 .0, (ws .1 .1 .1 .0, ws .1 .1 .1 .1 .0)))) (λ told.
         fsplit ! $ drop ! $ fsplit ! $ drop ! $  -- the three last lists, then the tokens
-        fsplit ! $ fsplit ! $ move ! (2 ∷ []) $ fsplit ! $ fsplit ! $ move ! (2 ∷ []) $ fsplit ! $ fsplit ! $
-        move ! (3 ∷ 0 ∷ []) $ fjoin ! $ move ! (4 ∷ 0 ∷ []) $ fjoin ! $ move ! (5 ∷ []) $ split ! $ split ! $ move ! (1 ∷ []) $ split ! $
+        fsplit ! $ move ! (1 ∷ []) $ fsplit ! $ move ! (1 ∷ []) $ fsplit ! $
+        move ! (2 ∷ 0 ∷ []) $ fjoin ! $ move ! (2 ∷ 0 ∷ []) $ fjoin ! $ move ! (2 ∷ []) $ split ! $ split ! $ move ! (1 ∷ []) $ split ! $
         move ! (1 ∷ []) $ split ! $ move ! (1 ∷ []) $ split ! $ keep ! (4 ∷ 5 ∷ 3 ∷ 2 ∷ 0 ∷ 6 ∷ []) $
         move ! (3 ∷ 4 ∷ []) $ join ! $ move ! (3 ∷ 0 ∷ []) $ join ! $ move ! (1 ∷ 2 ∷ 0 ∷ 3 ∷ []) $ at-once ! $
         show ! (λ (g : Got). guard 𝓤 (Told l a g) (sep 𝓤 (A .lft κw qw)
@@ -368,7 +362,7 @@ module _ {M : Type 1} (𝓤 : URA M) (H : Heap 𝓤) (A : Atoms 𝓤) (W : Given
             wv ∷ [],
             (
               vint w16 lim ∷ [],
-              (vint w64 (length ys) ∷ [], (sliceVal (l₅, 0) 64 ∷ [], (sliceVal (l₆, 0) 130 ∷ [], (sliceVal (l₇, 0) 16 ∷ [], tt)))),
+              (vint w64 (length ys) ∷ [], (vptr l₅ 0 ∷ [], (vptr l₆ 0 ∷ [], (vptr l₇ 0 ∷ [], tt)))),
             ),
           ),
         ),
@@ -377,10 +371,10 @@ module _ {M : Type 1} (𝓤 : URA M) (H : Heap 𝓤) (A : Atoms 𝓤) (W : Given
     )
 
     goes-begin : cd < 2 ^ 8 → lim < 2 ^ 16 → length ys < 2 ^ 64 → (q : Loan)
-        → ent 𝓤 (sep 𝓤 (A .lft κw qw) (sep 𝓤 (sem 𝓤 H A word-own) (sep 𝓤 (mean 𝓤 H A (tokens q)) (mean 𝓤 H A (slices q zeros)))))
+        → ent 𝓤 (sep 𝓤 (A .lft κw qw) (sep 𝓤 (sem 𝓤 H A word-own) (sep 𝓤 (mean 𝓤 H A (tokens q)) (mean 𝓤 H A (refs q zeros)))))
         (Begin 𝓤 H A mem run .pre (to-begin q))
     goes-begin gc gl gn q =
-        qed W (‵ (flft κw qw) ∷ ‵ word-own ∷ tokens q ∷ slices q zeros ∷ []) ∵ says ! blank $
+        qed W (‵ (flft κw qw) ∷ ‵ word-own ∷ tokens q ∷ refs q zeros ∷ []) ∵ says ! blank $
         move ! (2 ∷ []) $ split ! $ move ! (1 ∷ []) $ split ! $ nothing ! $ move ! (2 ∷ 0 ∷ []) $ join ! $ move ! (1 ∷ 0 ∷ []) $ join ! $
         move ! (1 ∷ 0 ∷ []) $ join ! $ move ! (1 ∷ 0 ∷ []) $ join ! $ frame ! $
         move ! (1 ∷ []) $ split ! $ move ! (1 ∷ []) $ split ! $ nothing ! $ move ! (2 ∷ 0 ∷ []) $ fjoin ! $ move ! (1 ∷ 0 ∷ []) $ fjoin ! $
@@ -401,8 +395,8 @@ module _ {M : Type 1} (𝓤 : URA M) (H : Heap 𝓤) (A : Atoms 𝓤) (W : Given
         (id⊢ 𝓤 _) $ pick ! (λ ws. split ! $ move ! (1 ∷ []) $
         heard ! (Began (r, (ws .1 .1 .1 .1 .0, (ws .1 .1 .1 .1 .1 .0, ws .1 .1 .1 .1 .1 .1 .0)))) (λ told.
         fsplit ! $ drop ! $ fsplit ! $ drop ! $ fsplit ! $ drop ! $ fsplit ! $ drop ! $  -- the three last lists, then the tokens
-        fsplit ! $ fsplit ! $ move ! (2 ∷ []) $ fsplit ! $ fsplit ! $ move ! (2 ∷ []) $ fsplit ! $ fsplit ! $
-        move ! (3 ∷ 0 ∷ []) $ fjoin ! $ move ! (4 ∷ 0 ∷ []) $ fjoin ! $ move ! (5 ∷ []) $ split ! $ split ! $ move ! (1 ∷ []) $ split ! $
+        fsplit ! $ move ! (1 ∷ []) $ fsplit ! $ move ! (1 ∷ []) $ fsplit ! $
+        move ! (2 ∷ 0 ∷ []) $ fjoin ! $ move ! (2 ∷ 0 ∷ []) $ fjoin ! $ move ! (2 ∷ []) $ split ! $ split ! $ move ! (1 ∷ []) $ split ! $
         move ! (1 ∷ []) $ split ! $ move ! (1 ∷ []) $ split ! $ keep ! (4 ∷ 5 ∷ 3 ∷ 2 ∷ 0 ∷ 6 ∷ []) $
         move ! (3 ∷ 4 ∷ []) $ join ! $ move ! (3 ∷ 0 ∷ []) $ join ! $ move ! (1 ∷ 2 ∷ 0 ∷ 3 ∷ []) $ at-once ! $
         show ! (λ (g : Got). guard 𝓤 (Began g) (sep 𝓤 (A .lft κw qw)
@@ -412,7 +406,7 @@ module _ {M : Type 1} (𝓤 : URA M) (H : Heap 𝓤) (A : Atoms 𝓤) (W : Given
   -- ---- the loop
 
   module _ (gn : Room T.the-row (length ys)) (𝓣 : Tables 𝓤 H) (known : Triple 𝓤 (𝓣 .C #lists·next) (Next 𝓤 H A mem run))
-      (l₀ l₁ l₂ l₃ l₄ l₅ l₆ l₇ l₈ l₉ l₁₀ l₁₁ l₁₂ l₁₃ l₁₄ l₁₅ l₁₆ l₁₇ l₁₈ l₁₉ l₂₀ l₂₁ l₂₂ l₂₃ l₂₄ : ℕ) where
+      (l₀ l₁ l₂ l₃ l₄ l₅ l₆ l₇ l₈ l₉ l₁₀ l₁₁ l₁₂ l₁₃ l₁₄ l₁₅ l₁₆ l₁₇ l₁₈ : ℕ) where
     abbrev C : Calls 𝓤 H
     C = 𝓣 .C
 
@@ -431,38 +425,28 @@ module _ {M : Type 1} (𝓤 : URA M) (H : Heap 𝓤) (A : Atoms 𝓤) (W : Given
         (L′.mir, l₈) ∷
         (wide, l₉) ∷
         (ref16 64, l₁₀) ∷
-        (slice16, l₁₁) ∷
-        (ref64 130, l₁₂) ∷
-        (slice64, l₁₃) ∷
-        (ref64 16, l₁₄) ∷
-        (slice64, l₁₅) ∷
-        (tyBool, l₁₆) ∷
-        (wide, l₁₇) ∷
-        (tyPtr, l₁₈) ∷
-        (ref16 64, l₁₉) ∷
-        (slice16, l₂₀) ∷
-        (ref64 130, l₂₁) ∷
-        (slice64, l₂₂) ∷
-        (ref64 16, l₂₃) ∷
-        (slice64, l₂₄) ∷ []
+        (ref64 130, l₁₁) ∷
+        (ref64 16, l₁₂) ∷
+        (tyBool, l₁₃) ∷
+        (wide, l₁₄) ∷
+        (tyPtr, l₁₅) ∷
+        (ref16 64, l₁₆) ∷
+        (ref64 130, l₁₇) ∷
+        (ref64 16, l₁₈) ∷ []
 
     -- what no pass touches
     abbrev Frame : List (Item 𝓤)
-    Frame = ‵ (froom tyBool l₁₆ 0) ∷ ‵ (froom wide l₁₇ 0) ∷ ‵ (froom tyPtr l₁₈ 0) ∷ ‵ (froom (ref16 64) l₁₉ 0)
-        ∷ ‵ (froom slice16 l₂₀ 0) ∷ ‵ (froom (ref64 130) l₂₁ 0) ∷ ‵ (froom slice64 l₂₂ 0) ∷ ‵ (froom (ref64 16) l₂₃ 0)
-        ∷ ‵ (froom slice64 l₂₄ 0) ∷ ‵ (fat fullShare records l₄ 0 (sliceVal (b, o) (length ys)))
+    Frame = ‵ (froom tyBool l₁₃ 0) ∷ ‵ (froom wide l₁₄ 0) ∷ ‵ (froom tyPtr l₁₅ 0) ∷ ‵ (froom (ref16 64) l₁₆ 0)
+        ∷ ‵ (froom (ref64 130) l₁₇ 0) ∷ ‵ (froom (ref64 16) l₁₈ 0) ∷ ‵ (fat fullShare records l₄ 0 (sliceVal (b, o) (length ys)))
         ∷ ‵ (fat fullShare words l₂ 0 wv) ∷ ‵ (froom S′.mir l₀ 0) ∷ ‵ (fat fullShare (tyInt w8) l₁ 0 (vint w8 cd))
         ∷ ‵ (fat fullShare (tyInt w16) l₃ 0 (vint w16 lim)) ∷ ‵ (fat fullShare wide l₉ 0 (vint w64 (length ys)))
-        ∷ ‵ (fat fullShare (ref16 64) l₁₀ 0 (vptr l₅ 0)) ∷ ‵ (fat fullShare slice16 l₁₁ 0 (sliceVal (l₅, 0) 64))
-        ∷ ‵ (fat fullShare (ref64 130) l₁₂ 0 (vptr l₆ 0)) ∷ ‵ (fat fullShare slice64 l₁₃ 0 (sliceVal (l₆, 0) 130))
-        ∷ ‵ (fat fullShare (ref64 16) l₁₄ 0 (vptr l₇ 0)) ∷ ‵ (fat fullShare slice64 l₁₅ 0 (sliceVal (l₇, 0) 16))
+        ∷ ‵ (fat fullShare (ref16 64) l₁₀ 0 (vptr l₅ 0)) ∷ ‵ (fat fullShare (ref64 130) l₁₁ 0 (vptr l₆ 0))
+        ∷ ‵ (fat fullShare (ref64 16) l₁₂ 0 (vptr l₇ 0))
         ∷ ‵ (fdies S′.mir l₀) ∷ ‵ (fdies (tyInt w8) l₁) ∷ ‵ (fdies words l₂) ∷ ‵ (fdies (tyInt w16) l₃) ∷ ‵ (fdies records l₄)
         ∷ ‵ (fdies (tyArray (tyInt w16) 64) l₅) ∷ ‵ (fdies (tyArray (tyInt w64) 130) l₆)
         ∷ ‵ (fdies (tyArray (tyInt w64) 16) l₇) ∷ ‵ (fdies L′.mir l₈) ∷ ‵ (fdies wide l₉) ∷ ‵ (fdies (ref16 64) l₁₀)
-        ∷ ‵ (fdies slice16 l₁₁) ∷ ‵ (fdies (ref64 130) l₁₂) ∷ ‵ (fdies slice64 l₁₃) ∷ ‵ (fdies (ref64 16) l₁₄)
-        ∷ ‵ (fdies slice64 l₁₅) ∷ ‵ (fdies tyBool l₁₆) ∷ ‵ (fdies wide l₁₇) ∷ ‵ (fdies tyPtr l₁₈) ∷ ‵ (fdies (ref16 64) l₁₉)
-        ∷ ‵ (fdies slice16 l₂₀) ∷ ‵ (fdies (ref64 130) l₂₁) ∷ ‵ (fdies slice64 l₂₂) ∷ ‵ (fdies (ref64 16) l₂₃)
-        ∷ ‵ (fdies slice64 l₂₄) ∷ []
+        ∷ ‵ (fdies (ref64 130) l₁₁) ∷ ‵ (fdies (ref64 16) l₁₂) ∷ ‵ (fdies tyBool l₁₃) ∷ ‵ (fdies wide l₁₄) ∷ ‵ (fdies tyPtr l₁₅)
+        ∷ ‵ (fdies (ref16 64) l₁₆) ∷ ‵ (fdies (ref64 130) l₁₇) ∷ ‵ (fdies (ref64 16) l₁₈) ∷ []
 
     -- the list, the arrays, and the table
     abbrev At : Listing → Three → List FlipRecord → List (Item 𝓤)
@@ -483,7 +467,7 @@ module _ {M : Type 1} (𝓤 : URA M) (H : Heap 𝓤) (A : Atoms 𝓤) (W : Given
 
     -- when the loop is left, the rest of the body runs
     abbrev Left : Out → SProp 𝓤
-    Left = afterBlock 𝓤 H (afterSeq 𝓤 H (Wp 𝓤 H C Λ En m.t-13 (atReturn 𝓤 H En Post)) (atReturn 𝓤 H En Post))
+    Left = afterBlock 𝓤 H (afterSeq 𝓤 H (Wp 𝓤 H C Λ En m.t-10 (atReturn 𝓤 H En Post)) (atReturn 𝓤 H En Post))
 
     abbrev put : Listing → List FlipRecord → List FlipRecord
     put l zs = set zs (l .place) (l .record)
@@ -536,14 +520,14 @@ module _ {M : Type 1} (𝓤 : URA M) (H : Heap 𝓤) (A : Atoms 𝓤) (W : Given
           qed W (At l a zs) ∵ exec ! C Λ En m.turn-1 (anyQ (afterTurn 𝓤 H X Left)) $
           assigns ! (of-opd ! (load ! (from ! (fld ! refl (stop !))) (look-in ! 0 (sub ! 0 refl (whole !))))) (from ! (stop !)) (init ! 7
           refl (tt, tt)) $
-          rewrite ! 7 (λ (t : Bool). ‵ (fat fullShare tyBool l₁₆ 0 (vbool t))) on refl $
+          rewrite ! 7 (λ (t : Bool). ‵ (fat fullShare tyBool l₁₃ 0 (vbool t))) on refl $
           stays ! (load ! (from ! (stop !)) (look ! 7 refl)) $
           assigns ! (bin ! (load ! (from ! (fld ! refl (stop !))) (look-in ! 0 (sub ! 1 refl (whole !)))) (lit ! tt) scaled) (from ! (stop
           !))
           (init ! 8 refl (tt, scaled)) $
-          assigns ! (bin ! (load ! (from ! (fld ! refl (stop !))) (look-in ! 16 (sub ! 0 refl (whole !))))
+          assigns ! (bin ! (load ! (from ! (fld ! refl (stop !))) (look-in ! 13 (sub ! 0 refl (whole !))))
           (load ! (from ! (stop !)) (look ! 8 refl)) tt) (from ! (stop !)) (init ! 9 refl (tt, tt)) $
-          rewrite ! 9 (λ (p : ℕ). ‵ (fat fullShare tyPtr l₁₈ 0 (vptr b p))) (sym (place-is 12 o (l .place))) refl $
+          rewrite ! 9 (λ (p : ℕ). ‵ (fat fullShare tyPtr l₁₅ 0 (vptr b p))) (sym (place-is 12 o (l .place))) refl $
           move ! (2 ∷ 3 ∷ 4 ∷ []) $ opens-slice ! tt T.the-row zs b o $
           elem-out ! T.the-row (Is T.the-row) (shows 𝓤 H A T.the-row) (LL.vals T.the-type T′.the-laws) (LL.tells T.the-type T′.the-laws)
           fullShare zs (l .place) (l .record) b o inside (λ _.
@@ -556,22 +540,16 @@ module _ {M : Type 1} (𝓤 : URA M) (H : Heap 𝓤) (A : Atoms 𝓤) (W : Given
           elem-put ! T.the-row fullShare zs (l .place) (l .record) (machT (l .record) ∷ []) b o inside $
           closes-slice ! tt T.the-row zs (put l zs) (length-set zs (l .place) (l .record)) b o $
           assigns ! (addr ! (from ! (stop !))) (from ! (stop !)) (init ! 10 refl (tt, tt)) $
-          assigns ! (agg ! (and-then ! (load ! (from ! (stop !)) (look ! 10 refl)) (and-then ! (lit ! tt) (no-more !)))) (from ! (stop !))
-          (init ! 11 refl (tt, (tt, (record { fits = lit< tt }, tt)))) $
+          assigns ! (addr ! (from ! (stop !))) (from ! (stop !)) (init ! 11 refl (tt, tt)) $
           assigns ! (addr ! (from ! (stop !))) (from ! (stop !)) (init ! 12 refl (tt, tt)) $
-          assigns ! (agg ! (and-then ! (load ! (from ! (stop !)) (look ! 12 refl)) (and-then ! (lit ! tt) (no-more !)))) (from ! (stop !))
-          (init ! 13 refl (tt, (tt, (record { fits = lit< tt }, tt)))) $
-          assigns ! (addr ! (from ! (stop !))) (from ! (stop !)) (init ! 14 refl (tt, tt)) $
-          assigns ! (agg ! (and-then ! (load ! (from ! (stop !)) (look ! 14 refl)) (and-then ! (lit ! tt) (no-more !)))) (from ! (stop !))
-          (init ! 15 refl (tt, (tt, (record { fits = lit< tt }, tt)))) $
           move ! (6 ∷ []) $ use1 W (‵ word-own ⊛ ‵ word-own) (shr-slice-copy 𝓤 H A W (named 0) κw u8 .twice w (wv ∷ [])) $ split ! $
-          move ! (6 ∷ []) $ use1 W (later (some (λ (q : Loan). (tokens l₅ l₆ l₇ q ⊛ slices l₅ l₆ l₇ q a) ⊛ keeps l₅ l₆ l₇ q))) (lends l₅
+          move ! (6 ∷ []) $ use1 W (later (some (λ (q : Loan). (tokens l₅ l₆ l₇ q ⊛ refs l₅ l₆ l₇ q a) ⊛ keeps l₅ l₆ l₇ q))) (lends l₅
           l₆ l₇ a) $ await ! tt $ pick ! (λ q. split ! $
           move ! (8 ∷ 3 ∷ 0 ∷ []) $ use3 W (raw (Next 𝓤 H A mem run .pre (to-next l₅ l₆ l₇ l a q))) (goes-next l₅ l₆ l₇ l a q gl goes) $
           calls-at-last ! (fmOf 𝓤 H (W .laws) 𝓣) (Next 𝓤 H A mem run) known (to-next l₅ l₆ l₇ l a q)
-          (and-then ! (load ! (from ! (stop !)) (look ! 6 refl)) (and-then ! (load ! (from ! (stop !)) (look ! 17 refl))
-          (and-then ! (load ! (from ! (stop !)) (look ! 11 refl)) (and-then ! (load ! (from ! (stop !)) (look ! 13 refl))
-          (and-then ! (load ! (from ! (stop !)) (look ! 15 refl)) (no-more !)))))) (λ v.
+          (and-then ! (load ! (from ! (stop !)) (look ! 6 refl)) (and-then ! (load ! (from ! (stop !)) (look ! 14 refl))
+          (and-then ! (load ! (from ! (stop !)) (look ! 10 refl)) (and-then ! (load ! (from ! (stop !)) (look ! 11 refl))
+          (and-then ! (load ! (from ! (stop !)) (look ! 12 refl)) (no-more !)))))) (λ v.
           use1 W (later (some (λ (g : Got). given (Told l a g) (‵ (flft κw qw) ⊛ (‵ (L.the-row .own (g .0) (v ∷ [])) ⊛ (tokens l₅ l₆ l₇ q
           ⊛ ‵ (fins l₅ l₆ l₇ q (g .1))))))))
           (next-got l₅ l₆ l₇ l a q v) $ await ! tt $ pick ! (λ g. learn ! (λ told. split ! $
@@ -583,11 +561,9 @@ module _ {M : Type 1} (𝓤 : URA M) (H : Heap 𝓤) (A : Atoms 𝓤) (W : Given
           let gr : Is L.the-row (g .0) (mach (g .0) ∷ []) = subst (λ (u : Val). Is L.the-row (g .0) (u ∷ [])) value is in
           land-last ! (from ! (stop !)) (store ! 6 refl (LL.lawful L.the-type L′.the-laws 𝓤 H A W .typed (g .0) _ is .0)) $
           rewrite ! 6 (λ (u : Val). ‵ (fat fullShare L′.mir l₈ 0 u)) value refl $
-          forget ! 7 refl $ forget ! 8 refl $ forget ! 9 refl $ forget ! 10 refl $ forget ! 11 refl $ forget ! 12 refl $ forget ! 13 refl
-          $ forget ! 14 refl $ forget ! 15 refl $
+          forget ! 7 refl $ forget ! 8 refl $ forget ! 9 refl $ forget ! 10 refl $ forget ! 11 refl $ forget ! 12 refl $
           keep ! (6 ∷ 0 ∷ 3 ∷ 4 ∷ 5 ∷ 1 ∷ 2 ∷ 7 ∷ 8 ∷ 9 ∷ 10 ∷ 11 ∷ 12 ∷ 13 ∷ 14 ∷ 15 ∷ 16 ∷ 17 ∷ 18 ∷ 19 ∷ 20 ∷ 21 ∷ 22 ∷ 23 ∷ 24 ∷ 25 ∷
-          26 ∷ 27 ∷ 28 ∷ 29 ∷ 30 ∷ 31 ∷ 32 ∷ 33 ∷ 34 ∷ 35 ∷ 36 ∷ 37 ∷ 38 ∷ 39 ∷ 40 ∷ 41 ∷ 42 ∷ 43 ∷ 44 ∷ 45 ∷ 46 ∷ 47 ∷ 48 ∷ 49 ∷ 50 ∷ 51
-          ∷ 52 ∷ []) $ by ! (k g told gr)))))))
+          26 ∷ 27 ∷ 28 ∷ 29 ∷ 30 ∷ 31 ∷ 32 ∷ 33 ∷ 34 ∷ 35 ∷ 36 ∷ 37 ∷ 38 ∷ 39 ∷ 40 ∷ []) $ by ! (k g told gr)))))))
 
     -- the pass that leaves the loop, and the rest of the body
     ends : (l : Listing) (a : Three) (zs : List FlipRecord) → Good l a zs → l .goes ≡ false → (X : SProp 𝓤)
@@ -598,23 +574,22 @@ module _ {M : Type 1} (𝓤 : URA M) (H : Heap 𝓤) (A : Atoms 𝓤) (W : Given
         qed W (At l a zs) ∵ exec ! C Λ En m.turn-1 (anyQ (afterTurn 𝓤 H X Left)) $
         assigns ! (of-opd ! (load ! (from ! (fld ! refl (stop !))) (look-in ! 0 (sub ! 0 refl (whole !))))) (from ! (stop !)) (init ! 7
         refl (tt, tt)) $
-        rewrite ! 7 (λ (t : Bool). ‵ (fat fullShare tyBool l₁₆ 0 (vbool t))) off refl $
-        leaves-loop ! (load ! (from ! (stop !)) (look ! 7 refl)) $ exec ! C Λ En m.t-13 (atRet En Post) $
+        rewrite ! 7 (λ (t : Bool). ‵ (fat fullShare tyBool l₁₃ 0 (vbool t))) off refl $
+        leaves-loop ! (load ! (from ! (stop !)) (look ! 7 refl)) $ exec ! C Λ En m.t-10 (atRet En Post) $
         assigns ! (of-opd ! (load ! (from ! (fld ! refl (stop !))) (look-in ! 0 (sub ! 3 refl (whole !))))) (from ! (stop !))
-        (init ! 18 refl (LL.lawful S.the-type S′.the-laws 𝓤 H A W .typed (l .answer) _ ga .0)) $
-        returns ! (look ! 18 refl) $
-        forget ! 18 refl $ forget ! 19 refl $ forget ! 17 refl $ forget ! 20 refl $ forget ! 16 refl $ forget ! 0 refl $ forget ! 21 refl
-        $ forget ! 22 refl $ forget ! 23 refl $ forget ! 24 refl $ forget ! 25 refl $ forget ! 26 refl $ forget ! 27 refl $ forget ! 7
-        refl $
+        (init ! 15 refl (LL.lawful S.the-type S′.the-laws 𝓤 H A W .typed (l .answer) _ ga .0)) $
+        returns ! (look ! 15 refl) $
+        forget ! 15 refl $ forget ! 16 refl $ forget ! 14 refl $ forget ! 17 refl $ forget ! 13 refl $ forget ! 0 refl $ forget ! 18 refl
+        $ forget ! 19 refl $ forget ! 20 refl $ forget ! 21 refl $ forget ! 7 refl $
         move ! (1 ∷ []) $ fsplit ! $
         use1 W (‵ (froom (tyArray (tyInt w16) 64) l₅ 0)) (part-room 𝓤 H A W (Array u16 64) (a .0) l₅ 0) $
         move ! (1 ∷ []) $ fsplit ! $
         use1 W (‵ (froom (tyArray (tyInt w64) 130) l₆ 0)) (part-room 𝓤 H A W (Array u64 130) (a .1 .0) l₆ 0) $
         move ! (1 ∷ []) $ use1 W (‵ (froom (tyArray (tyInt w64) 16) l₇ 0)) (part-room 𝓤 H A W (Array u64 16) (a .1 .1) l₇ 0) $
-        move ! (20 ∷ 30 ∷ 21 ∷ 31 ∷ 19 ∷ 32 ∷ 22 ∷ 33 ∷ 18 ∷ 34 ∷ 2 ∷ 35 ∷ 1 ∷ 36 ∷ 0 ∷ 37 ∷ 3 ∷ 38 ∷ 23 ∷ 39 ∷ 24 ∷ 40 ∷ 25 ∷ 41 ∷ 26 ∷
-        42 ∷ 27 ∷ 43 ∷ 28 ∷ 44 ∷ 29 ∷ 45 ∷ 9 ∷ 46 ∷ 10 ∷ 47 ∷ 11 ∷ 48 ∷ 12 ∷ 49 ∷ 13 ∷ 50 ∷ 14 ∷ 51 ∷ 15 ∷ 52 ∷ 16 ∷ 53 ∷ 17 ∷ 54 ∷ []) $
+        move ! (17 ∷ 24 ∷ 18 ∷ 25 ∷ 16 ∷ 26 ∷ 19 ∷ 27 ∷ 15 ∷ 28 ∷ 2 ∷ 29 ∷ 1 ∷ 30 ∷ 0 ∷ 31 ∷ 3 ∷ 32 ∷ 20 ∷ 33 ∷ 21 ∷ 34 ∷ 22 ∷ 35 ∷ 23 ∷
+        36 ∷ 9 ∷ 37 ∷ 10 ∷ 38 ∷ 11 ∷ 39 ∷ 12 ∷ 40 ∷ 13 ∷ 41 ∷ 14 ∷ 42 ∷ []) $
         free1 ! $ free1 ! $ free1 ! $ free1 ! $ free1 ! $ free1 ! $ free1 ! $ free1 ! $ free1 ! $ free1 ! $ free1 ! $ free1 ! $ free1 ! $
-        free1 ! $ free1 ! $ free1 ! $ free1 ! $ free1 ! $ free1 ! $ free1 ! $ free1 ! $ free1 ! $ free1 ! $ free1 ! $ free1 ! $ free0 ! $
+        free1 ! $ free1 ! $ free1 ! $ free1 ! $ free1 ! $ free1 ! $ free0 ! $
         keep ! (0 ∷ 1 ∷ 2 ∷ 3 ∷ []) $ by ! (exits l a zs good off gn)
 
     below : (t : ℕ) (σ : State) → Good (σ .0) (σ .1 .0) (σ .1 .1) → length ys - σ .0 .place < t
@@ -667,7 +642,7 @@ module _ {M : Type 1} (𝓤 : URA M) (H : Heap 𝓤) (A : Atoms 𝓤) (W : Given
   module _ (𝓣 : Tables 𝓤 H) (known-begin : Triple 𝓤 (𝓣 .C #lists·begin) (Begin 𝓤 H A mem run))
       (known-next : Triple 𝓤 (𝓣 .C #lists·next) (Next 𝓤 H A mem run))
       (gc : cd < 2 ^ 8) (gw : Room u8 (length (now w))) (gl : lim < 2 ^ 16) (gn : Room T.the-row (length ys)) where
-    module _ (l₀ l₁ l₂ l₃ l₄ l₅ l₆ l₇ l₈ l₉ l₁₀ l₁₁ l₁₂ l₁₃ l₁₄ l₁₅ l₁₆ l₁₇ l₁₈ l₁₉ l₂₀ l₂₁ l₂₂ l₂₃ l₂₄ : ℕ) where
+    module _ (l₀ l₁ l₂ l₃ l₄ l₅ l₆ l₇ l₈ l₉ l₁₀ l₁₁ l₁₂ l₁₃ l₁₄ l₁₅ l₁₆ l₁₇ l₁₈ : ℕ) where
       abbrev Ev : Env 𝓤 H
       Ev = (S′.mir, l₀) ∷
           (tyInt w8, l₁) ∷
@@ -680,34 +655,24 @@ module _ {M : Type 1} (𝓤 : URA M) (H : Heap 𝓤) (A : Atoms 𝓤) (W : Given
           (L′.mir, l₈) ∷
           (wide, l₉) ∷
           (ref16 64, l₁₀) ∷
-          (slice16, l₁₁) ∷
-          (ref64 130, l₁₂) ∷
-          (slice64, l₁₃) ∷
-          (ref64 16, l₁₄) ∷
-          (slice64, l₁₅) ∷
-          (tyBool, l₁₆) ∷
-          (wide, l₁₇) ∷
-          (tyPtr, l₁₈) ∷
-          (ref16 64, l₁₉) ∷
-          (slice16, l₂₀) ∷
-          (ref64 130, l₂₁) ∷
-          (slice64, l₂₂) ∷
-          (ref64 16, l₂₃) ∷
-          (slice64, l₂₄) ∷ []
+          (ref64 130, l₁₁) ∷
+          (ref64 16, l₁₂) ∷
+          (tyBool, l₁₃) ∷
+          (wide, l₁₄) ∷
+          (tyPtr, l₁₅) ∷
+          (ref16 64, l₁₆) ∷
+          (ref64 130, l₁₇) ∷
+          (ref64 16, l₁₈) ∷ []
 
       -- what `begin` gives lands, and the loop runs
       landed : (q : Loan) (v : Val) → Sq W (raw (Begin 𝓤 H A mem run .post (to-begin l₅ l₆ l₇ q) v)
           ∷ keeps l₅ l₆ l₇ q ∷ ‵ word-own ∷ ‵ (flft κt qt) ∷ ‵ ftrue
           ∷ ‵ (fobs γ (codedHoleys T.the-row .code (heres T.the-row ys))) ∷ ‵ (fbor κt (Held T.the-row (length ys) b o γ))
-          ∷ ‵ ftrue ∷ ‵ (froom slice64 l₂₄ 0) ∷ ‵ (fdies slice64 l₂₄) ∷ ‵ (froom (ref64 16) l₂₃ 0) ∷ ‵ (fdies (ref64 16) l₂₃)
-          ∷ ‵ (froom slice64 l₂₂ 0) ∷ ‵ (fdies slice64 l₂₂) ∷ ‵ (froom (ref64 130) l₂₁ 0) ∷ ‵ (fdies (ref64 130) l₂₁)
-          ∷ ‵ (froom slice16 l₂₀ 0) ∷ ‵ (fdies slice16 l₂₀) ∷ ‵ (froom (ref16 64) l₁₉ 0) ∷ ‵ (fdies (ref16 64) l₁₉)
-          ∷ ‵ (froom tyPtr l₁₈ 0) ∷ ‵ (fdies tyPtr l₁₈) ∷ ‵ (froom wide l₁₇ 0) ∷ ‵ (fdies wide l₁₇) ∷ ‵ (froom tyBool l₁₆ 0)
-          ∷ ‵ (fdies tyBool l₁₆) ∷ ‵ (fat fullShare slice64 l₁₅ 0 (sliceVal (l₇, 0) 16)) ∷ ‵ (fdies slice64 l₁₅)
-          ∷ ‵ (fat fullShare (ref64 16) l₁₄ 0 (vptr l₇ 0)) ∷ ‵ (fdies (ref64 16) l₁₄)
-          ∷ ‵ (fat fullShare slice64 l₁₃ 0 (sliceVal (l₆, 0) 130)) ∷ ‵ (fdies slice64 l₁₃)
-          ∷ ‵ (fat fullShare (ref64 130) l₁₂ 0 (vptr l₆ 0)) ∷ ‵ (fdies (ref64 130) l₁₂)
-          ∷ ‵ (fat fullShare slice16 l₁₁ 0 (sliceVal (l₅, 0) 64)) ∷ ‵ (fdies slice16 l₁₁)
+          ∷ ‵ ftrue ∷ ‵ (froom (ref64 16) l₁₈ 0) ∷ ‵ (fdies (ref64 16) l₁₈) ∷ ‵ (froom (ref64 130) l₁₇ 0) ∷ ‵ (fdies (ref64 130) l₁₇)
+          ∷ ‵ (froom (ref16 64) l₁₆ 0) ∷ ‵ (fdies (ref16 64) l₁₆) ∷ ‵ (froom tyPtr l₁₅ 0) ∷ ‵ (fdies tyPtr l₁₅)
+          ∷ ‵ (froom wide l₁₄ 0) ∷ ‵ (fdies wide l₁₄) ∷ ‵ (froom tyBool l₁₃ 0) ∷ ‵ (fdies tyBool l₁₃)
+          ∷ ‵ (fat fullShare (ref64 16) l₁₂ 0 (vptr l₇ 0)) ∷ ‵ (fdies (ref64 16) l₁₂)
+          ∷ ‵ (fat fullShare (ref64 130) l₁₁ 0 (vptr l₆ 0)) ∷ ‵ (fdies (ref64 130) l₁₁)
           ∷ ‵ (fat fullShare (ref16 64) l₁₀ 0 (vptr l₅ 0)) ∷ ‵ (fdies (ref16 64) l₁₀)
           ∷ ‵ (fat fullShare wide l₉ 0 (vint w64 (length ys))) ∷ ‵ (fdies wide l₉) ∷ ‵ (froom L′.mir l₈ 0) ∷ ‵ (fdies L′.mir l₈)
           ∷ ‵ (fdies (tyArray (tyInt w64) 16) l₇) ∷ ‵ (fdies (tyArray (tyInt w64) 130) l₆)
@@ -715,7 +680,7 @@ module _ {M : Type 1} (𝓤 : URA M) (H : Heap 𝓤) (A : Atoms 𝓤) (W : Given
           ∷ ‵ (fdies records l₄) ∷ ‵ (fat fullShare (tyInt w16) l₃ 0 (vint w16 lim)) ∷ ‵ (fdies (tyInt w16) l₃)
           ∷ ‵ (fat fullShare words l₂ 0 wv) ∷ ‵ (fdies words l₂) ∷ ‵ (fat fullShare (tyInt w8) l₁ 0 (vint w8 cd))
           ∷ ‵ (fdies (tyInt w8) l₁) ∷ ‵ (froom S′.mir l₀ 0) ∷ ‵ (fdies S′.mir l₀) ∷ [])
-          (lands (𝓣 .C) (𝓣 .Λ) Ev (place 8 []) v m.t-12 (atRet Ev Post))
+          (lands (𝓣 .C) (𝓣 .Λ) Ev (place 8 []) v m.t-9 (atRet Ev Post))
       landed q v =
           use1 W (later (some (λ (g : Got). given (Began g) (‵ (flft κw qw) ⊛ (‵ (L.the-row .own (g .0) (v ∷ [])) ⊛ (tokens l₅ l₆ l₇ q ⊛ ‵
           (fins l₅ l₆ l₇ q (g .1))))))))
@@ -726,23 +691,19 @@ module _ {M : Type 1} (𝓤 : URA M) (H : Heap 𝓤) (A : Atoms 𝓤) (W : Given
           move ! (1 ∷ []) $ facts ! L.the-row (Is L.the-row) (shows 𝓤 H A L.the-row) (g .0) (v ∷ []) (λ is.
           let value : v ≡ mach (g .0) = ap only (LL.tells L.the-type L′.the-laws (g .0) (v ∷ []) is) in
           let gr : Is L.the-row (g .0) (mach (g .0) ∷ []) = subst (λ (u : Val). Is L.the-row (g .0) (u ∷ [])) value is in
-          land ! (from ! (stop !)) (init ! 40 refl (LL.lawful L.the-type L′.the-laws 𝓤 H A W .typed (g .0) _ is .0)) $
-          rewrite ! 40 (λ (u : Val). ‵ (fat fullShare L′.mir l₈ 0 u)) value refl $
-          keep ! (40 ∷ 0 ∷ 5 ∷ 6 ∷ 3 ∷ 1 ∷ 2 ∷ 24 ∷ 22 ∷ 20 ∷ 18 ∷ 16 ∷ 14 ∷ 12 ∷ 10 ∷ 8 ∷ 45 ∷ 49 ∷ 53 ∷ 51 ∷ 47 ∷ 38 ∷ 36 ∷ 34 ∷ 32 ∷ 30
-          ∷ 28 ∷ 26 ∷ 54 ∷ 52 ∷ 50 ∷ 48 ∷ 46 ∷ 44 ∷ 43 ∷ 42 ∷ 41 ∷ 39 ∷ 37 ∷ 35 ∷ 33 ∷ 31 ∷ 29 ∷ 27 ∷ 25 ∷ 23 ∷ 21 ∷ 19 ∷ 17 ∷ 15 ∷ 13 ∷
-          11 ∷ 9 ∷ []) $ by ! (loops gn 𝓣 known-next l₀ l₁ l₂ l₃ l₄ l₅ l₆ l₇ l₈ l₉ l₁₀ l₁₁ l₁₂ l₁₃ l₁₄ l₁₅ l₁₆ l₁₇ l₁₈ l₁₉ l₂₀ l₂₁ l₂₂ l₂₃
-          l₂₄ g told gr))))
+          land ! (from ! (stop !)) (init ! 28 refl (LL.lawful L.the-type L′.the-laws 𝓤 H A W .typed (g .0) _ is .0)) $
+          rewrite ! 28 (λ (u : Val). ‵ (fat fullShare L′.mir l₈ 0 u)) value refl $
+          keep ! (28 ∷ 0 ∷ 5 ∷ 6 ∷ 3 ∷ 1 ∷ 2 ∷ 18 ∷ 16 ∷ 14 ∷ 12 ∷ 10 ∷ 8 ∷ 33 ∷ 37 ∷ 41 ∷ 39 ∷ 35 ∷ 26 ∷ 24 ∷ 22 ∷ 20 ∷ 42 ∷ 40 ∷ 38 ∷ 36 ∷
+          34 ∷ 32 ∷ 31 ∷ 30 ∷ 29 ∷ 27 ∷ 25 ∷ 23 ∷ 21 ∷ 19 ∷ 17 ∷ 15 ∷ 13 ∷ 11 ∷ 9 ∷ []) $
+          by ! (loops gn 𝓣 known-next l₀ l₁ l₂ l₃ l₄ l₅ l₆ l₇ l₈ l₉ l₁₀ l₁₁ l₁₂ l₁₃ l₁₄ l₁₅ l₁₆ l₁₇ l₁₈ g told gr))))
 
       -- the arrays are there: they are lent to `begin`
       begins : Sq W (‵ (partAt (Array u64 16) fullShare (replicate 16 0) l₇ 0) ∷ ‵ (partAt (Array u64 130) fullShare (replicate 130 0) l₆ 0)
-          ∷ ‵ (partAt (Array u16 64) fullShare (replicate 64 0) l₅ 0) ∷ ‵ (froom slice64 l₂₄ 0) ∷ ‵ (fdies slice64 l₂₄)
-          ∷ ‵ (froom (ref64 16) l₂₃ 0) ∷ ‵ (fdies (ref64 16) l₂₃) ∷ ‵ (froom slice64 l₂₂ 0) ∷ ‵ (fdies slice64 l₂₂)
-          ∷ ‵ (froom (ref64 130) l₂₁ 0) ∷ ‵ (fdies (ref64 130) l₂₁) ∷ ‵ (froom slice16 l₂₀ 0) ∷ ‵ (fdies slice16 l₂₀)
-          ∷ ‵ (froom (ref16 64) l₁₉ 0) ∷ ‵ (fdies (ref16 64) l₁₉) ∷ ‵ (froom tyPtr l₁₈ 0) ∷ ‵ (fdies tyPtr l₁₈)
-          ∷ ‵ (froom wide l₁₇ 0) ∷ ‵ (fdies wide l₁₇) ∷ ‵ (froom tyBool l₁₆ 0) ∷ ‵ (fdies tyBool l₁₆) ∷ ‵ (froom slice64 l₁₅ 0)
-          ∷ ‵ (fdies slice64 l₁₅) ∷ ‵ (froom (ref64 16) l₁₄ 0) ∷ ‵ (fdies (ref64 16) l₁₄) ∷ ‵ (froom slice64 l₁₃ 0)
-          ∷ ‵ (fdies slice64 l₁₃) ∷ ‵ (froom (ref64 130) l₁₂ 0) ∷ ‵ (fdies (ref64 130) l₁₂) ∷ ‵ (froom slice16 l₁₁ 0)
-          ∷ ‵ (fdies slice16 l₁₁) ∷ ‵ (froom (ref16 64) l₁₀ 0) ∷ ‵ (fdies (ref16 64) l₁₀) ∷ ‵ (froom wide l₉ 0)
+          ∷ ‵ (partAt (Array u16 64) fullShare (replicate 64 0) l₅ 0) ∷ ‵ (froom (ref64 16) l₁₈ 0) ∷ ‵ (fdies (ref64 16) l₁₈)
+          ∷ ‵ (froom (ref64 130) l₁₇ 0) ∷ ‵ (fdies (ref64 130) l₁₇) ∷ ‵ (froom (ref16 64) l₁₆ 0) ∷ ‵ (fdies (ref16 64) l₁₆)
+          ∷ ‵ (froom tyPtr l₁₅ 0) ∷ ‵ (fdies tyPtr l₁₅) ∷ ‵ (froom wide l₁₄ 0) ∷ ‵ (fdies wide l₁₄) ∷ ‵ (froom tyBool l₁₃ 0)
+          ∷ ‵ (fdies tyBool l₁₃) ∷ ‵ (froom (ref64 16) l₁₂ 0) ∷ ‵ (fdies (ref64 16) l₁₂) ∷ ‵ (froom (ref64 130) l₁₁ 0)
+          ∷ ‵ (fdies (ref64 130) l₁₁) ∷ ‵ (froom (ref16 64) l₁₀ 0) ∷ ‵ (fdies (ref16 64) l₁₀) ∷ ‵ (froom wide l₉ 0)
           ∷ ‵ (fdies wide l₉) ∷ ‵ (froom L′.mir l₈ 0) ∷ ‵ (fdies L′.mir l₈) ∷ ‵ (fdies (tyArray (tyInt w64) 16) l₇)
           ∷ ‵ (fdies (tyArray (tyInt w64) 130) l₆) ∷ ‵ (fdies (tyArray (tyInt w16) 64) l₅)
           ∷ ‵ (fat fullShare records l₄ 0 (sliceVal (b, o) (length ys))) ∷ ‵ (fdies records l₄)
@@ -752,32 +713,26 @@ module _ {M : Type 1} (𝓤 : URA M) (H : Heap 𝓤) (A : Atoms 𝓤) (W : Given
           ∷ ‵ (owns (u8 ∷ ShrSlice (named 0) κw u8 ∷ u16 ∷ MutSlice (named 1) κt T.the-row ∷ []) x at) ∷ [])
           (runs (𝓣 .C) (𝓣 .Λ) Ev m.t-4 (atRet Ev Post))
       begins =
-          assigns ! (of-opd ! (load ! (from ! (fld ! refl (stop !))) (look-in ! 40 (sub ! 1 refl (whole !))))) (from ! (stop !))
-          (init ! 33 refl (tt, record { fits = gn .0 })) $
-          assigns ! (addr ! (from ! (stop !))) (from ! (stop !)) (init ! 31 refl (tt, tt)) $
-          assigns ! (agg ! (and-then ! (load ! (from ! (stop !)) (look ! 31 refl)) (and-then ! (lit ! tt) (no-more !)))) (from ! (stop !))
-          (init ! 29 refl (tt, (tt, (record { fits = lit< tt }, tt)))) $
-          assigns ! (addr ! (from ! (stop !))) (from ! (stop !)) (init ! 27 refl (tt, tt)) $
-          assigns ! (agg ! (and-then ! (load ! (from ! (stop !)) (look ! 27 refl)) (and-then ! (lit ! tt) (no-more !)))) (from ! (stop !))
-          (init ! 25 refl (tt, (tt, (record { fits = lit< tt }, tt)))) $
-          assigns ! (addr ! (from ! (stop !))) (from ! (stop !)) (init ! 23 refl (tt, tt)) $
-          assigns ! (agg ! (and-then ! (load ! (from ! (stop !)) (look ! 23 refl)) (and-then ! (lit ! tt) (no-more !)))) (from ! (stop !))
-          (init ! 21 refl (tt, (tt, (record { fits = lit< tt }, tt)))) $
+          assigns ! (of-opd ! (load ! (from ! (fld ! refl (stop !))) (look-in ! 28 (sub ! 1 refl (whole !))))) (from ! (stop !))
+          (init ! 21 refl (tt, record { fits = gn .0 })) $
+          assigns ! (addr ! (from ! (stop !))) (from ! (stop !)) (init ! 19 refl (tt, tt)) $
+          assigns ! (addr ! (from ! (stop !))) (from ! (stop !)) (init ! 17 refl (tt, tt)) $
+          assigns ! (addr ! (from ! (stop !))) (from ! (stop !)) (init ! 15 refl (tt, tt)) $
           move ! (1 ∷ 0 ∷ []) $ fjoin ! $
           move ! (1 ∷ 0 ∷ []) $ fjoin ! $
-          move ! (49 ∷ []) $ fsplit ! $ drop ! $ fsplit ! $
+          move ! (37 ∷ []) $ fsplit ! $ drop ! $ fsplit ! $
           move ! (1 ∷ []) $ fsplit ! $ drop ! $ fsplit ! $ fsplit ! $ drop ! $ fsplit ! $
-          move ! (52 ∷ []) $ split ! $
+          move ! (40 ∷ []) $ split ! $
           move ! (1 ∷ []) $ split ! $
           move ! (6 ∷ []) $ use1 W (‵ word-own ⊛ ‵ word-own) (shr-slice-copy 𝓤 H A W (named 0) κw u8 .twice w (wv ∷ [])) $ split ! $
-          move ! (8 ∷ []) $ use1 W (later (some (λ (q : Loan). (tokens l₅ l₆ l₇ q ⊛ slices l₅ l₆ l₇ q zeros) ⊛ keeps l₅ l₆ l₇ q))) (lends
+          move ! (8 ∷ []) $ use1 W (later (some (λ (q : Loan). (tokens l₅ l₆ l₇ q ⊛ refs l₅ l₆ l₇ q zeros) ⊛ keeps l₅ l₆ l₇ q))) (lends
           l₅ l₆ l₇ zeros) $ await ! tt $ pick ! (λ q. split ! $
           move ! (6 ∷ 3 ∷ 0 ∷ []) $ use3 W (raw (Begin 𝓤 H A mem run .pre (to-begin l₅ l₆ l₇ q))) (goes-begin l₅ l₆ l₇ gc gl (gn .0) q) $
           calls-at ! (fmOf 𝓤 H (W .laws) 𝓣) (Begin 𝓤 H A mem run) known-begin (to-begin l₅ l₆ l₇ q)
-          (and-then ! (load ! (from ! (stop !)) (look ! 51 refl)) (and-then ! (load ! (from ! (stop !)) (look ! 49 refl)) (and-then !
-          (load ! (from ! (stop !)) (look ! 47 refl)) (and-then ! (load ! (from ! (stop !)) (look ! 38 refl)) (and-then ! (load ! (from !
-          (stop !)) (look ! 34 refl)) (and-then ! (load ! (from ! (stop !)) (look ! 30 refl)) (and-then ! (load ! (from ! (stop !)) (look
-          ! 26 refl)) (no-more !)))))))) (λ v. landed q v))
+          (and-then ! (load ! (from ! (stop !)) (look ! 39 refl)) (and-then ! (load ! (from ! (stop !)) (look ! 37 refl)) (and-then !
+          (load ! (from ! (stop !)) (look ! 35 refl)) (and-then ! (load ! (from ! (stop !)) (look ! 26 refl)) (and-then ! (load ! (from !
+          (stop !)) (look ! 24 refl)) (and-then ! (load ! (from ! (stop !)) (look ! 22 refl)) (and-then ! (load ! (from ! (stop !)) (look
+          ! 20 refl)) (no-more !)))))))) (λ v. landed q v))
 
     walk : ent 𝓤 (onEntry 𝓤 H A list′.signature (κw, (κt, tt)) (qw, (qt, tt)) x at)
         (WpFn 𝓤 H (𝓣 .C) (𝓣 .Λ) code.function (vint w8 cd ∷ wv ∷ vint w16 lim ∷ sliceVal (b, o) (length ys) ∷ []) Post)
@@ -787,20 +742,19 @@ module _ {M : Type 1} (𝓤 : URA M) (H : Heap 𝓤) (A : Atoms 𝓤) (W : Given
         enter ! (𝓣 .C) (𝓣 .Λ) code.function (vint w8 cd ∷ wv ∷ vint w16 lim ∷ sliceVal (b, o) (length ys) ∷ []) _ $
         alloc1 ! (λ l₀. alloc1 ! (λ l₁. alloc1 ! (λ l₂. alloc1 ! (λ l₃. alloc1 ! (λ l₄. alloc1 ! (λ l₅. alloc1 ! (λ l₆. alloc1 ! (λ l₇.
         alloc1 ! (λ l₈. alloc1 ! (λ l₉. alloc1 ! (λ l₁₀. alloc1 ! (λ l₁₁. alloc1 ! (λ l₁₂. alloc1 ! (λ l₁₃. alloc1 ! (λ l₁₄. alloc1 ! (λ
-        l₁₅. alloc1 ! (λ l₁₆. alloc1 ! (λ l₁₇. alloc1 ! (λ l₁₈. alloc1 ! (λ l₁₉. alloc1 ! (λ l₂₀. alloc1 ! (λ l₂₁. alloc1 ! (λ l₂₂. alloc1
-        ! (λ l₂₃. alloc1 ! (λ l₂₄. alloc0 ! $ params1 ! $
-        pass1 ! (init ! 46 refl (tt, record { fits = gc })) $ pass1 ! (init ! 44 refl (tt, (tt, (record { fits = gw .0 }, tt)))) $
-        pass1 ! (init ! 42 refl (tt, record { fits = gl })) $ pass1 ! (init ! 40 refl (tt, (tt, (record { fits = gn .0 }, tt)))) $ pass0 ! $
-        move ! (38 ∷ []) $
+        l₁₅. alloc1 ! (λ l₁₆. alloc1 ! (λ l₁₇. alloc1 ! (λ l₁₈. alloc0 ! $ params1 ! $
+        pass1 ! (init ! 34 refl (tt, record { fits = gc })) $ pass1 ! (init ! 32 refl (tt, (tt, (record { fits = gw .0 }, tt)))) $
+        pass1 ! (init ! 30 refl (tt, record { fits = gl })) $ pass1 ! (init ! 28 refl (tt, (tt, (record { fits = gn .0 }, tt)))) $ pass0 ! $
+        move ! (26 ∷ []) $
         fills 𝓤 H A W u16 (uint-lawful 𝓤 H A W w16) (uint-copy 𝓤 H A W w16) (uint-makes 𝓤 H A W w16) 0 (vint w16 0) (refl, lit< tt) 64 l₅
         (lit ! tt) (from ! (stop !)) (
-        move ! (37 ∷ []) $
+        move ! (25 ∷ []) $
         fills 𝓤 H A W u64 (uint-lawful 𝓤 H A W w64) (uint-copy 𝓤 H A W w64) (uint-makes 𝓤 H A W w64) 0 (vint w64 0) (refl, lit< tt) 130 l₆
         (lit ! tt) (from ! (stop !)) (
-        move ! (36 ∷ []) $
+        move ! (24 ∷ []) $
         fills 𝓤 H A W u64 (uint-lawful 𝓤 H A W w64) (uint-copy 𝓤 H A W w64) (uint-makes 𝓤 H A W w64) 0 (vint w64 0) (refl, lit< tt) 16 l₇
         (lit ! tt) (from ! (stop !)) (
-        begins l₀ l₁ l₂ l₃ l₄ l₅ l₆ l₇ l₈ l₉ l₁₀ l₁₁ l₁₂ l₁₃ l₁₄ l₁₅ l₁₆ l₁₇ l₁₈ l₁₉ l₂₀ l₂₁ l₂₂ l₂₃ l₂₄))))))))))))))))))))))))))))
+        begins l₀ l₁ l₂ l₃ l₄ l₅ l₆ l₇ l₈ l₉ l₁₀ l₁₁ l₁₂ l₁₃ l₁₄ l₁₅ l₁₆ l₁₇ l₁₈))))))))))))))))))))))
 
 module _ {M : Type 1} (𝓤 : URA M) (H : Heap 𝓤) (A : Atoms 𝓤) (W : Given 𝓤 H A) (mem : Memory → SProp 𝓤) (run : Routine → Fun 𝓤)
     (𝓣 : Tables 𝓤 H)

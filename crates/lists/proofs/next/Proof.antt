@@ -5,7 +5,7 @@ use Rattle.lists.proofs.next.Tie as tie
 
 add-pass : tie.Need-add-pass
 add-pass c =
-    let a = c .before .before .before .before .before in
+    let a = c .before .before in
     let st = a .pre .lists .goes (a .pre .on) in
     let under = st .measures .under in
     let within = st .going .within in
@@ -13,26 +13,20 @@ add-pass c =
 
 pass-requires : tie.Need-pass-requires
 pass-requires c κs =
-    let k = c .before .before .before .before .before .before .before .before .pre in
+    let k = c .before .before .before .before .before .pre in
     record { number = k .number; limit = k .limit; room = k .room; stands = k .lists .goes (k .on) }
-
-same-length : tie.Need-same-length
-same-length c = search needs
-
-same-length-2 : tie.Need-same-length-2
-same-length-2 c = search needs
-
-same-length-3 : tie.Need-same-length-3
-same-length-3 c = search needs
 
 returns : tie.Need-returns
 returns c =
     let s : tie.Start = search in
-    let t = c .before .before .before .before .before .before .pass in (
+    let t = c .pass in (
       t .ensures .0,
       λ n limit room is. t .ensures .1 n limit room (is .goes (s .pre .on)),
     )
 
 pub next-spec : {M : Type 1} → statement M
 next-spec =
-    tie.close (tie.spec add-pass pass-requires same-length same-length-2 same-length-3 returns)
+    tie.close (tie.spec
+    add-pass
+    pass-requires
+    returns)

@@ -50,4 +50,10 @@ returns-3 c =
 pub serves-spec : {M : Type 1} → statement M
 serves-spec =
     tie.close
-    (tie.spec returns most-flips-requires cast-if2 returns-2 count-flips-requires returns-3)
+    (tie.spec
+    returns
+    most-flips-requires
+    cast-if2
+    returns-2
+    count-flips-requires
+    returns-3)

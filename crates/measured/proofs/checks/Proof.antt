@@ -9,23 +9,20 @@ lend-requires c κs = search needs
 
 syndrome-requires : tie.Need-syndrome-requires
 syndrome-requires c κs =
-    let l = c .before .before .before .before in
-    let a = l .before .before .before .before .before in
+    let l = c .before .before in
+    let a = l .before .before in
     let k = a .pre .0 in
-    (l .lend .ensures (k .number) (k .offers) (k .is) .1 .fit, search needs, search needs, a .pre .4)
-
-same-length : tie.Need-same-length
-same-length c = search needs
-
-same-length-2 : tie.Need-same-length-2
-same-length-2 c = search needs
+    (l .lend .ensures (k .number) (k .offers) (k .is) .1 .fit, a .pre .1)
 
 returns : tie.Need-returns
 returns c n off e =
-    let s = c .before .before in
-    let lent = s .before .before .before .before .before .lend .ensures n off e in
+    let s = c in
+    let lent = s .before .before .before .lend .ensures n off e in
     (lent .0, lent .1, s .syndrome .ensures (code n) (lent .1 .lent))
 
 pub checks-spec : {M : Type 1} → statement M
 checks-spec =
-    tie.close (tie.spec lend-requires syndrome-requires same-length same-length-2 returns)
+    tie.close (tie.spec
+    lend-requires
+    syndrome-requires
+    returns)

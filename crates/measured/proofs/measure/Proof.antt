@@ -8,32 +8,20 @@ use Rattle.measured.proofs.measure.Tie as tie
 
 measure-by-requires : tie.Need-measure-by-requires
 measure-by-requires c κs =
-    let a = c .before .before .before .before .before .before .before .before in
+    let a = c .before .before .before .before .before in
     let k = a .pre .0 in
     let f = small k in (
       record { number = k .number; offers = k .offers; is = ap (λ z. z .shape .size) (k .is) },
       f .unsent,
       omega (arith, f .word, a .pre .1),
-      search needs,
-      search needs,
-      search needs,
-      a .pre .5,
-      a .pre .6,
+      a .pre .2,
+      a .pre .3,
     )
-
-same-length : tie.Need-same-length
-same-length c = search needs
-
-same-length-2 : tie.Need-same-length-2
-same-length-2 c = search needs
-
-same-length-3 : tie.Need-same-length-3
-same-length-3 c = search needs
 
 returns : tie.Need-returns
 returns c =
     let s : tie.Start = search in
-    let made = c .before .before .before .before .before .before .measure-by in
+    let made = c .measure-by in
     let k = s .pre .0 in (
       made .ensures (k .number) (k .offers) (ap (λ z. z .unsent) (k .is)) (ap (λ z. z .shape .size) (k .is)) .0
           ∙ sym (ap (λ z. z .shape) (k .is)),
@@ -41,4 +29,6 @@ returns c =
     )
 
 pub measure-spec : {M : Type 1} → statement M
-measure-spec = tie.close (tie.spec measure-by-requires same-length same-length-2 same-length-3 returns)
+measure-spec = tie.close (tie.spec
+    measure-by-requires
+    returns)

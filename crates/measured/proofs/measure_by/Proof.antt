@@ -12,19 +12,10 @@ take-requires c κs = search needs
 checks-requires : tie.Need-checks-requires
 checks-requires c κs = search needs
 
-same-length : tie.Need-same-length
-same-length c = search needs
-
-same-length-2 : tie.Need-same-length-2
-same-length-2 c = search needs
-
-same-length-3 : tie.Need-same-length-3
-same-length-3 c = search needs
-
 returns : tie.Need-returns
 returns c n off u e =
-    let s = c .before .before .before .before in
-    let k = s .before .before .before .before .before .before in
+    let s = c in
+    let k = s .before .before .before .before in
     let made = s .checks .ensures n off e in
     (made .0, record { lends = made .1; bits = k .take .ensures (code n) (u ∙ fixed n off .unsent); held = made .2 })
 
@@ -34,7 +25,4 @@ measure-by-spec =
     (tie.spec
     take-requires
     checks-requires
-    same-length
-    same-length-2
-    same-length-3
     returns)

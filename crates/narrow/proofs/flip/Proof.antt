@@ -1,183 +1,74 @@
--- `narrow::flip`: after r passes the checks of the first r rows are flipped. Assumes nothing.
-use mathlib.Core.Path.{_≡_, refl, sym, _∙_, subst}
-use Prim.Native.Nat.{ℕ, _+_, _-_, _/_, _%_, _≤_, _<_}
+-- `narrow::flip` meets its contract: the bit is flipped, and in each row the checks that cover it. Assumes nothing.
+use mathlib.Core.Path.{_≡_, subst}
+use Prim.Native.Nat.{_/_, _%_}
 use native.Mathlib.Nat.{mod-lt, div-add-mod', div-lt-iff-lt-mul}
 use native.Mathlib.Omega.{arith}
 use borrow.Author.Needs.{needs}
 use lib.Dec.{eqb}
-use lib.ListN.{length, getD, length-set}
-use lib.Seq.{getD-set-other}
-use Rattle.bits.specs.Bits.{Word, _⊕_, over, flipped}
-use Rattle.vectors.specs.Vectors.{Holds}
-use Rattle.layout.specs.Lent.{shiftsOf}
+use lib.ListN.{getD}
+use Rattle.bits.specs.Bits.{flipped}
 use Rattle.narrow.specs.Weighing.{Rows}
-use Rattle.narrow.proofs.Blocks.{set-rows, first-of-row, row-flipped, place-room}
+use Rattle.narrow.proofs.Blocks.{first-of-row, row-flipped}
 use Rattle.narrow.proofs.flip.Statement.{statement}
 use Rattle.narrow.proofs.flip.Tie as tie
 
-abbrev Inv-loop : tie.InvT-loop
-Inv-loop y rows₀ h sh bit each b k r₀ rows r =
-    (r ≤ 4) × (length rows ≡ 4) × ((q : ℕ) → r ≤ q → getD rows q 0 ≡ getD rows₀ q 0)
-    × ((q : ℕ) → q < r → (f : Word) → Holds (getD rows₀ q 0) f
-    → Holds (getD rows q 0) (λ i. f i ⊕ over (shiftsOf sh h q b) (λ s. eqb (i % sh .size) ((k + (sh .size - s)) % sh .size))))
-
-abbrev μ-loop : tie.MeasureT-loop
-μ-loop y rows₀ h sh bit each b k r₀ rows r = 4 - r
-
-flip-bit-requires : tie.Need-flip-bit-requires Inv-loop μ-loop
+flip-bit-requires : tie.Need-flip-bit-requires
 flip-bit-requires c κs =
-    let s = c .before .before .before .before in
-    omega (arith, s .pre .0 .bits, s .pre .2, s .pre .4)
+    let s : tie.Start = search in
+    omega (arith, s .pre .0 .bits, s .pre .2, c .flip-bit-arg .given)
 
-repeated-requires : tie.Need-repeated-requires Inv-loop μ-loop
+repeated-requires : tie.Need-repeated-requires
 repeated-requires c κs =
-    let s = c .before .before .before .before .before .before .before in
+    let s : tie.Start = search in
     (s .pre .0 .some, omega (arith, s .pre .0 .held, s .pre .1))
 
-div-b : tie.Need-div-b Inv-loop μ-loop
-div-b c =
-    let s : tie.Start Inv-loop μ-loop = search in
+div-flip-rows : tie.Need-div-flip-rows
+div-flip-rows c =
+    let s : tie.Start = search in
     omega (arith, s .pre .0 .some)
 
-rem-k : tie.Need-rem-k Inv-loop μ-loop
-rem-k c =
-    let s : tie.Start Inv-loop μ-loop = search in
+rem-flip-rows : tie.Need-rem-flip-rows
+rem-flip-rows c =
+    let s : tie.Start = search in
     omega (arith, s .pre .0 .some)
 
-loop-holds : tie.Need-loop-holds Inv-loop μ-loop
-loop-holds c =
-    let s : tie.Start Inv-loop μ-loop = search in (
-      omega arith,
-      s .pre .3,
-      λ q l. refl,
-      λ q
-          l. absurd (omega arith),
-    )
-
-mul-flip-row : tie.Need-mul-flip-row Inv-loop μ-loop
-mul-flip-row c = omega arith
-
-slice-read-flip-row : tie.Need-slice-read-flip-row Inv-loop μ-loop
-slice-read-flip-row c = omega (arith, c .before .before .loop .inv .1)
-
-mul-flip-row-2 : tie.Need-mul-flip-row-2 Inv-loop μ-loop
-mul-flip-row-2 c =
-    let s : tie.Start Inv-loop μ-loop = search in
-    let a = s .args in
-    let inside = div-lt-iff-lt-mul (s .pre .0 .some) .1 (s .pre .4) in
-    let room = place-room (a .h .now) (a .sh) (s .pre .0) (s .pre .0 .narrow (s .pre .1) .0) (c .before .before .before .loop .r) _
-    (omega arith) inside in
-    omega (arith, room .0, room .1)
-
-add-flip-row : tie.Need-add-flip-row Inv-loop μ-loop
-add-flip-row c =
-    let s : tie.Start Inv-loop μ-loop = search in
-    let a = s .args in
-    let inside = div-lt-iff-lt-mul (s .pre .0 .some) .1 (s .pre .4) in
-    let room = place-room (a .h .now) (a .sh) (s .pre .0) (s .pre .0 .narrow (s .pre .1) .0) (c .before .before .before .loop .r) _
-    (omega arith) inside in
-    omega (arith, room .0, room .1)
-
-mul-flip-row-3 : tie.Need-mul-flip-row-3 Inv-loop μ-loop
-mul-flip-row-3 c =
-    let s : tie.Start Inv-loop μ-loop = search in
-    let a = s .args in
-    let inside = div-lt-iff-lt-mul (s .pre .0 .some) .1 (s .pre .4) in
-    let room = place-room (a .h .now) (a .sh) (s .pre .0) (s .pre .0 .narrow (s .pre .1) .0) (c .before .before .before .loop .r) _
-    (omega arith) inside in
-    omega (arith, room .0, room .1)
-
-flip-row-requires : tie.Need-flip-row-requires Inv-loop μ-loop
-flip-row-requires c κs =
-    let s : tie.Start Inv-loop μ-loop = search in
-    let a = s .args in
-    let narrow = s .pre .0 .narrow (s .pre .1) in
-    let inside = div-lt-iff-lt-mul (s .pre .0 .some) .1 (s .pre .4) in
-    let room = place-room (a .h .now) (a .sh) (s .pre .0) (narrow .0) (c .before .before .before .loop .r) _ (omega arith) inside in (
-      s .pre .0 .some,
-      omega (arith, s .pre .0 .held, s .pre .1),
-      narrow .1,
+flip-rows-requires : tie.Need-flip-rows-requires
+flip-rows-requires c κs =
+    let s : tie.Start = search in
+    let r : tie.After-repeated = search in
+    let a = s .args in (
+      s .pre .0,
+      s .pre .1,
+      search needs,
+      div-lt-iff-lt-mul (s .pre .0 .some) .1 (s .pre .2),
       mod-lt (a .bit) (s .pre .0 .some),
-      c .before .before .before .before .before .before .repeated .ensures (eqb 0) (first-of-row (a .sh .size) (s .pre .0 .some)),
-      room .0,
+      r .repeated .ensures (eqb 0) (first-of-row (a .sh .size) (s .pre .0 .some)),
     )
 
-mul-rows : tie.Need-mul-rows Inv-loop μ-loop
-mul-rows c = omega arith
-
-slice-write-rows : tie.Need-slice-write-rows Inv-loop μ-loop
-slice-write-rows c = omega (arith, c .before .before .before .before .loop .inv .1)
-
-add-r : tie.Need-add-r Inv-loop μ-loop
-add-r c = omega arith
-
-loop-less : tie.Need-loop-less Inv-loop μ-loop
-loop-less c = omega arith
-
-loop-again : tie.Need-loop-again Inv-loop μ-loop
-loop-again c =
-    let start : tie.Start Inv-loop μ-loop = search in
-    let a = start .args in
-    let l = c .before .before .before .before .loop in
-    let v = c .flip-row .result in
-    let was = a .rows .now in (
-      omega arith,
-      omega (arith, length-set (l .rows) (l .r) v, l .inv .1),
-      λ q h. getD-set-other (l .rows) (l .r) q v 0 (λ e. omega arith) ∙ l .inv .2 q (omega arith),
-      set-rows (l .rows) (λ q z. (f : Word) → Holds (getD was q 0) f
-          → Holds z (λ i. f i ⊕ over (shiftsOf (a .sh) (a .h .now) q (a .bit / a .sh .size))
-          (λ s. eqb (i % a .sh .size) ((a .bit % a .sh .size + (a .sh .size - s)) % a .sh .size))))
-          (l .r) v (omega (arith, l .inv .1))
-          (λ f is. c .flip-row .ensures f (subst (λ z. Holds z f) (sym (l .inv .2 (l .r) (omega arith))) is))
-          (l .inv .3),
-    )
-
-same-length : tie.Need-same-length Inv-loop μ-loop
-same-length c = search needs
-
-same-length-2 : tie.Need-same-length-2 Inv-loop μ-loop
-same-length-2 c =
-    let s : tie.Start Inv-loop μ-loop = search in
-    omega (arith, c .before .loop .inv .1, s .pre .3)
-
-returns : tie.Need-returns Inv-loop μ-loop
+returns : tie.Need-returns
 returns c =
-    let s : tie.Start Inv-loop μ-loop = search in
+    let s : tie.Start = search in
+    let f : tie.After-flip-bit = search in
     let a = s .args in
     let M = a .sh .size in
-    let l = c .before .loop in
-    let inside = div-lt-iff-lt-mul (s .pre .0 .some) .1 (s .pre .4) in (
-      c .before .before .before .before .before .before .before .flip-bit .ensures,
+    let out = c .flip-rows .last .0 in
+    let inside = div-lt-iff-lt-mul (s .pre .0 .some) .1 (s .pre .2) in (
+      f .flip-bit .ensures,
       λ k x lent is.
-          subst (λ n. Rows k (a .sh) (flipped x n) (l .rows)) (div-add-mod' (a .bit) M)
+          subst (λ n. Rows k (a .sh) (flipped x n) out) (div-add-mod' (a .bit) M)
           (λ q hq.
-          row-flipped k (a .h .now) (a .sh) lent (s .pre .0) x (a .bit / M) (a .bit % M) q (getD (a .rows .now) q 0) (getD (l .rows) q 0)
-          inside (mod-lt (a .bit) (s .pre .0 .some)) (omega (arith, s .pre .0 .narrow (s .pre .1) .0)) (is q hq) (l .inv .3 q (omega
-          arith))),
+          row-flipped k (a .h .now) (a .sh) lent (s .pre .0) x (a .bit / M) (a .bit % M) q (getD (a .rows .now) q 0) (getD out q 0)
+          inside (mod-lt (a .bit) (s .pre .0 .some)) (omega (arith, s .pre .0 .narrow (s .pre .1) .0)) (is q hq)
+          (c .flip-rows .ensures q hq)),
     )
 
 pub flip-spec : {M : Type 1} → statement M
 flip-spec =
     tie.close
     (tie.spec
-    Inv-loop
-    μ-loop
     flip-bit-requires
     repeated-requires
-    div-b
-    rem-k
-    loop-holds
-    mul-flip-row
-    slice-read-flip-row
-    mul-flip-row-2
-    add-flip-row
-    mul-flip-row-3
-    flip-row-requires
-    mul-rows
-    slice-write-rows
-    add-r
-    loop-less
-    loop-again
-    same-length
-    same-length-2
+    div-flip-rows
+    rem-flip-rows
+    flip-rows-requires
     returns)

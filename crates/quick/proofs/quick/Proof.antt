@@ -10,7 +10,7 @@ use Rattle.rules.proofs.Lowest.{lowest-le}
 use Rattle.offer.proofs.Offers.{is-offered}
 use Rattle.codes.proofs.Admitted.{offered-by, check-refusal, taken, word-long}
 use Rattle.quick.proofs.Promises.{quick-taken, quick-refused}
-use Rattle.quick.proofs.Shapes.{checked}
+use Rattle.groups.proofs.Shapes.{checked}
 use borrow.Author.Needs.{needs}
 use Rattle.quick.proofs.quick.Statement.{statement}
 use Rattle.quick.proofs.quick.Tie as tie

@@ -28,24 +28,18 @@ store-requires-2 c κs = search needs
 same-length : tie.Need-same-length
 same-length c = search needs
 
-same-length-2 : tie.Need-same-length-2
-same-length-2 c = search needs
-
 returns : tie.Need-returns
 returns c =
     let d = c .before .before in
-    let t = d .before .before .before .before .before in
-    let a = t .before .before .before .before .before in
+    let t = d .before .before .before .before in
+    let a = t .before .before .before .before in
     λ k e f g.
     d .store .ensures
     ∙ ap (λ w. octets (length (a .args .out .now)) (from (a .args .unsent) w)) (t .trim-word .ensures)
-    ∙ written-trimmed k (a .args .unsent) (a .args .bits) e f (wbit (a .args .y .now)) (length (a .args .out .now)) g (a .pre .4)
+    ∙ written-trimmed k (a .args .unsent) (a .args .bits) e f (wbit (a .args .y .now)) (length (a .args .out .now)) g (a .pre .3)
 
-same-length-3 : tie.Need-same-length-3
-same-length-3 c = search needs
-
-same-length-4 : tie.Need-same-length-4
-same-length-4 c = search needs
+same-length-2 : tie.Need-same-length-2
+same-length-2 c = search needs
 
 returns-2 : tie.Need-returns-2
 returns-2 c =
@@ -54,7 +48,7 @@ returns-2 c =
     let h : 8 * length (a .args .out .now) + a .args .unsent ≤ a .args .bits = omega arith in
     λ k e f g.
     d .store2 .ensures
-    ∙ ap (λ u. octets (length (a .args .out .now)) (from u (wbit (a .args .y .now)))) (sym (a .pre .3 h))
+    ∙ ap (λ u. octets (length (a .args .out .now)) (from u (wbit (a .args .y .now)))) (sym (a .pre .2 h))
     ∙ written-whole k (a .args .unsent) (a .args .bits) e f (wbit (a .args .y .now)) (length (a .args .out .now)) g (omega arith)
 
 pub write-spec : {M : Type 1} → statement M
@@ -67,8 +61,6 @@ write-spec =
     store-requires
     store-requires-2
     same-length
-    same-length-2
     returns
-    same-length-3
-    same-length-4
+    same-length-2
     returns-2)

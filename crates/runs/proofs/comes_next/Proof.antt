@@ -12,7 +12,7 @@ is-quiet-requires c κs = search needs
 
 returns : tie.Need-returns
 returns c =
-    let s = c .before .before .before .before in
+    let s = c .before .before in
     (tt, λ k l u x e. quiet-next k x (eqb-true (broken k x) 0 (sym (c .before .is-quiet .ensures k _ _ x (s .pre .0) l e) ∙ c .if1 .taken)))
 
 next-narrow-requires : tie.Need-next-narrow-requires
@@ -20,7 +20,7 @@ next-narrow-requires c κs = search needs
 
 returns-2 : tie.Need-returns-2
 returns-2 c =
-    let s = c .before .before .before .before .before .before .before in (
+    let s = c .before .before .before .before .before in (
       c .next-narrow .ensures .0,
       λ k l u x e. c .next-narrow .ensures .1 k l u x e
           (eqb-false (broken k x) 0 (sym (c .before .before .before .before .is-quiet .ensures k _ _ x (s .pre .0) l e)
@@ -32,7 +32,7 @@ next-bounded-requires c κs = search needs
 
 returns-3 : tie.Need-returns-3
 returns-3 c =
-    let s = c .before .before .before .before .before .before .before in (
+    let s = c .before .before .before .before .before in (
       c .next-bounded .ensures .0,
       λ k l u x e. c .next-bounded .ensures .1 k l u x e
           (eqb-false (broken k x) 0 (sym (c .before .before .before .before .is-quiet .ensures k _ _ x (s .pre .0) l e)

@@ -19,23 +19,17 @@ use Rattle.runs.proofs.go_on.Tie as tie
 
 abbrev Inv-loop : tie.InvT-loop
 Inv-loop y₀ d₀ starts counts met₀ h sh from limit first most flips₀ left₀ y d met flips left =
-    (length y ≡ 130)
-    × (length d ≡ 65)
-    × (flips ≤ limit)
-    × Ready sh starts counts met
-    × ((c : Code) → Lent c h sh → c .unsent ≡ from → Carried c sh from first (wbit y₀) d₀ counts met₀
-    → Going (byExcess c) c sh limit (wbit y₀) flips (wbit y) (laid c sh (wbit y)) × Carried c sh from left (wbit y) d counts met)
-    × (limit < 65536)
+    (flips ≤ limit) × Ready sh starts counts met × ((c : Code) → Lent c h sh → c .unsent ≡ from → Carried c sh from first (wbit y₀) d₀
+    counts met₀ → Going (byExcess c) c sh limit (wbit y₀) flips (wbit y) (laid c sh (wbit y)) × Carried c sh from left (wbit y) d counts
+    met) × (limit < 65536)
 
 abbrev μ-loop : tie.MeasureT-loop
 μ-loop y₀ d₀ starts counts met₀ h sh from limit first most flips₀ left₀ y d met flips left = limit - flips
 
 loop-holds : tie.Need-loop-holds Inv-loop μ-loop
 loop-holds c =
-    let s = c .before .before .before .before .before .before in
+    let s = c in
     let a = s .args in (
-      s .pre .3,
-      s .pre .4,
       omega arith,
       s .pre .2,
       λ k lent u w. (
@@ -50,19 +44,10 @@ choose-requires : tie.Need-choose-requires Inv-loop μ-loop
 choose-requires c κs =
     let s : tie.Start Inv-loop μ-loop = search in
     let l = c .before .before .before .loop in
-    (l .inv .3, l .inv .1, s .pre .5, s .pre .6)
+    (l .inv .1, s .pre .3, s .pre .4)
 
 at-end-requires : tie.Need-at-end-requires Inv-loop μ-loop
 at-end-requires c κs = tt
-
-same-length : tie.Need-same-length Inv-loop μ-loop
-same-length c = search needs
-
-same-length-2 : tie.Need-same-length-2 Inv-loop μ-loop
-same-length-2 c = search needs
-
-same-length-3 : tie.Need-same-length-3 Inv-loop μ-loop
-same-length-3 c = search needs
 
 returns : tie.Need-returns Inv-loop μ-loop
 returns c k lent u w =
@@ -70,12 +55,12 @@ returns c k lent u w =
     let s : tie.Start Inv-loop μ-loop = search in
     let a = s .args in
     let l = in-loop .before .loop in
-    let f = c .before .before .before .before .before .choose in
-    let i = l .inv .4 k lent u w in
+    let f = c .before .before .choose in
+    let i = l .inv .2 k lent u w in
     let top = chosen-top k (a .h .now) (a .sh) lent (s .pre .0) (a .starts .now) (a .counts .now) (s .pre .1) (a .from) (wbit (l .y))
     (l .d) (l .met) _ (f .result .score) (f .result .bit) (i .1 .kept) (f .ensures .0) (f .ensures .1) in
     let next = next-stuck lent (wbit (l .y)) top u
-    (λ e. omega (arith, i .1 .left-is, e, c .before .before .before .before .before .before .before .before .loop-test .taken))
+    (λ e. omega (arith, i .1 .left-is, e, c .before .before .before .before .before .loop-test .taken))
     (c .before .if1 .taken) in (
       runs-as _ _ (c .at-end .ensures .0) (c .at-end .ensures .1) (ends-stuck (byExcess k) k (a .sh) (a .limit) (wbit (a .y .now))
           (l .flips) (wbit (l .y)) _ (i .0) _ _ next),
@@ -85,23 +70,14 @@ returns c k lent u w =
 at-end-requires-2 : tie.Need-at-end-requires-2 Inv-loop μ-loop
 at-end-requires-2 c κs = tt
 
-same-length-4 : tie.Need-same-length-4 Inv-loop μ-loop
-same-length-4 c = search needs
-
-same-length-5 : tie.Need-same-length-5 Inv-loop μ-loop
-same-length-5 c = search needs
-
-same-length-6 : tie.Need-same-length-6 Inv-loop μ-loop
-same-length-6 c = search needs
-
 returns-2 : tie.Need-returns-2 Inv-loop μ-loop
 returns-2 c k lent u w =
     let in-loop : tie.In-loop Inv-loop μ-loop = search in
     let s : tie.Start Inv-loop μ-loop = search in
     let a = s .args in
     let l = in-loop .before .loop in
-    let f = c .before .before .before .before .before .before .choose in
-    let i = l .inv .4 k lent u w in
+    let f = c .before .before .before .choose in
+    let i = l .inv .2 k lent u w in
     let top = chosen-top k (a .h .now) (a .sh) lent (s .pre .0) (a .starts .now) (a .counts .now) (s .pre .1) (a .from) (wbit (l .y))
     (l .d) (l .met) _ (f .result .score) (f .result .bit) (i .1 .kept) (f .ensures .0) (f .ensures .1) in
     let next = next-flip lent (wbit (l .y)) top u
@@ -112,19 +88,12 @@ returns-2 c k lent u w =
       c .at-end2 .ensures .2 ∙ i .1 .left-is,
     )
 
-flip-bit-requires : tie.Need-flip-bit-requires Inv-loop μ-loop
-flip-bit-requires c κs =
-    let in-loop : tie.In-loop Inv-loop μ-loop = search in
-    let s : tie.Start Inv-loop μ-loop = search in
-    let l = in-loop .before .loop in
-    omega (arith, l .inv .0, s .pre .0 .bits, c .before .before .before .before .before .before .choose .ensures .1 .inside)
-
 flip-requires : tie.Need-flip-requires Inv-loop μ-loop
 flip-requires c κs =
     let after-choose : tie.After-choose Inv-loop μ-loop = search in
-    let l = after-choose .before .before .before .before .loop in
+    let s : tie.Start Inv-loop μ-loop = search in
     let f = after-choose .choose in
-    (f .ensures .0 .ready, l .inv .1, f .ensures .1 .inside)
+    (f .ensures .0 .ready, f .ensures .1 .inside, s .pre .0 .bits)
 
 sub-left : tie.Need-sub-left Inv-loop μ-loop
 sub-left c =
@@ -136,10 +105,10 @@ sub-left-2 c =
     let else1 : tie.Else1 Inv-loop μ-loop = search in
     let s : tie.Start Inv-loop μ-loop = search in
     let a = s .args in
-    let l = else1 .before .before .before .before .before .before .before .before .loop in
-    let f = else1 .before .before .before .before .choose in
-    let w = s .pre .7 in
-    let i = l .inv .4 (w .code) (w .lent) (w .unsent) (w .carried) in
+    let l = else1 .before .before .before .before .before .loop in
+    let f = else1 .before .choose in
+    let w = s .pre .5 in
+    let i = l .inv .2 (w .code) (w .lent) (w .unsent) (w .carried) in
     omega (
       arith,
       i .1 .left-is,
@@ -152,7 +121,7 @@ add-flips : tie.Need-add-flips Inv-loop μ-loop
 add-flips c =
     let else2 : tie.Else2 Inv-loop μ-loop = search in
     let in-loop : tie.In-loop Inv-loop μ-loop = search in
-    omega (arith, in-loop .before .loop .inv .5, else2 .if2 .left)
+    omega (arith, in-loop .before .loop .inv .3, else2 .if2 .left)
 
 loop-less : tie.Need-loop-less Inv-loop μ-loop
 loop-less c =
@@ -161,20 +130,20 @@ loop-less c =
 
 loop-again : tie.Need-loop-again Inv-loop μ-loop
 loop-again c =
-    let after-y : tie.After-y Inv-loop μ-loop = search in
+    let after-choose : tie.After-choose Inv-loop μ-loop = search in
+    let else1 : tie.Else1 Inv-loop μ-loop = search in
+    let else2 : tie.Else2 Inv-loop μ-loop = search in
     let in-loop : tie.In-loop Inv-loop μ-loop = search in
     let s : tie.Start Inv-loop μ-loop = search in
     let a = s .args in
     let l = in-loop .before .loop in
-    let f = after-y .before .before .before .before .before .before .before .before .choose in
-    let b = c .before .before .before .before .before .flip in
-    let some = after-y .before .before .before .before .if1 .left in (
-      omega (arith, after-y .y .given, l .inv .0),
-      omega (arith, c .before .before .before .before .d .given, l .inv .1),
-      omega (arith, after-y .before .before .before .if2 .left),
-      b .ensures .0,
+    let f = after-choose .choose in
+    let b = c .flip in
+    let some = else1 .if1 .left in (
+      omega (arith, else2 .if2 .left),
+      b .ensures .1 .0,
       λ k lent u w.
-          let i = l .inv .4 k lent u w in
+          let i = l .inv .2 k lent u w in
           let top = chosen-top k (a .h .now) (a .sh) lent (s .pre .0) (a .starts .now) (a .counts .now) (s .pre .1) (a .from) (wbit (l .y))
           (l .d) (l .met) _ (f .result .score) (f .result .bit) (i .1 .kept) (f .ensures .0) (f .ensures .1) in
           let kept = chosen-kept k (a .h .now) (a .sh) lent (s .pre .0) (a .starts .now) (a .counts .now) (s .pre .1) (a .from)
@@ -185,35 +154,26 @@ loop-again c =
           (wbit (l .y)) (l .d) (l .met) _ (f .result .score) (f .result .bit) (i .1 .kept) (f .ensures .0) (f .ensures .1) some in
           let next = next-flip lent (wbit (l .y)) top u
           (λ e. omega (arith, i .1 .left-is, e, in-loop .loop-test .taken)) some in
-          let here = after-y .before .flip-bit .ensures in (
+          let here = b .ensures .0 in (
             subst (λ z. Going (byExcess k) k (a .sh) (a .limit) (wbit (a .y .now)) (l .flips + 1) z (laid k (a .sh) z)) (sym here)
                 (goes-on (byExcess k) k (a .sh) (a .limit) (wbit (a .y .now)) (l .flips) (wbit (l .y)) _ (i .0) _ _ next
-                (after-y .before .before .before .if2 .left) _ _ refl
+                (else2 .if2 .left) _ _ refl
                 refl),
-            carried-more here (b .ensures .1 k (a .h .now) (a .from) (wbit (l .y)) lent (s .pre .1) kept met)
+            carried-more here (b .ensures .1 .1 k (a .h .now) (a .from) (wbit (l .y)) lent (s .pre .1) kept met)
                 (omega (arith, left, i .1 .left-is)),
           ),
-      l .inv .5,
+      l .inv .3,
     )
 
 at-end-requires-3 : tie.Need-at-end-requires-3 Inv-loop μ-loop
 at-end-requires-3 c κs = tt
-
-same-length-7 : tie.Need-same-length-7 Inv-loop μ-loop
-same-length-7 c = search needs
-
-same-length-8 : tie.Need-same-length-8 Inv-loop μ-loop
-same-length-8 c = search needs
-
-same-length-9 : tie.Need-same-length-9 Inv-loop μ-loop
-same-length-9 c = search needs
 
 returns-3 : tie.Need-returns-3 Inv-loop μ-loop
 returns-3 c k lent u w =
     let s : tie.Start Inv-loop μ-loop = search in
     let a = s .args in
     let l = c .before .before .loop in
-    let i = l .inv .4 k lent u w in
+    let i = l .inv .2 k lent u w in
     let none : broken k (wbit (l .y)) ≡ 0 = omega (arith, i .1 .left-is, c .before .loop-test .left) in (
       runs-as _ _ (c .at-end3 .ensures .0) (c .at-end3 .ensures .1) (ends-quiet (byExcess k) k (a .sh) (a .limit) (wbit (a .y .now))
           (l .flips) (wbit (l .y)) _ (i .0) (quiet-next k (wbit (l .y)) none)),
@@ -229,16 +189,9 @@ go-on-spec =
     loop-holds
     choose-requires
     at-end-requires
-    same-length
-    same-length-2
-    same-length-3
     returns
     at-end-requires-2
-    same-length-4
-    same-length-5
-    same-length-6
     returns-2
-    flip-bit-requires
     flip-requires
     sub-left
     sub-left-2
@@ -246,7 +199,4 @@ go-on-spec =
     loop-less
     loop-again
     at-end-requires-3
-    same-length-7
-    same-length-8
-    same-length-9
     returns-3)

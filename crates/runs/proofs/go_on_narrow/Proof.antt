@@ -18,12 +18,8 @@ use Rattle.runs.proofs.go_on_narrow.Tie as tie
 
 abbrev Inv-loop : tie.InvT-loop
 Inv-loop samples y₀ rows₀ h sh from limit first most flips₀ left₀ y rows flips left =
-    (length y ≡ 130)
-    × (length rows ≡ 4)
-    × (flips ≤ limit)
-    × ((c : Code) → Lent c h sh → c .unsent ≡ from → CarriedNarrow c sh first (wbit y₀) rows₀
-    → Going (bySize (smaller samples) c) c sh limit (wbit y₀) flips (wbit y) (laid c sh (wbit y)) × CarriedNarrow c sh left (wbit y) rows)
-    × (limit < 65536)
+    (flips ≤ limit) × ((c : Code) → Lent c h sh → c .unsent ≡ from → CarriedNarrow c sh first (wbit y₀) rows₀ → Going (bySize (smaller
+    samples) c) c sh limit (wbit y₀) flips (wbit y) (laid c sh (wbit y)) × CarriedNarrow c sh left (wbit y) rows) × (limit < 65536)
 
 abbrev μ-loop : tie.MeasureT-loop
 μ-loop samples y₀ rows₀ h sh from limit first most flips₀ left₀ y rows flips left = limit - flips
@@ -32,8 +28,6 @@ loop-holds : tie.Need-loop-holds Inv-loop μ-loop
 loop-holds c =
     let s : tie.Start Inv-loop μ-loop = search needs in
     let a = s .args in (
-      s .pre .2,
-      s .pre .3,
       omega arith,
       λ k lent u w. (
         going-start (bySize (smaller (a .samples .now)) k) k (a .sh) (a .limit) (wbit (a .y .now)) (laid k (a .sh) (wbit (a .y .now))) refl,
@@ -46,38 +40,31 @@ choose-requires : tie.Need-choose-requires Inv-loop μ-loop
 choose-requires c κs =
     let n = c .before in
     let l = n .before .loop in
-    let s = n .before .before .before .before .before .before in
-    let w = s .pre .7 in
-    let i = l .inv .3 (w .code) (w .lent) (w .unsent) (w .carried) in (
+    let s = n .before .before .before in
+    let w = s .pre .5 in
+    let i = l .inv .1 (w .code) (w .lent) (w .unsent) (w .carried) in (
       s .pre .0,
       s .pre .1,
+      s .pre .2,
+      s .pre .3,
       s .pre .4,
-      l .inv .1,
-      s .pre .5,
-      s .pre .6,
       record { code = w .code; word = wbit (l .y); lent = w .lent; rows-are = i .1 .rows-are },
     )
 
 at-end-requires : tie.Need-at-end-requires Inv-loop μ-loop
 at-end-requires c κs = tt
 
-same-length : tie.Need-same-length Inv-loop μ-loop
-same-length c = search needs
-
-same-length-2 : tie.Need-same-length-2 Inv-loop μ-loop
-same-length-2 c = search needs
-
 returns : tie.Need-returns Inv-loop μ-loop
 returns c k lent u w =
     let chose : tie.After-choose Inv-loop μ-loop = search needs in
     let n = chose .before .before in
     let l = n .before .loop in
-    let s = n .before .before .before .before .before .before in
+    let s = n .before .before .before in
     let a = s .args in
-    let i = l .inv .3 k lent u w in
+    let i = l .inv .1 k lent u w in
     let way = bySize (smaller (a .samples .now)) k in
     let next = chosen-stuck (a .samples .now) lent (wbit (l .y)) (chose .choose .result)
-    (chose .choose .ensures k (wbit (l .y)) lent (i .1 .rows-are)) u (some-sent lent (s .pre .4) (s .pre .5) u)
+    (chose .choose .ensures k (wbit (l .y)) lent (i .1 .rows-are)) u (some-sent lent (s .pre .2) (s .pre .3) u)
     (λ e. omega (arith, i .1 .left-is, e, n .loop-test .taken)) (c .before .if1 .taken) in (
       runs-as _ _ (c .at-end .ensures .0) (c .at-end .ensures .1)
           (ends-stuck way k (a .sh) (a .limit) (wbit (a .y .now)) (l .flips) (wbit (l .y)) _ (i .0) _ _ next),
@@ -87,21 +74,15 @@ returns c k lent u w =
 at-end-requires-2 : tie.Need-at-end-requires-2 Inv-loop μ-loop
 at-end-requires-2 c κs = tt
 
-same-length-3 : tie.Need-same-length-3 Inv-loop μ-loop
-same-length-3 c = search needs
-
-same-length-4 : tie.Need-same-length-4 Inv-loop μ-loop
-same-length-4 c = search needs
-
 returns-2 : tie.Need-returns-2 Inv-loop μ-loop
 returns-2 c k lent u w =
     let above : tie.Else1 Inv-loop μ-loop = search needs in
-    let chose = above .before .before in
+    let chose = above .before in
     let n = chose .before .before in
     let l = n .before .loop in
-    let s = n .before .before .before .before .before .before in
+    let s = n .before .before .before in
     let a = s .args in
-    let i = l .inv .3 k lent u w in
+    let i = l .inv .1 k lent u w in
     let way = bySize (smaller (a .samples .now)) k in
     let next = chosen-flip (a .samples .now) lent (wbit (l .y)) (chose .choose .result)
     (chose .choose .ensures k (wbit (l .y)) lent (i .1 .rows-are)) (above .if1 .left) u
@@ -114,16 +95,14 @@ returns-2 c k lent u w =
 flip-requires : tie.Need-flip-requires Inv-loop μ-loop
 flip-requires c κs =
     let above : tie.Else1 Inv-loop μ-loop = search needs in
-    let chose = above .before .before in
+    let chose = above .before in
     let n = chose .before .before in
     let l = n .before .loop in
-    let s = n .before .before .before .before .before .before in
-    let w = s .pre .7 in
-    let i = l .inv .3 (w .code) (w .lent) (w .unsent) (w .carried) in (
+    let s = n .before .before .before in
+    let w = s .pre .5 in
+    let i = l .inv .1 (w .code) (w .lent) (w .unsent) (w .carried) in (
       s .pre .0,
       s .pre .1,
-      l .inv .0,
-      l .inv .1,
       chosen-inside (s .args .samples .now) (w .lent) (wbit (l .y)) (chose .choose .result)
           (chose .choose .ensures (w .code) (wbit (l .y)) (w .lent) (i .1 .rows-are)) (above .if1 .left),
     )
@@ -136,12 +115,12 @@ sub-left c =
 sub-left-2 : tie.Need-sub-left-2 Inv-loop μ-loop
 sub-left-2 c =
     let above : tie.Else1 Inv-loop μ-loop = search needs in
-    let chose = above .before .before in
+    let chose = above .before in
     let n = chose .before .before in
     let l = n .before .loop in
-    let s = n .before .before .before .before .before .before in
-    let w = s .pre .7 in
-    let i = l .inv .3 (w .code) (w .lent) (w .unsent) (w .carried) in
+    let s = n .before .before .before in
+    let w = s .pre .5 in
+    let i = l .inv .1 (w .code) (w .lent) (w .unsent) (w .carried) in
     omega (
       arith,
       i .1 .left-is,
@@ -152,8 +131,8 @@ sub-left-2 c =
 add-flips : tie.Need-add-flips Inv-loop μ-loop
 add-flips c =
     let room : tie.Else2 Inv-loop μ-loop = search needs in
-    let l = room .before .before .before .before .before .before .loop in
-    omega (arith, l .inv .4, room .if2 .left)
+    let l = room .before .before .before .before .before .loop in
+    omega (arith, l .inv .2, room .if2 .left)
 
 loop-less : tie.Need-loop-less Inv-loop μ-loop
 loop-less c =
@@ -164,18 +143,16 @@ loop-again : tie.Need-loop-again Inv-loop μ-loop
 loop-again c =
     let room : tie.Else2 Inv-loop μ-loop = search needs in
     let above = room .before in
-    let chose = above .before .before in
+    let chose = above .before in
     let n = chose .before .before in
     let l = n .before .loop in
-    let s = n .before .before .before .before .before .before in
+    let s = n .before .before .before in
     let a = s .args in
     let flipped : tie.After-flip Inv-loop μ-loop = search needs in
     let f = flipped .flip .ensures in (
-      omega (arith, c .before .before .before .before .y .given, l .inv .0),
-      omega (arith, c .before .before .rows .given, l .inv .1),
       omega (arith, room .if2 .left),
       λ k lent u w.
-          let i = l .inv .3 k lent u w in
+          let i = l .inv .1 k lent u w in
           let way = bySize (smaller (a .samples .now)) k in
           let best = chose .choose .ensures k (wbit (l .y)) lent (i .1 .rows-are) in
           let next = chosen-flip (a .samples .now) lent (wbit (l .y)) (chose .choose .result) best (above .if1 .left) u
@@ -190,17 +167,11 @@ loop-again c =
                   i .1 .left-is,
                 )),
           ),
-      l .inv .4,
+      l .inv .2,
     )
 
 at-end-requires-3 : tie.Need-at-end-requires-3 Inv-loop μ-loop
 at-end-requires-3 c κs = tt
-
-same-length-5 : tie.Need-same-length-5 Inv-loop μ-loop
-same-length-5 c = search needs
-
-same-length-6 : tie.Need-same-length-6 Inv-loop μ-loop
-same-length-6 c = search needs
 
 returns-3 : tie.Need-returns-3 Inv-loop μ-loop
 returns-3 c k lent u w =
@@ -208,7 +179,7 @@ returns-3 c k lent u w =
     let a = s .args in
     let way = bySize (smaller (a .samples .now)) k in
     let l = c .before .before .loop in
-    let i = l .inv .3 k lent u w in
+    let i = l .inv .1 k lent u w in
     let none : broken k (wbit (l .y)) ≡ 0 = omega (arith, i .1 .left-is, c .before .loop-test .left) in (
       runs-as _ _ (c .at-end3 .ensures .0) (c .at-end3 .ensures .1)
           (ends-quiet way k (a .sh) (a .limit) (wbit (a .y .now)) (l .flips) (wbit (l .y)) _ (i .0)
@@ -225,12 +196,8 @@ go-on-narrow-spec =
     loop-holds
     choose-requires
     at-end-requires
-    same-length
-    same-length-2
     returns
     at-end-requires-2
-    same-length-3
-    same-length-4
     returns-2
     flip-requires
     sub-left
@@ -239,6 +206,4 @@ go-on-narrow-spec =
     loop-less
     loop-again
     at-end-requires-3
-    same-length-5
-    same-length-6
     returns-3)

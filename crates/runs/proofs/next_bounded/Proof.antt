@@ -7,44 +7,23 @@ use Rattle.runs.proofs.Passing.{begun-kept, begun-ready}
 use Rattle.runs.proofs.next_bounded.Statement.{statement}
 use Rattle.runs.proofs.next_bounded.Tie as tie
 
-slice-aggregate-begin : tie.Need-slice-aggregate-begin
-slice-aggregate-begin c = search needs
-
-slice-aggregate-begin-2 : tie.Need-slice-aggregate-begin-2
-slice-aggregate-begin-2 c = search needs
-
-slice-aggregate-begin-3 : tie.Need-slice-aggregate-begin-3
-slice-aggregate-begin-3 c = search needs
-
 begin-requires : tie.Need-begin-requires
 begin-requires c κs = search needs
-
-slice-aggregate-choose : tie.Need-slice-aggregate-choose
-slice-aggregate-choose c = search needs
-
-slice-aggregate-choose-2 : tie.Need-slice-aggregate-choose-2
-slice-aggregate-choose-2 c = search needs
-
-slice-aggregate-choose-3 : tie.Need-slice-aggregate-choose-3
-slice-aggregate-choose-3 c = search needs
-
-slice-aggregate-choose-4 : tie.Need-slice-aggregate-choose-4
-slice-aggregate-choose-4 c = search needs
 
 choose-requires : tie.Need-choose-requires
 choose-requires c κs =
     let s : tie.Start = search in
-    let b = c .before .before .before .before .before .before .before .begin in
-    (begun-ready (s .pre .0) (b .ensures .1) (search needs) (search needs), search needs, s .pre .2, s .pre .3)
+    let b = c .before .before .before .before .begin in
+    (begun-ready (s .pre .0) (b .ensures .1) (b .ensures .2) (b .ensures .3), s .pre .1, s .pre .2)
 
 cast-excess : tie.Need-cast-excess
 cast-excess c =
     let after-begin : tie.After-begin = search in
     let s : tie.Start = search in
     let a = s .args in
-    let w = s .pre .4 in
+    let w = s .pre .3 in
     let b = after-begin .begin in
-    let f = c .before .before .choose in
+    let f = c .before .choose in
     score-fits _ (top-small (w .lent) (w .word) (chosen-top (w .code) (a .h .now) (a .sh) (w .lent) (s .pre .0) _ _ (b .ensures .1)
     (a .from) (w .word) _ _ _ (f .result .score) (f .result .bit)
     (begun-kept (w .code) (a .h .now) (a .sh) (w .lent) _ _ (b .ensures .1) (a .from) (w .word) _ _ (w .held) (b .ensures .0))
@@ -55,9 +34,9 @@ sub-excess c =
     let after-begin : tie.After-begin = search in
     let s : tie.Start = search in
     let a = s .args in
-    let w = s .pre .4 in
+    let w = s .pre .3 in
     let b = after-begin .begin in
-    let f = c .before .before .choose in
+    let f = c .before .choose in
     excess-fits _ (top-small (w .lent) (w .word) (chosen-top (w .code) (a .h .now) (a .sh) (w .lent) (s .pre .0) _ _ (b .ensures .1)
     (a .from) (w .word) _ _ _ (f .result .score) (f .result .bit)
     (begun-kept (w .code) (a .h .now) (a .sh) (w .lent) _ _ (b .ensures .1) (a .from) (w .word) _ _ (w .held) (b .ensures .0))
@@ -68,9 +47,9 @@ returns c =
     let after-begin : tie.After-begin = search in
     let s : tie.Start = search in
     let a = s .args in
-    let w = s .pre .4 in
+    let w = s .pre .3 in
     let b = after-begin .begin in
-    let f = c .before .before .before .before .choose in
+    let f = c .before .before .before .choose in
     let t = chosen-top (w .code) (a .h .now) (a .sh) (w .lent) (s .pre .0) _ _ (b .ensures .1) (a .from) (w .word) _ _ _ (f .result .score)
     (f .result .bit)
     (begun-kept (w .code) (a .h .now) (a .sh) (w .lent) _ _ (b .ensures .1) (a .from) (w .word) _ _ (w .held) (b .ensures .0))
@@ -88,9 +67,9 @@ returns-2 c =
     let after-begin : tie.After-begin = search in
     let s : tie.Start = search in
     let a = s .args in
-    let w = s .pre .4 in
+    let w = s .pre .3 in
     let b = after-begin .begin in
-    let f = c .before .before .before .before .choose in
+    let f = c .before .before .before .choose in
     let t = chosen-top (w .code) (a .h .now) (a .sh) (w .lent) (s .pre .0) _ _ (b .ensures .1) (a .from) (w .word) _ _ _ (f .result .score)
     (f .result .bit)
     (begun-kept (w .code) (a .h .now) (a .sh) (w .lent) _ _ (b .ensures .1) (a .from) (w .word) _ _ (w .held) (b .ensures .0))
@@ -107,14 +86,7 @@ pub next-bounded-spec : {M : Type 1} → statement M
 next-bounded-spec =
     tie.close
     (tie.spec
-    slice-aggregate-begin
-    slice-aggregate-begin-2
-    slice-aggregate-begin-3
     begin-requires
-    slice-aggregate-choose
-    slice-aggregate-choose-2
-    slice-aggregate-choose-3
-    slice-aggregate-choose-4
     choose-requires
     cast-excess
     sub-excess

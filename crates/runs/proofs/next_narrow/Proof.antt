@@ -15,55 +15,54 @@ slice-aggregate-begin c = search needs
 begin-requires : tie.Need-begin-requires
 begin-requires c κs =
     let s : tie.Start = search needs in
-    (s .pre .0 .some, omega (arith, s .pre .0 .held, s .pre .5), s .pre .5, s .pre .0 .narrow (s .pre .5) .0, s .pre .1, refl)
+    (s .pre .0 .some, omega (arith, s .pre .0 .held, s .pre .4), s .pre .4, s .pre .0 .narrow (s .pre .4) .0, search needs, refl)
 
 slice-aggregate-choose : tie.Need-slice-aggregate-choose
 slice-aggregate-choose c = search needs
-
-slice-aggregate-choose-2 : tie.Need-slice-aggregate-choose-2
-slice-aggregate-choose-2 c = search needs
 
 choose-requires : tie.Need-choose-requires
 choose-requires c κs =
     let s : tie.Start = search needs in
     let begun : tie.After-begin = search needs in
-    let w = s .pre .4 in (
+    let w = s .pre .3 in (
       s .pre .0,
-      s .pre .5,
+      s .pre .4,
+      s .pre .1,
       s .pre .2,
-      search needs,
-      s .pre .3,
       λ some. absurd (omega arith),
       record { code = w .code; word = w .word; lent = w .lent; rows-are = begun .begin .ensures (w .code) (w .word) (w .held) },
     )
 
-cast-t16 : tie.Need-cast-t16
-cast-t16 c =
+cast-excess : tie.Need-cast-excess
+cast-excess c =
     let chose : tie.After-choose = search needs in
     let begun : tie.After-begin = search needs in
     let s : tie.Start = search needs in
-    let w = s .pre .4 in
+    let then : tie.Then1 = search needs in
+    let w = s .pre .3 in
     score-fits _ (chosen-small [] (w .lent) (w .word) (chose .choose .result)
-    (chose .choose .ensures (w .code) (w .word) (w .lent) (begun .begin .ensures (w .code) (w .word) (w .held))) (c .before .if1 .taken))
+    (chose .choose .ensures (w .code) (w .word) (w .lent) (begun .begin .ensures (w .code) (w .word) (w .held))) (then .if1 .taken))
 
-sub-t17 : tie.Need-sub-t17
-sub-t17 c =
+sub-excess : tie.Need-sub-excess
+sub-excess c =
     let chose : tie.After-choose = search needs in
     let begun : tie.After-begin = search needs in
     let s : tie.Start = search needs in
-    let w = s .pre .4 in
+    let then : tie.Then1 = search needs in
+    let w = s .pre .3 in
     excess-fits _ (chosen-small [] (w .lent) (w .word) (chose .choose .result)
-    (chose .choose .ensures (w .code) (w .word) (w .lent) (begun .begin .ensures (w .code) (w .word) (w .held))) (c .before .if1 .taken))
+    (chose .choose .ensures (w .code) (w .word) (w .lent) (begun .begin .ensures (w .code) (w .word) (w .held))) (then .if1 .taken))
 
 returns : tie.Need-returns
 returns c =
     let chose : tie.After-choose = search needs in
     let begun : tie.After-begin = search needs in
     let s : tie.Start = search needs in
-    let w = s .pre .4 in
+    let w = s .pre .3 in
     let best = chose .choose in
     let rows = begun .begin .ensures in
-    let high = c .before .if1 .taken in
+    let then : tie.Then1 = search needs in
+    let high = then .if1 .taken in
     let here = best .ensures (w .code) (w .word) (w .lent) (rows (w .code) (w .word) (w .held)) in (
       chosen-inside [] (w .lent) (w .word) (best .result) here high,
       λ k l u x e some.
@@ -84,10 +83,9 @@ next-narrow-spec =
     slice-aggregate-begin
     begin-requires
     slice-aggregate-choose
-    slice-aggregate-choose-2
     choose-requires
-    cast-t16
-    sub-t17
+    cast-excess
+    sub-excess
     returns
     next-bounded-requires
     returns-2)

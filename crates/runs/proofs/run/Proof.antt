@@ -34,10 +34,7 @@ slice-aggregate-run-narrow c = search needs
 run-narrow-requires : tie.Need-run-narrow-requires
 run-narrow-requires c κs =
     let s : tie.Start = search needs in
-    (s .pre .0, s .pre .1, s .pre .2, s .pre .3, s .pre .4, λ some. absurd (omega arith), s .pre .5, search needs)
-
-same-length : tie.Need-same-length
-same-length c = search needs
+    (s .pre .0, s .pre .1, s .pre .2, λ some. absurd (omega arith), s .pre .3, search needs)
 
 returns-2 : tie.Need-returns-2
 returns-2 c k b =
@@ -47,9 +44,6 @@ returns-2 c k b =
 
 run-bounded-requires : tie.Need-run-bounded-requires
 run-bounded-requires c κs = search needs
-
-same-length-2 : tie.Need-same-length-2
-same-length-2 c = search needs
 
 returns-3 : tie.Need-returns-3
 returns-3 c = search needs
@@ -62,8 +56,6 @@ run-spec =
     returns
     slice-aggregate-run-narrow
     run-narrow-requires
-    same-length
     returns-2
     run-bounded-requires
-    same-length-2
     returns-3)

@@ -12,24 +12,19 @@ slice-aggregate-begin c = search needs
 begin-requires : tie.Need-begin-requires
 begin-requires c κs =
     let s : tie.Start = search needs in
-    (s .pre .0 .some, omega (arith, s .pre .0 .held, s .pre .7), s .pre .7, s .pre .0 .narrow (s .pre .7) .0, s .pre .2, refl)
-
-slice-aggregate-go-on-narrow : tie.Need-slice-aggregate-go-on-narrow
-slice-aggregate-go-on-narrow c = search needs
+    (s .pre .0 .some, omega (arith, s .pre .0 .held, s .pre .5), s .pre .5, s .pre .0 .narrow (s .pre .5) .0, search needs, refl)
 
 go-on-narrow-requires : tie.Need-go-on-narrow-requires
 go-on-narrow-requires c κs =
     let s : tie.Start = search needs in
     let begun : tie.After-begin = search needs in
-    let w = s .pre .6 in
+    let w = s .pre .4 in
     let k = w .begins in (
       s .pre .0,
-      s .pre .7,
-      s .pre .1,
-      search needs,
-      s .pre .3,
-      s .pre .4,
       s .pre .5,
+      s .pre .1,
+      s .pre .2,
+      s .pre .3,
       record {
         code = w .code;
         lent = k .lent;
@@ -40,9 +35,6 @@ go-on-narrow-requires c κs =
         };
       },
     )
-
-same-length : tie.Need-same-length
-same-length c = search needs
 
 returns : tie.Need-returns
 returns c k e =
@@ -58,7 +50,5 @@ run-narrow-spec =
     (tie.spec
     slice-aggregate-begin
     begin-requires
-    slice-aggregate-go-on-narrow
     go-on-narrow-requires
-    same-length
     returns)

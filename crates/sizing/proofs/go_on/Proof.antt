@@ -1,45 +1,36 @@
 -- `sizing::go_on`: the loop has come to the run's word after so many flips, for every code that is lent. Assumes nothing.
-use mathlib.Core.Path.{_≡_, refl, sym, ap, _∙_, subst}
-use Prim.Native.Nat.{ℕ, _+_, _-_, _*_, _≤_, _<_}
+use mathlib.Core.Path.{_≡_, refl, sym, ap, _∙_}
+use Prim.Native.Nat.{_-_, _≤_, _<_}
 use native.Mathlib.Omega.{arith}
-use lib.ListN.{length}
-use Rattle.bits.specs.Bits.{flipped}
-use Rattle.rules.specs.Codes.{Code, bits}
+use Rattle.rules.specs.Codes.{Code}
 use Rattle.rules.specs.Checks.{broken}
 use Rattle.answers.specs.Calls.{differing}
 use Rattle.answers.proofs.Differing.{differ-self}
 use Rattle.vectors.specs.Vectors.{wbit}
 use Rattle.layout.specs.Lent.{Lent, laid}
 use Rattle.bounds.specs.Keeping.{Ready}
-use Rattle.runs.specs.Passes.{Going}
-use Rattle.runs.proofs.Passing.{going-start, ends-quiet, ends-stuck, ends-limit, goes-on, runs-as}
+use Rattle.runs.proofs.Passing.{going-start}
 use Rattle.sizes.specs.Samples.{read, smaller}
 use Rattle.sizes.specs.Sizes.{bySize}
 use Rattle.sizing.specs.Passing.{Stands, Coming}
-use Rattle.runs.proofs.Sizes.{sized-quiet}
-use Rattle.sizing.proofs.Sized.{sized-stuck, sized-flip, sized-left}
-use Rattle.sizing.proofs.Passes.{differs-flip, chosen-most, chosen-leads, chosen-stands, stands-as}
+use Rattle.sizing.proofs.Passes.{pass-ends, comes-quiet}
 use borrow.Author.Needs.{needs}
 use Rattle.sizing.proofs.go_on.Statement.{statement}
 use Rattle.sizing.proofs.go_on.Tie as tie
 
 abbrev Inv-loop : tie.InvT-loop
-Inv-loop samples y₀ d₀ starts counts met₀ kept₀ h sh limit first most flips₀ left₀ unlike₀ y d met kept flips left unlike =
-    (length y ≡ 130) × (length d ≡ 65) × (length kept ≡ 16) × (flips ≤ limit) × (limit < 65536) × (unlike ≤ flips)
-    × Ready sh starts counts met
-    × ((c : Code) → Lent c h sh → c .unsent ≡ 0 → first ≡ broken c (wbit y₀) → Stands c sh samples (wbit y₀) d₀ starts counts met₀ kept₀
-    → Coming c sh samples limit (wbit y₀) flips y d starts counts met kept left unlike)
+Inv-loop samples y₀ d₀ starts counts met₀ kept₀ h sh limit first flips₀ left₀ unlike₀ y d met kept flips left unlike =
+    (flips ≤ limit) × (limit < 65536) × (unlike ≤ flips) × Ready sh starts counts met × ((c : Code) → Lent c h sh → c .unsent ≡ 0 → first
+    ≡ broken c (wbit y₀) → Stands c sh samples (wbit y₀) d₀ starts counts met₀ kept₀ → Coming c sh samples limit (wbit y₀) flips y d
+    starts counts met kept left unlike)
 
 abbrev μ-loop : tie.MeasureT-loop
-μ-loop samples y₀ d₀ starts counts met₀ kept₀ h sh limit first most flips₀ left₀ unlike₀ y d met kept flips left unlike = limit - flips
+μ-loop samples y₀ d₀ starts counts met₀ kept₀ h sh limit first flips₀ left₀ unlike₀ y d met kept flips left unlike = limit - flips
 
 loop-holds : tie.Need-loop-holds Inv-loop μ-loop
 loop-holds c =
-    let s = c .before .before .before .before .before .before .before .before in
+    let s = c .before in
     let a = s .args in (
-      s .pre .4,
-      s .pre .5,
-      s .pre .3,
       omega arith,
       search needs,
       omega arith,
@@ -49,236 +40,76 @@ loop-holds c =
             (laid k (a .sh) (wbit (a .y .now))) refl;
         left-is = e;
         stands = λ l. w;
-        differs = sym (ap (differing k (read (a .samples .now))) (s .pre .9) ∙ differ-self k (read (a .samples .now)));
+        differs = sym (ap (differing k (read (a .samples .now))) (s .pre .6) ∙ differ-self k (read (a .samples .now)));
       },
     )
 
-choose-requires : tie.Need-choose-requires Inv-loop μ-loop
-choose-requires c κs =
+go-once-requires : tie.Need-go-once-requires Inv-loop μ-loop
+go-once-requires c κs =
     let s : tie.Start Inv-loop μ-loop = search in
-    let l = c .before .before .before .before .loop in
-    (l .inv .6, l .inv .2, l .inv .1, s .pre .6, s .pre .7, s .pre .8)
+    let in-loop : tie.In-loop Inv-loop μ-loop = search in
+    let l = in-loop .before .loop in
+    let w = s .pre .7 in
+    let i = l .inv .4 (w .code) (w .lent) (w .unsent) (w .left-is) (w .stands) in (
+      s .pre .0,
+      s .pre .1,
+      l .inv .3,
+      s .pre .3,
+      s .pre .4,
+      s .pre .5,
+      omega (arith, l .inv .0, l .inv .1, l .inv .2),
+      in-loop .loop-test .taken,
+      record {
+        code = w .code;
+        lent = w .lent;
+        unsent = w .unsent;
+        left-is = i .left-is;
+        stands = i .stands (in-loop .loop-test .taken);
+      },
+    )
 
 at-end-requires : tie.Need-at-end-requires Inv-loop μ-loop
 at-end-requires c κs = tt
 
-same-length : tie.Need-same-length Inv-loop μ-loop
-same-length c = search needs
-
-same-length-2 : tie.Need-same-length-2 Inv-loop μ-loop
-same-length-2 c = search needs
-
-same-length-3 : tie.Need-same-length-3 Inv-loop μ-loop
-same-length-3 c =
-    let s : tie.Start Inv-loop μ-loop = search in
-    c .before .before .before .before .before .before .before .choose .ensures .0 .met-long ∙ sym (s .pre .2 .met-long)
-
-same-length-4 : tie.Need-same-length-4 Inv-loop μ-loop
-same-length-4 c = search needs
-
 returns : tie.Need-returns Inv-loop μ-loop
 returns c k lent u eq w =
-    let in-loop : tie.In-loop Inv-loop μ-loop = search in
     let s : tie.Start Inv-loop μ-loop = search in
+    let at-loop : tie.At-loop Inv-loop μ-loop = search in
     let a = s .args in
-    let l = in-loop .before .loop in
-    let f = c .before .before .before .before .before .before .before .choose in
     let e = c .at-end .ensures in
-    let i = l .inv .7 k lent u eq w in
-    let x = a .samples .now in
-    let was = i .stands (in-loop .loop-test .taken) in
-    let most = chosen-most k (a .h .now) (a .sh) lent (s .pre .0) (a .starts .now) (a .counts .now) (s .pre .1) x (wbit (l .y)) (l .d) (l
-    .met)
-    (l .kept) was (f .result .bit) (f .result .score) (f .ensures .2) in
-    let leads = chosen-leads k (a .h .now) (a .sh) lent (s .pre .0) (a .starts .now) (a .counts .now) (s .pre .1) x (wbit (l .y)) (l .d)
-    (l .met)
-    (l .kept) was (f .result .bit) (f .result .score) (f .ensures .2) in
-    let next = sized-stuck x lent u (wbit (l .y)) (f .result .bit) (f .result .score) (f .ensures .1) (s .pre .7) most leads
-    (λ z. omega (arith, z, i .left-is, in-loop .loop-test .taken)) (c .before .if1 .taken) in
-    record {
-      runs = runs-as _ _ (e .0) (e .1) (ends-stuck (bySize (smaller x) k) k (a .sh) (a .limit) (wbit (a .y .now)) (l .flips) (wbit (l .y)) _
-          (i .going) _ _ next);
-      last = e .2 ∙ i .left-is;
-      differs = e .3 ∙ i .differs ∙ ap (λ z. differing k z (wbit (l .y))) (sym (s .pre .9));
-    }
+    let p = c .before .before .before .go-once .ensures .3 k (wbit (a .y .now)) lent u (at-loop .loop .inv .4 k lent u eq w) in
+    pass-ends p (c .before .if1 .taken) (s .pre .6) (c .at-end .result) (e .0) (e .1) (e .2) (e .3)
+
+add-flips : tie.Need-add-flips Inv-loop μ-loop
+add-flips c =
+    let at-loop : tie.At-loop Inv-loop μ-loop = search in
+    omega (arith, at-loop .loop .inv .0, at-loop .loop .inv .1)
+
+loop-less : tie.Need-loop-less Inv-loop μ-loop
+loop-less c = omega (arith, c .before .before .go-once .ensures .1 (c .if1 .left))
+
+loop-again : tie.Need-loop-again Inv-loop μ-loop
+loop-again c =
+    let s : tie.Start Inv-loop μ-loop = search in
+    let at-loop : tie.At-loop Inv-loop μ-loop = search in
+    let l = at-loop .loop in
+    let g = c .before .before .go-once .ensures in (
+      omega (arith, g .1 (c .if1 .left)),
+      l .inv .1,
+      omega (arith, g .2, l .inv .2),
+      g .0,
+      λ k lent u eq w. g .3 k (wbit (s .args .y .now)) lent u (l .inv .4 k lent u eq w) .goes (c .if1 .left),
+    )
 
 at-end-requires-2 : tie.Need-at-end-requires-2 Inv-loop μ-loop
 at-end-requires-2 c κs = tt
 
-same-length-5 : tie.Need-same-length-5 Inv-loop μ-loop
-same-length-5 c = search needs
-
-same-length-6 : tie.Need-same-length-6 Inv-loop μ-loop
-same-length-6 c = search needs
-
-same-length-7 : tie.Need-same-length-7 Inv-loop μ-loop
-same-length-7 c =
-    let s : tie.Start Inv-loop μ-loop = search in
-    c .before .before .before .before .before .before .before .before .choose .ensures .0 .met-long ∙ sym (s .pre .2 .met-long)
-
-same-length-8 : tie.Need-same-length-8 Inv-loop μ-loop
-same-length-8 c = search needs
-
 returns-2 : tie.Need-returns-2 Inv-loop μ-loop
 returns-2 c k lent u eq w =
-    let in-loop : tie.In-loop Inv-loop μ-loop = search in
     let s : tie.Start Inv-loop μ-loop = search in
-    let a = s .args in
-    let l = in-loop .before .loop in
-    let f = c .before .before .before .before .before .before .before .before .choose in
     let e = c .at-end2 .ensures in
-    let i = l .inv .7 k lent u eq w in
-    let x = a .samples .now in
-    let was = i .stands (in-loop .loop-test .taken) in
-    let most = chosen-most k (a .h .now) (a .sh) lent (s .pre .0) (a .starts .now) (a .counts .now) (s .pre .1) x (wbit (l .y)) (l .d) (l
-    .met)
-    (l .kept) was (f .result .bit) (f .result .score) (f .ensures .2) in
-    let leads = chosen-leads k (a .h .now) (a .sh) lent (s .pre .0) (a .starts .now) (a .counts .now) (s .pre .1) x (wbit (l .y)) (l .d)
-    (l .met)
-    (l .kept) was (f .result .bit) (f .result .score) (f .ensures .2) in
-    let next = sized-flip x lent u (wbit (l .y)) (f .result .bit) (f .result .score) (f .ensures .1) (s .pre .7) most leads (s .pre .8)
-    (λ z. omega (arith, z, i .left-is, in-loop .loop-test .taken)) (c .before .before .if1 .left) in
-    record {
-      runs = runs-as _ _ (e .0) (e .1) (ends-limit (bySize (smaller x) k) k (a .sh) (a .limit) (wbit (a .y .now)) (l .flips) (wbit (l .y)) _
-          (i .going) _ _ next (c .before .if2 .taken));
-      last = e .2 ∙ i .left-is;
-      differs = e .3 ∙ i .differs ∙ ap (λ z. differing k z (wbit (l .y))) (sym (s .pre .9));
-    }
-
-sub-left : tie.Need-sub-left Inv-loop μ-loop
-sub-left c = omega (arith, c .before .before .if1 .left)
-
-sub-left-2 : tie.Need-sub-left-2 Inv-loop μ-loop
-sub-left-2 c =
-    let in-loop : tie.In-loop Inv-loop μ-loop = search in
-    let s : tie.Start Inv-loop μ-loop = search in
-    let a = s .args in
-    let l = in-loop .before .loop in
-    let f = c .before .before .before .before .before .before .before .before .choose in
-    let w = s .pre .10 in
-    let i = l .inv .7 (w .code) (w .lent) (w .unsent) (w .left-is) (w .stands) in
-    let x = a .samples .now in
-    let was = i .stands (in-loop .loop-test .taken) in
-    let most = chosen-most (w .code) (a .h .now) (a .sh) (w .lent) (s .pre .0) (a .starts .now) (a .counts .now) (s .pre .1) x (wbit (l
-    .y)) (l .d)
-    (l .met) (l .kept) was (f .result .bit) (f .result .score) (f .ensures .2) in
-    let leads = chosen-leads (w .code) (a .h .now) (a .sh) (w .lent) (s .pre .0) (a .starts .now) (a .counts .now) (s .pre .1) x (wbit (l
-    .y)) (l .d)
-    (l .met) (l .kept) was (f .result .bit) (f .result .score) (f .ensures .2) in
-    omega (
-      arith,
-      i .left-is,
-      sized-left x (w .lent) (w .unsent) (wbit (l .y)) (f .result .bit) (f .result .score) (f .ensures .1) (s .pre .7)
-          most leads (omega (arith, c .before .before .if1 .left)),
-    )
-
-pass-requires : tie.Need-pass-requires Inv-loop μ-loop
-pass-requires c κs =
-    let after-choose : tie.After-choose Inv-loop μ-loop = search in
-    let s : tie.Start Inv-loop μ-loop = search in
-    let l = after-choose .before .before .before .before .before .loop in
-    let f = after-choose .choose in (
-      f .ensures .0,
-      search needs,
-      l .inv .0,
-      l .inv .1,
-      s .pre .7,
-      omega (arith, s .pre .7, s .pre .0 .bits),
-      s .pre .8,
-      omega (arith, s .pre .7, f .ensures .1),
-      omega (arith, l .inv .3, l .inv .4, l .inv .5),
-    )
-
-add-flips : tie.Need-add-flips Inv-loop μ-loop
-add-flips c =
-    let in-loop : tie.In-loop Inv-loop μ-loop = search in
-    let l = in-loop .before .loop in
-    omega (arith, l .inv .3, l .inv .4)
-
-loop-less : tie.Need-loop-less Inv-loop μ-loop
-loop-less c =
-    let else2 : tie.Else2 Inv-loop μ-loop = search in
-    omega (arith, else2 .if2 .left)
-
-loop-again : tie.Need-loop-again Inv-loop μ-loop
-loop-again c =
-    let else2 : tie.Else2 Inv-loop μ-loop = search in
-    let in-loop = let after-choose = else2 .before .before .before .before .before .before .before in
-    after-choose .before .before .before .before in
-    let s : tie.Start Inv-loop μ-loop = search in
-    let a = s .args in
-    let l = in-loop .before .loop in
-    let f = else2 .before .before .before .before .before .before .before .choose in
-    let t = c .before .before .before .before .before .before .before .before .pass in
-    let x = a .samples .now in
-    let bit = f .result .bit in
-    let top = f .result .score in (
-      search needs,
-      search needs,
-      omega (arith, c .before .kept2 .given, else2 .before .before .before .before .kept .given, l .inv .2),
-      omega (arith, else2 .if2 .left),
-      l .inv .4,
-      omega (arith, t .ensures .1, l .inv .5),
-      t .ensures .0,
-      λ k lent u eq w.
-          let i = l .inv .7 k lent u eq w in
-          let was = i .stands (in-loop .loop-test .taken) in
-          let most = chosen-most k (a .h .now) (a .sh) lent (s .pre .0) (a .starts .now) (a .counts .now) (s .pre .1) x (wbit (l .y)) (l .d)
-          (l .met) (l .kept) was bit top (f .ensures .2) in
-          let leads = chosen-leads k (a .h .now) (a .sh) lent (s .pre .0) (a .starts .now) (a .counts .now) (s .pre .1) x (wbit (l .y)) (l
-          .d)
-          (l .met) (l .kept) was bit top (f .ensures .2) in
-          let word = t .ensures .3 in
-          let next = sized-flip x lent u (wbit (l .y)) bit top (f .ensures .1) (s .pre .7) most leads (s .pre .8)
-          (λ z. omega (arith, z, i .left-is, in-loop .loop-test .taken)) (else2 .before .if1 .left) in
-          let left = sized-left x lent u (wbit (l .y)) bit top (f .ensures .1) (s .pre .7) most leads (omega (
-            arith,
-            else2 .before .if1 .left,
-          )) in
-          record {
-            going = subst (λ z. Going (bySize (smaller x) k) k (a .sh) (a .limit) (wbit (a .y .now)) (l .flips + 1) z (laid k (a .sh) z))
-                (sym word)
-                (goes-on (bySize (smaller x) k) k (a .sh) (a .limit) (wbit (a .y .now)) (l .flips) (wbit (l .y)) _ (i .going) _ _ next
-                (else2 .if2 .left) _ _ refl refl);
-            left-is = omega (arith, left, i .left-is, ap (broken k) word);
-            stands = λ some. stands-as (sym word)
-                (t .ensures .4 k (a .h .now) lent (s .pre .1) some
-                (chosen-stands k (a .h .now) (a .sh) lent (s .pre .0) (a .starts .now) (a .counts .now) (s .pre .1) x (wbit (l .y)) (l .d)
-                (l .met) (l .kept) was bit top (f .ensures .2)));
-            differs = differs-flip k x (wbit (l .y)) bit (omega (arith, f .ensures .1, lent .bits-are)) (l .unlike) (t .result) (i .differs)
-                (t .ensures .2) ∙ ap (differing k (read x)) (sym word);
-          },
-    )
-
-at-end-requires-3 : tie.Need-at-end-requires-3 Inv-loop μ-loop
-at-end-requires-3 c κs = tt
-
-same-length-9 : tie.Need-same-length-9 Inv-loop μ-loop
-same-length-9 c = search needs
-
-same-length-10 : tie.Need-same-length-10 Inv-loop μ-loop
-same-length-10 c = search needs
-
-same-length-11 : tie.Need-same-length-11 Inv-loop μ-loop
-same-length-11 c = search needs
-
-same-length-12 : tie.Need-same-length-12 Inv-loop μ-loop
-same-length-12 c = search needs
-
-returns-3 : tie.Need-returns-3 Inv-loop μ-loop
-returns-3 c k lent u eq w =
-    let s : tie.Start Inv-loop μ-loop = search in
-    let a = s .args in
-    let l = c .before .before .loop in
-    let e = c .at-end3 .ensures in
-    let i = l .inv .7 k lent u eq w in
-    let none : broken k (wbit (l .y)) ≡ 0 = omega (arith, i .left-is, c .before .loop-test .left) in
-    record {
-      runs = runs-as _ _ (e .0) (e .1) (ends-quiet (bySize (smaller (a .samples .now)) k) k (a .sh) (a .limit) (wbit (a .y .now))
-          (l .flips) (wbit (l .y)) _ (i .going) (sized-quiet (smaller (a .samples .now)) k (wbit (l .y)) none));
-      last = e .2 ∙ sym none;
-      differs = e .3 ∙ i .differs ∙ ap (λ z. differing k z (wbit (l .y))) (sym (s .pre .9));
-    }
+    comes-quiet (c .before .before .loop .inv .4 k lent u eq w) (c .before .loop-test .left) (s .pre .6) (c .at-end2 .result) (e .0) (e .1)
+    (e .2) (e .3)
 
 pub go-on-spec : {M : Type 1} → statement M
 go-on-spec =
@@ -287,28 +118,11 @@ go-on-spec =
     Inv-loop
     μ-loop
     loop-holds
-    choose-requires
+    go-once-requires
     at-end-requires
-    same-length
-    same-length-2
-    same-length-3
-    same-length-4
     returns
-    at-end-requires-2
-    same-length-5
-    same-length-6
-    same-length-7
-    same-length-8
-    returns-2
-    sub-left
-    sub-left-2
-    pass-requires
     add-flips
     loop-less
     loop-again
-    at-end-requires-3
-    same-length-9
-    same-length-10
-    same-length-11
-    same-length-12
-    returns-3)
+    at-end-requires-2
+    returns-2)

@@ -15,15 +15,13 @@ abbrev μ-loop : tie.MeasureT-loop
 μ-loop y x₀ j₀ x j = 16 - j
 
 loop-holds : tie.Need-loop-holds Inv-loop μ-loop
-loop-holds c =
-    let s : tie.Start Inv-loop μ-loop = search needs in
-    (omega arith, s .pre .1, λ q l. absurd (omega arith))
+loop-holds c = (omega arith, c .pre, λ q l. absurd (omega arith))
 
 mul-x : tie.Need-mul-x Inv-loop μ-loop
 mul-x c = omega arith
 
-shared-slice-read-x : tie.Need-shared-slice-read-x Inv-loop μ-loop
-shared-slice-read-x c = omega arith
+element-copy-out-x : tie.Need-element-copy-out-x Inv-loop μ-loop
+element-copy-out-x c = omega arith
 
 mul-x-2 : tie.Need-mul-x-2 Inv-loop μ-loop
 mul-x-2 c = omega arith
@@ -58,7 +56,7 @@ keep-spec =
     μ-loop
     loop-holds
     mul-x
-    shared-slice-read-x
+    element-copy-out-x
     mul-x-2
     slice-write-x
     add-j

@@ -1,74 +1,52 @@
 -- `sizing::pass`: the bit is flipped in the word, and what is kept follows while a check is broken. Assumes nothing.
+use mathlib.Core.Path.{refl}
 use native.Mathlib.Omega.{arith}
 use Rattle.vectors.specs.Vectors.{wbit}
 use borrow.Author.Needs.{needs}
 use Rattle.sizing.proofs.pass.Statement.{statement}
 use Rattle.sizing.proofs.pass.Tie as tie
 
-counted-requires : tie.Need-counted-requires
-counted-requires c κs = search needs
+flip-counted-requires : tie.Need-flip-counted-requires
+flip-counted-requires c κs = search needs
 
-flip-bit-requires : tie.Need-flip-bit-requires
-flip-bit-requires c κs = search needs
+sub-left : tie.Need-sub-left
+sub-left c = search needs
 
 flip-requires : tie.Need-flip-requires
 flip-requires c κs =
     let s : tie.Start = search in
-    (s .pre .0, s .pre .1, s .pre .3, s .pre .4, s .pre .6, omega (arith, s .pre .4, s .pre .7))
-
-same-length : tie.Need-same-length
-same-length c = search needs
-
-same-length-2 : tie.Need-same-length-2
-same-length-2 c = search needs
-
-same-length-3 : tie.Need-same-length-3
-same-length-3 c = search needs
-
-same-length-4 : tie.Need-same-length-4
-same-length-4 c = search needs
+    (s .pre .0, s .pre .1, s .pre .3, omega (arith, s .pre .1, s .pre .4))
 
 returns : tie.Need-returns
 returns c =
-    let after-flip-bit : tie.After-flip-bit = search in
+    let flipped : tie.After-flip-counted = search in
     let s : tie.Start = search in
     let a = s .args in
-    let f = c .before .before .before .before .before .before .flip in
-    let n = after-flip-bit .before .before .counted in (
-      f .ensures .0,
-      n .ensures .0,
-      n .ensures .1,
-      after-flip-bit .flip-bit .ensures,
+    let f = c .flip .ensures in
+    let t = flipped .flip-counted .ensures in (
+      f .0,
+      refl,
+      refl,
+      t .0,
+      t .1,
+      t .2,
       λ k h lent g l was.
-          let e = f .ensures .1 k h (wbit (a .y .now)) lent g (was .twice) in
+          let e = f .1 k h (wbit (a .y .now)) lent g (was .twice) in
           record { twice = e .0; knows = e .1 (was .knows) },
     )
-
-same-length-5 : tie.Need-same-length-5
-same-length-5 c = search needs
 
 returns-2 : tie.Need-returns-2
 returns-2 c =
     let s : tie.Start = search in
-    let n = c .before .before .before .before .before .counted in (
-      s .pre .0,
-      n .ensures .0,
-      n .ensures .1,
-      c .before .before .before .flip-bit .ensures,
-      λ k h lent g l was. absurd (omega (arith, c .if1 .left)),
-    )
+    let t = c .before .flip-counted .ensures in
+    (s .pre .0, refl, refl, t .0, t .1, t .2, λ k h lent g l was. absurd (omega (arith, c .if1 .left)))
 
 pub pass-spec : {M : Type 1} → statement M
 pass-spec =
     tie.close
     (tie.spec
-    counted-requires
-    flip-bit-requires
+    flip-counted-requires
+    sub-left
     flip-requires
-    same-length
-    same-length-2
-    same-length-3
-    same-length-4
     returns
-    same-length-5
     returns-2)

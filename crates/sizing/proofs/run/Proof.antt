@@ -34,17 +34,11 @@ returns c k w =
 run-narrow-requires : tie.Need-run-narrow-requires
 run-narrow-requires c κs = search needs
 
-same-length : tie.Need-same-length
-same-length c = search needs
-
 returns-2 : tie.Need-returns-2
 returns-2 c = search needs
 
 run-bounded-requires : tie.Need-run-bounded-requires
 run-bounded-requires c κs = search needs
-
-same-length-2 : tie.Need-same-length-2
-same-length-2 c = search needs
 
 returns-3 : tie.Need-returns-3
 returns-3 c = search needs
@@ -56,8 +50,6 @@ run-spec =
     at-end-requires
     returns
     run-narrow-requires
-    same-length
     returns-2
     run-bounded-requires
-    same-length-2
     returns-3)

@@ -1,13 +1,12 @@
 -- `smallest::choose`: where nothing is found, the greatest bound has gone down. Assumes nothing.
-use mathlib.Core.Path.{_≡_, sym, ap, _∙_, subst}
-use Prim.Native.Nat.{ℕ, _+_, _-_, _*_, _≤_, _<_}
+use mathlib.Core.Path.{sym, subst}
+use Prim.Native.Nat.{_≤_}
 use native.Mathlib.Omega.{arith}
-use lib.ListN.{length, getD}
 use Rattle.vectors.specs.Vectors.{wbit}
 use Rattle.bounds.specs.Keeping.{bound, Ready}
 use Rattle.choice.specs.Searching.{highest}
 use Rattle.choice.proofs.Searches.{highest-above, highest-less}
-use Rattle.smallest.specs.Knowing.{Knows, whole}
+use Rattle.raising.specs.Knowing.{Knows, whole}
 use Rattle.smallest.proofs.Searching.{all-under}
 use borrow.Author.Needs.{needs}
 use Rattle.smallest.proofs.choose.Statement.{statement}
@@ -15,30 +14,30 @@ use Rattle.smallest.proofs.choose.Tie as tie
 
 abbrev Inv-loop : tie.InvT-loop
 Inv-loop samples d starts counts met₀ kept₀ sh met kept =
-    (length kept ≡ 16) × Ready sh starts counts met
+    Ready sh starts counts met
     × (Knows samples sh (wbit d) starts counts whole met₀ kept₀ → Knows samples sh (wbit d) starts counts whole met kept)
 
 abbrev μ-loop : tie.MeasureT-loop
 μ-loop samples d starts counts met₀ kept₀ sh met kept = highest counts met (sh .blocks)
 
 loop-holds : tie.Need-loop-holds Inv-loop μ-loop
-loop-holds c = let s = c .before .before .before .before .before .before in (s .pre .1, s .pre .0, λ was. was)
+loop-holds c = (c .before .pre .0, λ was. was)
 
 greatest-requires : tie.Need-greatest-requires Inv-loop μ-loop
 greatest-requires c κs =
-    let r = c .before .loop .inv .1 in
+    let at-loop : tie.At-loop Inv-loop μ-loop = search in
+    let r = at-loop .loop .inv .0 in
     (omega (arith, r .counts-long, r .blocks), omega (arith, r .met-long, r .blocks), λ b h. (r .low b h, r .few b h))
 
 smallest-at-requires : tie.Need-smallest-at-requires Inv-loop μ-loop
 smallest-at-requires c κs =
     let s : tie.Start Inv-loop μ-loop = search in
     let a = s .args in
-    let l = c .before .before .before .before .loop in (
-      l .inv .1,
+    let at-loop : tie.At-loop Inv-loop μ-loop = search in
+    let l = at-loop .loop in (
       l .inv .0,
       s .pre .2,
-      s .pre .4,
-      s .pre .5,
+      s .pre .3,
       λ b h. subst (λ t. bound (a .counts .now) (l .met) b ≤ t) (sym (c .before .before .greatest .ensures))
           (highest-above (a .counts .now) (l .met) (a .sh .blocks) b h),
     )
@@ -46,30 +45,24 @@ smallest-at-requires c κs =
 cast-t18 : tie.Need-cast-t18 Inv-loop μ-loop
 cast-t18 c = search needs
 
-same-length : tie.Need-same-length Inv-loop μ-loop
-same-length c = search needs
-
-same-length-2 : tie.Need-same-length-2 Inv-loop μ-loop
-same-length-2 c = search needs
-
 returns : tie.Need-returns Inv-loop μ-loop
 returns c =
     let after-greatest : tie.After-greatest Inv-loop μ-loop = search in
     let s : tie.Start Inv-loop μ-loop = search in
     let a = s .args in
-    let l = after-greatest .before .before .loop in
-    let f = c .before .before .before .before .before .smallest-at in
-    let g = c .before .before .before .before .before .before .before .before .greatest in (
+    let at-loop : tie.At-loop Inv-loop μ-loop = search in
+    let l = at-loop .loop in
+    let f = c .before .smallest-at in
+    let g = after-greatest .greatest in (
       f .ensures .0,
-      omega (arith, s .pre .4, c .if1 .taken),
+      omega (arith, s .pre .2, c .if1 .taken),
       λ was.
-          let now = l .inv .2 was in
+          let now = l .inv .1 was in
           let p = f .ensures .2 now in (
             p .0,
             λ h scored. (
-              all-under (a .samples .now) (a .sh) (wbit (a .d .now)) (a .starts .now) (a .counts .now) (l .met) (l .kept) (l .inv .1) (g
-                  .result)
-                  (λ b hb. subst (λ t. bound (a .counts .now) (l .met) b ≤ t) (sym (g .ensures))
+              all-under (a .samples .now) (a .sh) (wbit (a .d .now)) (a .starts .now) (a .counts .now) (l .met) (l .kept) (l .inv .0)
+                  (g .result) (λ b hb. subst (λ t. bound (a .counts .now) (l .met) b ≤ t) (sym (g .ensures))
                   (highest-above (a .counts .now) (l .met) (a .sh .blocks) b hb)) now h scored,
               p .1 h scored,
             ),
@@ -81,17 +74,18 @@ loop-less c =
     let after-greatest : tie.After-greatest Inv-loop μ-loop = search in
     let s : tie.Start Inv-loop μ-loop = search in
     let a = s .args in
-    let l = after-greatest .before .before .loop in
-    highest-less (a .counts .now) (l .met) _ (a .sh .blocks) (c .before .before .before .before .before .before .before .before .greatest
-    .result) (s .pre .3) (c .before .before .before .before .before .before .before .before .greatest .ensures)
-    (c .before .before .before .before .before .smallest-at .ensures .1 (c .if1 .left))
+    let at-loop : tie.At-loop Inv-loop μ-loop = search in
+    let l = at-loop .loop in
+    let g = after-greatest .greatest in
+    highest-less (a .counts .now) (l .met) _ (a .sh .blocks) (g .result) (s .pre .1) (g .ensures)
+    (c .before .smallest-at .ensures .1 (c .if1 .left))
 
 loop-again : tie.Need-loop-again Inv-loop μ-loop
 loop-again c =
     let at-loop : tie.At-loop Inv-loop μ-loop = search in
     let l = at-loop .loop in
-    let f = c .before .before .before .before .before .smallest-at in
-    (search needs, f .ensures .0, λ was. f .ensures .2 (l .inv .2 was) .0)
+    let f = c .before .smallest-at in
+    (f .ensures .0, λ was. f .ensures .2 (l .inv .1 was) .0)
 
 pub choose-spec : {M : Type 1} → statement M
 choose-spec =
@@ -103,8 +97,6 @@ choose-spec =
     greatest-requires
     smallest-at-requires
     cast-t18
-    same-length
-    same-length-2
     returns
     loop-less
     loop-again)

@@ -5,7 +5,7 @@ use native.Mathlib.Omega.{arith}
 use lib.ListN.{length}
 use Rattle.sizes.specs.Samples.{smaller}
 use Rattle.sizes.proofs.Orders.{finite-ordered}
-use Rattle.smallest.proofs.Orders.{ahead-self, either-under}
+use Rattle.raising.proofs.Orders.{ahead-self, either-under}
 use borrow.Author.Needs.{needs}
 use Rattle.smallest.proofs.lead.Statement.{statement}
 use Rattle.smallest.proofs.lead.Tie as tie

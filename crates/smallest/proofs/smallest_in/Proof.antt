@@ -1,8 +1,8 @@
 -- `smallest::smallest_in`: 64 bits more at each pass. Assumes nothing.
-use Prim.Native.Nat.{ℕ, _+_, _-_, _≤_, _<_}
+use Prim.Native.Nat.{_+_, _-_, _≤_}
 use native.Mathlib.Omega.{arith}
 use Rattle.vectors.specs.Vectors.{wbit}
-use Rattle.smallest.specs.Knowing.{Lightest}
+use Rattle.smallest.specs.Settling.{Lightest}
 use Rattle.smallest.proofs.Searching.{none-light, mask-light, lightest-more, lightest-all}
 use Rattle.smallest.proofs.smallest_in.Statement.{statement}
 use Rattle.smallest.proofs.smallest_in.Tie as tie

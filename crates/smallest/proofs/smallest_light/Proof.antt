@@ -4,7 +4,8 @@ use Prim.Native.Nat.{ℕ}
 use borrow.Author.Needs.{needs}
 use borrow.Author.Tests.{eqb-true}
 use Rattle.vectors.specs.Vectors.{wbit}
-use Rattle.smallest.specs.Knowing.{Within, Lightest}
+use Rattle.raising.specs.Knowing.{Within}
+use Rattle.smallest.specs.Settling.{Lightest}
 use Rattle.smallest.proofs.smallest_light.Statement.{statement}
 use Rattle.smallest.proofs.smallest_light.Tie as tie
 

@@ -4,7 +4,7 @@ use mathlib.Core.Logic.{⊎-elim}
 use Prim.Native.Nat.{ℕ, _+_, _-_, _≤_}
 use native.Mathlib.Omega.{arith}
 use Rattle.vectors.specs.Vectors.{wbit}
-use Rattle.smallest.specs.Knowing.{Lightest}
+use Rattle.smallest.specs.Settling.{Lightest}
 use Rattle.smallest.proofs.Masks.{among-none}
 use Rattle.smallest.proofs.Searching.{none-light, mask-light, lightest-more, lightest-all}
 use Rattle.smallest.proofs.Fours.{Near, four-near, none-cut, none-clear}

@@ -1,16 +1,16 @@
 -- `smallest::still`: the bit before stays ahead; or the known bit does, and it has no more checks met. Assumes nothing.
-use mathlib.Core.Path.{_≡_, refl, sym, ap, _∙_, subst}
-use mathlib.Core.Logic.{_⊎_, inl, inr}
-use Prim.Native.Nat.{ℕ, _+_, _%_, _≤_, _<_}
+use mathlib.Core.Path.{refl, subst}
+use mathlib.Core.Logic.{inl, inr}
+use Prim.Native.Nat.{_+_, _%_}
 use native.Mathlib.Nat.{mod-lt}
 use native.Mathlib.Omega.{arith}
-use lib.ListN.{length, getD}
+use lib.ListN.{getD}
 use Rattle.bits.proofs.Counting.{count-le}
 use Rattle.vectors.specs.Vectors.{wbit}
 use Rattle.sizes.specs.Samples.{smaller}
-use Rattle.smallest.specs.Knowing.{Ahead}
-use Rattle.smallest.proofs.Orders.{other-one}
-use Rattle.smallest.proofs.Seeing.{within-less}
+use Rattle.raising.specs.Knowing.{Ahead}
+use Rattle.raising.proofs.Orders.{other-one}
+use Rattle.raising.proofs.Seeing.{within-less}
 use borrow.Author.Needs.{needs}
 use Rattle.smallest.proofs.still.Statement.{statement}
 use Rattle.smallest.proofs.still.Tie as tie

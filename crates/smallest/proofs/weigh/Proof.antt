@@ -1,19 +1,17 @@
 -- `smallest::weigh`: the block's smallest bit is kept; or it has none, and its bound goes down. Assumes nothing.
-use Prim.Native.Nat.{ℕ, _+_, _*_, _≤_, _<_}
 use native.Mathlib.Omega.{arith}
-use lib.ListN.{length}
 use Rattle.vectors.specs.Vectors.{wbit}
-use Rattle.smallest.proofs.Seeing.{block-room, block-within}
-use Rattle.smallest.proofs.Searching.{weighed-some, weighed-none, heavier}
+use Rattle.raising.proofs.Seeing.{block-room, block-within}
+use Rattle.smallest.proofs.Searching.{weighed-some, weighed-none}
 use borrow.Author.Needs.{needs}
 use Rattle.smallest.proofs.weigh.Statement.{statement}
 use Rattle.smallest.proofs.weigh.Tie as tie
 
-shared-slice-read-n : tie.Need-shared-slice-read-n
-shared-slice-read-n c = search needs
+element-copy-out-n : tie.Need-element-copy-out-n
+element-copy-out-n c = search needs
 
 cast-n : tie.Need-cast-n
-cast-n c = let s = c .before .before .before .before .before .before .before in omega (arith, s .pre .0 .low (s .args .b) (s .pre .5))
+cast-n c = let s : tie.Start = search in omega (arith, s .pre .0 .low (s .args .b) (s .pre .4))
 
 mul-smallest-light : tie.Need-mul-smallest-light
 mul-smallest-light c = search needs
@@ -23,23 +21,23 @@ slice-read-smallest-light c = search needs
 
 cast-smallest-light : tie.Need-cast-smallest-light
 cast-smallest-light c =
-    let s = c .before .before .before .before .before .before .before .before in
-    omega (arith, s .pre .0 .low (s .args .b) (s .pre .5), s .pre .0 .few (s .args .b) (s .pre .5))
+    let s : tie.Start = search in
+    omega (arith, s .pre .0 .low (s .args .b) (s .pre .4), s .pre .0 .few (s .args .b) (s .pre .4))
 
 mul-smallest-light-2 : tie.Need-mul-smallest-light-2
 mul-smallest-light-2 c =
-    let s = c .before .before .before .before .before .before .before .before .before in
+    let s : tie.Start = search in
     let a = s .args in
-    omega (arith, s .pre .3, block-room (a .b) (a .sh .blocks) (a .sh .size) (s .pre .5))
+    omega (arith, s .pre .2, block-room (a .b) (a .sh .blocks) (a .sh .size) (s .pre .4))
 
 smallest-light-requires : tie.Need-smallest-light-requires
 smallest-light-requires c κs =
-    let s = c .before .before .before .before .before .before .before .before .before in
+    let s : tie.Start = search in
     let a = s .args in (
-      block-within (a .sh) (a .starts .now) (a .counts .now) (a .met .now) (s .pre .0) (a .b) (s .pre .5) (a .d .now) (s .pre .2),
-      s .pre .4,
-      omega (arith, s .pre .3, block-room (a .b) (a .sh .blocks) (a .sh .size) (s .pre .5)),
-      s .pre .0 .few (a .b) (s .pre .5),
+      block-within (a .sh) (a .starts .now) (a .counts .now) (a .met .now) (s .pre .0) (a .b) (s .pre .4) (a .d .now) (search needs),
+      s .pre .3,
+      omega (arith, s .pre .2, block-room (a .b) (a .sh .blocks) (a .sh .size) (s .pre .4)),
+      s .pre .0 .few (a .b) (s .pre .4),
     )
 
 mul-kept : tie.Need-mul-kept
@@ -56,12 +54,12 @@ same-length c = search needs
 
 returns : tie.Need-returns
 returns c =
-    let s : tie.Start = search needs in
+    let s : tie.Start = search in
     let a = s .args in
     let f = c .before .before .smallest-light in
     let e = c .lead .ensures in
     weighed-some (a .samples .now) (a .sh) (wbit (a .d .now)) (a .starts .now) (a .counts .now) (a .met .now) (a .kept .now) (s .pre .0)
-    (s .pre .3) (s .pre .4) (a .b) (s .pre .5) (f .result) (f .ensures) (omega (arith, s .pre .1, s .pre .5, s .pre .0 .blocks)) (a .best)
+    (s .pre .2) (s .pre .3) (a .b) (s .pre .4) (f .result) (f .ensures) (omega (arith, s .pre .1, s .pre .4, s .pre .0 .blocks)) (a .best)
     (c .lead .result) (c .before .if1 .taken) (e .0) (e .1) (e .2) (e .3)
 
 slice-read-met : tie.Need-slice-read-met
@@ -69,8 +67,8 @@ slice-read-met c = search needs
 
 add-met : tie.Need-add-met
 add-met c =
-    let s : tie.Start = search needs in
-    omega (arith, s .pre .0 .low (s .args .b) (s .pre .5), s .pre .0 .few (s .args .b) (s .pre .5))
+    let s : tie.Start = search in
+    omega (arith, s .pre .0 .low (s .args .b) (s .pre .4), s .pre .0 .few (s .args .b) (s .pre .4))
 
 slice-write-met : tie.Need-slice-write-met
 slice-write-met c = search needs
@@ -83,18 +81,18 @@ same-length-3 c = search needs
 
 returns-2 : tie.Need-returns-2
 returns-2 c =
-    let s : tie.Start = search needs in
+    let s : tie.Start = search in
     let a = s .args in
     let f = c .before .before .smallest-light in
     weighed-none (a .samples .now) (a .sh) (wbit (a .d .now)) (a .starts .now) (a .counts .now) (a .met .now) (a .kept .now) (s .pre .0)
-    (s .pre .3) (s .pre .4) (a .b) (s .pre .5) (f .result) (f .ensures) (omega (arith, s .pre .1, s .pre .5, s .pre .0 .blocks)) (a .best)
+    (s .pre .2) (s .pre .3) (a .b) (s .pre .4) (f .result) (f .ensures) (omega (arith, s .pre .1, s .pre .4, s .pre .0 .blocks)) (a .best)
     (c .before .if1 .left)
 
 pub weigh-spec : {M : Type 1} → statement M
 weigh-spec =
     tie.close
     (tie.spec
-    shared-slice-read-n
+    element-copy-out-n
     cast-n
     mul-smallest-light
     slice-read-smallest-light

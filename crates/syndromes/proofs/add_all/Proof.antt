@@ -11,9 +11,6 @@ use Rattle.syndromes.proofs.add_all.Tie as tie
 add-narrow-blocks-requires : tie.Need-add-narrow-blocks-requires
 add-narrow-blocks-requires c κs = search needs
 
-same-length : tie.Need-same-length
-same-length c = search needs
-
 returns : tie.Need-returns
 returns c = search needs
 
@@ -21,7 +18,7 @@ array-borrow-prefix-part : tie.Need-array-borrow-prefix-part
 array-borrow-prefix-part c = search needs
 
 slice-aggregate-add-blocks : tie.Need-slice-aggregate-add-blocks
-slice-aggregate-add-blocks c = sym (length-take-le (c .before .before .before .before .before .before .args .sh .words) (replicate 8 0)
+slice-aggregate-add-blocks c = sym (length-take-le (c .before .before .before .args .sh .words) (replicate 8 0)
     (omega arith))
 
 mul-d : tie.Need-mul-d
@@ -31,23 +28,18 @@ array-borrow-prefix-d : tie.Need-array-borrow-prefix-d
 array-borrow-prefix-d c = search needs
 
 slice-aggregate-add-blocks-2 : tie.Need-slice-aggregate-add-blocks-2
-slice-aggregate-add-blocks-2 c = sym (length-take-le (2 * c .before .before .before .before .before .before .before .args .sh .words)
+slice-aggregate-add-blocks-2 c = sym (length-take-le (2 * c .before .before .before .before .args .sh .words)
     (replicate 16 0) (omega arith))
 
 add-blocks-requires : tie.Need-add-blocks-requires
 add-blocks-requires c κs =
-    let s = c .before .before .before .before .before .before .before .before in
+    let s = c .before .before .before .before .before in
     let w = s .args .sh .words in (
       s .pre .0,
-      s .pre .1,
       length-take-le w (replicate 8 0) (omega arith),
       length-take-le (2 * w) (replicate 16 0) (omega arith),
-      s .pre .2,
-      s .pre .3,
+      s .pre .1,
     )
-
-same-length-2 : tie.Need-same-length-2
-same-length-2 c = search needs
 
 returns-2 : tie.Need-returns-2
 returns-2 c = search needs
@@ -57,7 +49,6 @@ add-all-spec =
     tie.close
     (tie.spec
     add-narrow-blocks-requires
-    same-length
     returns
     array-borrow-prefix-part
     slice-aggregate-add-blocks
@@ -65,5 +56,4 @@ add-all-spec =
     array-borrow-prefix-d
     slice-aggregate-add-blocks-2
     add-blocks-requires
-    same-length-2
     returns-2)

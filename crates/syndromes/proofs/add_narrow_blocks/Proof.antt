@@ -15,25 +15,26 @@ use Rattle.syndromes.proofs.add_narrow_blocks.Statement.{statement}
 use Rattle.syndromes.proofs.add_narrow_blocks.Tie as tie
 
 abbrev Inv-loop : tie.InvT-loop
-Inv-loop y h sh acc₀ b₀ acc b = (b ≤ sh .blocks) × (length acc ≡ 16) × (wbit acc ≡ rowed (wide sh) (sh .rows) (summed sh h (wbit y) b))
+Inv-loop y h sh acc₀ b₀ acc b =
+    (b ≤ sh .blocks) × (wbit acc ≡ rowed (wide sh) (sh .rows) (summed sh h (wbit y) b))
 
 abbrev μ-loop : tie.MeasureT-loop
 μ-loop y h sh acc₀ b₀ acc b = sh .blocks - b
 
 loop-holds : tie.Need-loop-holds Inv-loop μ-loop
 loop-holds c =
-    let s = c .before .before .before in
-    (omega arith, s .pre .3, s .pre .4 ∙ summed-none (s .args .h .now) (s .args .sh) (s .pre .0) (wbit (s .args .y .now)))
+    let s = c in
+    (omega arith, s .pre .2 ∙ summed-none (s .args .h .now) (s .args .sh) (s .pre .0) (wbit (s .args .y .now)))
 
 mul-window : tie.Need-mul-window Inv-loop μ-loop
 mul-window c =
-    let s = c .before .before .before .before .before .before .before in
-    omega (arith, block-room (s .args .h .now) (s .args .sh) (s .pre .0) (c .before .before .before .loop .b) (omega arith))
+    let s = c .before .before .before .before .before in
+    omega (arith, block-room (s .args .h .now) (s .args .sh) (s .pre .0) (c .before .before .before .before .loop .b) (omega arith))
 
 window-requires : tie.Need-window-requires Inv-loop μ-loop
 window-requires c κs =
-    let s = c .before .before .before .before .before .before .before in
-    omega (arith, block-room (s .args .h .now) (s .args .sh) (s .pre .0) (c .before .before .before .loop .b) (omega arith))
+    let s = c .before .before .before .before .before in
+    omega (arith, block-room (s .args .h .now) (s .args .sh) (s .pre .0) (c .before .before .before .before .loop .b) (omega arith))
 
 front-requires : tie.Need-front-requires Inv-loop μ-loop
 front-requires c κs = omega arith
@@ -59,26 +60,22 @@ loop-again c =
     let y = wbit (s .args .y .now) in
     let l = at-loop .loop in
     let M = sh .size in
-    let block : Holds (c .before .before .before .before .before .front .result) (upTo M (from (l .b * M) y)) =
-    λ i hi. c .before .before .before .before .before .front .ensures i hi
-    ∙ ap (λ (p : Bool). ltb i M && p) (c .before .before .before .before .before .before .window .ensures i hi) in (
+    let block : Holds (c .before .before .before .before .front .result) (upTo M (from (l .b * M) y)) =
+    λ i hi. c .before .before .before .before .front .ensures i hi
+    ∙ ap (λ (p : Bool). ltb i M && p) (c .before .before .before .before .before .window .ensures i hi) in (
       omega arith,
-      search needs,
-      c .before .before .add-narrow-block .ensures
-          ∙ ap₂ (λ (x d : Word). plus x (rowed (wide sh) (sh .rows) (spread sh h (l .b) (turned d)))) (l .inv .2)
-          (c .before .before .before .before .double-word .ensures (from (l .b * M) y) block)
+      c .add-narrow-block .ensures
+          ∙ ap₂ (λ (x d : Word). plus x (rowed (wide sh) (sh .rows) (spread sh h (l .b) (turned d)))) (l .inv .1)
+          (c .before .before .before .double-word .ensures (from (l .b * M) y) block)
           ∙ summed-more h sh (s .pre .0) y (l .b),
     )
 
-same-length : tie.Need-same-length Inv-loop μ-loop
-same-length c = search needs
-
 returns : tie.Need-returns Inv-loop μ-loop
 returns c =
-    let a = c .before .before .before .before .before .before .args in
+    let a = c .before .before .before .args in
     let l = c .before .before .loop in
     let all : l .b ≡ a .sh .blocks = omega arith in
-    l .inv .2 ∙ ap (λ (k : ℕ). rowed (wide (a .sh)) (a .sh .rows) (summed (a .sh) (a .h .now) (wbit (a .y .now)) k)) all
+    l .inv .1 ∙ ap (λ (k : ℕ). rowed (wide (a .sh)) (a .sh .rows) (summed (a .sh) (a .h .now) (wbit (a .y .now)) k)) all
 
 pub add-narrow-blocks-spec : {M : Type 1} → statement M
 add-narrow-blocks-spec =
@@ -95,5 +92,4 @@ add-narrow-blocks-spec =
     add-b
     loop-less
     loop-again
-    same-length
     returns)

@@ -25,4 +25,7 @@ returns c code h sh x fit lent e =
     c .ones .ensures ∙ ap (count long) e ∙ laid-count h sh fit code lent x long (omega arith)
 
 pub broken-spec : {M : Type 1} → statement M
-broken-spec = tie.close (tie.spec ones-requires cast-result returns)
+broken-spec = tie.close (tie.spec
+    ones-requires
+    cast-result
+    returns)

@@ -24,13 +24,7 @@ flip-checks-requires c κs =
     let s : tie.Start = search in
     let a = s .args in
     let pre = s .pre in
-    (pre .0, div-lt-iff-lt-mul (pre .0 .some) .1 (pre .3), mod-lt (a .n) (pre .0 .some), pre .2)
-
-same-length : tie.Need-same-length
-same-length c = search needs
-
-same-length-2 : tie.Need-same-length-2
-same-length-2 c = search needs
+    (pre .0, div-lt-iff-lt-mul (pre .0 .some) .1 (pre .1), mod-lt (a .n) (pre .0 .some), search needs)
 
 returns : tie.Need-returns
 returns c =
@@ -40,11 +34,11 @@ returns c =
     let h = a .h .now in
     let M = a .sh .size in
     let g = rowed (wide (a .sh)) (a .sh .rows) (spread (a .sh) h (a .n / M) (covering M (a .n % M))) in (
-      c .before .before .before .before .before .before .before .before .flip-bit .ensures,
+      c .before .before .before .before .before .flip-bit .ensures,
       λ code lent x e.
-          c .before .before .flip-checks .ensures
+          c .flip-checks .ensures
           ∙ ap (λ (z : Word). plus z g) e
-          ∙ laid-flipped h (a .sh) (pre .0) code lent x (a .n / M) (a .n % M) (div-lt-iff-lt-mul (pre .0 .some) .1 (pre .3))
+          ∙ laid-flipped h (a .sh) (pre .0) code lent x (a .n / M) (a .n % M) (div-lt-iff-lt-mul (pre .0 .some) .1 (pre .1))
           (mod-lt (a .n) (pre .0 .some))
           ∙ ap (λ (n : ℕ). laid code (a .sh) (flipped x n)) (div-add-mod' (a .n) M),
     )
@@ -57,6 +51,4 @@ flip-spec =
     div-flip-checks
     rem-flip-checks
     flip-checks-requires
-    same-length
-    same-length-2
     returns)

@@ -22,4 +22,6 @@ returns c code h sh x fit lent e =
     ∙ none-test (broken code x)
 
 pub is-quiet-spec : {M : Type 1} → statement M
-is-quiet-spec = tie.close (tie.spec any-requires returns)
+is-quiet-spec = tie.close (tie.spec
+    any-requires
+    returns)

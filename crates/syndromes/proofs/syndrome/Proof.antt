@@ -15,9 +15,6 @@ add-all-requires c κs = search needs
 trim-rows-requires : tie.Need-trim-rows-requires
 trim-rows-requires c κs = search needs
 
-same-length : tie.Need-same-length
-same-length c = search needs
-
 returns : tie.Need-returns
 returns c code lent =
     let s : tie.Start = search in
@@ -25,10 +22,13 @@ returns c code lent =
     let fit = s .pre .0 in
     let w = wide (a .sh) in
     let y = wbit (a .y .now) in
-    c .before .before .trim-rows .ensures
-    ∙ ap (within w (a .sh .size) (a .sh .rows)) (c .before .before .before .before .before .before .add-all .ensures)
+    c .trim-rows .ensures
+    ∙ ap (within w (a .sh .size) (a .sh .rows)) (c .before .before .add-all .ensures)
     ∙ within-rowed w (a .sh .size) (a .sh .rows) (wide-some (a .h .now) (a .sh) fit) (summed (a .sh) (a .h .now) y (a .sh .blocks))
     ∙ laid-summed (a .h .now) (a .sh) fit code lent y
 
 pub syndrome-spec : {M : Type 1} → statement M
-syndrome-spec = tie.close (tie.spec add-all-requires trim-rows-requires same-length returns)
+syndrome-spec = tie.close (tie.spec
+    add-all-requires
+    trim-rows-requires
+    returns)

@@ -4,10 +4,10 @@ use Prim.Native.Nat.{_≤_}
 use native.Mathlib.Omega.{arith}
 use lib.ListN.{length, take, drop, replicate}
 use lib.Seq.{length-take-le, take-at}
-use Rattle.units.specs.Units.{readingFrom, readAnswer}
-use Rattle.units.specs.Answers.{asHanded}
-use Rattle.units.proofs.Answering.{read-length}
-use Rattle.units.proofs.Blocks.{take-replicate}
+use Rattle.unitrules.specs.Units.{readingFrom, readAnswer}
+use Rattle.readings.specs.Answers.{asHanded}
+use Rattle.readings.proofs.Answering.{read-length}
+use Rattle.unitrules.proofs.Blocks.{take-replicate}
 use Rattle.unitreader.specs.Named.{roomFor}
 use Rattle.unitreader.proofs.Rooms.{room-le}
 use borrow.Author.Needs.{needs}

@@ -47,7 +47,7 @@ use denote.Triple.Walked.{says, Stays, stay-none, walkOf, goes-none, Walks, ends
 use denote.Exit.{yes}
 use denote.Triple.Clauses.{ensured, lasts}
 use Rattle.unitreader.specs.Named.{roomFor, handedAt, asBlock}
-use Rattle.units.specs.Units.{Handed}
+use Rattle.unitrules.specs.Units.{Handed}
 use Rattle.unitreader.specs.declared.Reader.{Reader}
 use Rattle.unitreader.specs.declared.Block.{Block}
 use Rattle.unitreader.proofs.Reader as T

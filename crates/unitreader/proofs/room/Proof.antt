@@ -1,15 +1,15 @@
--- `unitreader::room`: code 1, or else code 3. Assumes nothing.
-use mathlib.Core.Path.{sym, ap}
-use borrow.Author.Tests.{eq-eqb, ne-eqb}
-use Rattle.bits.specs.Bits.{if_then_else_}
+-- `unitreader::room`: the length that the record has. Assumes nothing.
+use mathlib.Core.Path.{_≡_, ap, _∙_}
+use Rattle.unitreader.proofs.Rooms.{room-of}
+use borrow.Author.Needs.{needs}
 use Rattle.unitreader.proofs.room.Statement.{statement}
 use Rattle.unitreader.proofs.room.Tie as tie
 
-returns : tie.Need-returns
-returns c = sym (ap (λ b. if b then 8 else 32) (eq-eqb (c .before .args .code) 1 (c .if1 .taken)))
+unit-of-requires : tie.Need-unit-of-requires
+unit-of-requires c κs = search needs
 
-returns-2 : tie.Need-returns-2
-returns-2 c = sym (ap (λ b. if b then 8 else 32) (ne-eqb (c .before .args .code) 1 (c .if1 .left)))
+returns : tie.Need-returns
+returns c = ap (λ u. u .information) (c .unit-of .ensures) ∙ room-of (c .before .args .code)
 
 pub room-spec : {M : Type 1} → statement M
-room-spec = tie.close (tie.spec returns returns-2)
+room-spec = tie.close (tie.spec unit-of-requires returns)

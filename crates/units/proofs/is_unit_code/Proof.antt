@@ -1,15 +1,15 @@
--- `units::is_unit_code`: code 1, or code 3. Assumes nothing.
-use mathlib.Core.Path.{_≡_, refl, sym, ap, _∙_}
-use borrow.Author.Tests.{eq-eqb}
-use Rattle.units.proofs.Shapes.{one-unit, other-unit}
+-- `units::is_unit_code`: what the record says. Assumes nothing.
+use mathlib.Core.Path.{_≡_, ap, _∙_}
+use Rattle.units.proofs.Offers.{offer-offered}
+use borrow.Author.Needs.{needs}
 use Rattle.units.proofs.is_unit_code.Statement.{statement}
 use Rattle.units.proofs.is_unit_code.Tie as tie
 
-returns : tie.Need-returns
-returns c = let a = c .before .args in eq-eqb (a .code) 1 (c .if1 .taken) ∙ sym (one-unit (a .code) (c .if1 .taken))
+unit-of-requires : tie.Need-unit-of-requires
+unit-of-requires c κs = search needs
 
-returns-2 : tie.Need-returns-2
-returns-2 c = sym (other-unit (c .before .args .code) (c .if1 .left))
+returns : tie.Need-returns
+returns c = ap (λ u. u .offered) (c .unit-of .ensures) ∙ offer-offered (c .before .args .code)
 
 pub is-unit-code-spec : {M : Type 1} → statement M
-is-unit-code-spec = tie.close (tie.spec returns returns-2)
+is-unit-code-spec = tie.close (tie.spec unit-of-requires returns)

@@ -3,12 +3,12 @@ use Prim.Native.Nat.{_-_, _*_}
 use mathlib.Core.List.{_++_}
 use lib.ListN.{length, replicate}
 use Rattle.rules.specs.Codes.{code}
-use Rattle.units.specs.Units.{codeblock}
-use Rattle.units.proofs.Blocks.{encodedOf, lent-rest}
+use Rattle.unitrules.specs.Units.{codeblock}
+use Rattle.unitrules.proofs.Blocks.{encodedOf}
 use mathlib.Core.Path.{_≡_, refl, sym, ap, ap₂, _∙_, subst}
 use native.Mathlib.Omega.{arith}
 use Rattle.randomiser.specs.Randomiser.{telecommand, randomised}
-use Rattle.units.proofs.Blocks.{from-fits, part-last, part-whole}
+use Rattle.units.proofs.Parts.{from-fits, part-last, part-whole, lent-rest}
 use borrow.Author.Needs.{needs}
 use Rattle.units.proofs.write_block.Statement.{statement}
 use Rattle.units.proofs.write_block.Tie as tie

@@ -9,8 +9,8 @@ use native.Mathlib.Numerals.{add-one}
 use lib.ListN.{length, take, drop, length-drop, drop-of-length-le}
 use lib.Seq.{length-take-le}
 use Rattle.rules.specs.Codes.{code as codeOf}
-use Rattle.units.specs.Units.{blocksFor, codeblocks}
-use Rattle.units.proofs.Blocks.{goes, all-there, k-small}
+use Rattle.unitrules.specs.Units.{blocksFor, codeblocks}
+use Rattle.units.proofs.Parts.{goes, all-there, k-small}
 use Rattle.units.proofs.Assembled.{more-length, more-blocks}
 use Rattle.units.proofs.write_blocks.Statement.{statement}
 use Rattle.units.proofs.write_blocks.Tie as tie

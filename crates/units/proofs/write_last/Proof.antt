@@ -1,15 +1,15 @@
 -- `units::write_last`: the information that is left, then fill. Assumes nothing.
-use Rattle.rules.specs.Codes.{code}
-use Rattle.units.proofs.Blocks.{encodedOf, filled-part, filled-part-length}
-use mathlib.Core.Path.{_≡_, refl, sym, ap, ap₂, _∙_, subst}
-use native.Mathlib.Omega.{arith}
-use Rattle.randomiser.specs.Randomiser.{telecommand, randomised}
-use Prim.Native.Nat.{ℕ}
+use mathlib.Core.Path.{_≡_, sym, ap, ap₂, _∙_}
 use mathlib.Core.List.{_++_}
+use Prim.Native.Nat.{ℕ, _≤_}
+use native.Mathlib.Omega.{arith}
 use lib.ListN.{length, drop, replicate, length-append, length-drop}
 use lib.Seq.{length-take-le}
-use Rattle.units.proofs.Shapes.{sizes}
-use Rattle.units.proofs.Blocks.{fill-part}
+use Rattle.rules.specs.Codes.{code}
+use Rattle.randomiser.specs.Randomiser.{telecommand, randomised}
+use Rattle.unitrules.proofs.Shapes.{sizes}
+use Rattle.unitrules.proofs.Blocks.{encodedOf}
+use Rattle.units.proofs.Parts.{filled-part, filled-part-length}
 use borrow.Author.Needs.{needs}
 use Rattle.units.proofs.write_last.Statement.{statement}
 use Rattle.units.proofs.write_last.Tie as tie
@@ -21,62 +21,60 @@ array-borrow-prefix-part : tie.Need-array-borrow-prefix-part
 array-borrow-prefix-part c =
     let a = c .before .before .before in
     let z = sizes (a .args .code) (a .pre .0) in
-    omega (arith, ap length (c .fill .ensures), a .pre .1, z .few)
+    omega (arith, ap length (c .fill .ensures), a .pre .2, z .few)
 
 slice-aggregate-copy : tie.Need-slice-aggregate-copy
 slice-aggregate-copy c =
-    let a = c .before .before .before .before in
+    let f = c .before in
+    let a = f .before .before .before in
     let z = sizes (a .args .code) (a .pre .0) in
-    sym (length-take-le (length (a .args .rest .now)) (c .before .fill .result)
-    (omega (arith, ap length (c .before .fill .ensures), a .pre .1, z .few)))
+    sym (length-take-le (length (a .args .rest .now)) (f .fill .result) (omega (arith, ap length (f .fill .ensures), a .pre .2, z .few)))
 
 copy-requires : tie.Need-copy-requires
 copy-requires c κs =
-    let a = c .before .before .before .before in
+    let f = c .before in
+    let a = f .before .before .before in
     let z = sizes (a .args .code) (a .pre .0) in
-    sym (length-take-le (length (a .args .rest .now)) (c .before .fill .result)
-    (omega (arith, ap length (c .before .fill .ensures), a .pre .1, z .few)))
-
-information-octets-requires : tie.Need-information-octets-requires
-information-octets-requires c κs = search needs
+    sym (length-take-le (length (a .args .rest .now)) (f .fill .result) (omega (arith, ap length (f .fill .ensures), a .pre .2, z .few)))
 
 array-share-prefix-part : tie.Need-array-share-prefix-part
 array-share-prefix-part c =
-    let k = c .before .before in
-    let a = k .before .before .before .before .before in
+    let k = c .before in
+    let f = k .before .before in
+    let a = f .before .before .before in
     let z = sizes (a .args .code) (a .pre .0) in
-    let e = ap₂ (λ x y. length (x ++ drop (length (a .args .rest .now)) y)) (k .copy .ensures) (sym (k .before .before .fill .ensures)) in
+    let e = ap₂ (λ x y. length (x ++ drop (length (a .args .rest .now)) y)) (k .copy .ensures) (sym (f .fill .ensures)) in
     omega (
       arith,
       e,
       length-append (a .args .rest .now) (drop (length (a .args .rest .now)) (replicate 32 0x55)),
       length-drop
           (length (a .args .rest .now)) (replicate {A = ℕ} 32 0x55),
-      c .information-octets .ensures .2,
+      a .pre .1,
+      z .few,
     )
 
 slice-aggregate-write-part : tie.Need-slice-aggregate-write-part
 slice-aggregate-write-part c =
-    let i = c .before in
-    let k = c .before .before .before in
-    let f = c .before .before .before .before .before in
-    let a = c .before .before .before .before .before .before .before .before in
-    i .information-octets .ensures .0
-    ∙ sym (filled-part-length (a .args .rest .now) (k .copy .last .1 .0) (f .fill .result) (i .information-octets .result)
-    (code (a .args .code) .informationOctets) (k .copy .ensures) (f .fill .ensures) (a .pre .1) (i .information-octets .ensures .0)
-    (i .information-octets .ensures .2))
+    let k = c .before .before in
+    let f = k .before .before in
+    let a = f .before .before .before in
+    let z = sizes (a .args .code) (a .pre .0) in
+    let few : a .args .size ≤ 32 = omega (arith, a .pre .1, z .few) in
+    a .pre .1 ∙ sym (filled-part-length (a .args .rest .now) (k .copy .last .1 .0) (f .fill .result) (a .args .size)
+    (code (a .args .code) .informationOctets) (k .copy .ensures) (f .fill .ensures) (a .pre .2) (a .pre .1) few)
 
 write-part-requires : tie.Need-write-part-requires
 write-part-requires c κs =
-    let a : tie.Start = search in
-    let i = c .before .before in
-    let k = c .before .before .before .before in
-    let f = c .before .before .before .before .before .before in (
+    let k = c .before .before .before in
+    let f = k .before .before in
+    let a = f .before .before .before in
+    let z = sizes (a .args .code) (a .pre .0) in
+    let few : a .args .size ≤ 32 = omega (arith, a .pre .1, z .few) in (
       a .pre .0,
-      filled-part-length (a .args .rest .now) (k .copy .last .1 .0) (f .fill .result) (i .information-octets .result)
-          (code (a .args .code) .informationOctets) (k .copy .ensures) (f .fill .ensures) (a .pre .1) (i .information-octets .ensures .0)
-          (i .information-octets .ensures .2),
-      a .pre .2,
+      filled-part-length (a .args .rest .now) (k .copy .last .1 .0) (f .fill .result) (a .args .size)
+          (code (a .args .code) .informationOctets) (k .copy .ensures) (f .fill .ensures) (a .pre .2) (a .pre .1) few,
+      a .pre .3,
     )
 
 same-length : tie.Need-same-length
@@ -84,14 +82,15 @@ same-length c = search needs
 
 returns : tie.Need-returns
 returns c =
-    let f : tie.After-fill = search in
-    let a : tie.Start = search in
-    let i = c .before .before .before .before .before in
-    let k = c .before .before .before .before .before .before .before in
-    c .before .before .write-part .ensures ∙ ap (λ z. randomised telecommand (a .args .used) (encodedOf (a .args .code) z))
-    (filled-part (a .args .rest .now) (k .copy .last .1 .0) (f .fill .result) (i .information-octets .result)
-    (code (a .args .code) .informationOctets) (k .copy .ensures) (f .fill .ensures) (a .pre .1) (i .information-octets .ensures .0)
-    (i .information-octets .ensures .2))
+    let w = c .before .before in
+    let k = w .before .before .before .before in
+    let f = k .before .before in
+    let a = f .before .before .before in
+    let z = sizes (a .args .code) (a .pre .0) in
+    let few : a .args .size ≤ 32 = omega (arith, a .pre .1, z .few) in
+    w .write-part .ensures ∙ ap (λ z. randomised telecommand (a .args .used) (encodedOf (a .args .code) z))
+    (filled-part (a .args .rest .now) (k .copy .last .1 .0) (f .fill .result) (a .args .size)
+    (code (a .args .code) .informationOctets) (k .copy .ensures) (f .fill .ensures) (a .pre .2) (a .pre .1) few)
 
 pub write-last-spec : {M : Type 1} → statement M
 write-last-spec =
@@ -101,7 +100,6 @@ write-last-spec =
     array-borrow-prefix-part
     slice-aggregate-copy
     copy-requires
-    information-octets-requires
     array-share-prefix-part
     slice-aggregate-write-part
     write-part-requires

@@ -3,8 +3,9 @@ use mathlib.Core.Path.{_≡_, refl, sym, ap, ap₂, _∙_, subst}
 use native.Mathlib.Omega.{arith}
 use Rattle.randomiser.specs.Randomiser.{telecommand, randomised}
 use lib.ListN.{length}
-use Rattle.units.proofs.Shapes.{sizes}
-use Rattle.units.proofs.Blocks.{encode-part, length-encoded}
+use Rattle.unitrules.proofs.Shapes.{sizes}
+use Rattle.unitrules.proofs.Blocks.{length-encoded}
+use Rattle.units.proofs.Parts.{encode-part}
 use borrow.Author.Needs.{needs}
 use Rattle.units.proofs.write_part.Statement.{statement}
 use Rattle.units.proofs.write_part.Tie as tie

@@ -1,6 +1,6 @@
 -- `wordbench::blocks`: whole words stand before each block, and their count fits. Assumes the kit's contracts of reading and writing.
 use mathlib.Core.Path.{_≡_, refl, ap, _∙_}
-use Prim.Native.Nat.{_-_, _%_, _^_}
+use Prim.Native.Nat.{ℕ, _-_, _%_, _^_}
 use native.Mathlib.Nat.{zero-mod}
 use native.Mathlib.Omega.{arith}
 use lib.ListN.{length}
@@ -12,19 +12,20 @@ use Rattle.wordbench.proofs.blocks.Tie as tie
 
 abbrev Inv-loop : tie.InvT-loop
 Inv-loop head words₀ out₀ text₀ read₀ words out text read =
-    (read % sizeIn head ≡ 0) × (length words ≡ length words₀) × (length out ≡ length out₀) × (length text ≡ length text₀)
+    (read % sizeIn head ≡ 0) × (length words % sizeIn head ≡ 0) × (length words ≡ length words₀) × (length out ≡ length out₀)
+    × (length text ≡ length text₀)
 
 abbrev μ-loop : tie.MeasureT-loop
 μ-loop head words₀ out₀ text₀ read₀ words out text read = 2 ^ 64 - read
 
 loop-holds : tie.Need-loop-holds Inv-loop μ-loop
-loop-holds c = (zero-mod _, refl, refl, refl)
+loop-holds c = (zero-mod _, c .before .before .before .before .pre .1 .0, refl, refl, refl)
 
 block-requires : tie.Need-block-requires Inv-loop μ-loop
 block-requires c κs =
     let s : tie.Start Inv-loop μ-loop = search in
     let h = c .before .before .before .before .loop in
-    (s .pre .0 .0, (h .inv .2 ∙ s .pre .0 .1 .0, omega arith), (h .inv .0, omega arith))
+    (s .pre .0 .0, (h .inv .3 ∙ s .pre .0 .1 .0, omega arith), (h .inv .0, omega arith))
 
 add-read : tie.Need-add-read Inv-loop μ-loop
 add-read c = search needs
@@ -32,15 +33,22 @@ add-read c = search needs
 loop-less : tie.Need-loop-less Inv-loop μ-loop
 loop-less c = search needs
 
+-- as many octets are whole words too
+as-whole : (a b w : ℕ) → a ≡ b → b % w ≡ 0 → a % w ≡ 0
+as-whole a b w e f = ap (λ n. n % w) e ∙ f
+
 loop-again : tie.Need-loop-again Inv-loop μ-loop
 loop-again c =
     let at-loop : tie.At-loop Inv-loop μ-loop = search in
-    let s : tie.Start Inv-loop μ-loop = search in
     let h = at-loop .loop in
     let words = c .before .before .before .before .before .before .before .block .last .1 .1 .0 in
-    let w = sizeIn (s .args .head .now) in
-    let e : length words ≡ length (s .args .words .now) = omega arith in
-    (whole-sum (h .read) (length words) w (h .inv .0) (ap (λ n. n % w) e ∙ s .pre .1 .0), e, omega arith, omega arith)
+    let e : length words ≡ length (h .words) = omega arith in (
+      whole-sum (h .read) (length words) _ (h .inv .0) (as-whole (length words) (length (h .words)) _ e (h .inv .1)),
+      as-whole (length words) (length (h .words)) _ e (h .inv .1),
+      e ∙ h .inv .2,
+      omega arith,
+      omega arith,
+    )
 
 same-length : tie.Need-same-length Inv-loop μ-loop
 same-length c = search needs

@@ -1,0 +1,3 @@
+pub mod Compared
+pub mod Answering
+pub mod Outcomes

@@ -1,0 +1,61 @@
+-- `smallest::at_bound`: the known bit tells, or the block is weighed. Assumes nothing.
+use Rattle.vectors.specs.Vectors.{wbit}
+use Rattle.raising.proofs.Seeing.{block-within}
+use Rattle.smallest.proofs.Searching.{stayed}
+use borrow.Author.Needs.{needs}
+use Rattle.smallest.proofs.at_bound.Statement.{statement}
+use Rattle.smallest.proofs.at_bound.Tie as tie
+
+mul-still : tie.Need-mul-still
+mul-still c = search needs
+
+element-copy-out-still : tie.Need-element-copy-out-still
+element-copy-out-still c = search needs
+
+element-copy-out-still-2 : tie.Need-element-copy-out-still-2
+element-copy-out-still-2 c = search needs
+
+mul-still-2 : tie.Need-mul-still-2
+mul-still-2 c = search needs
+
+element-copy-out-still-3 : tie.Need-element-copy-out-still-3
+element-copy-out-still-3 c = search needs
+
+still-requires : tie.Need-still-requires
+still-requires c κs =
+    let s : tie.Start = search in
+    let a = s .args in (
+      block-within (a .sh) (a .starts .now) (a .counts .now) (a .met .now) (s .pre .0) (a .b) (s .pre .3) (a .d .now) (search needs),
+      s .pre .2,
+      s .pre .0 .few (a .b) (s .pre .3),
+      s .pre .0 .some,
+    )
+
+returns : tie.Need-returns
+returns c =
+    let s : tie.Start = search in
+    let a = s .args in
+    let f = c .before .still in
+    let e = f .ensures (c .if1 .taken) in
+    stayed (a .samples .now) (a .sh) (wbit (a .d .now)) (a .starts .now) (a .counts .now) (a .met .now) (a .kept .now) (s .pre .0)
+    (s .pre .1) (s .pre .2) (a .b) (s .pre .3) (a .best) (f .result) (c .if1 .taken) (e .0) (e .1) (e .2) (e .3)
+
+weigh-requires : tie.Need-weigh-requires
+weigh-requires c κs = search needs
+
+returns-2 : tie.Need-returns-2
+returns-2 c = c .weigh .ensures
+
+pub at-bound-spec : {M : Type 1} → statement M
+at-bound-spec =
+    tie.close
+    (tie.spec
+    mul-still
+    element-copy-out-still
+    element-copy-out-still-2
+    mul-still-2
+    element-copy-out-still-3
+    still-requires
+    returns
+    weigh-requires
+    returns-2)

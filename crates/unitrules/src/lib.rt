@@ -1,0 +1,1 @@
+// No functions: the definitions in specs/ and the theorems in proofs/ alone.
