@@ -14,7 +14,8 @@ ghost use Rattle.layout.specs.Lent.{Fit, Lent, laid, score, entries, shiftsOf, 
 ghost use Rattle.layout.specs.Rooms.{blocksRoom, syndromeRoom};
 ghost use Rattle.sizes.specs.Samples.{smaller};
 ghost use Rattle.sizes.specs.Sizes.{smallest};
-ghost use Rattle.narrow.specs.Weighing.{around, Rows, Held, Weighs, broke, sent, Peaked, Weighed, Greatest, Marks, Marked, Told, Chosen};
+ghost use Rattle.narrow.specs.Weighing.{around, Rows, Held, Weighs, broke, sent, Peaked};
+ghost use Rattle.narrow.specs.Weighing.{Weighed, Greatest, Marks, Marked, Told, Chosen};
 use choice::Best;
 use layout::BLOCKS;
 use layout::Shape;

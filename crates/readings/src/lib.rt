@@ -130,14 +130,7 @@ fn reader_number(code: u8, unit: &[u8]) -> u8
 fn numbered(number: u8) -> Corrected
     ensures { λ r. ⌜ asCorrected r [] ≡ refusedCorrect [] number ⌝ }
 {
-    Corrected {
-        number: number,
-        flips: 0,
-        first: 0,
-        last: 0,
-        unlike: 0,
-        lowest: 0,
-    }
+    codes::refused_correct(number)
 }
 
 // A reader over a unit: its number is that of `kept`.

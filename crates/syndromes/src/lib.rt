@@ -77,7 +77,8 @@ pub fn add_block(d: &[u64], h: &[u16], sh: Shape, b: usize, acc: &mut [u64])
 
 // The m bits of y from bit p on, doubled into d; part has room for them.
 fn double_block(y: &[u64; WORD], p: usize, m: usize, part: &mut [u64], d: &mut [u64])
-    requires { ⌜ (1 ≤ m) × (m ≤ 64 * length (now part)) × (length (now d) ≡ 2 * length (now part)) × (p / 64 + length (now part) < wordRoom) ⌝ }
+    requires { ⌜ (1 ≤ m) × (m ≤ 64 * length (now part)) × (length (now d) ≡ 2 * length (now part))
+        × (p / 64 + length (now part) < wordRoom) ⌝ }
     ensures { λ q. ⌜ wbit (now (d .exit)) ≡ twice m (upTo m (from p (wbit (now (y .entry))))) ⌝ }
 {
     vectors::cut(y, p, m, part);

@@ -143,14 +143,7 @@ fn hold(octets: &mut [u8], held: usize, part: &[u8])
 fn none() -> Corrected
     ensures { λ r. ⌜ asCorrected r [] ≡ refusedCorrect [] 0 ⌝ }
 {
-    Corrected {
-        number: 0,
-        flips: 0,
-        first: 0,
-        last: 0,
-        unlike: 0,
-        lowest: 0,
-    }
+    codes::refused_correct(0)
 }
 
 fn waiting(taken: usize, place: usize, edition: u8, limit: u16, octets: [u8; 1020]) -> Taken

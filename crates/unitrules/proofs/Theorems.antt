@@ -22,8 +22,10 @@ use Rattle.answers.specs.Calls.{Corrected, refusedCorrect, correctAnswer}
 use Rattle.answers.proofs.Corrections.{codeword-back, one-back, oneWrong}
 use Rattle.randomiser.specs.Randomiser.{telecommand, randomised}
 use Rattle.randomiser.proofs.Randomising.{length-randomised, randomised-append, randomised-twice, randomised-flip}
-use Rattle.unitrules.specs.Units.{unitCode, start, tail, blocksFor, filled, part, codeblock, codeblocks, unit, unitLength, same, started}
-use Rattle.unitrules.specs.Units.{between, blocksIn, shaped, received, Reading, Handed, withOut, readingFrom, readerNumber, readerAnswer}
+use Rattle.unitrules.specs.Units.{unitCode, start, tail, blocksFor, filled, part}
+use Rattle.unitrules.specs.Units.{codeblock, codeblocks, unit, unitLength, same, started}
+use Rattle.unitrules.specs.Units.{between, blocksIn, shaped, received, Reading}
+use Rattle.unitrules.specs.Units.{Handed, withOut, readingFrom, readerNumber, readerAnswer}
 use Rattle.unitrules.specs.Units.{handedOut, handedLast, handedAgain, readNext, readAnswer}
 use Rattle.unitrules.proofs.Shapes.{both, unit-offered, Sizes, sizes}
 use Rattle.unitrules.proofs.Blocks.{encodedOf, length-codeblock, length-codeblocks, randomised-codeblocks, length-filled}

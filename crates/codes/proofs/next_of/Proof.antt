@@ -28,7 +28,8 @@ returns c =
     let m : tie.After-measure = search in
     let s : tie.Start = search in
     let k = s .pre .0 in (
-      within-bits _ (c .comes-next .result) (m .measure .ensures .1 (k .number) (k .offers) (k .is) .lends .fit .bits) (c .comes-next .ensures .0),
+      within-bits _ (c .comes-next .result) (m .measure .ensures .1 (k .number) (k .offers) (k .is) .lends .fit .bits)
+          (c .comes-next .ensures .0),
       λ n off is.
           let e = m .measure .ensures .1 n off is in (
             e .bits,

@@ -26,7 +26,8 @@ returns c =
     let a : tie.Start = search in
     let k = c .before .before .put-check in
     let f = c .before .before .before .before .before .before .put-front in
-    block-put (a .args .out .now) (f .last .1 .1 .0) (k .last .0) (a .args .place) (a .args .used .now) (a .pre .0) (f .ensures) (k .ensures)
+    block-put (a .args .out .now) (f .last .1 .1 .0) (k .last .0) (a .args .place) (a .args .used .now) (a .pre .0) (f .ensures)
+    (k .ensures)
 
 pub put-block-spec : {M : Type 1} → statement M
 put-block-spec =

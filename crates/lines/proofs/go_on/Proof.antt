@@ -30,7 +30,8 @@ returns c =
     let w = c .before .before .before .before .write-words in
     let b = c .before .before .before .before .before .before .before .block-at in (
       w .ensures .0,
-      adds (a .head .now) (a .words .now) (take (w .result) (w .last .1 .1 .1 .1 .1 .1 .1 .0)) (a .read) (b .result) (s .pre .0) (s .pre .2 .0)
+      adds (a .head .now) (a .words .now) (take (w .result) (w .last .1 .1 .1 .1 .1 .1 .1 .0)) (a .read) (b .result) (s .pre .0)
+          (s .pre .2 .0)
           (b .ensures) (w .ensures .1),
     )
 

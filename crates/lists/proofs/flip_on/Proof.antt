@@ -60,7 +60,8 @@ returns-2 c =
       r .ensures .1,
       λ n limit room st next.
           let held = f .ensures .1 (code n) (st .lends .lent) _ (st .going .held) in
-          went-lists n _ limit room _ _ _ _ _ st _ ex _ (toZ-ofZ w8 ex fits) next (omega (arith, else1 .if1 .left, st .measures .under)) _ _ _ (f .ensures .0)
+          went-lists n _ limit room _ _ _ _ _ st _ ex _ (toZ-ofZ w8 ex fits) next
+          (omega (arith, else1 .if1 .left, st .measures .under)) _ _ _ (f .ensures .0)
           held (counted .broken .ensures (code n) _ _ _ (st .lends .fit) (st .lends .lent) held)
           _ (r .ensures .0) (r .ensures .1) (r .ensures .2) (r .ensures .3) (r .ensures .4) (r .ensures .5),
     )

@@ -35,7 +35,8 @@ returns c n off is =
     let low = w .lowest .ensures (code n) _ _ (e .lends .fit) (e .lends .lent) (e .held) in
     let l = c .begun .ensures in (
       l .2 ∙ broke ∙ ap (broken (code n)) (e .bits),
-      λ room some. starts n off _ _ is (s .pre .1) _ room _ _ _ _ e (m .measure .ensures .0) _ _ broke low some _ (l .5) (l .4) (l .2) (l .3)
+      λ room some. starts n off _ _ is (s .pre .1) _ room _ _ _ _ e (m .measure .ensures .0) _ _ broke low some _ (l .5) (l .4) (l .2)
+          (l .3)
           (l .1),
     )
 

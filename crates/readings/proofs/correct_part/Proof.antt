@@ -35,7 +35,8 @@ array-share-prefix-mended c =
     let x = c .before in
     let b = x .before .before in
     let a = b .before .before .before in
-    mended-room (a .args .code) (a .args .word .now) (b .word-buffer .result) (a .args .limit) (a .pre .0) (a .pre .1) (b .word-buffer .ensures)
+    mended-room (a .args .code) (a .args .word .now) (b .word-buffer .result) (a .args .limit) (a .pre .0) (a .pre .1)
+    (b .word-buffer .ensures)
     (asCorrected (x .correct .result) (x .correct .last .1 .1 .1 .0)) (x .correct .ensures) (length (a .args .out .now)) (a .pre .2)
 
 slice-aggregate-hand-out : tie.Need-slice-aggregate-hand-out
@@ -43,7 +44,8 @@ slice-aggregate-hand-out c =
     let x = c .before .before in
     let b = x .before .before in
     let a = b .before .before .before in
-    sym (mended-part-length (a .args .code) (a .args .word .now) (b .word-buffer .result) (a .args .limit) (a .pre .0) (a .pre .1) (b .word-buffer .ensures)
+    sym (mended-part-length (a .args .code) (a .args .word .now) (b .word-buffer .result) (a .args .limit) (a .pre .0) (a .pre .1)
+    (b .word-buffer .ensures)
     (asCorrected (x .correct .result) (x .correct .last .1 .1 .1 .0)) (x .correct .ensures) (length (a .args .out .now)) (a .pre .2))
 
 hand-out-requires : tie.Need-hand-out-requires
@@ -51,7 +53,8 @@ hand-out-requires c κs =
     let x = c .before .before .before in
     let b = x .before .before in
     let a = b .before .before .before in
-    mended-part-length (a .args .code) (a .args .word .now) (b .word-buffer .result) (a .args .limit) (a .pre .0) (a .pre .1) (b .word-buffer .ensures)
+    mended-part-length (a .args .code) (a .args .word .now) (b .word-buffer .result) (a .args .limit) (a .pre .0) (a .pre .1)
+    (b .word-buffer .ensures)
     (asCorrected (x .correct .result) (x .correct .last .1 .1 .1 .0)) (x .correct .ensures) (length (a .args .out .now)) (a .pre .2)
 
 same-length : tie.Need-same-length

@@ -45,7 +45,8 @@ array-share-prefix-word c =
     let b = g .before .before in
     let o = b .before in
     let a = o .before .before .before in
-    got-room (a .args .code) (a .args .unit .now) (g .receive .last .1 .1 .1 .0) (b .word-buffer .result) (a .args .k) (o .word-octets .result) (a .pre .0)
+    got-room (a .args .code) (a .args .unit .now) (g .receive .last .1 .1 .1 .0) (b .word-buffer .result) (a .args .k)
+    (o .word-octets .result) (a .pre .0)
     (a .pre .1) (o .word-octets .ensures .0) (g .receive .ensures)
 
 slice-aggregate-correct-part : tie.Need-slice-aggregate-correct-part
@@ -54,7 +55,8 @@ slice-aggregate-correct-part c =
     let b = g .before .before in
     let o = b .before in
     let a = o .before .before .before in
-    sym (got-word-length (a .args .code) (a .args .unit .now) (g .receive .last .1 .1 .1 .0) (b .word-buffer .result) (a .args .k) (o .word-octets .result) (a .pre .0)
+    sym (got-word-length (a .args .code) (a .args .unit .now) (g .receive .last .1 .1 .1 .0) (b .word-buffer .result) (a .args .k)
+    (o .word-octets .result) (a .pre .0)
     (a .pre .1) (o .word-octets .ensures .0) (g .receive .ensures))
 
 correct-part-requires : tie.Need-correct-part-requires
@@ -64,7 +66,8 @@ correct-part-requires c κs =
     let o = b .before in
     let a = o .before .before .before in (
       a .pre .0,
-      got-word-length (a .args .code) (a .args .unit .now) (g .receive .last .1 .1 .1 .0) (b .word-buffer .result) (a .args .k) (o .word-octets .result) (a .pre .0)
+      got-word-length (a .args .code) (a .args .unit .now) (g .receive .last .1 .1 .1 .0) (b .word-buffer .result) (a .args .k)
+          (o .word-octets .result) (a .pre .0)
           (a .pre .1) (o .word-octets .ensures .0) (g .receive .ensures)
           ∙ o .word-octets .ensures .0,
       a .pre .2,
@@ -83,7 +86,8 @@ returns c =
     r .correct-part .ensures
     ∙ ap (λ w. handedPart (a .args .code)
     (correctAnswer (a .args .code) w (a .args .limit) (replicate (code (a .args .code) .wordOctets) 0)) (a .args .out .now))
-    (got-word (a .args .code) (a .args .unit .now) (g .receive .last .1 .1 .1 .0) (b .word-buffer .result) (a .args .k) (o .word-octets .result) (a .pre .0)
+    (got-word (a .args .code) (a .args .unit .now) (g .receive .last .1 .1 .1 .0) (b .word-buffer .result) (a .args .k)
+    (o .word-octets .result) (a .pre .0)
     (a .pre .1) (o .word-octets .ensures .0) (g .receive .ensures))
 
 pub read-block-spec : {M : Type 1} → statement M

@@ -26,9 +26,11 @@ returns c =
     let s = asReading (a .args .state) in
     let q = asCorrected (r .read-block .result) (r .read-block .last .1 .1 .1 .1 .0) in
     c .handed-last .ensures (r .read-block .last .1 .1 .1 .1 .0)
-    ∙ ap (handedLast s q) (refused-out (asReading (a .args .state)) (a .args .unit .now) (a .args .out .now) (asCorrected (r .read-block .result) (r .read-block .last .1 .1 .1 .1 .0))
+    ∙ ap (handedLast s q) (refused-out (asReading (a .args .state)) (a .args .unit .now) (a .args .out .now) (asCorrected
+    (r .read-block .result) (r .read-block .last .1 .1 .1 .1 .0))
     (r .read-block .ensures) (t .if1 .taken))
-    ∙ sym (next-refused (asReading (a .args .state)) (a .args .unit .now) (a .args .out .now) (asCorrected (r .read-block .result) (r .read-block .last .1 .1 .1 .1 .0))
+    ∙ sym (next-refused (asReading (a .args .state)) (a .args .unit .now) (a .args .out .now) (asCorrected (r .read-block .result)
+    (r .read-block .last .1 .1 .1 .1 .0))
     (r .read-block .ensures) (t .if1 .taken))
 
 handed-on-requires : tie.Need-handed-on-requires
@@ -46,7 +48,8 @@ returns-2 c =
     let r = t .before .before .before .before in
     let a = r .before .before .before .before in
     c .handed-on .ensures (r .read-block .last .1 .1 .1 .1 .0)
-    ∙ sym (next-on (asReading (a .args .state)) (a .args .unit .now) (a .args .out .now) (asCorrected (r .read-block .result) (r .read-block .last .1 .1 .1 .1 .0))
+    ∙ sym (next-on (asReading (a .args .state)) (a .args .unit .now) (a .args .out .now) (asCorrected (r .read-block .result)
+    (r .read-block .last .1 .1 .1 .1 .0))
     (r .read-block .ensures) (t .if1 .left))
 
 pub read-next-spec : {M : Type 1} → statement M

@@ -18,8 +18,11 @@ lift-requires : tie.Need-lift-requires
 lift-requires c κs =
     let a = c .before .before .before .before .before .before .before .args in
     let v = c .before .before .before .cut-short in
-    let long : length (v .last .1 .1 .0) ≡ 8 = search needs in
-    (omega arith, λ n l. ap (λ (z : Word). z n) (v .ensures) ∙ upTo-above (511 - a .unsent) n (upTo 511 (from 0 (bit (a .octets .now)))) (omega arith))
+    let long : length (v .last .1 .1 .0) ≡ 8 = search needs in (
+      omega arith,
+      λ n l. ap (λ (z : Word). z n) (v .ensures) ∙ upTo-above (511 - a .unsent) n (upTo 511 (from 0 (bit (a .octets .now))))
+          (omega arith),
+    )
 
 same-length : tie.Need-same-length
 same-length c = search needs

@@ -29,7 +29,8 @@ same-length c = search needs
 returns : tie.Need-returns
 returns c =
     let s = c .before .before .before .before .before .before .lay-second in
-    let w : length (c .before .before .before .before .before .before .before .before .before .before .args .word .now) ≡ 1020 = search needs in
+    let w : length (c .before .before .before .before .before .before .before .before .before .before .args .word .now) ≡ 1020 =
+    search needs in
     c .before .before .add .ensures second 0 (λ i l. s .ensures (0 + i) (omega arith))
 
 pub add-second-spec : {M : Type 1} → statement M
