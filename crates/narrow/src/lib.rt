@@ -22,6 +22,9 @@ use layout::Shape;
 use layout::TABLE;
 use layout::WORD;
 
+// The rows of a code whose blocks one word holds.
+pub const NARROW_ROWS: usize = 4;
+
 // Of the bits of a block, those that have none, at most one and at most two of some checks met; and how many checks these are.
 struct Weights {
     none: u64,
@@ -296,7 +299,13 @@ fn best_of(samples: &[f32], scores: &[u32; BLOCKS], masks: &[u64; BLOCKS], sh: S
 }
 
 // The best bit from bit `from` on, after all blocks have been weighed.
-pub fn choose(samples: &[f32], rows: &[u64; 4], h: &[u16; TABLE], sh: Shape, from: usize) -> Best
+pub fn choose(
+    samples: &[f32],
+    rows: &[u64; NARROW_ROWS],
+    h: &[u16; TABLE],
+    sh: Shape,
+    from: usize,
+) -> Best
     requires { ⌜ Fit (now h) sh × (sh .words ≡ 1) × (1 ≤ sh .blocks) × (from < sh .size)
         × (0 < length (now samples) → (length (now samples) ≡ sh .blocks * sh .size) × (from ≡ 0)) × Held (now h) sh (now rows) ⌝ }
     ensures { λ r. ⌜ ((c : Code) (x : Word) → Lent c (now (h .entry)) sh → Rows c sh x (now (rows .entry))
@@ -345,7 +354,13 @@ fn flip_rows(rows: &mut [u64], h: &[u16], sh: Shape, each: u64, b: usize, k: usi
 }
 
 // Flips a bit of a word, and its checks with it.
-pub fn flip(y: &mut [u64; WORD], rows: &mut [u64; 4], h: &[u16; TABLE], sh: Shape, bit: usize)
+pub fn flip(
+    y: &mut [u64; WORD],
+    rows: &mut [u64; NARROW_ROWS],
+    h: &[u16; TABLE],
+    sh: Shape,
+    bit: usize,
+)
     requires { ⌜ Fit (now h) sh × (sh .words ≡ 1) × (bit < sh .blocks * sh .size) ⌝ }
     ensures word { λ _. ⌜ wbit (now (y .exit)) ≡ flipped (wbit (now (y .entry))) bit ⌝ }
     ensures checks { λ _. ⌜ ((c : Code) (x : Word) → Lent c (now (h .entry)) sh → Rows c sh x (now (rows .entry))

@@ -22,6 +22,7 @@ use layout::SYNDROME;
 use layout::Shape;
 use layout::TABLE;
 use layout::WORD;
+use narrow::NARROW_ROWS;
 
 // What comes next: quiet; or stuck, with the greatest excess and the lowest bit that has it; or this bit, of this excess, is to be flipped.
 pub enum Next {
@@ -69,7 +70,7 @@ fn next_narrow(z: &[u64; SYNDROME], h: &[u16; TABLE], sh: Shape, from: usize) ->
         → (broken c x ≡ 0 → ⊥) → byExcess c x ≡ comesNext r) ⌝ }
 {
     let equal = [0f32; 0];
-    let mut rows = [0u64; 4];
+    let mut rows = [0u64; NARROW_ROWS];
     narrow::begin(z, sh, &mut rows);
     let best = narrow::choose(&equal, &rows, h, sh, from);
     if best.score > 8 {
@@ -175,7 +176,7 @@ fn go_on(
 fn go_on_narrow(
     samples: &[f32],
     y: &mut [u64; WORD],
-    rows: &mut [u64; 4],
+    rows: &mut [u64; NARROW_ROWS],
     h: &[u16; TABLE],
     sh: Shape,
     from: usize,
@@ -261,7 +262,7 @@ pub fn run_narrow(
         → RunsTo (bySize (smaller (now (samples .entry))) c) c sh limit (wbit (now (y .entry))) (r .ran) (wbit (now (y .exit)))
         (laid c sh (wbit (now (y .exit)))) × (r .last ≡ broken c (wbit (now (y .exit))))) ⌝ }
 {
-    let mut rows = [0u64; 4];
+    let mut rows = [0u64; NARROW_ROWS];
     narrow::begin(z, sh, &mut rows);
     go_on_narrow(samples, y, &mut rows, h, sh, from, limit, first)
 }
