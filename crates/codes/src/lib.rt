@@ -315,7 +315,7 @@ fn step_out(o: Offer, word: &[u8], next: Next, y: &mut [u64; WORD], out: &mut [u
 {
     match next {
         Next::Quiet => {
-            received::copy(word, out);
+            copying::copy(word, out);
             Stepped {
                 number: 0,
                 quiet: true,

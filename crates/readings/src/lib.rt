@@ -16,7 +16,6 @@ ghost use Rattle.readings.specs.Handing.{handedPart, handedOn};
 use codes::Corrected;
 use units::START;
 use units::TAIL;
-use units::copy;
 use units::information_octets;
 use units::is_unit_code;
 use units::tail_octets;
@@ -155,7 +154,7 @@ fn receive(code: u8, unit: &[u8], k: usize, word: &mut [u8])
     let used = k * size;
     let at = 8 + used;
     let end = at + size;
-    copy(&unit[at..end], word);
+    copying::copy(&unit[at..end], word);
     randomiser::randomise(word, used);
 }
 
@@ -171,7 +170,7 @@ fn hand_out(number: u8, information: &[u8], out: &mut [u8])
     ensures { λ _. ⌜ now (out .exit) ≡ (if eqb number 0 then now (information .entry) else now (out .entry)) ⌝ }
 {
     if number == 0 {
-        copy(information, out);
+        copying::copy(information, out);
     }
 }
 

@@ -117,18 +117,6 @@ pub fn unit_octets(code: u8, long: usize) -> usize
     0
 }
 
-// The octets of one slice into another of the same length.
-pub fn copy(from: &[u8], to: &mut [u8])
-    requires { ⌜ length (now from) ≡ length (now to) ⌝ }
-    ensures { λ _. ⌜ now (to .exit) ≡ now (from .entry) ⌝ }
-{
-    let mut i: usize = 0;
-    while i < from.len() {
-        to[i] = from[i];
-        i += 1;
-    }
-}
-
 // A whole part of the information as a codeblock, randomised; `used` octets of codeblocks came before.
 fn write_part(code: u8, part: &[u8], used: usize, out: &mut [u8])
     requires { ⌜ (unitCode code ≡ true) × (length (now part) ≡ codeOf code .informationOctets)
@@ -157,7 +145,7 @@ fn write_last(code: u8, rest: &[u8], size: usize, used: usize, out: &mut [u8])
 {
     let mut part = fill();
     let long = rest.len();
-    copy(rest, &mut part[..long]);
+    copying::copy(rest, &mut part[..long]);
     write_part(code, &part[..size], used, out);
 }
 
@@ -200,7 +188,7 @@ fn write_tail(code: u8, out: &mut [u8])
     ensures { λ _. ⌜ now (out .exit) ≡ tailOf code ⌝ }
 {
     if tail_octets(code) != 0 {
-        copy(&TAIL, out);
+        copying::copy(&TAIL, out);
     }
 }
 
@@ -208,7 +196,7 @@ fn write_start(out: &mut [u8])
     requires { ⌜ length (now out) ≡ 8 ⌝ }
     ensures { λ _. ⌜ now (out .exit) ≡ start ⌝ }
 {
-    copy(&START, out);
+    copying::copy(&START, out);
 }
 
 // The start and all codeblocks, into an output that they fill.
