@@ -78,7 +78,7 @@ use Rattle.capi.proofs.pandoricchia_exported_octets.Kinds as exported-o
 use Rattle.capi.proofs.pandoricchia_exported_octets.Reads as exported-octets-reads
 use Rattle.answers.specs.Calls.{Corrected}
 use Rattle.blocks.specs.Blocks.{Imported, Exported}
-use Rattle.codes.specs.declared.Corrected.{Corrected as Numbers}
+use Rattle.endings.specs.declared.Corrected.{Corrected as Numbers}
 
 pub word-octets-outcome : (κs : Lfts 0) (a : ArgsD word-octets.signature κs) (r₁ r₂ : ResD word-octets.signature κs)
     (s₁ s₂ : AtExit (endedOf 0 word-octets-kinds.ps word-octets-kinds.r) κs)

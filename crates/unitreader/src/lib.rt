@@ -32,7 +32,7 @@ fn buffer() -> [u8; 32]
 fn room(code: u8) -> usize
     ensures { λ r. ⌜ r ≡ roomFor code ⌝ }
 {
-    let u = units::unit_of(code);
+    let u = unitoffers::unit_of(code);
     u.information
 }
 
@@ -40,7 +40,7 @@ fn room(code: u8) -> usize
 fn standing(place: usize, code: u8, limit: u16) -> Reading
     ensures { λ r. ⌜ asReading r ≡ readingFrom 0 code limit place ⌝ }
 {
-    let kept = codes::refused_correct(0);
+    let kept = endings::refused_correct(0);
     Reading {
         kept: kept,
         code: code,
