@@ -1,4 +1,4 @@
-// How correct ends: its record, that record's refused form, and in how many bits the word at the end of a run differs from the received one.
+// How correct ends: its record and that record's refused form, and in how many bits the word at the end of a run is another.
 ghost use mathlib.Core.Path.{_≡_};
 ghost use mathlib.Core.Bool.{true};
 ghost use mathlib.Core.List.{List};
