@@ -58,8 +58,27 @@ use Rattle.capi.proofs.pandoricchia_reader.Reads as reader-reads
 use Rattle.capi.proofs.pandoricchia_read as read
 use Rattle.capi.proofs.pandoricchia_read.Kinds as read-kinds
 use Rattle.capi.proofs.pandoricchia_read.Reads as read-reads
+use Rattle.capi.proofs.pandoricchia_bch_encode as bch-encode
+use Rattle.capi.proofs.pandoricchia_bch_encode.Kinds as bch-encode-kinds
+use Rattle.capi.proofs.pandoricchia_bch_encode.Reads as bch-encode-reads
+use Rattle.capi.proofs.pandoricchia_bch_check as bch-check
+use Rattle.capi.proofs.pandoricchia_bch_check.Kinds as bch-check-kinds
+use Rattle.capi.proofs.pandoricchia_bch_check.Reads as bch-check-reads
+use Rattle.capi.proofs.pandoricchia_import_blocks as import-blocks
+use Rattle.capi.proofs.pandoricchia_import_blocks.Kinds as import-blocks-kinds
+use Rattle.capi.proofs.pandoricchia_import_blocks.Reads as import-blocks-reads
+use Rattle.capi.proofs.pandoricchia_imported_octets as imported-octets
+use Rattle.capi.proofs.pandoricchia_imported_octets.Kinds as imported-octets-kinds
+use Rattle.capi.proofs.pandoricchia_imported_octets.Reads as imported-octets-reads
+use Rattle.capi.proofs.pandoricchia_export_blocks as export-blocks
+use Rattle.capi.proofs.pandoricchia_export_blocks.Kinds as export-blocks-kinds
+use Rattle.capi.proofs.pandoricchia_export_blocks.Reads as export-blocks-reads
+use Rattle.capi.proofs.pandoricchia_exported_octets as exported-octets
+use Rattle.capi.proofs.pandoricchia_exported_octets.Kinds as exported-octets-kinds
+use Rattle.capi.proofs.pandoricchia_exported_octets.Reads as exported-octets-reads
 use Rattle.answers.specs.Calls.{Corrected}
-use Rattle.codes.specs.declared.Corrected.{Corrected as Numbers}
+use Rattle.blocks.specs.Blocks.{Imported, Exported}
+use Rattle.endings.specs.declared.Corrected.{Corrected as Numbers}
 
 pub word-octets-outcome : (κs : Lfts 0) (a : ArgsD word-octets.signature κs) (r₁ r₂ : ResD word-octets.signature κs)
     (s₁ s₂ : AtExit (endedOf 0 word-octets-kinds.ps word-octets-kinds.r) κs)
@@ -181,3 +200,35 @@ read-outcome κs a r₁ r₂ s₁ s₂ p q = (
   }) (p ∙ sym q),
   ap (λ x. x .corrected .out) (p ∙ sym q),
 )
+
+pub bch-encode-outcome : (κs : Lfts 2) (a : ArgsD bch-encode.signature κs) (r₁ r₂ : ResD bch-encode.signature κs)
+    (s₁ s₂ : AtExit (endedOf 2 bch-encode-kinds.ps bch-encode-kinds.r) κs)
+    → bch-encode-reads.Post κs a r₁ s₁ → bch-encode-reads.Post κs a r₂ s₂ → (r₁ ≡ r₂) × (now (s₁ .1 .0) ≡ now (s₂ .1 .0))
+bch-encode-outcome κs a r₁ r₂ s₁ s₂ p q = (ap (λ x. x .number) (p ∙ sym q), ap (λ x. x .out) (p ∙ sym q))
+
+pub bch-check-outcome : (κs : Lfts 2) (a : ArgsD bch-check.signature κs) (r₁ r₂ : ResD bch-check.signature κs)
+    (s₁ s₂ : AtExit (endedOf 2 bch-check-kinds.ps bch-check-kinds.r) κs)
+    → bch-check-reads.Post κs a r₁ s₁ → bch-check-reads.Post κs a r₂ s₂ → (r₁ ≡ r₂) × (now (s₁ .1 .1 .0) ≡ now (s₂ .1 .1 .0))
+bch-check-outcome κs a r₁ r₂ s₁ s₂ p q =
+    (ap (λ x. record { number = x .number; mended = x .mended }) (p ∙ sym q), ap (λ x. x .out) (p ∙ sym q))
+
+pub import-blocks-outcome : (κs : Lfts 2) (a : ArgsD import-blocks.signature κs) (r₁ r₂ : ResD import-blocks.signature κs)
+    (s₁ s₂ : AtExit (endedOf 2 import-blocks-kinds.ps import-blocks-kinds.r) κs)
+    → import-blocks-reads.Post κs a r₁ s₁ → import-blocks-reads.Post κs a r₂ s₂ → (r₁ ≡ r₂) × (now (s₁ .1 .0) ≡ now (s₂ .1 .0))
+import-blocks-outcome κs a r₁ r₂ s₁ s₂ p q =
+    (ap (λ (x : Imported). record { number = x .number; block = x .block }) (p ∙ sym q), ap (λ (x : Imported). x .out) (p ∙ sym q))
+
+pub imported-octets-outcome : (κs : Lfts 1) (a : ArgsD imported-octets.signature κs) (r₁ r₂ : ResD imported-octets.signature κs)
+    (s₁ s₂ : AtExit (endedOf 1 imported-octets-kinds.ps imported-octets-kinds.r) κs)
+    → imported-octets-reads.Post κs a r₁ s₁ → imported-octets-reads.Post κs a r₂ s₂ → r₁ ≡ r₂
+imported-octets-outcome κs a r₁ r₂ s₁ s₂ p q = p ∙ sym q
+
+pub export-blocks-outcome : (κs : Lfts 2) (a : ArgsD export-blocks.signature κs) (r₁ r₂ : ResD export-blocks.signature κs)
+    (s₁ s₂ : AtExit (endedOf 2 export-blocks-kinds.ps export-blocks-kinds.r) κs)
+    → export-blocks-reads.Post κs a r₁ s₁ → export-blocks-reads.Post κs a r₂ s₂ → (r₁ ≡ r₂) × (now (s₁ .1 .0) ≡ now (s₂ .1 .0))
+export-blocks-outcome κs a r₁ r₂ s₁ s₂ p q = (ap (λ (x : Exported). x .number) (p ∙ sym q), ap (λ (x : Exported). x .out) (p ∙ sym q))
+
+pub exported-octets-outcome : (κs : Lfts 0) (a : ArgsD exported-octets.signature κs) (r₁ r₂ : ResD exported-octets.signature κs)
+    (s₁ s₂ : AtExit (endedOf 0 exported-octets-kinds.ps exported-octets-kinds.r) κs)
+    → exported-octets-reads.Post κs a r₁ s₁ → exported-octets-reads.Post κs a r₂ s₂ → r₁ ≡ r₂
+exported-octets-outcome κs a r₁ r₂ s₁ s₂ p q = p ∙ sym q

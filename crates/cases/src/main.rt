@@ -141,7 +141,7 @@ fn octet_894(value: u8, information: &mut [u8], word: &mut [u8])
     text(b"\n");
 }
 
-fn show_corrected(a: codes::Corrected) {
+fn show_corrected(a: endings::Corrected) {
     show(a.number as u64);
     show(a.flips as u64);
     show(a.first as u64);

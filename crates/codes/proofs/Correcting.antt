@@ -17,16 +17,16 @@ use Rattle.rules.proofs.Ways.{run-met}
 use Rattle.rules.proofs.Choosing.{by-excess}
 use Rattle.rules.proofs.Codewords.{lifted-unsent}
 use Rattle.answers.proofs.Refusals.{unsent-stay}
-use Rattle.answers.proofs.Differing.{differ-self}
-use Rattle.answers.proofs.Unlike.{run-near}
 use Rattle.layout.specs.declared.Shape.{Shape}
 use Rattle.layout.specs.Lent.{Fit, Lent, laid}
 use Rattle.measured.specs.Measured.{Measured}
 use Rattle.runs.specs.declared.Next.{Next}
 use Rattle.runs.specs.declared.Next.the-variants.{Quiet, Stuck, Flip}
-use Rattle.runs.specs.Passes.{Holding, Begins, Beginning, RunsTo, Within}
+use Rattle.runs.specs.Passes.{Holding, RunsTo, Within}
 use Rattle.codes.specs.declared.Course.{Course}
-use Rattle.codes.specs.Ends.{EndsAt, runOn, RunEnds}
+use Rattle.endings.specs.Ends.{EndsAt}
+use Rattle.endings.proofs.Ends.{ends-at}
+use Rattle.codes.specs.Ends.{runOn, RunEnds}
 
 -- correct's numbers and the output, one by one
 abbrev numbers : ℕ → ℕ → ℕ → ℕ → ℕ → ℕ → List ℕ → Corrected
@@ -39,39 +39,9 @@ numbers-same {a} {a′} {b} {b′} {c} {c′} {d} {d′} {e} {e′} {f} {f′} {
     ap₂ (λ x y. numbers x y c d e f o) p q ∙ ap₂ (λ x y. numbers a′ b′ x y e f o) r s
     ∙ ap₂ (λ x y. numbers a′ b′ c′ d′ x y o) t u ∙ ap (numbers a′ b′ c′ d′ e′ f′) v
 
--- the word at the end of a run
-pub ends-at : (c : Code) → c .unsent < bits c → (received end : Word) (limit flips : ℕ)
-    → end ≡ run (byExcess c) limit (lifted c received) .word
-    → flips ≡ length (run (byExcess c) limit (lifted c received) .flips) → EndsAt c received end flips
-ends-at c some received end limit flips e f =
-    let x = lifted c received in
-    let near = run-near (by-excess c some) x limit x in
-    let d : differing c x end ≡ differing c x (run (byExcess c) limit x .word) = ap (differing c x) e in
-    record {
-      within = omega (arith, near .most, differ-self c x, d, f);
-      even = omega (arith, near .even, differ-self c x, d, f);
-      unsent = λ k h. ap (λ z. z k) e ∙ unsent-stay c (by-excess c some) limit x (lifted-unsent c received) k h;
-    }
-
 module _ (n : ℕ) (word h : List ℕ) (y z : Word) (sh : Shape) (m : Measured n word h y z sh) where
   pub holding : Holding h sh z
   holding = record { code = code n; word = y; lent = m .lends .lent; held = m .held }
-
-  -- ---- correct
-
-  module _ (first : ℕ) (counted : (c : Code) (h : List ℕ) (sh : Shape) (x : Word) → Fit h sh → Lent c h sh → z ≡ laid c sh x
-      → first ≡ broken c x) where
-    pub begins : (from : ℕ) → code n .unsent ≡ from → Begins (code n) h sh from first y z
-    begins from e = record {
-      lent = m .lends .lent;
-      unsent = e;
-      held = m .held;
-      broken = counted (code n) h sh y (m .lends .fit)
-          (m .lends .lent) (m .held);
-    }
-
-    pub beginning : (from : ℕ) → code n .unsent ≡ from → Beginning h sh from first y z
-    beginning from e = record { code = code n; begins = begins from e }
 
   pub run-ends : (limit : ℕ) (r : Course) (y′ z′ : Word) → RunsTo (byExcess (code n)) (code n) sh limit y (r .ended .ran) y′ z′
       → ((c : Code) (h : List ℕ) (sh : Shape) (x : Word) → Fit h sh → Lent c h sh → z ≡ laid c sh x → r .first ≡ broken c x)

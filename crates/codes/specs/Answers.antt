@@ -1,10 +1,9 @@
 -- The calls' results as the definition's answers.
 use mathlib.Core.List.{List}
 use Prim.Native.Nat.{ℕ}
-use Rattle.answers.specs.Calls.{Encoded as EncodedAnswer, Checked as CheckedAnswer, Opened as OpenedAnswer, Corrected as CorrectedAnswer}
+use Rattle.answers.specs.Calls.{Encoded as EncodedAnswer, Checked as CheckedAnswer, Opened as OpenedAnswer}
 use Rattle.answers.specs.Calls.{Stepped as SteppedAnswer}
 use Rattle.codes.specs.declared.Checked.{Checked}
-use Rattle.codes.specs.declared.Corrected.{Corrected}
 use Rattle.codes.specs.declared.Stepped.{Stepped}
 
 abbrev pub asEncoded : ℕ → List ℕ → EncodedAnswer
@@ -17,16 +16,5 @@ abbrev pub asOpened : ℕ → ℕ → List ℕ → OpenedAnswer
 asOpened number lowest part = record { number = number; lowest = lowest; part = part }
 
 -- the output octets afterwards are part of the answer
-abbrev pub asCorrected : Corrected → List ℕ → CorrectedAnswer
-asCorrected r out = record {
-  number = r .number;
-  flips = r .flips;
-  first = r .first;
-  last = r .last;
-  unlike = r .unlike;
-  lowest = r .lowest;
-  out = out;
-}
-
 abbrev pub asStepped : Stepped → List ℕ → SteppedAnswer
 asStepped r out = record { number = r .number; quiet = r .quiet; bit = r .bit; excess = r .excess; out = out }

@@ -1,22 +1,14 @@
--- What is known of the word at the end of a run.
+-- What is known of a run that has ended.
 use mathlib.Core.Path.{_≡_}
-use mathlib.Core.Bool.{false}
 use mathlib.Core.List.{List}
-use Prim.Native.Nat.{ℕ, _+_, _%_, _≤_, _<_}
+use Prim.Native.Nat.{ℕ}
 use lib.ListN.{length}
 use Rattle.bits.specs.Bits.{Word, bit}
-use Rattle.rules.specs.Codes.{Code, code}
+use Rattle.rules.specs.Codes.{code}
 use Rattle.rules.specs.Checks.{broken, lowest}
 use Rattle.rules.specs.Encoding.{lifted}
 use Rattle.rules.specs.Flipping.{Run, byExcess, run}
-use Rattle.answers.specs.Calls.{differing}
 use Rattle.codes.specs.declared.Course.{Course}
-
--- It differs from the received word in no more bits than flips were made, both even or both odd; and no unsent bit is set.
-pub record EndsAt (c : Code) (received end : Word) (flips : ℕ) : Type 0 where
-  pub within : differing c (lifted c received) end ≤ flips
-  pub even : (differing c (lifted c received) end + flips) % 2 ≡ 0
-  pub unsent : (i : ℕ) → i < c .unsent → end i ≡ false
 
 -- The run on a received word.
 abbrev pub runOn : ℕ → List ℕ → ℕ → Run

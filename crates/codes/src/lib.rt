@@ -10,13 +10,15 @@ ghost use Rattle.rules.specs.Codes.{code as codeOf, offered};
 ghost use Rattle.rules.specs.Checks.{lowest};
 ghost use Rattle.rules.specs.Encoding.{lifted, written};
 ghost use Rattle.rules.specs.Flipping.{byExcess};
-ghost use Rattle.answers.specs.Calls.{differing, sixSet, fault, ranFrom, steppedFrom, nextStep, refusedCheck, refusedCorrect, refusedStep};
+ghost use Rattle.answers.specs.Calls.{sixSet, fault, ranFrom, steppedFrom, nextStep, refusedCheck, refusedStep};
 ghost use Rattle.answers.specs.Calls.{encodeAnswer, checkAnswer, openAnswer, correctAnswer, stepAnswer};
 ghost use Rattle.offer.specs.Offers.{offerOf, Known};
 ghost use Rattle.vectors.specs.Vectors.{wbit};
 ghost use Rattle.runs.specs.Passes.{Within, comesNext};
-ghost use Rattle.codes.specs.Ends.{EndsAt, RunEnds};
-ghost use Rattle.codes.specs.Answers.{asEncoded, asChecked, asOpened, asCorrected, asStepped};
+ghost use Rattle.endings.specs.Answers.{asCorrected};
+ghost use Rattle.codes.specs.Ends.{RunEnds};
+ghost use Rattle.codes.specs.Answers.{asEncoded, asChecked, asOpened, asStepped};
+use endings::Corrected;
 use layout::SYNDROME;
 use layout::TABLE;
 use layout::WORD;
@@ -28,16 +30,6 @@ use runs::Next;
 pub struct Checked {
     pub number: u8,
     pub broken: u32,
-    pub lowest: u32,
-}
-
-#[repr(C)]
-pub struct Corrected {
-    pub number: u8,
-    pub flips: u32,
-    pub first: u32,
-    pub last: u32,
-    pub unlike: u32,
     pub lowest: u32,
 }
 
@@ -69,20 +61,6 @@ fn refused_check(number: u8) -> Checked
     Checked {
         number: number,
         broken: 0,
-        lowest: 0,
-    }
-}
-
-// What correct gives besides its number where it is refused by 1 to 3, and on samples also by 16.
-pub fn refused_correct(number: u8) -> Corrected
-    ensures { λ r. ⌜ ((out : List ℕ) → asCorrected r out ≡ refusedCorrect out number) ⌝ }
-{
-    Corrected {
-        number: number,
-        flips: 0,
-        first: 0,
-        last: 0,
-        unlike: 0,
         lowest: 0,
     }
 }
@@ -187,18 +165,6 @@ pub fn open<'a>(code: u8, word: &'a [u8], number: &mut u8, lowest: &mut u32) -> 
     &word[..end]
 }
 
-// In how many bits the word at the end of a run differs from the received one: no flip leaves it, and one flips one bit.
-pub fn unlike_after(o: Offer, word: &[u8], y: &[u64; WORD], flips: u32) -> u32
-    requires { ⌜ Known o × (length (now word) ≡ o .word) ⌝ }
-    ensures { λ r. ⌜ ((n : ℕ) → offered n ≡ true → o ≡ offerOf n → EndsAt (codeOf n) (bit (now (word .entry))) (wbit (now (y .entry))) flips
-        → r ≡ differing (codeOf n) (lifted (codeOf n) (bit (now (word .entry)))) (wbit (now (y .entry)))) ⌝ }
-{
-    if flips <= 1 {
-        return flips;
-    }
-    unlike::unlike(word, y, o.unsent, o.bits - o.unsent) as u32
-}
-
 // The flipping run on a word of the right length; h, y and z are handed over as zeros, and y comes back as the word at its end.
 fn run_taken(
     o: Offer,
@@ -241,7 +207,7 @@ fn finish(o: Offer, word: &[u8], y: &mut [u64; WORD], run: Course, out: &mut [u8
 {
     let ended = run.ended;
     let ran = ended.ran;
-    let unlike = unlike_after(o, word, y, ran.flips);
+    let unlike = endings::unlike_after(o, word, y, ran.flips);
     let number = judging::judge(o, y, ran.number);
     write_taken(o, number, y, out);
     Corrected {
@@ -274,7 +240,7 @@ pub fn correct(code: u8, word: &[u8], limit: u16, out: &mut [u8]) -> Corrected
     let o = offer::of(code);
     let number = ladder::refusal(o.offered, word.len(), o.word, out.len(), o.word);
     if number != 0 {
-        return refused_correct(number);
+        return endings::refused_correct(number);
     }
     correct_taken(o, word, limit, out)
 }
@@ -315,7 +281,7 @@ fn step_out(o: Offer, word: &[u8], next: Next, y: &mut [u64; WORD], out: &mut [u
 {
     match next {
         Next::Quiet => {
-            received::copy(word, out);
+            copying::copy(word, out);
             Stepped {
                 number: 0,
                 quiet: true,

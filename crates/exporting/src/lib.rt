@@ -59,7 +59,7 @@ fn put_data(used: &[u8], out: &mut [u8])
     ensures { λ _. ⌜ now (out .exit) ≡ now (used .entry) ++ replicate (length (now (out .entry)) - length (now (used .entry))) 0 ⌝ }
 {
     let n = used.len();
-    blocks::copy(used, &mut out[..n]);
+    copying::copy(used, &mut out[..n]);
     wipe(&mut out[n..]);
 }
 

@@ -26,7 +26,7 @@ fn put(n: u64) {
 }
 
 // The line of a word: whether it is written.
-fn line(index: u64, offset: u64, r: codes::Corrected) -> bool {
+fn line(index: u64, offset: u64, r: endings::Corrected) -> bool {
     io::print_decimal(STDOUT_FILENO, index);
     put(offset);
     put(r.number as u64);

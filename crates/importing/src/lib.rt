@@ -173,7 +173,7 @@ fn take_data(blocks: &[u8], n: usize, out: &mut [u8])
         let to = from + count;
         let start = end;
         end = start + count;
-        blocks::copy(&blocks[from..to], &mut out[start..end]);
+        copying::copy(&blocks[from..to], &mut out[start..end]);
         k += 1;
     }
 }

@@ -5,7 +5,7 @@ ghost use Prim.Native.Nat.{_+_, _*_, _≤_, _<_, _^_};
 ghost use lib.ListN.{length, take};
 ghost use Rattle.rules.specs.Codes.{code as codeOf};
 ghost use Rattle.answers.specs.Calls.{refusedCorrect};
-ghost use Rattle.codes.specs.Answers.{asCorrected};
+ghost use Rattle.endings.specs.Answers.{asCorrected};
 ghost use Rattle.line.specs.Line.{decimal, fields, numbers as numbersOf, header, line as lineOf, wordLine};
 
 fn octet(n: u8) -> u64
@@ -67,7 +67,7 @@ fn put_fields(numbers: &[u64], text: &mut [u8], at: usize) -> usize
 }
 
 // What a line gives of an answer. A further field of the answer is one entry here, one in the definition, and one in the proof.
-fn numbers(a: codes::Corrected) -> [u64; 5]
+fn numbers(a: endings::Corrected) -> [u64; 5]
     ensures { λ r. ⌜ r ≡ numbersOf (asCorrected a []) ⌝ }
 {
     [
@@ -80,7 +80,7 @@ fn numbers(a: codes::Corrected) -> [u64; 5]
 }
 
 // The line of an answer. 128 octets hold any.
-pub fn put_line(index: u64, a: codes::Corrected, text: &mut [u8], at: usize) -> usize
+pub fn put_line(index: u64, a: endings::Corrected, text: &mut [u8], at: usize) -> usize
     requires { ⌜ at + 128 ≤ length (now text) ⌝ }
     ensures { λ r. ⌜ (r ≤ at + 128) × (take r (now (text .exit)) ≡ take at (now (text .entry)) ++ lineOf index (asCorrected a [])) ⌝ }
 {
@@ -134,7 +134,7 @@ pub fn write_word(
 }
 
 // Refusal 1, from correct itself, to which code 0 is not offered: a further field of the answer is no change here.
-pub fn refusal() -> codes::Corrected
+pub fn refusal() -> endings::Corrected
     ensures { λ r. ⌜ lineOf 0 (asCorrected r []) ≡ lineOf 0 (refusedCorrect [] 1) ⌝ }
 {
     let word = [0u8; 1];

@@ -14,20 +14,29 @@ ghost use Rattle.ties.specs.Flat.{Sizes, flatTied};
 ghost use Rattle.onedigit.specs.Wrong.{inBlock, wrongEntry, digitNoticed, placeNoticed, entryWrong, entryNoticed};
 use libc::STDOUT_FILENO;
 
-// Whether the published tables of a code are tied. Codes 4 and 5 have the same.
-fn published(n: u8) -> bool
-    requires { ⌜ (0 < n) × (n ≤ 5) ⌝ }
-    ensures { λ r. ⌜ r ≡ tied (code n) ⌝ }
+// Whether the published tables of codes 1, 2 and 3 are tied.
+fn tied_16() -> bool
+    ensures { λ r. ⌜ r ≡ tied (code 1) ⌝ }
 {
-    if n == 1 {
-        return ties::tied(16, 4, 4, 4, &laid::parity_16(), &laid::generator_16());
-    }
-    if n == 2 {
-        return ties::tied(32, 4, 4, 4, &laid::parity_32(), &laid::generator_32());
-    }
-    if n == 3 {
-        return ties::tied(64, 4, 4, 4, &laid::parity_64(), &laid::generator_64());
-    }
+    ties::tied(16, 4, 4, 4, &laid::parity_16(), &laid::generator_16())
+}
+
+fn tied_32() -> bool
+    ensures { λ r. ⌜ r ≡ tied (code 2) ⌝ }
+{
+    ties::tied(32, 4, 4, 4, &laid::parity_32(), &laid::generator_32())
+}
+
+fn tied_64() -> bool
+    ensures { λ r. ⌜ r ≡ tied (code 3) ⌝ }
+{
+    ties::tied(64, 4, 4, 4, &laid::parity_64(), &laid::generator_64())
+}
+
+// Codes 4 and 5 have the same tables.
+fn tied_511() -> bool
+    ensures { λ r. ⌜ (r ≡ tied (code 4)) × (r ≡ tied (code 5)) ⌝ }
+{
     ties::tied(511, 2, 14, 2, &laid::parity_511(), &laid::generator_511())
 }
 
@@ -322,10 +331,8 @@ fn try_code(
     line(n, d.tried, d.noticed, e.tried, e.noticed);
 }
 
-fn answer(n: u8)
-    requires { ⌜ (0 < n) × (n ≤ 5) ⌝ }
-{
-    if published(n) {
+fn answer(tied: bool) {
+    if tied {
         text(b" yes");
     } else {
         text(b" no");
@@ -347,11 +354,12 @@ fn try_near_earth(n: usize, parity: &mut [u16; 96], generator: &mut [u64; 224]) 
 
 fn main() {
     text(b"The published tables of codes 1, 2, 3, 4 and 5 are tied:");
-    answer(1);
-    answer(2);
-    answer(3);
-    answer(4);
-    answer(5);
+    answer(tied_16());
+    answer(tied_32());
+    answer(tied_64());
+    let near_earth = tied_511();
+    answer(near_earth);
+    answer(near_earth);
     text(b"\nOne wrong digit, tried everywhere. Code 5 has the tables of code 4.\n");
     try_telecommand(1, 16, 4, &mut laid::parity_16(), &mut laid::generator_16());
     try_telecommand(2, 32, 8, &mut laid::parity_32(), &mut laid::generator_32());

@@ -95,7 +95,7 @@ fn write_both(front: &[u8], y: &[u64; TAIL], word: &mut [u8])
         (from 0 (wbit (now (y .entry)))) ⌝ }
 {
     let at = front.len();
-    received::copy(front, &mut word[..at]);
+    copying::copy(front, &mut word[..at]);
     vectors::store(y, 0, &mut word[at..]);
 }
 

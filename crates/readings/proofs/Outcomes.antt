@@ -13,7 +13,7 @@ use Rattle.readings.proofs.reader.Reads as reader-reads
 use Rattle.readings.proofs.read as read
 use Rattle.readings.proofs.read.Kinds as read-kinds
 use Rattle.readings.proofs.read.Reads as read-reads
-use Rattle.codes.specs.declared.Corrected.{Corrected as Numbers}
+use Rattle.endings.specs.declared.Corrected.{Corrected as Numbers}
 
 -- a record of numbers from the answer that it stands for
 abbrev numbers : Corrected → Numbers

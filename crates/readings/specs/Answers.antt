@@ -1,7 +1,7 @@
 -- The calls' results as the definition's answers.
 use mathlib.Core.List.{List, []}
 use Prim.Native.Nat.{ℕ}
-use Rattle.codes.specs.Answers.{asCorrected}
+use Rattle.endings.specs.Answers.{asCorrected}
 use Rattle.unitrules.specs.Units.{Reading as ReadingAnswer, Handed as HandedAnswer}
 use Rattle.readings.specs.declared.Reading.{Reading}
 use Rattle.readings.specs.declared.Handed.{Handed}

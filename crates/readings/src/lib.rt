@@ -8,19 +8,18 @@ ghost use lib.ListN.{length, replicate};
 ghost use Rattle.bits.specs.Bits.{if_then_else_};
 ghost use Rattle.rules.specs.Codes.{code as codeOf};
 ghost use Rattle.answers.specs.Calls.{refusedCorrect, correctAnswer};
-ghost use Rattle.codes.specs.Answers.{asCorrected};
+ghost use Rattle.endings.specs.Answers.{asCorrected};
 ghost use Rattle.unitrules.specs.Units.{unitCode, tail as tailOf, same as sameOf, started, blocksIn, shaped, received, handedLast};
 ghost use Rattle.unitrules.specs.Units.{handedAgain, readerNumber, readerAnswer, readNext, readAnswer};
 ghost use Rattle.readings.specs.Answers.{asReading, asHanded};
 ghost use Rattle.readings.specs.Handing.{handedPart, handedOn};
-use codes::Corrected;
-use units::START;
-use units::TAIL;
-use units::copy;
-use units::information_octets;
-use units::is_unit_code;
-use units::tail_octets;
-use units::word_octets;
+use endings::Corrected;
+use unitoffers::START;
+use unitoffers::TAIL;
+use unitoffers::information_octets;
+use unitoffers::is_unit_code;
+use unitoffers::tail_octets;
+use unitoffers::word_octets;
 
 // A reading of a unit: the answer that ended it (its number is 0 while it goes on), its code and limit, and the codeblocks handed out.
 #[repr(C)]
@@ -130,7 +129,7 @@ fn reader_number(code: u8, unit: &[u8]) -> u8
 fn numbered(number: u8) -> Corrected
     ensures { λ r. ⌜ asCorrected r [] ≡ refusedCorrect [] number ⌝ }
 {
-    codes::refused_correct(number)
+    endings::refused_correct(number)
 }
 
 // A reader over a unit: its number is that of `kept`.
@@ -155,7 +154,7 @@ fn receive(code: u8, unit: &[u8], k: usize, word: &mut [u8])
     let used = k * size;
     let at = 8 + used;
     let end = at + size;
-    copy(&unit[at..end], word);
+    copying::copy(&unit[at..end], word);
     randomiser::randomise(word, used);
 }
 
@@ -171,7 +170,7 @@ fn hand_out(number: u8, information: &[u8], out: &mut [u8])
     ensures { λ _. ⌜ now (out .exit) ≡ (if eqb number 0 then now (information .entry) else now (out .entry)) ⌝ }
 {
     if number == 0 {
-        copy(information, out);
+        copying::copy(information, out);
     }
 }
 

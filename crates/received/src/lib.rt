@@ -103,15 +103,3 @@ pub fn cut_block(octets: &[u8], unsent: usize, b: usize, v: &mut [u64])
         cut(octets, b * 511 - unsent, v);
     }
 }
-
-// Octets into an output of the same length.
-pub fn copy(octets: &[u8], out: &mut [u8])
-    requires { ⌜ length (now octets) ≡ length (now out) ⌝ }
-    ensures { λ _. ⌜ now (out .exit) ≡ now (octets .entry) ⌝ }
-{
-    let mut i: usize = 0;
-    while i < octets.len() {
-        out[i] = octets[i];
-        i += 1;
-    }
-}

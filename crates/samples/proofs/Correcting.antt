@@ -21,7 +21,7 @@ use Rattle.layout.specs.declared.Shape.{Shape}
 use Rattle.offer.specs.declared.Offer.{Offer}
 use Rattle.offer.specs.Offers.{offerOf}
 use Rattle.offer.proofs.Offers.{offers}
-use Rattle.codes.proofs.Admitted.{steps-by, bits-are, word-long}
+use Rattle.ladder.proofs.Admitted.{steps-by, bits-are, word-long}
 use Rattle.sizes.specs.Samples.{read, smaller}
 use Rattle.sizes.specs.Sizes.{bySize}
 use Rattle.sizing.specs.declared.Ended.{Ended}

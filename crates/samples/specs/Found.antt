@@ -7,8 +7,8 @@ use lib.Ieee.{Float}
 use Rattle.bits.specs.Bits.{Word, if_then_else_}
 use Rattle.rules.specs.Codes.{code}
 use Rattle.rules.specs.Encoding.{written}
-use Rattle.codes.specs.declared.Corrected.{Corrected}
-use Rattle.codes.specs.Answers.{asCorrected}
+use Rattle.endings.specs.declared.Corrected.{Corrected}
+use Rattle.endings.specs.Answers.{asCorrected}
 use Rattle.samples.specs.Answers.{ranSamples}
 
 -- The numbers r are the answer's, once the word y is written where the first of them is 0.

@@ -12,11 +12,11 @@ ghost use Rattle.offer.specs.Offers.{offerOf, Known};
 ghost use Rattle.tables.specs.Flat.{Lends};
 ghost use Rattle.measured.specs.Measured.{Size};
 ghost use Rattle.runs.specs.Passes.{Begins, Beginning};
-ghost use Rattle.codes.specs.Answers.{asCorrected};
+ghost use Rattle.endings.specs.Answers.{asCorrected};
 ghost use Rattle.sizes.specs.Samples.{read as readOf, allFinite};
 ghost use Rattle.samples.specs.Answers.{ranSamples, samplesAnswer};
 ghost use Rattle.samples.specs.Found.{Finds};
-use codes::Corrected;
+use endings::Corrected;
 use layout::SYNDROME;
 use layout::Shape;
 use layout::TABLE;
@@ -134,7 +134,7 @@ fn correct_taken(o: Offer, samples: &[f32], limit: u16, out: &mut [u8]) -> Corre
 {
     let mut y = [0u64; WORD];
     if !sizes::read(samples, &mut y) {
-        return codes::refused_correct(16);
+        return endings::refused_correct(16);
     }
     correct_read(o, samples, limit, &mut y, out)
 }
@@ -146,7 +146,7 @@ pub fn correct_samples(code: u8, samples: &[f32], limit: u16, out: &mut [u8]) ->
     let o = offer::of(code);
     let number = ladder::refusal(o.steps, samples.len(), o.bits, out.len(), o.word);
     if number != 0 {
-        return codes::refused_correct(number);
+        return endings::refused_correct(number);
     }
     correct_taken(o, samples, limit, out)
 }

@@ -5,7 +5,7 @@ use borrow.Fn.World.{ArgsD, ResD}
 use borrow.Fn.Kinds.{endedOf}
 use denote.Triple.Clauses.{AtExit}
 use Rattle.answers.specs.Calls.{Corrected}
-use Rattle.codes.specs.declared.Corrected.{Corrected as Numbers}
+use Rattle.endings.specs.declared.Corrected.{Corrected as Numbers}
 use Rattle.taker.specs.Taking.{Taker}
 use Rattle.taker.specs.declared.Taker.{Taker as TakerState}
 use Rattle.taker.proofs.Taker.new as new

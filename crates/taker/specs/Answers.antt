@@ -1,5 +1,5 @@
 -- The call's results as the definition's answers.
-use Rattle.codes.specs.Answers.{asCorrected}
+use Rattle.endings.specs.Answers.{asCorrected}
 use Rattle.taker.specs.Taking.{Taker as TakerAnswer, Made as MadeAnswer, Taken as TakenAnswer, tell}
 use Rattle.taker.specs.declared.Taker.{Taker}
 use Rattle.taker.specs.declared.Made.{Made}

@@ -5,11 +5,11 @@ ghost use Prim.Native.Nat.{_+_, _<_, _≤_};
 ghost use lib.ListN.{length, replicate};
 ghost use lib.Seq.{sets};
 ghost use Rattle.answers.specs.Calls.{refusedCorrect};
-ghost use Rattle.codes.specs.Answers.{asCorrected};
+ghost use Rattle.endings.specs.Answers.{asCorrected};
 ghost use Rattle.taker.specs.Taking.{tell, standing, freshTaker, newTaker, takerForAnswer, matched as matchedBy, readPlace, GoesOn};
 ghost use Rattle.taker.specs.Taking.{waiting as waitingOf, completed as completedOf, takeAnswer};
 ghost use Rattle.taker.specs.Answers.{asTaker, asMade, asTaken};
-use codes::Corrected;
+use endings::Corrected;
 
 // A taker between two parts: its place (octets of the marker matched, or 4 and the octets held of the word), what it was told, the octets.
 #[repr(C)]
@@ -143,7 +143,7 @@ fn hold(octets: &mut [u8], held: usize, part: &[u8])
 fn none() -> Corrected
     ensures { λ r. ⌜ asCorrected r [] ≡ refusedCorrect [] 0 ⌝ }
 {
-    codes::refused_correct(0)
+    endings::refused_correct(0)
 }
 
 fn waiting(taken: usize, place: usize, edition: u8, limit: u16, octets: [u8; 1020]) -> Taken

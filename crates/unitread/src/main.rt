@@ -66,7 +66,7 @@ fn put_octets(octets: &[u8]) -> bool {
 }
 
 // Index and correct's numbers.
-fn put_numbers(index: u64, r: codes::Corrected) {
+fn put_numbers(index: u64, r: endings::Corrected) {
     io::print_decimal(STDOUT_FILENO, index);
     put(r.number as u64);
     put(r.flips as u64);
@@ -78,7 +78,7 @@ fn put_numbers(index: u64, r: codes::Corrected) {
 }
 
 // The line of an asking's answer: whether it is written, and there may be more.
-fn line(index: u64, r: codes::Corrected, out: &[u8]) -> bool {
+fn line(index: u64, r: endings::Corrected, out: &[u8]) -> bool {
     put_numbers(index, r);
     if r.number != 0 {
         io::write_all(STDOUT_FILENO, b"-\n");

@@ -5,7 +5,7 @@ use Prim.Native.Nat.{ℕ, _≤_}
 use native.Mathlib.Omega.{arith}
 use lib.Dec.{eqb}
 use Rattle.bits.specs.Bits.{if_then_else_}
-use Rattle.units.specs.Offers.{shortUnits, longUnits, unitOfferOf}
+use Rattle.unitoffers.specs.Offers.{shortUnits, longUnits, unitOfferOf}
 use Rattle.unitreader.specs.Named.{roomFor}
 
 pub room-of : (n : ℕ) → unitOfferOf n .information ≡ roomFor n

@@ -3,8 +3,9 @@
 ghost use mathlib.Core.Path.{_≡_};
 ghost use Prim.Native.Nat.{ℕ};
 ghost use lib.ListN.{replicate};
+ghost use Rattle.unitrules.specs.Units.{readingFrom};
+ghost use Rattle.readings.specs.Answers.{asReading};
 ghost use Rattle.unitreader.specs.Named.{roomFor, handedAt, asBlock};
-use codes::Corrected;
 use readings::Handed;
 use readings::Reading;
 
@@ -31,28 +32,28 @@ fn buffer() -> [u8; 32]
 fn room(code: u8) -> usize
     ensures { λ r. ⌜ r ≡ roomFor code ⌝ }
 {
-    let u = units::unit_of(code);
+    let u = unitoffers::unit_of(code);
     u.information
+}
+
+// A reading that stands at a place.
+fn standing(place: usize, code: u8, limit: u16) -> Reading
+    ensures { λ r. ⌜ asReading r ≡ readingFrom 0 code limit place ⌝ }
+{
+    let kept = endings::refused_correct(0);
+    Reading {
+        kept: kept,
+        code: code,
+        limit: limit,
+        place: place,
+    }
 }
 
 // The codeblock at a place of a unit.
 pub fn block_at(unit: &[u8], place: usize, code: u8, limit: u16) -> Block
     ensures { λ r. ⌜ asBlock r code ≡ handedAt (now (unit .entry)) place code limit ⌝ }
 {
-    let kept = Corrected {
-        number: 0,
-        flips: 0,
-        first: 0,
-        last: 0,
-        unlike: 0,
-        lowest: 0,
-    };
-    let state = Reading {
-        kept: kept,
-        code: code,
-        limit: limit,
-        place: place,
-    };
+    let state = standing(place, code, limit);
     let size = room(code);
     let mut octets = buffer();
     let handed = readings::read(state, unit, &mut octets[..size]);

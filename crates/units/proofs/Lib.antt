@@ -1,4 +1,3 @@
-pub mod Offers
 pub mod Lengths
 pub mod Parts
 pub mod Assembled

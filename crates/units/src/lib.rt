@@ -1,4 +1,4 @@
-// Telecommand transmission units of codes 1 and 3, written; and their sequences and lengths, which the reader knows too.
+// Telecommand transmission units of codes 1 and 3, written, and their lengths.
 ghost use mathlib.Core.Path.{_≡_};
 ghost use mathlib.Core.Bool.{true};
 ghost use mathlib.Core.List.{_++_};
@@ -12,91 +12,13 @@ ghost use Rattle.randomiser.specs.Randomiser.{telecommand, randomised};
 ghost use Rattle.unitrules.specs.Units.{unitCode, start, tail as tailOf, blocksFor, codeblock, codeblocks, unit as unitOf, unitLength};
 ghost use Rattle.unitrules.specs.Units.{unitOctets, writeAnswer};
 ghost use Rattle.units.specs.Numbers.{writeNumber};
-ghost use Rattle.units.specs.Offers.{unitOfferOf};
-
-pub const START: [u8; 8] = [0x03, 0x47, 0x76, 0xC7, 0x27, 0x28, 0x95, 0xB0];
-
-pub const TAIL: [u8; 16] = [
-    0x55,
-    0x55,
-    0x55,
-    0x56,
-    0xAA,
-    0xAA,
-    0xAA,
-    0xAA,
-    0x55,
-    0x55,
-    0x55,
-    0x55,
-    0x55,
-    0x55,
-    0x55,
-    0x55,
-];
-
-// What a code number fixes of units: whether they are of this code, the octets of a codeblock, of its information and of the tail,
-// and how many codeblocks no length can hold.
-pub struct UnitOffer {
-    pub offered: bool,
-    pub word: usize,
-    pub information: usize,
-    pub tail: usize,
-    pub most: usize,
-}
-
-// Units are of codes 1 and 3. Another number has code 3's octets, and is refused before they are used.
-pub fn unit_of(code: u8) -> UnitOffer
-    ensures { λ r. ⌜ r ≡ unitOfferOf code ⌝ }
-{
-    match code {
-        1 => UnitOffer {
-            offered: true,
-            word: 16,
-            information: 8,
-            tail: 16,
-            most: 0x0FFFFFFFFFFFFFFF,
-        },
-        _ => UnitOffer {
-            offered: code == 3,
-            word: 64,
-            information: 32,
-            tail: 0,
-            most: 0x0400000000000000,
-        },
-    }
-}
-
-pub fn is_unit_code(code: u8) -> bool
-    ensures { λ r. ⌜ r ≡ unitCode code ⌝ }
-{
-    let u = unit_of(code);
-    u.offered
-}
-
-pub fn word_octets(code: u8) -> usize
-    requires { ⌜ unitCode code ≡ true ⌝ }
-    ensures { λ r. ⌜ (r ≡ codeOf code .wordOctets) × (16 ≤ r) × (r ≤ 64) ⌝ }
-{
-    let u = unit_of(code);
-    u.word
-}
-
-pub fn information_octets(code: u8) -> usize
-    requires { ⌜ unitCode code ≡ true ⌝ }
-    ensures { λ r. ⌜ (r ≡ codeOf code .informationOctets) × (8 ≤ r) × (r ≤ 32) ⌝ }
-{
-    let u = unit_of(code);
-    u.information
-}
-
-pub fn tail_octets(code: u8) -> usize
-    requires { ⌜ unitCode code ≡ true ⌝ }
-    ensures { λ r. ⌜ (r ≡ length (tailOf code)) × (r ≤ 16) ⌝ }
-{
-    let u = unit_of(code);
-    u.tail
-}
+use unitoffers::START;
+use unitoffers::TAIL;
+use unitoffers::information_octets;
+use unitoffers::is_unit_code;
+use unitoffers::tail_octets;
+use unitoffers::unit_of;
+use unitoffers::word_octets;
 
 // The octets of a unit, 0 where there is none.
 pub fn unit_octets(code: u8, long: usize) -> usize
@@ -115,18 +37,6 @@ pub fn unit_octets(code: u8, long: usize) -> usize
         return u.word * blocks + ends;
     }
     0
-}
-
-// The octets of one slice into another of the same length.
-pub fn copy(from: &[u8], to: &mut [u8])
-    requires { ⌜ length (now from) ≡ length (now to) ⌝ }
-    ensures { λ _. ⌜ now (to .exit) ≡ now (from .entry) ⌝ }
-{
-    let mut i: usize = 0;
-    while i < from.len() {
-        to[i] = from[i];
-        i += 1;
-    }
 }
 
 // A whole part of the information as a codeblock, randomised; `used` octets of codeblocks came before.
@@ -157,7 +67,7 @@ fn write_last(code: u8, rest: &[u8], size: usize, used: usize, out: &mut [u8])
 {
     let mut part = fill();
     let long = rest.len();
-    copy(rest, &mut part[..long]);
+    copying::copy(rest, &mut part[..long]);
     write_part(code, &part[..size], used, out);
 }
 
@@ -200,7 +110,7 @@ fn write_tail(code: u8, out: &mut [u8])
     ensures { λ _. ⌜ now (out .exit) ≡ tailOf code ⌝ }
 {
     if tail_octets(code) != 0 {
-        copy(&TAIL, out);
+        copying::copy(&TAIL, out);
     }
 }
 
@@ -208,7 +118,7 @@ fn write_start(out: &mut [u8])
     requires { ⌜ length (now out) ≡ 8 ⌝ }
     ensures { λ _. ⌜ now (out .exit) ≡ start ⌝ }
 {
-    copy(&START, out);
+    copying::copy(&START, out);
 }
 
 // The start and all codeblocks, into an output that they fill.

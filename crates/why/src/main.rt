@@ -53,7 +53,7 @@ fn put_end() -> bool {
 }
 
 // A word's line, as the bench logs it.
-fn put_line(index: u64, a: lists::Listed) -> bool {
+fn put_line(index: u64, a: listing::Listed) -> bool {
     io::print_decimal(STDOUT_FILENO, index);
     put(a.number as u64);
     put(a.flips as u64);
@@ -63,7 +63,7 @@ fn put_line(index: u64, a: lists::Listed) -> bool {
     put_end()
 }
 
-fn put_flip(r: lists::FlipRecord) -> bool {
+fn put_flip(r: listing::FlipRecord) -> bool {
     io::write_all(STDOUT_FILENO, b"  flip");
     put(r.bit as u64);
     put_signed(r.excess);
@@ -72,22 +72,22 @@ fn put_flip(r: lists::FlipRecord) -> bool {
 }
 
 // The list of a word, to its end; where the flips are shown, to one that could not be written.
-fn follow(code: u8, limit: u16, word: &[u8], shown: bool) -> lists::Listing {
+fn follow(code: u8, limit: u16, word: &[u8], shown: bool) -> listing::Listing {
     let mut h = [0u16; TABLE];
     let mut y = [0u64; WORD];
     let mut z = [0u64; SYNDROME];
-    let mut l = lists::begin(code, word, limit, PLACES, &mut h, &mut y, &mut z);
+    let mut l = listing::begin(code, word, limit, PLACES, &mut h, &mut y, &mut z);
     while l.goes {
         if shown && !put_flip(l.record) {
             return l;
         }
-        l = lists::next(l, word, &mut h, &mut y, &mut z);
+        l = listing::next(l, word, &mut h, &mut y, &mut z);
     }
     l
 }
 
 // The greatest excess and the lowest bit that has it, where no bit has one above 0.
-fn put_reason(a: lists::Listed) -> bool {
+fn put_reason(a: listing::Listed) -> bool {
     if a.number != 5 {
         return true;
     }
@@ -120,7 +120,7 @@ fn put_reached(r: nearest::Reached) -> bool {
 
 // For a word whose run stuck or came to its limit: the nearest codeword within three flips, or that there is none. Words of another
 // length than code 1's are refused by 2, and nothing is said of them.
-fn put_nearest(word: &[u8], a: lists::Listed) -> bool {
+fn put_nearest(word: &[u8], a: listing::Listed) -> bool {
     if a.number < 5 || a.number > 6 {
         return true;
     }

@@ -6,7 +6,7 @@ use Rattle.rules.specs.Checks.{broken, lowest}
 use Rattle.answers.proofs.Answers.{check-taken, check-refused}
 use Rattle.offer.proofs.Offers.{is-offered}
 use Rattle.vectors.proofs.Filling.{zero-words}
-use Rattle.codes.proofs.Admitted.{offered-by, check-refusal, taken, word-long, fitting}
+use Rattle.ladder.proofs.Admitted.{offered-by, check-refusal, taken, word-long, fitting}
 use borrow.Author.Needs.{needs}
 use Rattle.codes.proofs.check.Statement.{statement}
 use Rattle.codes.proofs.check.Tie as tie

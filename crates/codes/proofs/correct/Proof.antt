@@ -2,7 +2,7 @@
 use mathlib.Core.Path.{sym, _∙_}
 use Rattle.answers.proofs.Answers.{correct-taken, correct-refused}
 use Rattle.offer.proofs.Offers.{is-offered}
-use Rattle.codes.proofs.Admitted.{offered-by, correct-refusal, taken, word-long}
+use Rattle.ladder.proofs.Admitted.{offered-by, correct-refusal, taken, word-long}
 use borrow.Author.Needs.{needs}
 use Rattle.codes.proofs.correct.Statement.{statement}
 use Rattle.codes.proofs.correct.Tie as tie

@@ -3,7 +3,7 @@ use mathlib.Core.Path.{sym, ap, _∙_}
 use lib.ListN.{length}
 use Rattle.answers.proofs.Answers.{encode-taken, encode-four, encode-refused}
 use Rattle.offer.proofs.Offers.{is-offered}
-use Rattle.codes.proofs.Admitted.{offered-by, encode-refusal, taken, word-long, information-long}
+use Rattle.ladder.proofs.Admitted.{offered-by, encode-refusal, taken, word-long, information-long}
 use Rattle.codes.proofs.Encoding.{information-only}
 use borrow.Author.Needs.{needs}
 use Rattle.codes.proofs.encode.Statement.{statement}

@@ -3,7 +3,7 @@ use mathlib.Core.Path.{ap, _∙_}
 use Rattle.rules.specs.Codes.{code}
 use Rattle.rules.specs.Checks.{lowest}
 use Rattle.vectors.proofs.Filling.{zero-words}
-use Rattle.codes.proofs.Admitted.{word-long, fitting}
+use Rattle.ladder.proofs.Admitted.{word-long, fitting}
 use borrow.Author.Needs.{needs}
 use Rattle.codes.proofs.fault_of.Statement.{statement}
 use Rattle.codes.proofs.fault_of.Tie as tie

@@ -5,7 +5,7 @@ use lib.ListN.{length, take, length-take}
 use Rattle.answers.proofs.Answers.{open-from, open-refused}
 use Rattle.offer.proofs.Offers.{small}
 use Rattle.codes.proofs.Opened.{opened-other, opened-codeword}
-use Rattle.codes.proofs.Admitted.{as-truth, opens-by, opens-offered, open-refusal, taken, word-long, information-long}
+use Rattle.ladder.proofs.Admitted.{as-truth, opens-by, opens-offered, open-refusal, taken, word-long, information-long}
 use borrow.Author.Needs.{needs}
 use Rattle.codes.proofs.open.Statement.{statement}
 use Rattle.codes.proofs.open.Tie as tie

@@ -1,8 +1,9 @@
 -- `codes::run_taken`: the word is measured, and the run made on it. Assumes nothing.
 use mathlib.Core.Path.{sym}
 use Rattle.rules.specs.Codes.{code}
-use Rattle.codes.proofs.Admitted.{shaped, unsent-is, fitting}
-use Rattle.codes.proofs.Correcting.{begins, beginning, run-ends}
+use Rattle.ladder.proofs.Admitted.{shaped, unsent-is, fitting}
+use Rattle.endings.proofs.Ends.{begins, beginning}
+use Rattle.codes.proofs.Correcting.{run-ends}
 use borrow.Author.Needs.{needs}
 use Rattle.codes.proofs.run_taken.Statement.{statement}
 use Rattle.codes.proofs.run_taken.Tie as tie

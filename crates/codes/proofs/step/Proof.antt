@@ -1,7 +1,7 @@
 -- `codes::step`: refusals in the order of their numbers, then one step. Assumes nothing.
 use mathlib.Core.Path.{sym, _∙_}
 use Rattle.answers.proofs.Answers.{step-taken, step-refused}
-use Rattle.codes.proofs.Admitted.{as-truth, steps-by, steps-offered, step-refusal, taken, word-long}
+use Rattle.ladder.proofs.Admitted.{as-truth, steps-by, steps-offered, step-refusal, taken, word-long}
 use borrow.Author.Needs.{needs}
 use Rattle.codes.proofs.step.Statement.{statement}
 use Rattle.codes.proofs.step.Tie as tie

@@ -4,7 +4,7 @@ use native.Mathlib.Omega.{arith}
 use Rattle.rules.specs.Codes.{code}
 use Rattle.rules.specs.Encoding.{written}
 use Rattle.offer.proofs.Offers.{small}
-use Rattle.codes.proofs.Admitted.{word-long, unsent-is, bits-are}
+use Rattle.ladder.proofs.Admitted.{word-long, unsent-is, bits-are}
 use borrow.Author.Needs.{needs}
 use Rattle.codes.proofs.write_flipped.Statement.{statement}
 use Rattle.codes.proofs.write_flipped.Tie as tie

@@ -4,7 +4,7 @@ use mathlib.Core.List.{[]}
 use Prim.Native.Nat.{_+_, _<_}
 use native.Mathlib.Omega.{arith}
 use lib.ListN.{length, take, length-set}
-use Rattle.codes.specs.Answers.{asCorrected}
+use Rattle.endings.specs.Answers.{asCorrected}
 use Rattle.line.proofs.Texts.{long64, line-whole}
 use borrow.Author.Needs.{needs}
 use Rattle.line.proofs.put_line.Statement.{statement}

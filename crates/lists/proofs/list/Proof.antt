@@ -57,27 +57,27 @@ use denote.Triple.Walked.{says, Stays, stay-slice, stay-dropped, walkOf, Walks, 
 use borrow.Author.Needs.{scaled-fits}
 use borrow.Rule.Array.Init.{part-room}
 use Rattle.vectors.proofs.Filling.{zero-words}
-use Rattle.lists.specs.Answers.{asEntry, asEntries, listedAs}
-use Rattle.lists.specs.Listings.{listOf, soFar, Blank, Lists, Goes}
-use Rattle.lists.specs.declared.FlipRecord.{FlipRecord}
-use Rattle.lists.specs.declared.Listed.{Listed}
-use Rattle.lists.specs.declared.Listing.{Listing}
+use Rattle.listing.specs.Answers.{asEntry, asEntries, listedAs}
+use Rattle.listing.specs.Listings.{listOf, soFar, Blank, Lists, Goes}
+use Rattle.listing.specs.declared.FlipRecord.{FlipRecord}
+use Rattle.listing.specs.declared.Listed.{Listed}
+use Rattle.listing.specs.declared.Listing.{Listing}
 use Rattle.lists.proofs.Lending.{Behind, Last, fills}
-use Rattle.lists.proofs.Writing.{in-table, put-next}
-use Rattle.lists.proofs.FlipRecord as T
-use Rattle.lists.proofs.FlipRecord.Laws as T′
-use Rattle.lists.proofs.Listed as S
-use Rattle.lists.proofs.Listed.Laws as S′
-use Rattle.lists.proofs.Listing as L
-use Rattle.lists.proofs.Listing.Laws as L′
-use Rattle.lists.proofs.begin as begin
-use Rattle.lists.proofs.begin.Symbol as begin-def
-use Rattle.lists.proofs.begin.Symbol.{name as #lists·begin}
-use Rattle.lists.proofs.begin.Met as begin-thm
-use Rattle.lists.proofs.next as next′
-use Rattle.lists.proofs.next.Symbol as next-def
-use Rattle.lists.proofs.next.Symbol.{name as #lists·next}
-use Rattle.lists.proofs.next.Met as next-thm
+use Rattle.listing.proofs.Writing.{in-table, put-next}
+use Rattle.listing.proofs.FlipRecord as T
+use Rattle.listing.proofs.FlipRecord.Laws as T′
+use Rattle.listing.proofs.Listed as S
+use Rattle.listing.proofs.Listed.Laws as S′
+use Rattle.listing.proofs.Listing as L
+use Rattle.listing.proofs.Listing.Laws as L′
+use Rattle.listing.proofs.begin as begin
+use Rattle.listing.proofs.begin.Symbol as begin-def
+use Rattle.listing.proofs.begin.Symbol.{name as #listing·begin}
+use Rattle.listing.proofs.begin.Met as begin-thm
+use Rattle.listing.proofs.next as next′
+use Rattle.listing.proofs.next.Symbol as next-def
+use Rattle.listing.proofs.next.Symbol.{name as #listing·next}
+use Rattle.listing.proofs.next.Met as next-thm
 use Rattle.lists.proofs.list.Key.{name as #lists·list}
 use Rattle.lists.proofs.list as list′
 use Rattle.lists.proofs.list.Statement as stated
@@ -405,7 +405,7 @@ module _ {M : Type 1} (𝓤 : URA M) (H : Heap 𝓤) (A : Atoms 𝓤) (W : Given
 
   -- ---- the loop
 
-  module _ (gn : Room T.the-row (length ys)) (𝓣 : Tables 𝓤 H) (known : Triple 𝓤 (𝓣 .C #lists·next) (Next 𝓤 H A mem run))
+  module _ (gn : Room T.the-row (length ys)) (𝓣 : Tables 𝓤 H) (known : Triple 𝓤 (𝓣 .C #listing·next) (Next 𝓤 H A mem run))
       (l₀ l₁ l₂ l₃ l₄ l₅ l₆ l₇ l₈ l₉ l₁₀ l₁₁ l₁₂ l₁₃ l₁₄ l₁₅ l₁₆ l₁₇ l₁₈ : ℕ) where
     abbrev C : Calls 𝓤 H
     C = 𝓣 .C
@@ -639,8 +639,8 @@ module _ {M : Type 1} (𝓤 : URA M) (H : Heap 𝓤) (A : Atoms 𝓤) (W : Given
 
   -- ---- the MIR, up to the loop
 
-  module _ (𝓣 : Tables 𝓤 H) (known-begin : Triple 𝓤 (𝓣 .C #lists·begin) (Begin 𝓤 H A mem run))
-      (known-next : Triple 𝓤 (𝓣 .C #lists·next) (Next 𝓤 H A mem run))
+  module _ (𝓣 : Tables 𝓤 H) (known-begin : Triple 𝓤 (𝓣 .C #listing·begin) (Begin 𝓤 H A mem run))
+      (known-next : Triple 𝓤 (𝓣 .C #listing·next) (Next 𝓤 H A mem run))
       (gc : cd < 2 ^ 8) (gw : Room u8 (length (now w))) (gl : lim < 2 ^ 16) (gn : Room T.the-row (length ys)) where
     module _ (l₀ l₁ l₂ l₃ l₄ l₅ l₆ l₇ l₈ l₉ l₁₀ l₁₁ l₁₂ l₁₃ l₁₄ l₁₅ l₁₆ l₁₇ l₁₈ : ℕ) where
       abbrev Ev : Env 𝓤 H
@@ -758,8 +758,8 @@ module _ {M : Type 1} (𝓤 : URA M) (H : Heap 𝓤) (A : Atoms 𝓤) (W : Given
 
 module _ {M : Type 1} (𝓤 : URA M) (H : Heap 𝓤) (A : Atoms 𝓤) (W : Given 𝓤 H A) (mem : Memory → SProp 𝓤) (run : Routine → Fun 𝓤)
     (𝓣 : Tables 𝓤 H)
-    (known-begin : Triple 𝓤 (𝓣 .C #lists·begin) (Begin 𝓤 H A mem run))
-    (known-next : Triple 𝓤 (𝓣 .C #lists·next) (Next 𝓤 H A mem run)) where
+    (known-begin : Triple 𝓤 (𝓣 .C #listing·begin) (Begin 𝓤 H A mem run))
+    (known-next : Triple 𝓤 (𝓣 .C #listing·next) (Next 𝓤 H A mem run)) where
   list-walks : Walks 𝓤 H A list′.ended stayed (WpFn 𝓤 H (𝓣 .C) (𝓣 .Λ) code.function) (list′.clauses 𝓤 H A mem run)
   list-walks = walked 𝓤 H A list′.ended stayed (list′.clauses 𝓤 H A mem run) (WpFn 𝓤 H (𝓣 .C) (𝓣 .Λ) code.function)
       (λ κs. (uint-vals w8, (slice-vals, (uint-vals w16, (slice-vals, tt)))))
@@ -789,7 +789,7 @@ list-spec 𝓤 H 𝓜 𝓖 𝓡 =
     entered 𝓤 H (tripleOf 𝓤 H (𝓖 .A) list′.signature (list′.spec 𝓤 H (𝓖 .A) (𝓜 .mem) (𝓡 .run)))
     (tables 𝓤 H 𝓜 𝓡 code.env .C) (tables 𝓤 H 𝓜 𝓡 code.env .Λ) #lists·list code.function (code.unfolded 𝓤 H 𝓜 𝓡)
     (list-meets 𝓤 H (𝓖 .A) (givenOf 𝓤 H 𝓜 𝓖) (𝓜 .mem) (𝓡 .run) (tablesOf 𝓤 H 𝓜 (tables 𝓤 H 𝓜 𝓡 code.env))
-    (cited 𝓤 H (Begin 𝓤 H (𝓖 .A) (𝓜 .mem) (𝓡 .run)) 𝓜 𝓡 code.env #lists·begin begin-def.routine code.calls-lists·begin
+    (cited 𝓤 H (Begin 𝓤 H (𝓖 .A) (𝓜 .mem) (𝓡 .run)) 𝓜 𝓡 code.env #listing·begin begin-def.routine code.calls-listing·begin
     (begin-thm.met 𝓤 H 𝓜 𝓖 𝓡))
-    (cited 𝓤 H (Next 𝓤 H (𝓖 .A) (𝓜 .mem) (𝓡 .run)) 𝓜 𝓡 code.env #lists·next next-def.routine code.calls-lists·next
+    (cited 𝓤 H (Next 𝓤 H (𝓖 .A) (𝓜 .mem) (𝓡 .run)) 𝓜 𝓡 code.env #listing·next next-def.routine code.calls-listing·next
     (next-thm.met 𝓤 H 𝓜 𝓖 𝓡)))

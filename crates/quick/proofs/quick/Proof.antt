@@ -8,7 +8,7 @@ use Rattle.rules.specs.Codes.{code}
 use Rattle.rules.specs.Encoding.{lifted}
 use Rattle.rules.proofs.Lowest.{lowest-le}
 use Rattle.offer.proofs.Offers.{is-offered}
-use Rattle.codes.proofs.Admitted.{offered-by, check-refusal, taken, word-long}
+use Rattle.ladder.proofs.Admitted.{offered-by, check-refusal, taken, word-long}
 use Rattle.quick.proofs.Promises.{quick-taken, quick-refused}
 use Rattle.groups.proofs.Shapes.{checked}
 use borrow.Author.Needs.{needs}

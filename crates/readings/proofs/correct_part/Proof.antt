@@ -3,7 +3,7 @@ use mathlib.Core.Path.{_≡_, sym, ap}
 use native.Mathlib.Omega.{arith}
 use lib.ListN.{length}
 use lib.Seq.{length-take-le}
-use Rattle.codes.specs.Answers.{asCorrected}
+use Rattle.endings.specs.Answers.{asCorrected}
 use Rattle.unitrules.proofs.Shapes.{sizes}
 use Rattle.readings.proofs.Answering.{mended-room, mended-part-length, part-is}
 use borrow.Author.Needs.{needs}

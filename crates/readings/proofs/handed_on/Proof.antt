@@ -2,7 +2,7 @@
 use mathlib.Core.Path.{_≡_, ap}
 use mathlib.Core.Bool.{false}
 use native.Mathlib.Numerals.{add-one}
-use Rattle.codes.specs.Answers.{asCorrected}
+use Rattle.endings.specs.Answers.{asCorrected}
 use Rattle.readings.specs.Answers.{asReading}
 use borrow.Author.Needs.{needs}
 use Rattle.readings.proofs.handed_on.Statement.{statement}

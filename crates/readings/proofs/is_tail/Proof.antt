@@ -2,7 +2,7 @@
 use mathlib.Core.Path.{_≡_, sym, ap, _∙_}
 use Rattle.unitrules.specs.Units.{tail, same as sameOf}
 use Rattle.unitrules.proofs.Shapes.{none-long}
-use Rattle.units.proofs.Offers.{whole-tail}
+use Rattle.unitoffers.proofs.Offers.{whole-tail}
 use borrow.Author.Needs.{needs}
 use Rattle.readings.proofs.is_tail.Statement.{statement}
 use Rattle.readings.proofs.is_tail.Tie as tie

@@ -1,7 +1,7 @@
 -- `readings::read_next`: refused, or handed out. Assumes nothing.
 use mathlib.Core.Path.{_≡_, sym, ap, _∙_}
 use native.Mathlib.Omega.{arith}
-use Rattle.codes.specs.Answers.{asCorrected}
+use Rattle.endings.specs.Answers.{asCorrected}
 use Rattle.unitrules.specs.Units.{handedLast}
 use Rattle.readings.specs.Answers.{asReading}
 use Rattle.readings.proofs.Answering.{next-on, next-refused, refused-out, place-fits}

@@ -1,6 +1,6 @@
 -- `samples::begin`: the word's checks are measured and counted. Assumes nothing.
 use Rattle.rules.specs.Codes.{code}
-use Rattle.codes.proofs.Admitted.{fitting}
+use Rattle.ladder.proofs.Admitted.{fitting}
 use borrow.Author.Needs.{needs}
 use Rattle.samples.proofs.begin.Statement.{statement}
 use Rattle.samples.proofs.begin.Tie as tie

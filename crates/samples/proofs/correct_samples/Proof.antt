@@ -1,7 +1,7 @@
 -- `samples::correct_samples`: refusals in their order, then the run. Assumes nothing.
 use mathlib.Core.Path.{sym, _∙_}
 use lib.ListN.{length}
-use Rattle.codes.proofs.Admitted.{taken, steps-offered}
+use Rattle.ladder.proofs.Admitted.{taken, steps-offered}
 use Rattle.samples.proofs.Answers.{samples-refused}
 use Rattle.samples.proofs.Correcting.{samples-refusal}
 use borrow.Author.Needs.{needs}

@@ -4,7 +4,7 @@ use native.Mathlib.Omega.{arith}
 use borrow.Author.Tests.{not-true, not-false}
 use Rattle.vectors.proofs.Filling.{zero-words}
 use Rattle.offer.proofs.Offers.{small}
-use Rattle.codes.proofs.Admitted.{as-truth, steps-by, bits-are, word-long}
+use Rattle.ladder.proofs.Admitted.{as-truth, steps-by, bits-are, word-long}
 use Rattle.samples.proofs.Answers.{samples-taken, samples-sixteen}
 use borrow.Author.Needs.{needs}
 use Rattle.samples.proofs.correct_taken.Statement.{statement}

@@ -1,7 +1,7 @@
 -- `samples::run_within`: what the run begins with is the code's. Assumes nothing.
 use mathlib.Core.Path.{sym, ap, _∙_}
 use Rattle.rules.specs.Codes.{code}
-use Rattle.codes.proofs.Admitted.{as-truth, shaped, steps-by, bits-are}
+use Rattle.ladder.proofs.Admitted.{as-truth, shaped, steps-by, bits-are}
 use Rattle.samples.proofs.Correcting.{all-sent}
 use Rattle.samples.proofs.run_within.Statement.{statement}
 use Rattle.samples.proofs.run_within.Tie as tie

@@ -4,7 +4,7 @@ use native.Mathlib.Omega.{arith}
 use borrow.Author.Needs.{needs}
 use borrow.Author.Tests.{not-true, not-false}
 use Rattle.units.proofs.Lengths.{octets-other, octets-none, octets-fit, octets-great}
-use Rattle.units.proofs.Offers.{offer-is, steps, long-unit, long-fits}
+use Rattle.unitoffers.proofs.Offers.{offer-is, steps, long-unit, long-fits}
 use Rattle.units.proofs.unit_octets.Statement.{statement}
 use Rattle.units.proofs.unit_octets.Tie as tie
 

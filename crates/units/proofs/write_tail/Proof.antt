@@ -3,7 +3,7 @@ use mathlib.Core.Path.{_≡_, sym, ap, _∙_}
 use lib.ListN.{length}
 use Rattle.unitrules.specs.Units.{tail}
 use Rattle.unitrules.proofs.Shapes.{none-long}
-use Rattle.units.proofs.Offers.{whole-tail}
+use Rattle.unitoffers.proofs.Offers.{whole-tail}
 use borrow.Author.Needs.{needs}
 use Rattle.units.proofs.write_tail.Statement.{statement}
 use Rattle.units.proofs.write_tail.Tie as tie

@@ -2,7 +2,7 @@
 use Prim.Native.Nat.{_-_}
 use native.Mathlib.Omega.{arith}
 use Rattle.vectors.proofs.Filling.{zero-words}
-use Rattle.lists.specs.Listings.{Lists}
+use Rattle.listing.specs.Listings.{Lists}
 use borrow.Author.Needs.{needs}
 use Rattle.why.proofs.follow.Statement.{statement}
 use Rattle.why.proofs.follow.Tie as tie
