@@ -24,9 +24,9 @@ use Rattle.runs.specs.declared.Next.{Next}
 use Rattle.runs.specs.declared.Next.the-variants.{Quiet, Stuck, Flip}
 use Rattle.runs.specs.Passes.{Holding, RunsTo, Within}
 use Rattle.codes.specs.declared.Course.{Course}
-use Rattle.endings.specs.Ends.{EndsAt}
+use Rattle.endings.specs.Ends.{EndsAt, runOf}
 use Rattle.endings.proofs.Ends.{ends-at}
-use Rattle.codes.specs.Ends.{runOn, RunEnds}
+use Rattle.codes.specs.Ends.{RunEnds}
 
 -- correct's numbers and the output, one by one
 abbrev numbers : ℕ → ℕ → ℕ → ℕ → ℕ → ℕ → List ℕ → Corrected
@@ -73,7 +73,7 @@ module _ (n : ℕ) (word : List ℕ) (limit : ℕ) (r : Course) (y : Word) (e : 
   pub ran-ends : code n .unsent < bits (code n) → EndsAt (code n) (bit word) y (r .ended .ran .flips)
   ran-ends some = ends-at (code n) some (bit word) y limit (r .ended .ran .flips) (e .word-is) (e .flips)
 
-  module _ (number unlike : ℕ) (judge : number ≡ judged (code n) (runOn n word limit))
+  module _ (number unlike : ℕ) (judge : number ≡ judged (code n) (runOf n word limit))
       (differs : unlike ≡ differing (code n) (lifted (code n) (bit word)) y) (out out′ : List ℕ)
       (wrote : out′ ≡ (if eqb number 0 then written (code n) y else out)) where
     pub corrected-is : numbers number (r .ended .ran .flips) (r .first) (r .ended .last) unlike (r .lowest) out′ ≡ ranFrom n word limit out

@@ -3,22 +3,17 @@ use mathlib.Core.Path.{_≡_}
 use mathlib.Core.List.{List}
 use Prim.Native.Nat.{ℕ}
 use lib.ListN.{length}
-use Rattle.bits.specs.Bits.{Word, bit}
+use Rattle.bits.specs.Bits.{Word}
 use Rattle.rules.specs.Codes.{code}
 use Rattle.rules.specs.Checks.{broken, lowest}
-use Rattle.rules.specs.Encoding.{lifted}
-use Rattle.rules.specs.Flipping.{Run, byExcess, run}
+use Rattle.endings.specs.Ends.{wordOf, runOf}
 use Rattle.codes.specs.declared.Course.{Course}
 
--- The run on a received word.
-abbrev pub runOn : ℕ → List ℕ → ℕ → Run
-runOn n word limit = run (byExcess (code n)) limit (lifted (code n) (bit word))
-
--- It has ended with the word y, and these are its numbers.
+-- The run on a received word has ended with the word y, and these are its numbers.
 pub record RunEnds (n : ℕ) (word : List ℕ) (limit : ℕ) (r : Course) (y : Word) : Type 0 where
-  pub number : r .ended .ran .number ≡ runOn n word limit .number
-  pub flips : r .ended .ran .flips ≡ length (runOn n word limit .flips)
-  pub word-is : y ≡ runOn n word limit .word
-  pub first : r .first ≡ broken (code n) (lifted (code n) (bit word))
+  pub number : r .ended .ran .number ≡ runOf n word limit .number
+  pub flips : r .ended .ran .flips ≡ length (runOf n word limit .flips)
+  pub word-is : y ≡ runOf n word limit .word
+  pub first : r .first ≡ broken (code n) (wordOf n word)
   pub last : r .ended .last ≡ broken (code n) y
-  pub lowest : r .lowest ≡ lowest (code n) (lifted (code n) (bit word))
+  pub lowest : r .lowest ≡ lowest (code n) (wordOf n word)

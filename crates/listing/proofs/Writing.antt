@@ -38,7 +38,8 @@ use Rattle.runs.proofs.Passing.{going-start, ends-quiet, ends-stuck, ends-limit
 use Rattle.listing.specs.declared.FlipRecord.{FlipRecord}
 use Rattle.listing.specs.declared.Listing.{Listing}
 use Rattle.listing.specs.Answers.{asEntry, asEntries, listedAs}
-use Rattle.listing.specs.Listings.{wordOf, runOf, listOf, soFar, endsWith, Measures, Ends, Stands, Lists}
+use Rattle.endings.specs.Ends.{wordOf, runOf}
+use Rattle.listing.specs.Listings.{listOf, soFar, endsWith, Measures, Ends, Stands, Lists}
 
 -- ---- lists
 

@@ -5,27 +5,21 @@ use mathlib.Core.List.{List, [], _++_}
 use Prim.Native.Nat.{ℕ, _+_, _-_, _≤_}
 use lib.IntN.{ℤ}
 use lib.ListN.{length, getD, take, drop}
-use Rattle.bits.specs.Bits.{Word, bit}
+use Rattle.bits.specs.Bits.{Word}
 use Rattle.rules.specs.Codes.{code, offered}
 use Rattle.rules.specs.Checks.{broken, lowest}
-use Rattle.rules.specs.Encoding.{lifted}
-use Rattle.rules.specs.Flipping.{byExcess, Run, run}
+use Rattle.rules.specs.Flipping.{byExcess, run}
 use Rattle.answers.specs.Calls.{ranCorrect}
 use Rattle.answers.specs.Lists.{Entry, entries, reason, Listed as ListedAnswer, listedBy, listAnswer}
 use Rattle.vectors.specs.Vectors.{wbit}
 use Rattle.offer.specs.Offers.{offerOf}
 use Rattle.tables.specs.Flat.{Lends}
 use Rattle.runs.specs.Passes.{Going}
+use Rattle.endings.specs.Ends.{wordOf, runOf}
 use Rattle.listing.specs.declared.Listing.{Listing}
 use Rattle.listing.specs.Answers.{asEntry, listedAs}
 
--- The received word as the run has it, its run, and the run's list.
-abbrev pub wordOf : ℕ → List ℕ → Word
-wordOf n word = lifted (code n) (bit word)
-
-abbrev pub runOf : ℕ → List ℕ → ℕ → Run
-runOf n word limit = run (byExcess (code n)) limit (wordOf n word)
-
+-- The list of the run on a received word.
 abbrev pub listOf : ℕ → List ℕ → ℕ → List Entry
 listOf n word limit = entries (code n) (wordOf n word) (runOf n word limit .flips)
 

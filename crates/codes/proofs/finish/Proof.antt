@@ -3,7 +3,7 @@ use mathlib.Core.Path.{sym}
 use Rattle.rules.proofs.Numbers.{published}
 use Rattle.offer.proofs.Offers.{is-offered}
 use Rattle.codes.proofs.Correcting.{ran-met, ran-unsent, ran-ends, corrected-is}
-use Rattle.codes.specs.Ends.{runOn}
+use Rattle.endings.specs.Ends.{runOf}
 use borrow.Author.Needs.{needs}
 use Rattle.codes.proofs.finish.Statement.{statement}
 use Rattle.codes.proofs.finish.Tie as tie
@@ -30,7 +30,7 @@ returns c n limit off is e =
     let u : tie.After-unlike-after = search in
     let some = published n (is-offered n off) .some in
     corrected-is n _ limit _ _ e _ _
-    (j .judge .ensures n off is (runOn n (s .args .word .now) limit) (sym (e .number)) (sym (e .word-is)) (ran-met n _ limit _ _ e some)
+    (j .judge .ensures n off is (runOf n (s .args .word .now) limit) (sym (e .number)) (sym (e .word-is)) (ran-met n _ limit _ _ e some)
     (ran-unsent n _ limit _ _ e some))
     (u .unlike-after .ensures n off is (ran-ends n _ limit _ _ e some)) _ _ (w .write-taken .ensures n off is)
 

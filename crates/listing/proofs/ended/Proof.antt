@@ -3,7 +3,7 @@ use mathlib.Core.Path.{refl, sym}
 use mir.Syntax.{w8}
 use mir.Val.{SFits}
 use mir.ValLaws.{toZ-ofZ}
-use Rattle.listing.specs.Listings.{runOf}
+use Rattle.endings.specs.Ends.{runOf}
 use Rattle.listing.proofs.Writing.{ended-is, end-met, end-unsent, end-at}
 use borrow.Author.Needs.{needs}
 use Rattle.listing.proofs.ended.Statement.{statement}

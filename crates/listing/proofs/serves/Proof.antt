@@ -7,7 +7,7 @@ use borrow.Author.Tests.{le-leb}
 use Rattle.rules.specs.Codes.{code}
 use Rattle.rules.specs.Flipping.{byExcess}
 use Rattle.rules.proofs.Runs.{run-within}
-use Rattle.listing.specs.Listings.{wordOf, runOf}
+use Rattle.endings.specs.Ends.{wordOf, runOf}
 use borrow.Author.Needs.{needs}
 use Rattle.listing.proofs.serves.Statement.{statement}
 use Rattle.listing.proofs.serves.Tie as tie
