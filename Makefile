@@ -41,16 +41,11 @@ shared: $(ARCHIVE)
 	outside/build_shared $(VERSION)
 
 compare: lib
-	outside/build_c target/outside/compare outside/compare.c outside/breaks.c outside/judge.c
-	outside/run_x86 target/outside/compare $(N) $$(( $(N) / 10 )) $(SEED)
-	outside/build_c target/outside/bch_compare outside/bch_compare.c outside/bch_judge.c
-	outside/run_x86 target/outside/bch_compare $$(( $(N) / 100 )) $(N) $(or $(SEED),1)
-	outside/build_c target/outside/nearest_compare outside/nearest_compare.c outside/nearest_judge.c outside/judge.c
-	outside/run_x86 target/outside/nearest_compare $$(( $(N) / 100 )) $(or $(SEED),1)
-	outside/build_c target/outside/samples_compare outside/samples_compare.c outside/samples_judge.c outside/judge.c
-	outside/run_x86 target/outside/samples_compare $$(( $(N) / 10 )) $(or $(SEED),1)
-	outside/build_c target/outside/frames_compare outside/frames_compare.c outside/frames_judge.c outside/judge.c
-	outside/run_x86 target/outside/frames_compare $$(( $(N) / 100 )) $(or $(SEED),1)
+	outside/compare_with outside/build_c outside/run_x86 target/outside $(N) $(or $(SEED),1)
+
+# The C file under every compiler and machine that is here, on N inputs natively and a tenth of it emulated.
+matrix:
+	portable/matrix -n $(N) --seed $(or $(SEED),1)
 
 bench: lib
 	outside/bench

@@ -1,4 +1,5 @@
-/* What the header says beside the calls' answers: lengths, texts, NULL with length 0, odd addresses, stack. */
+/* What the header says beside the calls' answers: lengths, texts, NULL with length 0, odd addresses, stack. With the argument any-stack,
+ * for code that was compiled without optimising or with a sanitizer, the stack is measured and not held to the header. */
 #include "pandoricchia.h"
 
 #include <stdio.h>
@@ -188,7 +189,7 @@ __attribute__((noinline)) static size_t painted_over(void)
     return DEEP - i;
 }
 
-static void test_stack(void)
+static void test_stack(int any)
 {
     static pandoricchia_fliprecord table[PANDORICCHIA_MOST_WORD_OCTETS];
     static pandoricchia_taking whole;
@@ -236,11 +237,11 @@ static void test_stack(void)
         }
         printf("boundary: stack of %s: %zu octets\n", names[call], most);
         size_t room = call == 6 ? PANDORICCHIA_LIST_STACK_OCTETS : call == 7 ? PANDORICCHIA_TAKE_STACK_OCTETS : PANDORICCHIA_STACK_OCTETS;
-        expect(most < room, "more stack than the header says", call);
+        expect(any || most < room, "more stack than the header says", call);
     }
 }
 
-int main(void)
+int main(int argc, char **argv)
 {
     test_lengths();
     test_texts();
@@ -249,7 +250,7 @@ int main(void)
     test_editions();
     test_null_part();
     test_addresses();
-    test_stack();
+    test_stack(argc > 1 && strcmp(argv[1], "any-stack") == 0);
     printf("boundary: %u passed, %u failed\n", passed, failed);
     return failed != 0;
 }
