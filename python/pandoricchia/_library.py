@@ -155,10 +155,10 @@ def load() -> ctypes.CDLL:
     try:
         library = ctypes.CDLL(name)
     except OSError as error:
-        raise ImportError(
-            f"the shared library of pandoricchia can't be loaded: {error}. `make lib` writes it and `make install` installs it; "
-            f"where the loader does not look, name the file in {ENVIRONMENT}."
-        ) from error
+        from ._machine import other_machine  # pylint: disable=import-outside-toplevel
+
+        missing = f"{error}. `make lib` writes it and `make install` installs it; where the loader does not look, name the file in {ENVIRONMENT}."
+        raise ImportError(f"the shared library of pandoricchia can't be loaded: {other_machine(name) or missing}") from error
     try:
         declare(library, "pandoricchia_", CALLS)
     except AttributeError as error:
