@@ -4,8 +4,8 @@
 # repeats a campaign. `make bench` counts the instructions of each call. `make alist` writes the parity matrices of codes 1
 # to 4 in target/alist, in a format that other programs read; `make peers` asks such programs about the library's words.
 # `make install PREFIX=.. DESTDIR=..` installs header, Rust module, libraries, pkg-config file, programs, the Python package
-# and its command with a man page, building what is missing; `make uninstall` removes just those. `make man` makes the man
-# page again.
+# and its command with a man page and what shells complete, README and the examples, building what is missing; `make uninstall`
+# removes just those. `make man` makes the man page and what shells complete again.
 #
 # The C file, portable/pandoricchia.c, is the same code for any machine. `make matrix N=..` compares it under every compiler and
 # machine that is here, `make campaign N=..` asks the archive and it the same, `make speed` says how fast it is on this machine,
@@ -84,8 +84,12 @@ alist: target/bin/charts
 peers: lib target/bin/charts
 	outside/peers
 
+man: export PYTHONPATH = python
+man: export PYTHONDONTWRITEBYTECODE = 1
 man:
-	PYTHONPATH=python PYTHONDONTWRITEBYTECODE=1 python3 -m pandoricchia.command.manual > man/pandoricchia.1
+	python3 -m pandoricchia.command.manual > man/pandoricchia.1
+	python3 -m pandoricchia completion bash > completion/pandoricchia.bash
+	python3 -m pandoricchia completion zsh > completion/_pandoricchia
 
 # What install finds missing.
 $(ARCHIVE):

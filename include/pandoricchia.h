@@ -30,7 +30,10 @@
 extern "C" {
 #endif
 
-#define PANDORICCHIA_VERSION "0.9.0"
+/* The version of this header, and the same as a number: 65536 times the major number, 256 times the minor one, and the patch number.
+ * The major number moves with the records and with what the calls take, and the shared library's soname moves with it. */
+#define PANDORICCHIA_VERSION "0.10.0"
+#define PANDORICCHIA_VERSION_NUMBER 0x000A00
 
 /* The table above; for a code number that is not known until the program runs there are two calls below. */
 #define PANDORICCHIA_WORD_OCTETS_1 16
@@ -140,6 +143,9 @@ static inline const char *pandoricchia_text(uint8_t number)
         return "no such number";
     }
 }
+
+/* The version of the library, as a number. One whose major number is not the header's has other records, or other calls. */
+uint32_t pandoricchia_version(void);
 
 /* The octets of a word of a code, and of its information; 0 for a code that is not offered. */
 size_t pandoricchia_word_octets(uint8_t code);
