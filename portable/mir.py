@@ -169,7 +169,7 @@ class Reader:
     """The functions of some libraries, and the shapes of the types that they name."""
 
     def __init__(self):
-        self.functions, self.shapes = {}, {}
+        self.functions, self.shapes, self.forms = {}, {}, {}
 
     def read(self, path):
         with open(path, encoding="utf-8") as file:
@@ -191,6 +191,7 @@ class Reader:
         except Refused as refusal:
             raise Refused("%s: %s" % (name, refusal)) from None
         self.functions[name] = Function(name, form["params"], locals_, memory, body)
+        self.forms[name] = [form["params"], form["locals"], form["body"]]
 
     def home(self, form):
         if form not in ("ValueLocal", "MemorySlot"):

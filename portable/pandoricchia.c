@@ -1,5 +1,9 @@
-/* Written by portable/translate from the MIR of the proved library; not to be edited. */
-
+/* Pandoricchia's proved library in C99: written by portable/translate from the MIR that was proved, and not to be edited.
+ *
+ * Crate after crate, callee before caller; `codes::correct` of the source is codes_correct here. A slice is handed over as a pointer, with
+ * its length where that is used; a record above 128 octets by its address; a number of any sign as its bits, unsigned. No number overflows,
+ * no index is out of bounds and no shift is as wide as its number: that is proved of the source. The translation is not proved.
+ * docs/PORTABLE.md says what it was compared with. */
 #include "pandoricchia.h"
 
 #include <string.h>
@@ -8,61 +12,38 @@
 typedef char an_octet_has_8_bits[UINT8_MAX == 255 && sizeof(uint64_t) == 8 ? 1 : -1];
 typedef char a_length_has_at_most_64_bits[sizeof(size_t) <= sizeof(uint64_t) ? 1 : -1];
 typedef char a_float_has_32_bits[sizeof(float) == sizeof(uint32_t) ? 1 : -1];
-typedef char checked_number[sizeof(((pandoricchia_checked *)0)->number) == 1 ? 1 : -1];
-typedef char checked_broken[sizeof(((pandoricchia_checked *)0)->broken) == 4 ? 1 : -1];
-typedef char checked_lowest[sizeof(((pandoricchia_checked *)0)->lowest) == 4 ? 1 : -1];
-typedef char answered_number[sizeof(((pandoricchia_answered *)0)->number) == 1 ? 1 : -1];
-typedef char answered_yes[sizeof(((pandoricchia_answered *)0)->yes) == sizeof(bool) ? 1 : -1];
-typedef char answered_evaluated[sizeof(((pandoricchia_answered *)0)->evaluated) == 4 ? 1 : -1];
-typedef char opened_number[sizeof(((pandoricchia_opened *)0)->number) == 1 ? 1 : -1];
-typedef char opened_lowest[sizeof(((pandoricchia_opened *)0)->lowest) == 4 ? 1 : -1];
-typedef char opened_octets[sizeof(((pandoricchia_opened *)0)->octets) == sizeof(size_t) ? 1 : -1];
-typedef char corrected_number[sizeof(((pandoricchia_corrected *)0)->number) == 1 ? 1 : -1];
-typedef char corrected_flips[sizeof(((pandoricchia_corrected *)0)->flips) == 4 ? 1 : -1];
-typedef char corrected_first[sizeof(((pandoricchia_corrected *)0)->first) == 4 ? 1 : -1];
-typedef char corrected_last[sizeof(((pandoricchia_corrected *)0)->last) == 4 ? 1 : -1];
-typedef char corrected_unlike[sizeof(((pandoricchia_corrected *)0)->unlike) == 4 ? 1 : -1];
-typedef char corrected_lowest[sizeof(((pandoricchia_corrected *)0)->lowest) == 4 ? 1 : -1];
-typedef char fliprecord_bit[sizeof(((pandoricchia_fliprecord *)0)->bit) == 4 ? 1 : -1];
-typedef char fliprecord_excess[sizeof(((pandoricchia_fliprecord *)0)->excess) == 1 ? 1 : -1];
-typedef char fliprecord_left[sizeof(((pandoricchia_fliprecord *)0)->left) == 4 ? 1 : -1];
-typedef char listed_number[sizeof(((pandoricchia_listed *)0)->number) == 1 ? 1 : -1];
-typedef char listed_flips[sizeof(((pandoricchia_listed *)0)->flips) == 4 ? 1 : -1];
-typedef char listed_first[sizeof(((pandoricchia_listed *)0)->first) == 4 ? 1 : -1];
-typedef char listed_last[sizeof(((pandoricchia_listed *)0)->last) == 4 ? 1 : -1];
-typedef char listed_unlike[sizeof(((pandoricchia_listed *)0)->unlike) == 4 ? 1 : -1];
-typedef char listed_lowest[sizeof(((pandoricchia_listed *)0)->lowest) == 4 ? 1 : -1];
-typedef char listed_bit[sizeof(((pandoricchia_listed *)0)->bit) == 4 ? 1 : -1];
-typedef char listed_excess[sizeof(((pandoricchia_listed *)0)->excess) == 1 ? 1 : -1];
-typedef char stepped_number[sizeof(((pandoricchia_stepped *)0)->number) == 1 ? 1 : -1];
-typedef char stepped_quiet[sizeof(((pandoricchia_stepped *)0)->quiet) == sizeof(bool) ? 1 : -1];
-typedef char stepped_bit[sizeof(((pandoricchia_stepped *)0)->bit) == 4 ? 1 : -1];
-typedef char stepped_excess[sizeof(((pandoricchia_stepped *)0)->excess) == 1 ? 1 : -1];
-typedef char reached_number[sizeof(((pandoricchia_reached *)0)->number) == 1 ? 1 : -1];
-typedef char reached_least[sizeof(((pandoricchia_reached *)0)->least) == 4 ? 1 : -1];
-typedef char reached_bits[sizeof(((pandoricchia_reached *)0)->bits) == 12 ? 1 : -1];
-typedef char reading_kept[sizeof(((pandoricchia_reading *)0)->kept) == sizeof(pandoricchia_corrected) ? 1 : -1];
-typedef char reading_code[sizeof(((pandoricchia_reading *)0)->code) == 1 ? 1 : -1];
-typedef char reading_limit[sizeof(((pandoricchia_reading *)0)->limit) == 2 ? 1 : -1];
-typedef char reading_place[sizeof(((pandoricchia_reading *)0)->place) == sizeof(size_t) ? 1 : -1];
-typedef char handed_corrected[sizeof(((pandoricchia_handed *)0)->corrected) == sizeof(pandoricchia_corrected) ? 1 : -1];
-typedef char handed_none[sizeof(((pandoricchia_handed *)0)->none) == sizeof(bool) ? 1 : -1];
-typedef char handed_next[sizeof(((pandoricchia_handed *)0)->next) == sizeof(pandoricchia_reading) ? 1 : -1];
-typedef char taking_place[sizeof(((pandoricchia_taking *)0)->place) == sizeof(size_t) ? 1 : -1];
-typedef char taking_edition[sizeof(((pandoricchia_taking *)0)->edition) == 1 ? 1 : -1];
-typedef char taking_limit[sizeof(((pandoricchia_taking *)0)->limit) == 2 ? 1 : -1];
-typedef char taking_octets[sizeof(((pandoricchia_taking *)0)->octets) == 1020 ? 1 : -1];
-typedef char made_number[sizeof(((pandoricchia_made *)0)->number) == 1 ? 1 : -1];
-typedef char made_taker[sizeof(((pandoricchia_made *)0)->taker) == sizeof(pandoricchia_taking) ? 1 : -1];
-typedef char taken_next[sizeof(((pandoricchia_taken *)0)->next) == sizeof(pandoricchia_taking) ? 1 : -1];
-typedef char taken_taken[sizeof(((pandoricchia_taken *)0)->taken) == sizeof(size_t) ? 1 : -1];
-typedef char taken_complete[sizeof(((pandoricchia_taken *)0)->complete) == sizeof(bool) ? 1 : -1];
-typedef char taken_corrected[sizeof(((pandoricchia_taken *)0)->corrected) == sizeof(pandoricchia_corrected) ? 1 : -1];
-typedef char taken_word[sizeof(((pandoricchia_taken *)0)->word) == 1020 ? 1 : -1];
-typedef char mended_number[sizeof(((pandoricchia_mended *)0)->number) == 1 ? 1 : -1];
-typedef char mended_mended[sizeof(((pandoricchia_mended *)0)->mended) == 1 ? 1 : -1];
-typedef char imported_number[sizeof(((pandoricchia_imported *)0)->number) == 1 ? 1 : -1];
-typedef char imported_block[sizeof(((pandoricchia_imported *)0)->block) == 4 ? 1 : -1];
+#define OCTETS(record, field) sizeof(((pandoricchia_##record *)0)->field)
+typedef char widths_of_checked[OCTETS(checked, number) == 1 && OCTETS(checked, broken) == 4
+        && OCTETS(checked, lowest) == 4 ? 1 : -1];
+typedef char widths_of_answered[OCTETS(answered, number) == 1 && OCTETS(answered, yes) == sizeof(bool)
+        && OCTETS(answered, evaluated) == 4 ? 1 : -1];
+typedef char widths_of_opened[OCTETS(opened, number) == 1 && OCTETS(opened, lowest) == 4
+        && OCTETS(opened, octets) == sizeof(size_t) ? 1 : -1];
+typedef char widths_of_corrected[OCTETS(corrected, number) == 1 && OCTETS(corrected, flips) == 4
+        && OCTETS(corrected, first) == 4 && OCTETS(corrected, last) == 4 && OCTETS(corrected, unlike) == 4
+        && OCTETS(corrected, lowest) == 4 ? 1 : -1];
+typedef char widths_of_fliprecord[OCTETS(fliprecord, bit) == 4 && OCTETS(fliprecord, excess) == 1
+        && OCTETS(fliprecord, left) == 4 ? 1 : -1];
+typedef char widths_of_listed[OCTETS(listed, number) == 1 && OCTETS(listed, flips) == 4 && OCTETS(listed, first) == 4
+        && OCTETS(listed, last) == 4 && OCTETS(listed, unlike) == 4 && OCTETS(listed, lowest) == 4
+        && OCTETS(listed, bit) == 4 && OCTETS(listed, excess) == 1 ? 1 : -1];
+typedef char widths_of_stepped[OCTETS(stepped, number) == 1 && OCTETS(stepped, quiet) == sizeof(bool)
+        && OCTETS(stepped, bit) == 4 && OCTETS(stepped, excess) == 1 ? 1 : -1];
+typedef char widths_of_reached[OCTETS(reached, number) == 1 && OCTETS(reached, least) == 4
+        && OCTETS(reached, bits) == 12 ? 1 : -1];
+typedef char widths_of_reading[OCTETS(reading, kept) == sizeof(pandoricchia_corrected) && OCTETS(reading, code) == 1
+        && OCTETS(reading, limit) == 2 && OCTETS(reading, place) == sizeof(size_t) ? 1 : -1];
+typedef char widths_of_handed[OCTETS(handed, corrected) == sizeof(pandoricchia_corrected)
+        && OCTETS(handed, none) == sizeof(bool) && OCTETS(handed, next) == sizeof(pandoricchia_reading) ? 1 : -1];
+typedef char widths_of_taking[OCTETS(taking, place) == sizeof(size_t) && OCTETS(taking, edition) == 1
+        && OCTETS(taking, limit) == 2 && OCTETS(taking, octets) == 1020 ? 1 : -1];
+typedef char widths_of_made[OCTETS(made, number) == 1 && OCTETS(made, taker) == sizeof(pandoricchia_taking) ? 1 : -1];
+typedef char widths_of_taken[OCTETS(taken, next) == sizeof(pandoricchia_taking)
+        && OCTETS(taken, taken) == sizeof(size_t) && OCTETS(taken, complete) == sizeof(bool)
+        && OCTETS(taken, corrected) == sizeof(pandoricchia_corrected) && OCTETS(taken, word) == 1020 ? 1 : -1];
+typedef char widths_of_mended[OCTETS(mended, number) == 1 && OCTETS(mended, mended) == 1 ? 1 : -1];
+typedef char widths_of_imported[OCTETS(imported, number) == 1 && OCTETS(imported, block) == 4 ? 1 : -1];
+#undef OCTETS
 
 /* A part of an array that is lent: where it begins, and how many. */
 typedef struct lent_uint8_t {
@@ -207,7 +188,7 @@ static void vectors_lift(uint64_t *restrict ws, uint64_t ws_len, uint64_t u)
  * begin t bits later in v. */
 static void vectors_double_words(const uint64_t *v, uint64_t n, uint64_t t, uint64_t *restrict d)
 {
-    uint64_t a = *v;
+    uint64_t a = v[0];
     uint64_t k = 0;
     while (k + 1 < n) {
         uint64_t b = v[k + 1];
@@ -226,7 +207,7 @@ static void vectors_double(const uint64_t *v, uint64_t m, uint64_t *restrict d, 
     uint64_t t = 64 * n - m;
     vectors_double_words(v, n, t, d);
     uint64_t a = v[n - 1];
-    d[n - 1] = a | ((*v >> 1) >> (63 - t));
+    d[n - 1] = a | ((v[0] >> 1) >> (63 - t));
     if (2 * n - 1 < d_len) {
         d[2 * n - 1] = vectors_funnel(a, 0, t);
         vectors_trim(d, d_len, 128 * n);
@@ -246,8 +227,7 @@ static void vectors_add_turned(const uint64_t *d, uint64_t s, uint64_t *restrict
     uint64_t t = s % 64;
     uint64_t j = 0;
     while (j < w) {
-        uint64_t *t2 = acc + (at + j);
-        *t2 = *t2 ^ vectors_span(d, q + j, t);
+        acc[at + j] ^= vectors_span(d, q + j, t);
         j += 1;
     }
 }
@@ -255,8 +235,7 @@ static void vectors_add_turned(const uint64_t *d, uint64_t s, uint64_t *restrict
 /* Adds the 64 bits of v to word at of acc. */
 static void vectors_add_word(uint64_t v, uint64_t *restrict acc, uint64_t at)
 {
-    uint64_t *t = acc + at;
-    *t = *t ^ v;
+    acc[at] ^= v;
 }
 
 /* Writes the first n octets of v from octet at on. */
@@ -422,8 +401,7 @@ static bool vectors_any(const uint64_t *ws, uint64_t ws_len)
 static void vectors_flip_bit(uint64_t *restrict ws, uint64_t n)
 {
     uint64_t q = n / 64;
-    uint64_t *t = ws + q;
-    *t = *t ^ (UINT64_C(1) << (63 - n % 64));
+    ws[q] ^= UINT64_C(1) << (63 - n % 64);
 }
 
 /* Clears the bits from bit n on of the word that has it. */
@@ -513,7 +491,7 @@ static uint64_t bch_places(uint64_t r)
         if ((r >> (6 - j)) % 2 == 1) {
             m &= bch_ROWS[j];
         } else {
-            m = m & (bch_ROWS[j] ^ UINT64_C(0xFFFFFFFFFFFFFFFF));
+            m &= bch_ROWS[j] ^ UINT64_C(0xFFFFFFFFFFFFFFFF);
         }
         j += 1;
     }
@@ -588,9 +566,8 @@ static uint64_t planes_spread(uint64_t v)
 {
     if (v % 2 == 1) {
         return UINT64_C(0xFFFFFFFFFFFFFFFF);
-    } else {
-        return 0;
     }
+    return 0;
 }
 
 /* Every count is v. */
@@ -665,9 +642,8 @@ static uint64_t bounds_note(const uint16_t *h, uint64_t at, uint64_t m, uint64_t
     if (s < m) {
         starts[n] = (uint16_t)(row + (m - s));
         return n + 1;
-    } else {
-        return n;
     }
+    return n;
 }
 
 /* The starts of block b at its two places of row r, behind n others, and how many there are then. */
@@ -768,9 +744,8 @@ static uint64_t bounds_ahead(uint64_t k, uint64_t at)
     }
     if (k - at < 64) {
         return k - at;
-    } else {
-        return 64;
     }
+    return 64;
 }
 
 /* Of the bits that are set in v, which begins with bit `at`, those from bit `begin` to before bit m. */
@@ -1322,9 +1297,8 @@ static uint8_t judging_fault(offer_Offer o, const uint64_t *y, const uint64_t *z
     }
     if (ownparity_own_parity(y)) {
         return 0;
-    } else {
-        return 15;
     }
+    return 15;
 }
 
 /* The number of a run: after a quiet end 8 for parity unlike the encoder's. No run sets an unsent bit, so 7 is never
@@ -1339,9 +1313,8 @@ static uint8_t judging_judge(offer_Offer o, const uint64_t *y, uint8_t number)
     }
     if (ownparity_own_parity(y)) {
         return 0;
-    } else {
-        return 8;
     }
+    return 8;
 }
 
 /* ---- ladder ----------------------------------------------------------------------------------------- */
@@ -1695,8 +1668,7 @@ static uint64_t choice_look(const uint64_t *d, const uint16_t *starts, const uin
     if (k < sh.size) {
         return k;
     }
-    uint8_t *t = met + b;
-    *t = (uint8_t)(*t + 1);
+    met[b] = (uint8_t)(met[b] + 1);
     return sh.size;
 }
 
@@ -1753,11 +1725,10 @@ static uint64_t sizes_first_set(uint64_t v)
 /* A sample's magnitude. */
 static float sizes_magnitude(float s)
 {
-    if (s < float_from_bits(UINT32_C(0x00000000))) {
+    if (s < 0.0f) {
         return -s;
-    } else {
-        return s;
     }
+    return s;
 }
 
 /* Of two bits, the later one only if its sample is smaller. */
@@ -1793,19 +1764,17 @@ static uint64_t sizes_front(uint64_t n)
 {
     if (n < 32) {
         return n;
-    } else {
-        return 32;
     }
+    return 32;
 }
 
 /* The power of 2, if the sample is below 0. */
 static uint32_t sizes_mark(float s, uint64_t place)
 {
-    if (s < float_from_bits(UINT32_C(0x00000000))) {
+    if (s < 0.0f) {
         return UINT32_C(1) << (uint32_t)place;
-    } else {
-        return 0;
     }
+    return 0;
 }
 
 /* Whether a sample is finite: each comparison is false of what is not a number. */
@@ -1896,7 +1865,7 @@ static uint64_t narrow_repeated(uint64_t v, uint64_t m)
     uint64_t all = v;
     uint64_t n = m;
     while (n < 64) {
-        all = all | (all >> n);
+        all |= all >> n;
         n *= 2;
     }
     return all;
@@ -2151,7 +2120,7 @@ static runs_Ended runs_go_on_narrow(const float *samples, uint64_t samples_len, 
             return runs_at_end(6, flips, left);
         }
         narrow_flip(y, rows, h, sh, chosen.bit);
-        left = left - (high - 8);
+        left -= high - 8;
         flips += 1;
     }
     return runs_at_end(0, flips, 0);
@@ -2195,7 +2164,7 @@ static runs_Ended runs_go_on(uint64_t *restrict y, uint64_t *restrict d, const u
             return runs_at_end(6, flips, left);
         }
         runs_flip(y, d, starts, counts, met, sh, best.bit);
-        left = left - (top - 8);
+        left -= top - 8;
         flips += 1;
     }
     return runs_at_end(0, flips, 0);
@@ -2286,7 +2255,7 @@ static uint64_t parityrows_spare(const uint8_t *octets, uint64_t octets_len, uin
 /* Puts the last bits of the information, which do not fill an octet, into y, which is handed over as zeros. */
 static void parityrows_put_spare(const uint8_t *information, uint64_t information_len, uint64_t n, uint64_t *restrict y)
 {
-    *y = parityrows_spare(information, information_len, n / 8);
+    y[0] = parityrows_spare(information, information_len, n / 8);
 }
 
 /* Adds the 64 bits of v to those of y from bit p on. */
@@ -2453,14 +2422,7 @@ static uint64_t narrowparity_turns(vectors_Pair d, const uint16_t *step, uint64_
 {
     uint64_t sum = 0;
     uint64_t k = 2;
-    for (;;) {
-        if (k < 10) {
-            if ((uint64_t)step[k] >= size) {
-                break;
-            }
-        } else {
-            break;
-        }
+    while (k < 10 && (uint64_t)step[k] < size) {
         sum ^= vectors_funnel(d.first, d.second, step[k]);
         k += 1;
     }
@@ -2471,7 +2433,7 @@ static uint64_t narrowparity_turns(vectors_Pair d, const uint16_t *step, uint64_
 static void narrowparity_step_narrow(const uint16_t *step, layout_Shape sh, uint64_t *restrict z)
 {
     vectors_Pair d = vectors_double_word(z[(uint64_t)step[1]], sh.size);
-    vectors_add_word(vectors_front(narrowparity_turns(d, step, sh.size), sh.size), z, *step);
+    vectors_add_word(vectors_front(narrowparity_turns(d, step, sh.size), sh.size), z, step[0]);
 }
 
 /* The steps, one after the other, where one word holds a row. */
@@ -2587,14 +2549,7 @@ static void wideparity_add_turns(const uint64_t *d, const uint16_t *step, uint64
         uint64_t at, uint64_t w)
 {
     uint64_t k = 2;
-    for (;;) {
-        if (k < 10) {
-            if ((uint64_t)step[k] >= size) {
-                break;
-            }
-        } else {
-            break;
-        }
+    while (k < 10 && (uint64_t)step[k] < size) {
         vectors_add_turned(d, step[k], z, at, w);
         k += 1;
     }
@@ -2604,7 +2559,7 @@ static void wideparity_add_turns(const uint64_t *d, const uint16_t *step, uint64
 static void wideparity_step_wide(const uint16_t *step, layout_Shape sh, uint64_t *restrict d, uint64_t *restrict z)
 {
     wideparity_double_row(z, step, sh, d, 16);
-    wideparity_add_turns(d, step, sh.size, z, (uint64_t)*step * sh.words, sh.words);
+    wideparity_add_turns(d, step, sh.size, z, (uint64_t)step[0] * sh.words, sh.words);
     syndromes_trim_rows(z, sh);
 }
 
@@ -2624,9 +2579,8 @@ static uint64_t wideparity_ones_if(uint64_t odd)
 {
     if (odd == 1) {
         return UINT64_C(0xFFFFFFFFFFFFFFFF);
-    } else {
-        return 0;
     }
+    return 0;
 }
 
 /* Adds a word of 64 equal bits to each word of row r, of 511 bits. */
@@ -2960,9 +2914,8 @@ static uint64_t exporting_least(uint64_t a, uint64_t b)
 {
     if (a < b) {
         return a;
-    } else {
-        return b;
     }
+    return b;
 }
 
 /* The last octet of a number. */
@@ -2974,7 +2927,7 @@ static uint8_t exporting_low(uint64_t v)
 /* Two octets of a number, high octet first. */
 static void exporting_put_two(uint64_t v, uint8_t *restrict out)
 {
-    *out = exporting_low(v / 256);
+    out[0] = exporting_low(v / 256);
     out[1] = exporting_low(v);
 }
 
@@ -3098,7 +3051,7 @@ static bool importing_is_sound(const uint8_t *block, const uint16_t *t)
 /* The number that a block says of itself. */
 static uint64_t importing_number(const uint8_t *block)
 {
-    return 0x10000 * importing_pair(*block, block[1]) + importing_pair(block[2], block[3]);
+    return 0x10000 * importing_pair(block[0], block[1]) + importing_pair(block[2], block[3]);
 }
 
 /* How many octets of a block are used. */
@@ -3111,9 +3064,8 @@ static bool importing_count_right(bool last, uint64_t used)
 {
     if (last) {
         return 1 <= used && used <= 504;
-    } else {
-        return used == 504;
     }
+    return used == 504;
 }
 
 /* Whether all of the octets are zeros. */
@@ -3994,8 +3946,7 @@ static void randomiser_add_octets(uint8_t *restrict octets, uint64_t octets_len,
 {
     uint64_t i = 0;
     while (i < octets_len) {
-        uint8_t *t = octets + i;
-        *t = (uint8_t)(*t ^ sequence[from + i]);
+        octets[i] = (uint8_t)(octets[i] ^ sequence[from + i]);
         i += 1;
     }
 }
@@ -4116,18 +4067,16 @@ static uint64_t readings_between(uint8_t code, uint64_t long_)
     uint64_t ends = 8 + unitoffers_tail_octets(code);
     if (long_ < ends) {
         return 0;
-    } else {
-        return long_ - ends;
     }
+    return long_ - ends;
 }
 
 static bool readings_is_tail(uint8_t code, const uint8_t *end, uint64_t end_len)
 {
     if (unitoffers_tail_octets(code) != 0) {
         return readings_same(end, end_len, unitoffers_TAIL, 16);
-    } else {
-        return readings_same(end, end_len, unitoffers_TAIL, 0);
     }
+    return readings_same(end, end_len, unitoffers_TAIL, 0);
 }
 
 /* Whether what follows the start is one or more whole codeblocks and the tail. */
@@ -4318,9 +4267,8 @@ static uint8_t raising_one(bool b)
 {
     if (b) {
         return 1;
-    } else {
-        return 0;
     }
+    return 0;
 }
 
 /* How many of the n checks of bit k of a block are broken. */
@@ -4510,9 +4458,8 @@ static uint64_t smallest_left(uint64_t m, uint64_t at)
 {
     if (m - at < 64) {
         return m - at;
-    } else {
-        return 64;
     }
+    return 64;
 }
 
 /* The smallest of a bit, if it is one, and of the bits that are set in mask, which begins with bit `first`. */
@@ -4565,10 +4512,8 @@ static uint64_t smallest_smallest_in(const float *samples, uint64_t samples_len,
 static uint64_t smallest_smallest_light(const float *samples, uint64_t samples_len, const uint64_t *d,
         const uint16_t *starts, uint64_t from, uint64_t n, uint64_t met, uint64_t m, uint64_t first)
 {
-    if (met == 0) {
-        if (n == 4) {
-            return smallest_smallest_none(samples, samples_len, d, starts, from, m, first);
-        }
+    if (met == 0 && n == 4) {
+        return smallest_smallest_none(samples, samples_len, d, starts, from, m, first);
     }
     return smallest_smallest_in(samples, samples_len, d, starts, from, n, met, m, first);
 }
@@ -4586,8 +4531,7 @@ static uint64_t smallest_weigh(const float *samples, uint64_t samples_len, const
     if (bit < end) {
         return smallest_lead(samples, samples_len, best, bit);
     }
-    uint8_t *t = met + b;
-    *t = (uint8_t)(*t + 1);
+    met[b] = (uint8_t)(met[b] + 1);
     return best;
 }
 
@@ -4724,7 +4668,7 @@ static sizing_Chosen sizing_comes_next(const float *samples, uint64_t samples_le
 /* In how many bits the word y differs from the one that was read, once bit `bit` is flipped; before that in so many. */
 static uint32_t sizing_counted(const float *samples, const uint64_t *y, uint64_t bit, uint32_t unlike)
 {
-    if ((samples[bit] < float_from_bits(UINT32_C(0x00000000))) == vectors_is_set(y, bit)) {
+    if ((samples[bit] < 0.0f) == vectors_is_set(y, bit)) {
         return unlike + 1;
     }
     if (unlike == 0) {
@@ -4905,8 +4849,7 @@ static endings_Corrected samples_correct_taken(offer_Offer o, const float *sampl
         uint16_t limit, uint8_t *restrict out, uint64_t out_len)
 {
     uint64_t y[130] = {0};
-    bool t = sizes_read(samples, samples_len, y);
-    if (!t) {
+    if (!sizes_read(samples, samples_len, y)) {
         return endings_refused_correct(16);
     }
     return samples_correct_read(o, samples, samples_len, limit, y, out, out_len);
@@ -5085,9 +5028,8 @@ static uint64_t taker_read_place(uint64_t place)
 {
     if (place < 1024) {
         return place;
-    } else {
-        return 0;
     }
+    return 0;
 }
 
 /* The next place from `from` on where the marker's first octet stands, or the end of the part. */
@@ -5108,9 +5050,8 @@ static uint64_t taker_jump(uint64_t m, const uint8_t *part, uint64_t part_len, u
 {
     if (m == 0) {
         return taker_skip(part, part_len, from);
-    } else {
-        return from;
     }
+    return from;
 }
 
 /* The octets of the marker matched after one octet more. Only the marker's first octet begins one. */
@@ -5125,22 +5066,19 @@ static uint64_t taker_matched(uint64_t m, uint8_t octet)
     if (m == 1) {
         if (octet == 207) {
             return 2;
-        } else {
-            return 0;
         }
+        return 0;
     }
     if (m == 2) {
         if (octet == 252) {
             return 3;
-        } else {
-            return 0;
         }
+        return 0;
     }
     if (octet == 29) {
         return 4;
-    } else {
-        return 0;
     }
+    return 0;
 }
 
 /* Searches a part until the marker is whole or the part is used up. A taker that holds octets of a word searches

@@ -3,8 +3,10 @@
 Nothing is moved over a write that it could see: a value goes to the one place where it is used, if nothing in between writes to what it
 reads. What the machine computes once is computed once, and what it does not compute is not computed.
 """
+import copy
+
 from mir import (AddrOf, Aggregate, Assign, Block, Call, Const, Deref, Exit, Field, FloatConst, If, Loop, Nothing, Op1, Op2, Repeat, Return,
-                 Switch, Truth, Use, Variant, UNIT)
+                 Switch, Truth, Use, Variant, BOOL, UNIT)
 
 
 class Var:
@@ -485,6 +487,8 @@ class Fold:
             """The value of a call that writes, if it is all that the next statement computes."""
             if is_hot(e):
                 return hot.pop()[1]
+            if isinstance(e, Op1) and e.op == "Not" and is_hot(e.a):
+                return with_parts(e, [hot.pop()[1]])
             out(None)
             return e
 
@@ -578,7 +582,11 @@ def settled(body):
 
 
 def negated(e):
-    return e.a if isinstance(e, Op1) and e.op == "Not" and e.ty == ("bool",) else Op1("Not", None, e, ("bool",))
+    if isinstance(e, Op1) and e.op == "Not" and e.ty == BOOL:
+        return e.a
+    if isinstance(e, And):
+        return And("||" if e.word == "&&" else "&&", negated(e.a), negated(e.b))
+    return Op1("Not", None, e, BOOL)
 
 
 def joined(body):
@@ -637,13 +645,102 @@ def give(statement, var):
                 give(inner[-1], var)
 
 
-def turned(body):
-    """Loops that begin with a test become while loops; an empty branch goes."""
+def copied(e):
+    """The same value once more."""
+    if isinstance(e, Use):
+        made = Use(e.local, e.ty)
+        made.var = e.var
+        return made
+    return with_parts(copy.copy(e), [copied(part) for part in parts_of(e)])
+
+
+def updated(body):
+    """A pointer that is counted on to one place, which is then read and written at once, is written out in both."""
+    made = []
+    for statement in body:
+        for inner in lists_in(statement):
+            inner[:] = updated(inner)
+        before = made[-1] if made else None
+        if isinstance(statement, Assign) and isinstance(statement.place, Deref) and isinstance(statement.place.of, Use):
+            var = statement.place.of.var
+            if isinstance(before, Assign) and isinstance(before.place, Use) and before.place.var is var and var.ty[0] == "ptr":
+                reads = [e for e in within(statement.value) if isinstance(e, Deref) and isinstance(e.of, Use) and e.of.var is var]
+                if var.assigned == 1 and var.read == 2 and len(reads) == 1:
+                    statement.place.of = before.value
+                    reads[0].of = copied(before.value)
+                    made.pop()
+        made.append(statement)
+    return made
+
+
+def without_last(body, target):
+    """Without jumps to the end of a block from where the end comes anyway."""
+    if body and isinstance(body[-1], Exit) and body[-1].target is target:
+        body.pop()
+    if body and isinstance(body[-1], (If, Switch)):
+        for inner in lists_in(body[-1]):
+            without_last(inner, target)
+
+
+def same_jump(a, b):
+    """Whether two lists do the same, and no more than jump or nothing."""
+    if not a and not b:
+        return True
+    return len(a) == len(b) == 1 and isinstance(a[0], Exit) and isinstance(b[0], Exit) and a[0].target is b[0].target
+
+
+def without_skip(body, target):
+    """A test that jumps over the rest of a block becomes one of the rest."""
     for at, statement in enumerate(body):
+        if isinstance(statement, If):
+            for jump, other, cond in ((statement.then, statement.other, negated(statement.cond)), (statement.other, statement.then, statement.cond)):
+                if same_jump(jump, [Exit(target)]):
+                    rest = without_skip(other + body[at + 1:], target)
+                    return body[:at] + [If(cond, rest, [])]
+    return body
+
+
+def straightened(body):
+    """Tests within tests become one where they can; blocks that nothing leaves are no blocks."""
+    made = []
+    for statement in body:
+        if isinstance(statement, Block):
+            without_last(statement.body, statement)
+        for inner in lists_in(statement):
+            inner[:] = straightened(inner)
+        if isinstance(statement, Block) and not (len(statement.body) == 1 and isinstance(statement.body[0], Loop)):
+            without_last(statement.body, statement)
+            statement.body = without_skip(statement.body, statement)
+        while isinstance(statement, If):
+            inner = statement.then[0] if len(statement.then) == 1 else None
+            if isinstance(inner, If) and same_jump(inner.other, statement.other):
+                statement.cond, statement.then = And("&&", statement.cond, inner.cond), inner.then
+                continue
+            inner = statement.other[0] if len(statement.other) == 1 else None
+            if isinstance(inner, If) and same_jump(inner.then, statement.then):
+                statement.cond, statement.other = And("||", statement.cond, inner.cond), inner.other
+                continue
+            break
+        if isinstance(statement, Block) and not leaves(statement.body, statement):
+            made += statement.body
+        else:
+            made.append(statement)
+    return made
+
+
+def turned(body):
+    """Loops that begin with a test become while loops; an empty branch goes, and one behind a jump stands behind its statement."""
+    made = []
+    for statement in body:
+        made.append(statement)
+        if isinstance(statement, If):
+            if not statement.then:
+                statement.cond, statement.then, statement.other = negated(statement.cond), statement.other, []
+            if statement.then and statement.other and ends(statement.then[-1]):
+                made += turned(statement.other)
+                statement.other = []
         for inner in lists_in(statement):
             inner[:] = turned(inner)
-        if isinstance(statement, If) and not statement.then:
-            statement.cond, statement.then, statement.other = negated(statement.cond), statement.other, []
         if isinstance(statement, Block) and len(statement.body) == 1 and isinstance(statement.body[0], Loop):
             loop = statement.body[0]
             first = loop.body[0] if loop.body else None
@@ -651,7 +748,7 @@ def turned(body):
                 out = first.then[0]
                 if isinstance(out, Exit) and out.target is statement:
                     statement.body[0] = While(negated(first.cond), loop.body[1:], loop)
-    return body
+    return made
 
 
 def shaped(function, effects, names, bulky):
@@ -670,4 +767,5 @@ def shaped(function, effects, names, bulky):
     body = sunk(body)
     count(body)
     body = fold.body(body)
-    return turned(reached(body))
+    count(body)
+    return turned(straightened(reached(updated(body))))

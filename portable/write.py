@@ -5,6 +5,7 @@ side has its full width; pointers have the type of what they point to, count in 
 or read and written between two sequence points. Arrays of arrays lie flat.
 """
 import re
+import struct
 
 from mir import (COMPARISONS, AddrOf, Aggregate, Assign, Block, Call, Const, Deref, Exit, Field, FloatConst, If, Loop, Op1, Op2, Refused, Repeat, Return,
                  Switch, Truth, Use, Variant, UNIT, BOOL)
@@ -143,9 +144,9 @@ def kind_of(ty):
 class Writer:
     """Everything that functions have in common: types, names, tables, and how each function is called."""
 
-    def __init__(self, reader, source, effects, records=None, header=None, exported=(), large=128):
+    def __init__(self, reader, source, effects, boundary=None, header=None, exported=(), large=128):
         self.reader, self.source, self.effects, self.large = reader, source, effects, large
-        self.records, self.header, self.exported = records or {}, header, set(exported)
+        self.records, self.header, self.exported = boundary.records if boundary else {}, header, set(exported)
         self.helpers, self.tables, self.slices, self.shapes, self.lengths = set(), {}, {}, {}, {}
         self.table_names, self.of_values = {}, {}
         for name, (_, tokens) in source.consts.items():
@@ -460,7 +461,10 @@ class Routine:
         """Whether a place is reached through a pointer that has a plain name, so that its fields are written with an arrow."""
         if isinstance(e, Use):
             return e.var.by_address and e.ty[0] != "array"
-        return isinstance(e, Deref) and self.counted(e.of)[1] is None and self.through(self.counted(e.of)[0]) is None
+        if not isinstance(e, Deref) or isinstance(e.of, Op2):
+            return False
+        start, n = self.counted(e.of)
+        return n is None and self.through(start) is None
 
     def through(self, e):
         """The place whose address a pointer's value is, if it is one."""
@@ -519,13 +523,14 @@ class Routine:
             return self.field(e)
         if isinstance(e, Deref):
             start, n = self.counted(e.of)
+            element = isinstance(e.of, Op2) and n is None
             want = base_type(e.ty)[0]
             if self.pointee(start) != want:
                 raise Refused("a pointer to %s is read as one to %s" % (self.pointee(start), want))
             inner = self.through(start)
             if inner is not None and n is None and inner.ty == e.ty:
                 return self.place(inner)
-            if n is None and inner is None and e.ty[0] != "array":
+            if n is None and inner is None and e.ty[0] != "array" and not element:
                 return Value("*" + self.address(start).at(UNARY), UNARY, kind_of(e.ty))
             if e.ty[0] == "array":
                 return self.address(e.of)
@@ -603,8 +608,7 @@ class Routine:
         if isinstance(e, Truth):
             return Value("true" if e.value else "false", POSTFIX, "bool")
         if isinstance(e, FloatConst):
-            self.writer.helpers.add("float_from_bits")
-            return Value("float_from_bits(UINT32_C(0x%08X))" % e.pattern, POSTFIX, "float")
+            return self.float(e)
         if isinstance(e, (Use, Field, Deref)):
             if e.ty[0] in ("ref", "ptr"):
                 return self.address(e)
@@ -624,6 +628,13 @@ class Routine:
         if isinstance(e, Aggregate):
             return self.aggregate(e)
         raise Refused("no value: %s" % type(e).__name__)
+
+    def float(self, e):
+        number = struct.unpack(">f", struct.pack(">I", e.pattern))[0]
+        if number in (0.0, 1.0) and e.pattern >> 31 == 0:
+            return Value("%.1ff" % number, POSTFIX, "float")
+        self.writer.helpers.add("float_from_bits")
+        return Value("float_from_bits(UINT32_C(0x%08X))" % e.pattern, POSTFIX, "float")
 
     def within_logic(self, e, word, binds):
         made = self.value(e)
@@ -1041,8 +1052,8 @@ class Routine:
 
     def store(self, made, place, value):
         kind = made.kind if made.kind in ("size", "i8", "i16", "i32", "i64") else None
-        if not kind and isinstance(value, Op2) and value.sign != "Signed" and value.ty in (("int", 64), ("int", 32)) and isinstance(place, Use):
-            if isinstance(value.a, Use) and value.a.var is place.var and value.op in BINARY and not isinstance(value.b, Op2):
+        if not kind and isinstance(value, Op2) and value.op in BINARY and value.sign != "Signed" and value.ty in (("int", 64), ("int", 32)):
+            if isinstance(value.a, (Use, Deref, Field)) and self.place(value.a).text == made.text:
                 self.line("%s %s= %s;" % (made.text, BINARY[value.op][0], self.wide(value.b).text))
                 return
         self.line("%s = %s;" % (made.text, self.as_type(value, place.ty, kind).text))
