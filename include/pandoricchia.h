@@ -54,23 +54,30 @@ extern "C" {
 #define PANDORICCHIA_LIST_STACK_OCTETS 8192
 #define PANDORICCHIA_TAKE_STACK_OCTETS 16384
 
-/* The number that each call returns. The lowest that applies is given, except that 5 to 8 come in the order of the run, 16 before
- * them, and 18 before 17. A call that returns any other number than PANDORICCHIA_DONE is refused and has written nothing, but for list,
- * which writes its records with 5 to 8 too. */
+/* The number that a call returns, by which calls, and what it says. The lowest that applies is given, except that 5 to 8 come in the
+ * order of the run, 16 before them; list's 10 stands in place of any of 0 and 5 to 8; 18 comes before 17; import's and export's 20 to 23
+ * come before 3, 21 to 23 block by block. A call that returns any other number than PANDORICCHIA_DONE is refused and has written nothing,
+ * but for list, which writes its records with 5 to 8 too. */
 enum pandoricchia_number {
-    PANDORICCHIA_DONE = 0,           /* done; the output, if there is one, is written whole */
-    PANDORICCHIA_CODE = 1,           /* the code is not offered by this call */
-    PANDORICCHIA_INPUT_LENGTH = 2,   /* the input's length differs from the table above */
-    PANDORICCHIA_OUTPUT_LENGTH = 3,  /* encode, correct, correct_samples, step, nearest: the output's length differs */
+    PANDORICCHIA_DONE = 0,           /* all but word_octets, information_octets, unit_octets, imported_octets, exported_octets and taker,
+                                      * which have no number: done; the output, if there is one, is written whole */
+    PANDORICCHIA_CODE = 1,           /* encode, check, quick, open, correct, correct_samples, list, step, write_unit, reader, read: the
+                                      * code is not offered by this call */
+    PANDORICCHIA_INPUT_LENGTH = 2,   /* encode, check, quick, open, correct, correct_samples, list, step, nearest, bch_encode, bch_check;
+                                      * write_unit without information: the input's length is not what the call takes */
+    PANDORICCHIA_OUTPUT_LENGTH = 3,  /* encode, correct, correct_samples, step, nearest, write_unit, read, bch_encode, bch_check,
+                                      * import_blocks, export_blocks: the output's length is not what the call needs */
     PANDORICCHIA_LAST_SIX = 4,       /* encode, code 4: one of the six last bits is set */
-    PANDORICCHIA_STUCK = 5,          /* correct, correct_samples, list, step: checks are broken, and no bit has an excess above 0 */
-    PANDORICCHIA_LIMIT = 6,          /* correct, correct_samples, list: the limit is reached */
+    PANDORICCHIA_STUCK = 5,          /* correct, correct_samples, list, step, read, take: checks are broken, and no bit has an excess
+                                      * above 0 */
+    PANDORICCHIA_LIMIT = 6,          /* correct, correct_samples, list, read, take: the limit is reached */
     PANDORICCHIA_UNSENT = 7,         /* never given: no run sets a bit that is not sent */
-    PANDORICCHIA_PARITY = 8,         /* correct, correct_samples, list, codes 4 and 5: quiet, but the parity is not the encoder's */
+    PANDORICCHIA_PARITY = 8,         /* correct and list, codes 4 and 5; correct_samples, code 4; take: quiet, but the parity is not the
+                                      * encoder's */
     PANDORICCHIA_BROKEN = 9,         /* open: a check is broken */
     PANDORICCHIA_PLACES = 10,        /* list: the run has more flips than the table has places */
-    PANDORICCHIA_NO_START = 11,      /* reader: the whole start sequence is not there */
-    PANDORICCHIA_NO_TAIL = 12,       /* reader: what follows is not one or more whole codeblocks and the tail */
+    PANDORICCHIA_NO_START = 11,      /* reader; read of such a reading: the whole start sequence is not there */
+    PANDORICCHIA_NO_TAIL = 12,       /* reader; read of such a reading: what follows is not one or more whole codeblocks and the tail */
     PANDORICCHIA_NO_BCH_WORD = 13,   /* bch_check: no codeword differs in at most one bit; detect-only: the word is none */
     PANDORICCHIA_LAST_TWO = 14,      /* open, code 5: no check is broken, but one of the last two bits is set */
     PANDORICCHIA_OTHER_PARITY = 15,  /* open, code 5: neither, but the parity is not the encoder's */
@@ -78,7 +85,7 @@ enum pandoricchia_number {
     PANDORICCHIA_NONE_NEAR = 17,     /* nearest: no codeword lies within the reach */
     PANDORICCHIA_REACH = 18,         /* nearest: the reach is above 3 */
     PANDORICCHIA_EDITION = 19,       /* taker_for: the edition is not known */
-    PANDORICCHIA_TOO_LONG = 20,      /* import_blocks: not whole blocks or more than 128; export_blocks: more than 64,512 octets */
+    PANDORICCHIA_TOO_LONG = 20,      /* import_blocks; export_blocks: not whole blocks or more than 128; more than 64,512 octets */
     PANDORICCHIA_BLOCK_CHECK = 21,   /* import_blocks: a block's frame check */
     PANDORICCHIA_BLOCK_NUMBER = 22,  /* import_blocks: a block's number */
     PANDORICCHIA_BLOCK_COUNT = 23    /* import_blocks: a block's count or filling */
