@@ -16,8 +16,8 @@
  * A pointer whose length is 0 may be NULL: nothing is read or written through it. Octets may lie at any address; samples and flip
  * records must be aligned for their type.
  * The library keeps no state and allocates nothing: calls may run in any threads at once, each on its own output.
- * A call takes less than PANDORICCHIA_STACK_OCTETS of stack, list less than PANDORICCHIA_LIST_STACK_OCTETS, take less than
- * PANDORICCHIA_TAKE_STACK_OCTETS. The archive asks for memcpy and memset, and nothing else.
+ * A call takes at most PANDORICCHIA_STACK_OCTETS of stack, most of them far less: each has a number of its own below. What is handed over
+ * by value is counted in it, the room for the result is not. The archive asks for memcpy and memset, and nothing else.
  */
 #ifndef PANDORICCHIA_H
 #define PANDORICCHIA_H
@@ -48,11 +48,33 @@ extern "C" {
 #define PANDORICCHIA_MOST_WORD_OCTETS 1022
 #define PANDORICCHIA_MOST_INFORMATION_OCTETS 895
 
-/* Measured by outside/boundary.c, not proved: take takes some 7,100 octets, list 5,100, quick 3,800, correct and correct_samples
- * 3,000, step 2,800, encode 2,200, check and open 2,100. */
-#define PANDORICCHIA_STACK_OCTETS 8192
-#define PANDORICCHIA_LIST_STACK_OCTETS 8192
-#define PANDORICCHIA_TAKE_STACK_OCTETS 16384
+/* Octets of stack that each call takes at most, and the most of them. Measured by outside/boundary.c, which paints the stack for each call
+ * and code, on words that are quiet, that flip and that are refused; rounded up to hundreds with 32 octets or more to spare; not proved. */
+#define PANDORICCHIA_WORD_OCTETS_STACK_OCTETS 200
+#define PANDORICCHIA_INFORMATION_OCTETS_STACK_OCTETS 200
+#define PANDORICCHIA_ENCODE_STACK_OCTETS 1400
+#define PANDORICCHIA_CHECK_STACK_OCTETS 2000
+#define PANDORICCHIA_QUICK_STACK_OCTETS 3900
+#define PANDORICCHIA_OPEN_STACK_OCTETS 2000
+#define PANDORICCHIA_CORRECT_STACK_OCTETS 3200
+#define PANDORICCHIA_CORRECT_SAMPLES_STACK_OCTETS 3200
+#define PANDORICCHIA_LIST_STACK_OCTETS 4800
+#define PANDORICCHIA_STEP_STACK_OCTETS 2900
+#define PANDORICCHIA_NEAREST_STACK_OCTETS 1600
+#define PANDORICCHIA_UNIT_OCTETS_STACK_OCTETS 200
+#define PANDORICCHIA_WRITE_UNIT_STACK_OCTETS 1500
+#define PANDORICCHIA_READER_STACK_OCTETS 200
+#define PANDORICCHIA_READ_STACK_OCTETS 3500
+#define PANDORICCHIA_TAKER_STACK_OCTETS 200
+#define PANDORICCHIA_TAKER_FOR_STACK_OCTETS 200
+#define PANDORICCHIA_TAKE_STACK_OCTETS 8200
+#define PANDORICCHIA_BCH_ENCODE_STACK_OCTETS 200
+#define PANDORICCHIA_BCH_CHECK_STACK_OCTETS 200
+#define PANDORICCHIA_IMPORT_BLOCKS_STACK_OCTETS 700
+#define PANDORICCHIA_IMPORTED_OCTETS_STACK_OCTETS 700
+#define PANDORICCHIA_EXPORT_BLOCKS_STACK_OCTETS 700
+#define PANDORICCHIA_EXPORTED_OCTETS_STACK_OCTETS 200
+#define PANDORICCHIA_STACK_OCTETS 8200
 
 /* The number that a call returns, by which calls, and what it says. The lowest that applies is given, except that 5 to 8 come in the
  * order of the run, 16 before them; list's 10 stands in place of any of 0 and 5 to 8; 18 comes before 17; import's and export's 20 to 23
