@@ -208,7 +208,7 @@ typedef struct pandoricchia_opened {
 pandoricchia_opened pandoricchia_open(uint8_t code, const uint8_t *word, size_t word_len);
 
 typedef struct pandoricchia_corrected {
-    uint8_t number;   /* 0 to 3, 5 to 8 or 16 */
+    uint8_t number;   /* correct: 0 to 3, 5, 6 or 8; correct_samples: 16 too */
     uint32_t flips;   /* how many flips the run made: never more than the limit, nor than first */
     uint32_t first;   /* broken checks of the word as received */
     uint32_t last;    /* broken checks at the end of the run */
@@ -240,7 +240,7 @@ typedef struct pandoricchia_fliprecord {
 } pandoricchia_fliprecord;
 
 typedef struct pandoricchia_listed {
-    uint8_t number;  /* 0 to 2, 5 to 8 or 10 */
+    uint8_t number;  /* 0 to 2, 5, 6, 8 or 10 */
     uint32_t flips;  /* from here to lowest as correct gives them */
     uint32_t first;
     uint32_t last;
