@@ -270,11 +270,11 @@ static void note(unsigned call, uint32_t given, size_t taken)
 }
 
 /* A call is tried once, and its number is kept, and the stack that it took; then the same of a call that has no number. */
-#define TRY(call, number)                              \
-    do {                                               \
-        paint();                                       \
+#define TRY(call, number)                               \
+    do {                                                \
+        paint();                                        \
         uint32_t given_by_it = (uint32_t)1 << (number); \
-        note(call, given_by_it, painted_over());       \
+        note(call, given_by_it, painted_over());        \
     } while (0)
 
 #define TRY_LENGTH(call, length)       \
@@ -458,7 +458,7 @@ static void try_bch(void)
 /* Recordings of few and of many octets in blocks: whole, of another length, with a bit wrong, blocks in another order, one not full. */
 static void try_blocks(void)
 {
-    static uint8_t octets[64513], blocks[65536], again[64512];
+    static uint8_t octets[64513], blocks[65536 + 1], again[64513 + 1];
     static const size_t lengths[] = {0, 1, 504, 505, 1008, 64512, 64513};
     draw_octets(octets, sizeof octets);
     for (unsigned i = 0; i < sizeof lengths / sizeof lengths[0]; i++) {
