@@ -352,7 +352,8 @@ static void try_words(uint8_t code)
 /* What is refused by 1 to 4 and by 16: every code number's lengths, one input and one output too long. */
 static void try_refused(uint8_t code)
 {
-    size_t n = code <= 5 ? words[code] : 16, info = code <= 5 ? informations[code] : 8;
+    int offered = 1 <= code && code <= 5;
+    size_t n = offered ? words[code] : 16, info = offered ? informations[code] : 8;
     for (size_t more = 0; more < 2; more++) {
         TRY(ENCODE, pandoricchia_encode(code, information, info + 1, word, n + more));
         TRY(ENCODE, pandoricchia_encode(code, information, info, word, n + 1));
