@@ -1,11 +1,11 @@
 # `make run` proves and builds the bench program and runs it on a sample (SAMPLE=.. for another recording). `make test`
 # is the gate. `make lib` writes the archive and the shared library in target/staticlib. `make compare N=..` compares the
-# library with the judge on N inputs of each call under each telecommand code, and N / 10 of each near-Earth one; SEED=..
-# repeats a campaign. `make bench` counts the instructions of each call. `make alist` writes the parity matrices of codes 1
-# to 4 in target/alist, in a format that other programs read; `make peers` asks such programs about the library's words.
-# `make install PREFIX=.. DESTDIR=..` installs header, Rust module, libraries, pkg-config file, programs, the Python package
-# and its command with a man page, building what is missing; `make uninstall` removes just those. `make man` makes the man
-# page again.
+# library with the judge on N inputs of each call under each telecommand code, N / 10 of each near-Earth one, and as many of
+# the others as outside/compare_all says; SEED=.. repeats a campaign. `make bench` counts the instructions of each call.
+# `make alist` writes the parity matrices of codes 1 to 4 in target/alist, in a format that other programs read; `make peers`
+# asks such programs about the library's words. `make install PREFIX=.. DESTDIR=..` installs header, Rust module, libraries,
+# pkg-config file, programs, the Python package and its command with a man page, building what is missing; `make uninstall`
+# removes just those. `make man` makes the man page again.
 .PHONY: run test lib shared compare bench alist peers man install uninstall
 N ?= 20000
 SAMPLE ?= samples/code5.bin
@@ -41,16 +41,7 @@ shared: $(ARCHIVE)
 	outside/build_shared $(VERSION)
 
 compare: lib
-	outside/build_c target/outside/compare outside/compare.c outside/breaks.c outside/judge.c
-	outside/run_x86 target/outside/compare $(N) $$(( $(N) / 10 )) $(SEED)
-	outside/build_c target/outside/bch_compare outside/bch_compare.c outside/bch_judge.c
-	outside/run_x86 target/outside/bch_compare $$(( $(N) / 100 )) $(N) $(or $(SEED),1)
-	outside/build_c target/outside/nearest_compare outside/nearest_compare.c outside/nearest_judge.c outside/judge.c
-	outside/run_x86 target/outside/nearest_compare $$(( $(N) / 100 )) $(or $(SEED),1)
-	outside/build_c target/outside/samples_compare outside/samples_compare.c outside/samples_judge.c outside/judge.c
-	outside/run_x86 target/outside/samples_compare $$(( $(N) / 10 )) $(or $(SEED),1)
-	outside/build_c target/outside/frames_compare outside/frames_compare.c outside/frames_judge.c outside/judge.c
-	outside/run_x86 target/outside/frames_compare $$(( $(N) / 100 )) $(or $(SEED),1)
+	outside/compare_all $(N) $(SEED)
 
 bench: lib
 	outside/bench

@@ -1,6 +1,7 @@
 //! Pandoricchia from Rust: encoding, checking, opening and correcting words of five CCSDS LDPC codes. What the codes, the
 //! lengths and the numbers are stands in `pandoricchia.h`. Every call answers for every code number and every length; one
-//! that returns any other number than `DONE` has written nothing. Nothing is kept between calls, so threads may call at once.
+//! that returns any other number than `DONE` has written nothing, but for `list`, which writes its records with 5 to 8 too.
+//! Nothing is kept between calls, so threads may call at once.
 //!
 //!     #[path = "include/pandoricchia.rs"]
 //!     mod pandoricchia;
