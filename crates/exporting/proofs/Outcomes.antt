@@ -13,12 +13,12 @@ use Rattle.exporting.proofs.exported_octets as exported-octets
 use Rattle.exporting.proofs.exported_octets.Kinds as exported-kinds
 use Rattle.exporting.proofs.exported_octets.Reads as exported-reads
 
-pub export-outcome : (κs : Lfts 2) (a : ArgsD export-blocks.signature κs) (r₁ r₂ : ResD export-blocks.signature κs)
+pub export-blocks-outcome : (κs : Lfts 2) (a : ArgsD export-blocks.signature κs) (r₁ r₂ : ResD export-blocks.signature κs)
     (s₁ s₂ : AtExit (endedOf 2 export-kinds.ps export-kinds.r) κs)
     → export-reads.Post κs a r₁ s₁ → export-reads.Post κs a r₂ s₂ → (r₁ ≡ r₂) × (now (s₁ .1 .0) ≡ now (s₂ .1 .0))
-export-outcome κs a r₁ r₂ s₁ s₂ p q = (ap (λ (x : Exported). x .number) (p ∙ sym q), ap (λ (x : Exported). x .out) (p ∙ sym q))
+export-blocks-outcome κs a r₁ r₂ s₁ s₂ p q = (ap (λ (x : Exported). x .number) (p ∙ sym q), ap (λ (x : Exported). x .out) (p ∙ sym q))
 
-pub exported-outcome : (κs : Lfts 0) (a : ArgsD exported-octets.signature κs) (r₁ r₂ : ResD exported-octets.signature κs)
+pub exported-octets-outcome : (κs : Lfts 0) (a : ArgsD exported-octets.signature κs) (r₁ r₂ : ResD exported-octets.signature κs)
     (s₁ s₂ : AtExit (endedOf 0 exported-kinds.ps exported-kinds.r) κs)
     → exported-reads.Post κs a r₁ s₁ → exported-reads.Post κs a r₂ s₂ → r₁ ≡ r₂
-exported-outcome κs a r₁ r₂ s₁ s₂ p q = p ∙ sym q
+exported-octets-outcome κs a r₁ r₂ s₁ s₂ p q = p ∙ sym q

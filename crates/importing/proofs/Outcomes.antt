@@ -13,13 +13,13 @@ use Rattle.importing.proofs.imported_octets as imported-octets
 use Rattle.importing.proofs.imported_octets.Kinds as imported-kinds
 use Rattle.importing.proofs.imported_octets.Reads as imported-reads
 
-pub import-outcome : (κs : Lfts 2) (a : ArgsD import-blocks.signature κs) (r₁ r₂ : ResD import-blocks.signature κs)
+pub import-blocks-outcome : (κs : Lfts 2) (a : ArgsD import-blocks.signature κs) (r₁ r₂ : ResD import-blocks.signature κs)
     (s₁ s₂ : AtExit (endedOf 2 import-kinds.ps import-kinds.r) κs)
     → import-reads.Post κs a r₁ s₁ → import-reads.Post κs a r₂ s₂ → (r₁ ≡ r₂) × (now (s₁ .1 .0) ≡ now (s₂ .1 .0))
-import-outcome κs a r₁ r₂ s₁ s₂ p q =
+import-blocks-outcome κs a r₁ r₂ s₁ s₂ p q =
     (ap (λ (x : Imported). record { number = x .number; block = x .block }) (p ∙ sym q), ap (λ (x : Imported). x .out) (p ∙ sym q))
 
-pub imported-outcome : (κs : Lfts 1) (a : ArgsD imported-octets.signature κs) (r₁ r₂ : ResD imported-octets.signature κs)
+pub imported-octets-outcome : (κs : Lfts 1) (a : ArgsD imported-octets.signature κs) (r₁ r₂ : ResD imported-octets.signature κs)
     (s₁ s₂ : AtExit (endedOf 1 imported-kinds.ps imported-kinds.r) κs)
     → imported-reads.Post κs a r₁ s₁ → imported-reads.Post κs a r₂ s₂ → r₁ ≡ r₂
-imported-outcome κs a r₁ r₂ s₁ s₂ p q = p ∙ sym q
+imported-octets-outcome κs a r₁ r₂ s₁ s₂ p q = p ∙ sym q

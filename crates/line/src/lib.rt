@@ -133,11 +133,9 @@ pub fn write_word(
     put_line(index, answer, text, at)
 }
 
-// Refusal 1, from correct itself, to which code 0 is not offered: a further field of the answer is no change here.
+// Refusal 1: correct's record for a code that is not offered.
 pub fn refusal() -> endings::Corrected
     ensures { λ r. ⌜ lineOf 0 (asCorrected r []) ≡ lineOf 0 (refusedCorrect [] 1) ⌝ }
 {
-    let word = [0u8; 1];
-    let mut out = [0u8; 1];
-    codes::correct(0, &word, 0, &mut out)
+    endings::refused_correct(1)
 }

@@ -9,9 +9,10 @@ use Rattle.samples.proofs.correct_samples.{signature}
 use Rattle.samples.proofs.correct_samples.Kinds as kinds
 use Rattle.samples.proofs.correct_samples.Reads as reads
 
-pub samples-outcome : (κs : Lfts 2) (a : ArgsD signature κs) (r₁ r₂ : ResD signature κs) (s₁ s₂ : AtExit (endedOf 2 kinds.ps kinds.r) κs)
+pub correct-samples-outcome : (κs : Lfts 2) (a : ArgsD signature κs) (r₁ r₂ : ResD signature κs)
+    (s₁ s₂ : AtExit (endedOf 2 kinds.ps kinds.r) κs)
     → reads.Post κs a r₁ s₁ → reads.Post κs a r₂ s₂ → (r₁ ≡ r₂) × (now (s₁ .1 .1 .1 .0) ≡ now (s₂ .1 .1 .1 .0))
-samples-outcome κs a r₁ r₂ s₁ s₂ p q = (
+correct-samples-outcome κs a r₁ r₂ s₁ s₂ p q = (
   ap (λ x. record { number = x .number; flips = x .flips; first = x .first; last = x .last; unlike = x .unlike; lowest = x .lowest }) (p
       ∙ sym q),
   ap (λ x. x .out) (p ∙ sym q),

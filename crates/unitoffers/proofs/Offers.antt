@@ -39,6 +39,9 @@ either P s l n = go (eqb n 1)
     go true = s
     go false = l (eqb n 3)
 
+pub offer-room : (n : ℕ) → unitOfferOf n .information ≤ 32
+offer-room = either (λ u. u .information ≤ 32) (omega arith) (λ b. omega arith)
+
 -- of a code that has units
 pub record Fixed (n : ℕ) (u : UnitOffer) : Type 0 where
   pub word : u .word ≡ code n .wordOctets

@@ -60,6 +60,14 @@ pub fn unit_of(code: u8) -> UnitOffer
     }
 }
 
+// The octets that a codeblock hands out, for any number: code 3's where no unit is of the code.
+pub fn room(code: u8) -> usize
+    ensures { λ r. ⌜ (r ≡ unitOfferOf code .information) × (r ≤ 32) ⌝ }
+{
+    let u = unit_of(code);
+    u.information
+}
+
 pub fn is_unit_code(code: u8) -> bool
     ensures { λ r. ⌜ r ≡ unitCode code ⌝ }
 {

@@ -133,9 +133,6 @@ fn main() {
         return;
     }
     let mut out = out_buffer();
-    if head[0] == 1 {
-        lines(state, &unit[..n], &mut out[..8]);
-    } else {
-        lines(state, &unit[..n], &mut out[..32]);
-    }
+    let size = unitoffers::room(head[0]);
+    lines(state, &unit[..n], &mut out[..size]);
 }

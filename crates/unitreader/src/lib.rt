@@ -1,11 +1,14 @@
-// The reader as a struct that holds the unit's slice and a place. Each function over it is proved by hand and only takes it apart;
-// `block_at` does the work on a plain slice and numbers.
+// The reader as a struct that holds the unit's slice and a place. Each function over it is proved by hand and only takes it apart or puts
+// it together; `begin` and `block_at` do the work on a plain slice and numbers.
 ghost use mathlib.Core.Path.{_≡_};
 ghost use Prim.Native.Nat.{ℕ};
+ghost use mathlib.Core.List.{[]};
+ghost use lib.Dec.{eqb};
 ghost use lib.ListN.{replicate};
-ghost use Rattle.unitrules.specs.Units.{readingFrom};
+ghost use Rattle.bits.specs.Bits.{if_then_else_};
+ghost use Rattle.unitrules.specs.Units.{readerNumber, readingFrom};
 ghost use Rattle.readings.specs.Answers.{asReading};
-ghost use Rattle.unitreader.specs.Named.{roomFor, handedAt, asBlock};
+ghost use Rattle.unitreader.specs.Named.{handedAt, asBlock, madeOver, asMade, movedTo};
 use readings::Handed;
 use readings::Reading;
 
@@ -16,7 +19,7 @@ pub struct Reader<'a> {
     pub limit: u16,
 }
 
-// An asking's answer with the octets that it hands out, in front; `handed.next.place` is where the reader stands next.
+// An asking's answer with the octets that it hands out, and zeros behind them; `handed.next.place` is where the reader stands next.
 pub struct Block {
     pub handed: Handed,
     pub octets: [u8; 32],
@@ -26,14 +29,6 @@ fn buffer() -> [u8; 32]
     ensures { λ r. ⌜ replicate 32 0 ≡ r ⌝ }
 {
     [0; 32]
-}
-
-// What a codeblock hands out; where no unit is of the code, what code 3's does, and then it is refused.
-fn room(code: u8) -> usize
-    ensures { λ r. ⌜ r ≡ roomFor code ⌝ }
-{
-    let u = unitoffers::unit_of(code);
-    u.information
 }
 
 // A reading that stands at a place.
@@ -51,10 +46,10 @@ fn standing(place: usize, code: u8, limit: u16) -> Reading
 
 // The codeblock at a place of a unit.
 pub fn block_at(unit: &[u8], place: usize, code: u8, limit: u16) -> Block
-    ensures { λ r. ⌜ asBlock r code ≡ handedAt (now (unit .entry)) place code limit ⌝ }
+    ensures { λ r. ⌜ asBlock r ≡ handedAt (now (unit .entry)) place code limit ⌝ }
 {
     let state = standing(place, code, limit);
-    let size = room(code);
+    let size = unitoffers::room(code);
     let mut octets = buffer();
     let handed = readings::read(state, unit, &mut octets[..size]);
     Block {
@@ -63,16 +58,43 @@ pub fn block_at(unit: &[u8], place: usize, code: u8, limit: u16) -> Block
     }
 }
 
+// The number of a reader over a unit, and the octets that it stands on: none where it is refused.
+fn begin<'a>(code: u8, unit: &'a [u8], limit: u16, number: &mut u8) -> &'a [u8]
+    ensures { λ r. ⌜ (now (number .exit) ≡ readerNumber code (now (unit .entry)))
+        × (now r ≡ (if eqb (readerNumber code (now (unit .entry))) 0 then now (unit .entry) else [])) ⌝ }
+{
+    let state = readings::reader(code, unit, limit);
+    let kept = state.kept;
+    *number = kept.number;
+    if kept.number != 0 {
+        return &unit[..0];
+    }
+    unit
+}
+
+// A reader over a unit, at its first codeblock, where the number is 0.
+pub fn reader_over<'a>(code: u8, unit: &'a [u8], limit: u16, number: &mut u8) -> Reader<'a>
+    ensures { λ r. ⌜ asMade (now (number .exit)) r ≡ madeOver code (now (unit .entry)) limit ⌝ }
+{
+    let stands = begin(code, unit, limit, number);
+    Reader {
+        unit: stands,
+        place: 0,
+        code: code,
+        limit: limit,
+    }
+}
+
 // The codeblock where the reader stands.
 pub fn next<'a>(r: Reader<'a>) -> Block
-    ensures { λ b. ⌜ asBlock b (r .entry .code) ≡ handedAt (now (r .entry .unit)) (r .entry .place) (r .entry .code) (r .entry .limit) ⌝ }
+    ensures { λ b. ⌜ asBlock b ≡ handedAt (now (r .entry .unit)) (r .entry .place) (r .entry .code) (r .entry .limit) ⌝ }
 {
     block_at(r.unit, r.place, r.code, r.limit)
 }
 
 // The reader at another place.
 pub fn moved<'a>(r: Reader<'a>, to: usize) -> Reader<'a>
-    ensures { λ q. ⌜ (q .unit ≡ r .entry .unit) × (q .place ≡ to) × (q .code ≡ r .entry .code) × (q .limit ≡ r .entry .limit) ⌝ }
+    ensures { λ q. ⌜ q ≡ movedTo (r .entry) to ⌝ }
 {
     Reader {
         unit: r.unit,

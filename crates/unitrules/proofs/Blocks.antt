@@ -5,7 +5,7 @@ use mathlib.Core.List.{List, [], _∷_, _++_}
 use Prim.Native.Nat.{ℕ, zero, suc, _+_, _-_, _*_, _≤_}
 use native.Mathlib.Nat.{suc-mul, zero-add}
 use native.Mathlib.Omega.{arith}
-use lib.ListN.{length, take, replicate, length-append, length-replicate}
+use lib.ListN.{length, take, drop, replicate, length-append, length-replicate}
 use Rattle.bits.specs.Bits.{bit}
 use Rattle.bits.proofs.Octets.{length-octets}
 use Rattle.rules.specs.Codes.{code, code1, code3}
@@ -55,8 +55,13 @@ module _ (n : ℕ) (information : List ℕ) where
       (length-replicate (blocksFor n (length information) * code n .informationOctets - length information) 0x55)
       ∙ omega (arith, enough u)
 
--- the front of octets that are all the same
+-- the front of octets that are all the same, and what is behind it
 pub take-replicate : (j m a : ℕ) → j ≤ m → take j (replicate m a) ≡ replicate j a
 take-replicate zero m a h = refl
 take-replicate (suc j) zero a h = absurd (omega arith)
 take-replicate (suc j) (suc m) a h = ap (λ z. a ∷ z) (take-replicate j m a (omega arith))
+
+pub drop-replicate : (j m a : ℕ) → drop j (replicate m a) ≡ replicate (m - j) a
+drop-replicate zero m a = let e : m ≡ m - 0 = omega arith in ap (λ z. replicate z a) e
+drop-replicate (suc j) zero a = let e : 0 ≡ 0 - suc j = omega arith in ap (λ z. replicate z a) e
+drop-replicate (suc j) (suc m) a = drop-replicate j m a ∙ (let e : m - j ≡ suc m - suc j = omega arith in ap (λ z. replicate z a) e)

@@ -46,8 +46,7 @@ use denote.Triple.Table.{entered, cited}
 use denote.Triple.Walked.{says, Stays, stay-none, walkOf, goes-none, Walks, ends-at, walked, walk-meets}
 use denote.Exit.{yes}
 use denote.Triple.Clauses.{ensured, lasts}
-use Rattle.unitreader.specs.Named.{roomFor, handedAt, asBlock}
-use Rattle.unitrules.specs.Units.{Handed}
+use Rattle.unitreader.specs.Named.{handedAt, asBlock}
 use Rattle.unitreader.specs.declared.Reader.{Reader}
 use Rattle.unitreader.specs.declared.Block.{Block}
 use Rattle.unitreader.proofs.Reader as T
@@ -85,7 +84,7 @@ module _ {M : Type 1} (𝓤 : URA M) (H : Heap 𝓤) (A : Atoms 𝓤) (W : Given
   v = sliceVal (d .unit .ptr) (length (d .unit .now))
 
   abbrev Said : Block → Type 0
-  Said r = asBlock r (d .code) ≡ handedAt (now (d .unit)) (d .place) (d .code) (d .limit)
+  Said r = asBlock r ≡ handedAt (now (d .unit)) (d .place) (d .code) (d .limit)
 
   abbrev Post : Val → SProp 𝓤
   Post = walkOf 𝓤 H A next.ended stayed (next.clauses 𝓤 H A mem run) .post (((κ, tt), (q, tt), tt, (d, tt), (mach ∷ [], tt)), tt)
