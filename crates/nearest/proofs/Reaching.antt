@@ -10,7 +10,7 @@ use borrow.Author.Tests.{lt-ltb, le-ltb}
 use Rattle.bits.specs.Bits.{Word, bit, if_then_else_}
 use Rattle.vectors.specs.Vectors.{from}
 use Rattle.answers.specs.Calls.{refusal, unless}
-use Rattle.answers.proofs.Answers.{unless-refused, unless-taken, unless-cases, refusal-not}
+use Rattle.answers.proofs.Answers.{Right, unless-refused, unless-taken, unless-cases, refusal-not, refusal-right}
 use Rattle.nearest.specs.Nearest.{Found, none, list, Reached, refused, found, searched, reached, nearestAnswer}
 use Rattle.nearest.specs.Answers.{held, HandedOut}
 use Rattle.nearest.specs.declared.Listed.{Listed}
@@ -21,7 +21,8 @@ module _ (word : List ℕ) (reach : ℕ) (out : List ℕ) where
   abbrev by : ℕ → Reached
   by k = unless k (λ number. refused number out) (reached word reach out)
 
-  pub nearest-refused : (k : ℕ) → k ≡ refusal true (length word) 16 (length out) 16 → (k ≡ 0 → ⊥) → nearestAnswer word reach out ≡ refused k out
+  pub nearest-refused : (k : ℕ) → k ≡ refusal true (length word) 16 (length out) 16 → (k ≡ 0 → ⊥)
+      → nearestAnswer word reach out ≡ refused k out
   unfolding nearestAnswer
   nearest-refused k e d = ap by (sym e) ∙ unless-refused (λ number. refused number out) (reached word reach out) k d
 
@@ -29,6 +30,10 @@ module _ (word : List ℕ) (reach : ℕ) (out : List ℕ) where
   unfolding nearestAnswer
   right e f = unless-taken (λ number. refused number out) (reached word reach out) (refusal true (length word) 16 (length out) 16)
       (refusal-not true (length word) 16 (length out) 16 tt e f)
+
+  -- the lengths of a call that is not refused by them
+  pub nearest-right : {k : ℕ} → k ≡ refusal true (length word) 16 (length out) 16 → k ≡ 0 → Right true (length word) 16 (length out) 16
+  nearest-right e z = refusal-right true (length word) 16 (length out) 16 (sym e ∙ z)
 
   pub nearest-cases : (P : Reached → Type 0) → ((k : ℕ) → P (refused k out))
       → (length word ≡ 16 → length out ≡ 16 → P (nearestAnswer word reach out)) → P (nearestAnswer word reach out)

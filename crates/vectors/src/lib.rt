@@ -320,17 +320,6 @@ pub fn is_set(ws: &[u64], n: usize) -> bool
     (ws[n / 64] >> (63 - n % 64)) % 2 == 1
 }
 
-// Clears every bit.
-pub fn clear(ws: &mut [u64])
-    ensures { λ r. ⌜ wbit (now (ws .exit)) ≡ (λ n. false) ⌝ }
-{
-    let mut k = 0;
-    while k < ws.len() {
-        ws[k] = 0;
-        k += 1;
-    }
-}
-
 // All bits u places later, of which the last u are 0; zeros in front.
 pub fn lift(ws: &mut [u64], u: usize)
     requires { ⌜ (u < 64) × ((n : ℕ) → 64 * length (now ws) ≤ n + u → wbit (now ws) n ≡ false) ⌝ }

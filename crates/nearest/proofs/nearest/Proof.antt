@@ -1,10 +1,7 @@
 -- `nearest::nearest`: refusals in their order, then the search. Assumes nothing.
 use mathlib.Core.Path.{sym, _∙_}
-use mathlib.Core.Bool.{true}
 use native.Mathlib.Omega.{arith}
-use lib.ListN.{length}
-use Rattle.answers.proofs.Answers.{refusal-right}
-use Rattle.nearest.proofs.Reaching.{nearest-refused, nearest-eighteen, nearest-searched}
+use Rattle.nearest.proofs.Reaching.{nearest-refused, nearest-right, nearest-eighteen, nearest-searched}
 use borrow.Author.Needs.{needs}
 use Rattle.nearest.proofs.nearest.Statement.{statement}
 use Rattle.nearest.proofs.nearest.Tie as tie
@@ -30,8 +27,7 @@ returns-2 : tie.Need-returns-2
 returns-2 c =
     let s : tie.Start = search in
     let f : tie.After-refusal = search in
-    let r = refusal-right true (length (s .args .word .now)) 16 (length (s .args .out .now)) 16
-    (sym (f .refusal .ensures) ∙ c .before .before .if1 .left) in
+    let r = nearest-right (s .args .word .now) (s .args .reach) (s .args .out .now) (f .refusal .ensures) (c .before .before .if1 .left) in
     c .refused-by2 .ensures (s .args .out .now)
     ∙ sym (nearest-eighteen (s .args .word .now) (s .args .reach) (s .args .out .now) (r .long-is) (r .room-is) (omega arith))
 
@@ -39,8 +35,7 @@ searched-requires : tie.Need-searched-requires
 searched-requires c κs =
     let s : tie.Start = search in
     let f : tie.After-refusal = search in
-    let r = refusal-right true (length (s .args .word .now)) 16 (length (s .args .out .now)) 16
-    (sym (f .refusal .ensures) ∙ c .before .before .if1 .left) in
+    let r = nearest-right (s .args .word .now) (s .args .reach) (s .args .out .now) (f .refusal .ensures) (c .before .before .if1 .left) in
     (r .long-is, r .room-is, omega arith)
 
 same-length : tie.Need-same-length
@@ -51,8 +46,7 @@ returns-3 c =
     let s : tie.Start = search in
     let f : tie.After-refusal = search in
     let e = c .before .before .before .before in
-    let r = refusal-right true (length (s .args .word .now)) 16 (length (s .args .out .now)) 16
-    (sym (f .refusal .ensures) ∙ e .before .if1 .left) in
+    let r = nearest-right (s .args .word .now) (s .args .reach) (s .args .out .now) (f .refusal .ensures) (e .before .if1 .left) in
     c .before .before .searched .ensures
     ∙ sym (nearest-searched (s .args .word .now) (s .args .reach) (s .args .out .now) (r .long-is) (r .room-is) (omega arith))
 

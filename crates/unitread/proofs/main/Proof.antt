@@ -66,8 +66,11 @@ returns-2 c = search needs
 out-buffer-requires : tie.Need-out-buffer-requires
 out-buffer-requires c κs = search needs
 
-array-read-if3 : tie.Need-array-read-if3
-array-read-if3 c = search needs
+array-read-room : tie.Need-array-read-room
+array-read-room c = search needs
+
+room-requires : tie.Need-room-requires
+room-requires c κs = search needs
 
 array-share-prefix-unit-2 : tie.Need-array-share-prefix-unit-2
 array-share-prefix-unit-2 c = search needs
@@ -79,29 +82,13 @@ array-borrow-prefix-out : tie.Need-array-borrow-prefix-out
 array-borrow-prefix-out c = search needs
 
 slice-aggregate-lines-2 : tie.Need-slice-aggregate-lines-2
-slice-aggregate-lines-2 c = let b =
-    c .before .before .before in sym (length-take-le 8 (b .out-buffer .result) (omega (arith, b .out-buffer .ensures)))
+slice-aggregate-lines-2 c = ?
 
 lines-requires : tie.Need-lines-requires
 lines-requires c κs = search needs
 
-array-share-prefix-unit-3 : tie.Need-array-share-prefix-unit-3
-array-share-prefix-unit-3 c = search needs
-
-slice-aggregate-lines-3 : tie.Need-slice-aggregate-lines-3
-slice-aggregate-lines-3 c = search needs
-
-slice-aggregate-lines-4 : tie.Need-slice-aggregate-lines-4
-slice-aggregate-lines-4 c = search needs
-
-lines-requires-2 : tie.Need-lines-requires-2
-lines-requires-2 c κs = search needs
-
 returns-3 : tie.Need-returns-3
 returns-3 c = search needs
-
-returns-4 : tie.Need-returns-4
-returns-4 c = search needs
 
 pub main-spec : {M : Type 1} → statement M
 main-spec =
@@ -127,15 +114,11 @@ main-spec =
     line-requires
     returns-2
     out-buffer-requires
-    array-read-if3
+    array-read-room
+    room-requires
     array-share-prefix-unit-2
     slice-aggregate-lines
     array-borrow-prefix-out
     slice-aggregate-lines-2
     lines-requires
-    array-share-prefix-unit-3
-    slice-aggregate-lines-3
-    slice-aggregate-lines-4
-    lines-requires-2
-    returns-3
-    returns-4)
+    returns-3)
