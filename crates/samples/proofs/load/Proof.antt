@@ -37,8 +37,8 @@ mul-patterns c = search needs
 slice-write-patterns : tie.Need-slice-write-patterns Inv-loop μ-loop
 slice-write-patterns c =
     let s : tie.Start Inv-loop μ-loop = search in
-    let in-loop : tie.In-loop Inv-loop μ-loop = search in
-    omega (arith, s .pre, in-loop .loop .inv .1)
+    let at-loop : tie.At-loop Inv-loop μ-loop = search in
+    omega (arith, s .pre, at-loop .loop .inv .1)
 
 add-i : tie.Need-add-i Inv-loop μ-loop
 add-i c = search needs
@@ -49,10 +49,10 @@ loop-less c = omega arith
 loop-again : tie.Need-loop-again Inv-loop μ-loop
 loop-again c =
     let s : tie.Start Inv-loop μ-loop = search in
-    let in-loop : tie.In-loop Inv-loop μ-loop = search in
+    let at-loop : tie.At-loop Inv-loop μ-loop = search in
     let after-pattern : tie.After-pattern Inv-loop μ-loop = search in
     let a = s .args in
-    let l = in-loop .loop in
+    let l = at-loop .loop in
     let p = after-pattern .pattern in (
       omega arith,
       length-set (l .patterns) (l .i) (p .result) ∙ l .inv .1,
@@ -60,12 +60,12 @@ loop-again c =
     )
 
 same-length : tie.Need-same-length Inv-loop μ-loop
-same-length c = let in-loop : tie.In-loop Inv-loop μ-loop = search in in-loop .loop .inv .1
+same-length c = let at-loop : tie.At-loop Inv-loop μ-loop = search in at-loop .loop .inv .1
 
 returns : tie.Need-returns Inv-loop μ-loop
 returns c =
-    let in-loop : tie.In-loop Inv-loop μ-loop = search in
-    let l = in-loop .loop in
+    let at-loop : tie.At-loop Inv-loop μ-loop = search in
+    let l = at-loop .loop in
     (l .inv .1, λ j h. l .inv .2 j (omega arith))
 
 pub load-spec : {M : Type 1} → statement M
