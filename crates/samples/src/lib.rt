@@ -91,7 +91,8 @@ fn run_within(
     h: &mut [u16; TABLE],
     z: &mut [u64; SYNDROME],
 ) -> Corrected
-    requires { ⌜ Known o × (o .steps ≡ true) × (length (now samples) ≡ o .bits) × (wbit (now y) ≡ readOf (now samples)) × (wbit (now z) ≡ (λ n. false)) ⌝ }
+    requires { ⌜ Known o × (o .steps ≡ true) × (length (now samples) ≡ o .bits) × (wbit (now y) ≡ readOf (now samples))
+        × (wbit (now z) ≡ (λ n. false)) ⌝ }
     ensures { λ r. ⌜ ((n : ℕ) → offered n ≡ true → o ≡ offerOf n → Finds n (now (samples .entry)) limit (wbit (now (y .exit))) r) ⌝ }
 {
     let of = o.shape;

@@ -1,19 +1,19 @@
 -- What bit patterns tell as whole numbers is what comparison and negation tell of the samples: whether a sample is finite, and of finite
 -- ones whether it is below 0 and whether its magnitude is the smaller.
 use mathlib.Core.Path.{_≡_, refl, sym, ap, ap₂, _∙_, subst, fun-ext}
-use mathlib.Core.Bool.{Bool, true, false, true≢false, not, _&&_, cond}
-use mathlib.Core.List.{List, [], _∷_, map}
-use mathlib.Core.Logic.{_⊎_, inl, inr, ⊎-elim}
+use mathlib.Core.Bool.{Bool, true, false, not, _&&_, cond}
+use mathlib.Core.List.{List, [], _∷_}
 use Prim.Native.Nat.{ℕ, zero, suc, _+_, _*_, _/_, _%_, _^_, _≤_, _<_}
-use native.Mathlib.Nat.{zero-mul, mul-one, mul-assoc, mul-comm, mul-right-comm, mul-pos, mul-lt-mul-of-pos-right, mul-le-mul-left, mul-le-mul-right}
-use native.Mathlib.Nat.{lt-of-lt-of-le, le-trans, le-of-eq, le-of-suc-le-suc, not-suc-le-zero, lt-of-not-le, pow-succ', le-mul-of-pos-right}
+use native.Mathlib.Nat.{zero-mul, mul-one, mul-assoc, mul-comm, mul-right-comm, mul-pos, mul-le-mul-left, mul-le-mul-right}
+use native.Mathlib.Nat.{mul-lt-mul-of-pos-right, le-mul-of-pos-right, lt-of-lt-of-le, lt-of-not-le, le-trans, le-of-eq}
+use native.Mathlib.Nat.{le-of-suc-le-suc, not-suc-le-zero, pow-succ'}
 use native.Mathlib.Decide.{decLt}
 use native.Mathlib.Omega.{arith}
-use lib.Dec.{leb, ltb, eqb, lit<}
+use lib.Dec.{leb, ltb, eqb}
 use lib.Ieee.{Float, nan, inf, fin, up, down, odd, ofFields, ofBits, binary32, lt}
 use lib.Ieee.Exact.{HasValue, odd-sign}
 use lib.Ieee.Positive.{num, den, den-pos, first-pos}
-use lib.ListN.{length, getD, length-map, List·getD-eq-default}
+use lib.ListN.{length, length-map, List·getD-eq-default}
 use lib.Pow.{pow-pos, pow-mono, mod-mod-pow}
 use borrow.Author.Tests.{lt-ltb, le-ltb, ltb-true, ltb-false, eq-eqb, ne-eqb, not-true}
 use Rattle.bits.specs.Bits.{below}
@@ -26,6 +26,10 @@ use Rattle.sizes.proofs.Smallest.{Ordered}
 use Rattle.sizes.proofs.Choosing.{same-order}
 use Rattle.sizes.proofs.Orders.{magnitude-lt}
 use Rattle.sizes.proofs.Orders as orders
+
+-- both zeros are read as 0
+pub zeros-read : (isOne 0 ≡ false) × (isOne 0x8000_0000 ≡ false)
+zeros-read = (refl, refl)
 
 -- ---- the fields of a pattern
 
@@ -84,9 +88,6 @@ units-grow zero t (suc y) u ht hu h =
 units-grow (suc x) t zero u ht hu h = absurd (omega arith)
 units-grow (suc x) t (suc y) u ht hu h = go (decLt x y)
   where
-    level : (y < x → ⊥) → x ≡ y → t < u
-    level n e = omega arith
-
     twice : 0x80_0000 + t < 0x80_0000 * 2
     twice = omega arith
 
@@ -123,7 +124,9 @@ scaled a b k h = go (decLt a b)
   where
     go : Dec (a < b) → ltb (a * k) (b * k) ≡ ltb a b
     go (yes l) = lt-ltb (a * k) (b * k) (mul-lt-mul-of-pos-right l h) ∙ sym (lt-ltb a b l)
-    go (no g) = le-ltb (a * k) (b * k) (mul-le-mul-right k (omega (arith, lt-of-not-le g))) ∙ sym (le-ltb a b (omega (arith, lt-of-not-le g)))
+    go (no g) =
+        let over : b ≤ a = omega (arith, lt-of-not-le g) in
+        le-ltb (a * k) (b * k) (mul-le-mul-right k over) ∙ sym (le-ltb a b over)
 
 as-fraction : (x : Float) (s : Bool) (a c : ℕ) → HasValue x s a c → num x * c ≡ a * den x
 as-fraction nan s a c h = absurd h
@@ -227,7 +230,8 @@ module _ (patterns : List ℕ) (finite : allFinite patterns ≡ true) where
   read-same = fun-ext (λ n. go n (decLt n (length patterns)))
     where
       go : (n : ℕ) → Dec (n < length patterns) → S.read (samplesOf patterns) n ≡ read patterns n
-      go n (yes l) = unfold S.read read in ap S.isOne (sample-at patterns n l) ∙ one-by-sign (patternOf patterns n) (finite-at patterns finite n l)
+      go n (yes l) = unfold S.read read in ap S.isOne (sample-at patterns n l)
+          ∙ one-by-sign (patternOf patterns n) (finite-at patterns finite n l)
       go n (no g) =
           let past : length patterns ≤ n = omega (arith, lt-of-not-le g) in
           orders.past-read (samplesOf patterns) n (subst (λ m. m ≤ n) (sym (length-map patterns (ofBits binary32))) past)
@@ -239,7 +243,8 @@ module _ (patterns : List ℕ) (finite : allFinite patterns ≡ true) where
       ap₂ (λ a b. lt (magnitude a) (magnitude b)) (sample-at patterns n l) (sample-at patterns k m)
       ∙ sizes-by-patterns (patternOf patterns n) (patternOf patterns k) (finite-at patterns finite n l) (finite-at patterns finite k m)
 
-  pub way-same : (c : Code) → c .unsent < bits c → length patterns ≡ bits c → bySize (S.smaller (samplesOf patterns)) c ≡ bySize (smaller patterns) c
+  pub way-same : (c : Code) → c .unsent < bits c → length patterns ≡ bits c
+      → bySize (S.smaller (samplesOf patterns)) c ≡ bySize (smaller patterns) c
   way-same c some long =
       same-order (S.smaller (samplesOf patterns)) (smaller patterns) c some
       (λ n k l m. smaller-same n k (subst (λ z. n < z) (sym long) l) (subst (λ z. k < z) (sym long) m))

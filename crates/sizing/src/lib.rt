@@ -289,7 +289,8 @@ fn run_begun(
     limit: u16,
     first: u32,
 ) -> Ended
-    requires { ⌜ Fit (now h) sh × (1 ≤ sh .blocks) × (length (now samples) ≡ sh .blocks * sh .size) × (wbit (now y) ≡ readOf (now samples)) × Beginning (now h) sh 0 first (wbit (now y)) (wbit (now z))
+    requires { ⌜ Fit (now h) sh × (1 ≤ sh .blocks) × (length (now samples) ≡ sh .blocks * sh .size) × (wbit (now y) ≡ readOf (now samples))
+        × Beginning (now h) sh 0 first (wbit (now y)) (wbit (now z))
         × Twice sh (sh .rows) (wbit (now z)) (wbit (now d))
         × Gathered (now h) sh (now starts) (now counts) (sh .blocks) × (length (now starts) ≡ 128) × (length (now counts) ≡ 16) ⌝ }
     ensures { λ r. ⌜ ((c : Code) → Begins c (now (h .entry)) sh 0 first (wbit (now (y .entry))) (wbit (now (z .entry)))
@@ -323,7 +324,8 @@ fn run_gathered(
     limit: u16,
     first: u32,
 ) -> Ended
-    requires { ⌜ Fit (now h) sh × (1 ≤ sh .blocks) × (length (now samples) ≡ sh .blocks * sh .size) × (wbit (now y) ≡ readOf (now samples)) × Beginning (now h) sh 0 first (wbit (now y)) (wbit (now z)) ⌝ }
+    requires { ⌜ Fit (now h) sh × (1 ≤ sh .blocks) × (length (now samples) ≡ sh .blocks * sh .size) × (wbit (now y) ≡ readOf (now samples))
+        × Beginning (now h) sh 0 first (wbit (now y)) (wbit (now z)) ⌝ }
     ensures { λ r. ⌜ ((c : Code) → Begins c (now (h .entry)) sh 0 first (wbit (now (y .entry))) (wbit (now (z .entry)))
         → SizesTo c sh (now (samples .entry)) limit (wbit (now (y .entry))) r (wbit (now (y .exit)))) ⌝ }
 {
@@ -343,7 +345,8 @@ fn run_bounded(
     limit: u16,
     first: u32,
 ) -> Ended
-    requires { ⌜ Fit (now h) sh × (1 ≤ sh .blocks) × (length (now samples) ≡ sh .blocks * sh .size) × (wbit (now y) ≡ readOf (now samples)) × Beginning (now h) sh 0 first (wbit (now y)) (wbit (now z)) ⌝ }
+    requires { ⌜ Fit (now h) sh × (1 ≤ sh .blocks) × (length (now samples) ≡ sh .blocks * sh .size) × (wbit (now y) ≡ readOf (now samples))
+        × Beginning (now h) sh 0 first (wbit (now y)) (wbit (now z)) ⌝ }
     ensures { λ r. ⌜ ((c : Code) → Begins c (now (h .entry)) sh 0 first (wbit (now (y .entry))) (wbit (now (z .entry)))
         → SizesTo c sh (now (samples .entry)) limit (wbit (now (y .entry))) r (wbit (now (y .exit)))) ⌝ }
 {
@@ -409,7 +412,8 @@ pub fn run(
     limit: u16,
     first: u32,
 ) -> Ended
-    requires { ⌜ Fit (now h) sh × (1 ≤ sh .blocks) × (length (now samples) ≡ sh .blocks * sh .size) × (wbit (now y) ≡ readOf (now samples)) × Beginning (now h) sh 0 first (wbit (now y)) (wbit (now z)) ⌝ }
+    requires { ⌜ Fit (now h) sh × (1 ≤ sh .blocks) × (length (now samples) ≡ sh .blocks * sh .size) × (wbit (now y) ≡ readOf (now samples))
+        × Beginning (now h) sh 0 first (wbit (now y)) (wbit (now z)) ⌝ }
     ensures { λ r. ⌜ ((c : Code) → Begins c (now (h .entry)) sh 0 first (wbit (now (y .entry))) (wbit (now (z .entry)))
         → SizesTo c sh (now (samples .entry)) limit (wbit (now (y .entry))) r (wbit (now (y .exit)))) ⌝ }
 {

@@ -91,9 +91,8 @@ module _ (samples : List ℕ) (d : Word) (starts : List ℕ) (from n met m first
 
           over : r < length samples → (k : ℕ) → k < m → k < at + 64 → n ≤ H k + met → Dec (k < at) → Dec (best < length samples)
               → Ahead (smaller samples) r (first + k)
-          over u k l v t (yes f) (yes b) = ahead-onward (smaller samples) (length samples) (ordered samples (length samples)) r best (first +
-              k) u b
-              (omega arith) (some u .1 b) (was .ahead b k l f t)
+          over u k l v t (yes f) (yes b) = ahead-onward (smaller samples) (length samples) (ordered samples (length samples)) r best
+              (first + k) u b (omega arith) (some u .1 b) (was .ahead b k l f t)
           over u k l v t (yes f) (no b) = absurd (omega (arith, was .none (omega (arith, lt-of-not-le b)) k l f))
           over u k l v t (no f) b =
               let w : at ≤ k = omega (arith, lt-of-not-le f) in

@@ -15,7 +15,8 @@ returns : tie.Need-returns
 returns c =
     let s = c .before .before .before in
     let a = s .args in
-    later (smaller (a .samples .now)) (length (a .samples .now)) (ordered (a .samples .now) (length (a .samples .now))) (a .a) (a .b) (c .smaller
+    let x = a .samples .now in
+    later (smaller x) (length x) (ordered x (length x)) (a .a) (a .b) (c .smaller
     .result)
     (s .pre .0) (s .pre .1) (omega arith) (c .smaller .ensures)
 
@@ -26,7 +27,8 @@ returns-2 : tie.Need-returns-2
 returns-2 c =
     let s = c .before .before .before in
     let a = s .args in
-    let p = later (smaller (a .samples .now)) (length (a .samples .now)) (ordered (a .samples .now) (length (a .samples .now))) (a .b) (a .a)
+    let x = a .samples .now in
+    let p = later (smaller x) (length x) (ordered x (length x)) (a .b) (a .a)
     (c .smaller2 .result) (s .pre .1) (s .pre .0) (omega arith) (c .smaller2 .ensures) in
     (swapped (p .0), p .2, p .1)
 

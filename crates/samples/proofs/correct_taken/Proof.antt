@@ -36,7 +36,8 @@ returns c n off is =
     let r = c .before .before .before .read in
     c .refused-correct .ensures (a .out .now)
     ∙ sym (samples-sixteen n (samplesOf x) (a .limit) (a .out .now) (as-truth (steps-by n is (s .pre .1))) (as-long ∙ s .pre .2
-    ∙ bits-are n is off) (word-long n is off (s .pre .3)) (finite-same x ∙ sym (r .ensures .1) ∙ not-true (r .result) (c .before .if1 .taken)))
+    ∙ bits-are n is off) (word-long n is off (s .pre .3)) (finite-same x
+    ∙ sym (r .ensures .1) ∙ not-true (r .result) (c .before .if1 .taken)))
 
 correct-read-requires : tie.Need-correct-read-requires
 correct-read-requires c κs =

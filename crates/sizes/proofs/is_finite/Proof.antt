@@ -1,5 +1,5 @@
 -- `sizes::is_finite`: the exponent's field. Assumes nothing.
-use mathlib.Core.Path.{_≡_, ap}
+use mathlib.Core.Path.{ap}
 use mathlib.Core.Bool.{not}
 use Prim.Native.Nat.{_/_}
 use lib.Dec.{eqb}

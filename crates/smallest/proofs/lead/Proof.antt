@@ -31,7 +31,8 @@ returns-2 c =
     let a = s .args in (
       inr refl,
       s .pre,
-      ahead-self (smaller (a .samples .now)) (length (a .samples .now)) (ordered (a .samples .now) (length (a .samples .now))) (a .bit) (s .pre),
+      ahead-self (smaller (a .samples .now)) (length (a .samples .now)) (ordered (a .samples .now) (length (a .samples .now))) (a .bit)
+          (s .pre),
       λ u. absurd (omega (arith, c .if1 .left)),
     )
 

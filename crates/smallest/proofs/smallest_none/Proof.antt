@@ -139,9 +139,11 @@ loop-again c =
       omega arith,
       ⊎-elim
           (λ w. subst found (sym (w .4)) (lightest-more x d h (a .from) 4 0 (a .m) (a .first) (l .at) (w .2 .result)
-          (none-cut d h (a .from) (l .at) (a .m) (v .result) (v .ensures) (w .1 .result) (w .2 .result) (w .1 .ensures .1) (w .2 .ensures)) (s .pre .1) (l .best) (w .3 .result) (l .inv .1) (w .3 .ensures .0) (w .3 .ensures .1)))
+          (none-cut d h (a .from) (l .at) (a .m) (v .result) (v .ensures) (w .1 .result) (w .2 .result) (w .1 .ensures .1) (w .2 .ensures))
+          (s .pre .1) (l .best) (w .3 .result) (l .inv .1) (w .3 .ensures .0) (w .3 .ensures .1)))
           (λ w. subst found (sym (w .1)) (lightest-more x d h (a .from) 4 0 (a .m) (a .first) (l .at) (v .result)
-          (none-clear d h (a .from) (l .at) (a .m) (v .result) (v .ensures) (w .0 .left)) (s .pre .1) (l .best) (l .best) (l .inv .1) (none (w .0 .left) (l .best) .0) (none (w .0 .left) (l .best) .1)))
+          (none-clear d h (a .from) (l .at) (a .m) (v .result) (v .ensures) (w .0 .left))
+          (s .pre .1) (l .best) (l .best) (l .inv .1) (none (w .0 .left) (l .best) .0) (none (w .0 .left) (l .best) .1)))
           (c .if1 .came),
     )
 
