@@ -228,8 +228,9 @@ pandoricchia_corrected pandoricchia_correct(uint8_t code, const uint8_t *word, s
 /* Correct by sample sizes, codes 1 to 4: a sample for each bit, 128, 256, 512 or 8176 of them, which samples_len counts. A bit is 1
  * if its sample is below 0, so both zeros read as 0. Correct's run on the bits read, but of several bits of greatest excess the one
  * whose sample has the smallest magnitude is flipped, and of those the lowest. Samples are compared and no more: with equal
- * magnitudes it is correct. The numbers are correct's: unlike counts against the bits read, lowest is of those. Refusals 1 to 3
- * and 16, in this order, return all other values as 0. */
+ * magnitudes it is correct. They are read by their bit patterns, a float being IEEE 754's of 32 bits: no mode of floating point, as
+ * subnormals taken as 0, changes an answer. The numbers are correct's: unlike counts against the bits read, lowest is of those.
+ * Refusals 1 to 3 and 16, in this order, return all other values as 0. */
 pandoricchia_corrected pandoricchia_correct_samples(uint8_t code, const float *samples, size_t samples_len, uint16_t limit,
                                                     uint8_t *out, size_t out_len);
 

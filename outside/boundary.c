@@ -1,4 +1,5 @@
-/* What the header says beside the calls' answers: lengths, texts, NULL with length 0, odd addresses, stack, which numbers a call gives.
+/* What the header says beside the calls' answers: lengths, texts, NULL with length 0, odd addresses, modes of floating point,
+ * stack, which numbers a call gives.
  *
  *     outside/build_c target/outside/boundary outside/boundary.c outside/frames_judge.c outside/judge.c
  *     outside/run_x86 target/outside/boundary
@@ -198,6 +199,87 @@ static void test_addresses(void)
         }
     }
 }
+
+#ifdef __x86_64__
+/* The machine's mode of floating point, read and set. */
+static unsigned mode_now(void)
+{
+    unsigned mode;
+    __asm__ volatile("stmxcsr %0" : "=m"(mode));
+    return mode;
+}
+
+static void set_mode(unsigned mode)
+{
+    __asm__ volatile("ldmxcsr %0" : : "m"(mode));
+}
+
+/* A sample by its bit pattern: no floating point is used. */
+static void put(size_t bit, uint32_t pattern)
+{
+    memcpy(samples + bit, &pattern, sizeof pattern);
+}
+
+/* Samples of the bits of octets, in sizes that differ, from a smallest one on. */
+static void put_all(const uint8_t *octets, size_t len, uint32_t smallest)
+{
+    for (uint32_t bit = 0; bit < 8 * len; bit++)
+        put(bit, smallest + (bit * 2654435761u >> 10) + ((uint32_t)(octets[bit / 8] >> (7 - bit % 8) & 1) << 31));
+}
+
+/* correct_samples under a mode, whose output is to be the octets, where it writes them. */
+static int under(unsigned mode, uint8_t code, pandoricchia_corrected wanted, const uint8_t *octets)
+{
+    size_t n = words[code];
+    unsigned was = mode_now();
+    memset(out, 0, sizeof out);
+    set_mode(mode);
+    pandoricchia_corrected r = pandoricchia_correct_samples(code, samples, 8 * n, 100, out, n);
+    set_mode(was);
+    return r.number == wanted.number && r.flips == wanted.flips && r.first == wanted.first && r.last == wanted.last &&
+           r.unlike == wanted.unlike && r.lowest == wanted.lowest && (r.number != 0 || memcmp(out, octets, n) == 0);
+}
+
+/* Results flushed to 0, subnormals taken as 0, both, and the other roundings; then every exception on, so that a single operation of
+ * floating point on a subnormal, or on what is not a number, would end the program. */
+static void test_modes(void)
+{
+    static const unsigned modes[] = {0x1F80, 0x9F80, 0x1FC0, 0x9FC0, 0x3F80, 0x5F80, 0x7F80, 0x0000};
+    static const uint32_t refused[] = {0x7F800000, 0xFF800000, 0x7FC00000, 0xFFC00000, 0x7F800001, 0xFFFFFFFF};
+    static const pandoricchia_corrected sixteen = {.number = PANDORICCHIA_SAMPLE};
+    static uint8_t ones[PANDORICCHIA_MOST_WORD_OCTETS], mended[PANDORICCHIA_MOST_WORD_OCTETS], of_ones[PANDORICCHIA_MOST_WORD_OCTETS];
+    memset(ones, 0xFF, sizeof ones);
+    for (uint8_t code = 1; code <= 4; code++) {
+        size_t n = words[code];
+        fill(code, 0);
+        pandoricchia_encode(code, information, informations[code], word, n);
+        for (size_t i = 0; i < 4; i++)
+            word[3 * i] ^= 0x21;
+        put_all(word, n, 0x3F800000);
+        pandoricchia_corrected wanted = pandoricchia_correct_samples(code, samples, 8 * n, 100, mended, n);
+        expect(wanted.flips > 0, "samples that are not subnormal", code);
+        pandoricchia_corrected all = pandoricchia_correct(code, ones, n, 100, of_ones, n);
+        for (size_t m = 0; m < sizeof modes / sizeof modes[0]; m++) {
+            put_all(word, n, 1);
+            expect(under(modes[m], code, wanted, mended), "subnormal samples of the same order, under a mode", code);
+            put_all(word, n, 0x3F800000);
+            expect(under(modes[m], code, wanted, mended), "samples that are not subnormal, under a mode", code);
+            for (size_t i = 0; i < sizeof refused / sizeof refused[0]; i++) {
+                put(8 * n - 1, refused[i]);
+                expect(under(modes[m], code, sixteen, mended), "a sample that is not finite, under a mode", code);
+            }
+            for (size_t bit = 0; bit < 8 * n; bit++)
+                put(bit, 0x800116C2);
+            expect(under(modes[m], code, all, of_ones), "samples of -1e-40, which are ones, under a mode", code);
+        }
+    }
+}
+#else
+static void test_modes(void)
+{
+    printf("skipped: boundary: modes of floating point, which are set on x86-64 alone\n");
+}
+#endif
 
 /* ---- The stack that each call takes, and the numbers that it gives. */
 
@@ -536,6 +618,7 @@ int main(void)
     test_editions();
     test_null_part();
     test_addresses();
+    test_modes();
     test_stack_and_numbers();
     printf("boundary: %u passed, %u failed\n", passed, failed);
     return failed != 0;

@@ -5,6 +5,7 @@ ghost use Rattle.answers.specs.Calls.{wordOctetsAnswer, informationOctetsAnswer
 ghost use Rattle.answers.specs.Calls.{stepAnswer};
 ghost use Rattle.answers.specs.Lists.{listAnswer};
 ghost use Rattle.listing.specs.Answers.{asEntries, asListed};
+ghost use Rattle.sizes.specs.Patterns.{samplesOf};
 ghost use Rattle.samples.specs.Answers.{samplesAnswer};
 ghost use Rattle.codes.specs.Answers.{asEncoded, asChecked, asStepped};
 ghost use Rattle.endings.specs.Answers.{asCorrected};
@@ -114,17 +115,18 @@ pub extern "C" fn pandoricchia_correct(
     codes::correct(code, word, limit, out)
 }
 
-// The same on samples, one for each bit, whose sizes decide between bits of equal excess.
+// The same on samples, one for each bit, whose sizes decide between bits of equal excess. C and Rust hand over floats, and their bit
+// patterns are read.
 #[no_mangle]
 pub extern "C" fn pandoricchia_correct_samples(
     code: u8,
-    samples: &[f32],
+    samples: &[u32],
     limit: u16,
     out: &mut [u8],
 ) -> Corrected
-    ensures { λ r. ⌜ asCorrected r (now (out .exit)) ≡ samplesAnswer code (now (samples .entry)) limit (now (out .entry)) ⌝ }
+    ensures { λ r. ⌜ asCorrected r (now (out .exit)) ≡ samplesAnswer code (samplesOf (now (samples .entry))) limit (now (out .entry)) ⌝ }
 {
-    samples::correct_samples(code, samples, limit, out)
+    samples::correct_patterns(code, samples, limit, out)
 }
 
 // The run's list, a record for each flip, into the caller's table.

@@ -11,7 +11,6 @@ use borrow.Author.Tests.{le-ltb, lt-ltb, ltb-true, le-leb, leb-true, eq-eqb, ne-
 use lib.Arith.{digits-lt}
 use lib.Count.{leadingZeros}
 use lib.Dec.{eqb, leb, ltb, lit<}
-use lib.Ieee.{Float}
 use lib.ListN.{getD, length, set}
 use lib.Seq.{getD-set-same, getD-set-other}
 use Rattle.bits.specs.Bits.{Word, flipped, over, if_then_else_, _⊕_}
@@ -28,7 +27,7 @@ use Rattle.layout.specs.declared.Shape.{Shape}
 use Rattle.layout.specs.Lent.{Fit, Lent, laid, score, total, shiftsOf, placeOf}
 use Rattle.layout.proofs.Laying.{laid-at}
 use Rattle.bounds.proofs.Entries.{within}
-use Rattle.sizes.specs.Samples.{smaller}
+use Rattle.sizes.specs.Patterns.{smaller}
 use Rattle.sizes.specs.Sizes.{smallest}
 use Rattle.narrow.specs.Weighing.{around, broke, sent, Peaked, Weighed, Greatest, Chosen}
 
@@ -294,7 +293,7 @@ module _ (c : Code) (h : List ℕ) (sh : Shape) (fit : Fit h sh) (narrow : sh .s
     }
 
   -- A bit is chosen that is the smallest of those that have this score.
-  pub chosen : (samples : List Float) (bit : ℕ)
+  pub chosen : (samples : List ℕ) (bit : ℕ)
       → (8 < top → bit ≡ smallest (smaller samples) (λ n. leb top (score c x n)) (block * sh .size + leadingZeros 64 (getD masks block 0))
       from (sh .blocks * sh .size - from))
       → Chosen c sh from x samples (record { score = top; bit = bit })

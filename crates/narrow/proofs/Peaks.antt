@@ -9,7 +9,6 @@ use native.Mathlib.Decide.{ℕ-discrete, decLe, decLt}
 use native.Mathlib.Omega.{arith}
 use borrow.Author.Tests.{lt-leb, le-leb, leb-true, lt-ltb, le-ltb, eq-eqb, ne-eqb}
 use lib.Dec.{eqb, leb, ltb}
-use lib.Ieee.{Float}
 use lib.ListN.{length, getD}
 use Rattle.bits.specs.Bits.{Word, digit, if_then_else_}
 use Rattle.bits.proofs.Orders.{le-or-lt}
@@ -17,7 +16,7 @@ use Rattle.rules.specs.Codes.{Code}
 use Rattle.vectors.specs.Vectors.{Holds, upTo, from as bitsFrom}
 use Rattle.layout.specs.declared.Shape.{Shape}
 use Rattle.layout.specs.Lent.{score}
-use Rattle.sizes.specs.Samples.{smaller}
+use Rattle.sizes.specs.Patterns.{smaller}
 use Rattle.sizes.specs.Sizes.{smallest}
 use Rattle.sizes.proofs.Smallest.{smallest-parts, smallest-stays}
 use Rattle.narrow.specs.Weighing.{sent, Weighed, Greatest, Marks}
@@ -45,7 +44,7 @@ module _ (less : ℕ → ℕ → Bool) (marked : ℕ → Bool) (bit m b best : �
           absurd (true≢false (sym on ∙ sym (ap marked at) ∙ none (k - b * m) (omega arith)))
 
 -- One block more: it has the score, and its marked bits count; or it has another, and none is marked.
-pub peak-next : (samples : List Float) (sh : Shape) (scores masks : List ℕ) (top bit b best r : ℕ) (marked : ℕ → Bool)
+pub peak-next : (samples : List ℕ) (sh : Shape) (scores masks : List ℕ) (top bit b best r : ℕ) (marked : ℕ → Bool)
     → Marks marked sh scores masks top → b < sh .blocks → sh .size ≤ 64 → best ≡ smallest (smaller samples) marked bit 0 (b * sh .size)
     → (getD scores b 0 ≡ top → (on : ℕ → Bool) (n : ℕ) → n ≤ 64 → Holds (getD masks b 0) (upTo n (bitsFrom (b * sh .size) on))
     → r ≡ smallest (smaller samples) on best (b * sh .size) n)
@@ -80,12 +79,12 @@ smallest-from less marked end {low} e z =
 
 -- ---- without samples
 
-pub no-samples : (samples : List Float) → length samples ≡ 0 → (n k : ℕ) → smaller samples n k ≡ false
-unfolding smaller lib.Ieee.lt
+pub no-samples : (samples : List ℕ) → length samples ≡ 0 → (n k : ℕ) → smaller samples n k ≡ false
+unfolding smaller
 no-samples [] e n k = refl
 no-samples (a ∷ l) e n k = absurd (omega arith)
 
-pub no-smaller : (samples : List Float) → length samples ≡ 0 → (marked : ℕ → Bool) (bit first n : ℕ)
+pub no-smaller : (samples : List ℕ) → length samples ≡ 0 → (marked : ℕ → Bool) (bit first n : ℕ)
     → bit ≡ smallest (smaller samples) marked bit first n
 no-smaller samples e marked bit first n = sym (smallest-stays (smaller samples) marked bit first n (λ k f l m. no-samples samples e k bit))
 

@@ -4,7 +4,6 @@ use mathlib.Core.Bool.{Bool, true, false, _&&_}
 use mathlib.Core.List.{List}
 use Prim.Native.Nat.{ℕ, _+_, _-_, _*_, _%_, _≤_, _<_}
 use lib.Dec.{eqb, leb, ltb}
-use lib.Ieee.{Float}
 use lib.ListN.{length, getD}
 use Rattle.bits.specs.Bits.{Word, if_then_else_, countOf}
 use Rattle.rules.specs.Codes.{Code}
@@ -14,7 +13,7 @@ use Rattle.planes.specs.Ranges.{Top}
 use Rattle.choice.specs.declared.Best.{Best}
 use Rattle.layout.specs.declared.Shape.{Shape}
 use Rattle.layout.specs.Lent.{Fit, Lent, total, shiftsOf, score}
-use Rattle.sizes.specs.Samples.{smaller}
+use Rattle.sizes.specs.Patterns.{smaller}
 use Rattle.sizes.specs.Sizes.{smallest}
 use Rattle.narrow.specs.declared.Weights.{Weights}
 
@@ -85,7 +84,7 @@ pub record Marked (sh : Shape) (scores masks : List ℕ) (top : ℕ) : Type 0 wh
 
 -- The blocks of a word have been weighed so under a code whose table is lent; there are as many samples as bits, of which all are sent, or
 -- none.
-pub record Told (sh : Shape) (samples : List Float) (scores masks : List ℕ) : Type 0 where
+pub record Told (sh : Shape) (samples : List ℕ) (scores masks : List ℕ) : Type 0 where
   pub code : Code
   pub table : List ℕ
   pub from : ℕ
@@ -100,7 +99,7 @@ pub record Told (sh : Shape) (samples : List Float) (scores masks : List ℕ) : 
 
 -- No bit that is sent has a greater score than this one. If the score is above 8, `low` is the first that has it, and the bit is the
 -- smallest of all that have it.
-pub record Chosen (c : Code) (sh : Shape) (from : ℕ) (x : Word) (samples : List Float) (b : Best) : Type 0 where
+pub record Chosen (c : Code) (sh : Shape) (from : ℕ) (x : Word) (samples : List ℕ) (b : Best) : Type 0 where
   pub most : (n : ℕ) → from ≤ n → n < sh .blocks * sh .size → score c x n ≤ b .score
   pub low : ℕ
   pub top : 8 < b .score → Top (score c x) from (sh .blocks * sh .size) low (b .score)

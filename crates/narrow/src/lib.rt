@@ -12,7 +12,7 @@ ghost use Rattle.vectors.specs.Vectors.{wbit, Holds, upTo, from as bitsFrom};
 ghost use Rattle.planes.specs.Ranges.{Top};
 ghost use Rattle.layout.specs.Lent.{Fit, Lent, laid, score, entries, shiftsOf, total};
 ghost use Rattle.layout.specs.Rooms.{blocksRoom, syndromeRoom};
-ghost use Rattle.sizes.specs.Samples.{smaller};
+ghost use Rattle.sizes.specs.Patterns.{smaller};
 ghost use Rattle.sizes.specs.Sizes.{smallest};
 ghost use Rattle.narrow.specs.Weighing.{around, Rows, Held, Weighs, broke, sent, Peaked};
 ghost use Rattle.narrow.specs.Weighing.{Weighed, Greatest, Marks, Marked, Told, Chosen};
@@ -233,7 +233,7 @@ pub fn first_bit(masks: &[u64], block: usize, m: usize) -> usize
 }
 
 // The smallest of a bit and of those that are set in the mask of a block which begins with bit `first`, if it has the score `top`.
-fn peak_in(samples: &[f32], score: u32, mask: u64, top: u32, first: usize, bit: usize) -> usize
+fn peak_in(samples: &[u32], score: u32, mask: u64, top: u32, first: usize, bit: usize) -> usize
     requires { ⌜ (bit < length (now samples))
         × (score ≡ top → (i : ℕ) → i < 64 → digit 64 mask i ≡ true → first + i < length (now samples)) ⌝ }
     ensures { λ r. ⌜ (r < length (now (samples .entry))) × (score ≡ top → (marked : ℕ → Bool) (n : ℕ) → n ≤ 64
@@ -248,7 +248,7 @@ fn peak_in(samples: &[f32], score: u32, mask: u64, top: u32, first: usize, bit: 
 
 // The smallest of a bit and of those that the masks have of the blocks with this score.
 fn smallest_peak(
-    samples: &[f32],
+    samples: &[u32],
     scores: &[u32],
     masks: &[u64],
     sh: Shape,
@@ -272,7 +272,7 @@ fn smallest_peak(
 
 // The bit of the greatest score above 8 where the blocks have been weighed; of several the one with the smallest sample, then the lowest
 // number; without samples the lowest. A score of 8 says that there is none.
-fn best_of(samples: &[f32], scores: &[u32; BLOCKS], masks: &[u64; BLOCKS], sh: Shape) -> Best
+fn best_of(samples: &[u32], scores: &[u32; BLOCKS], masks: &[u64; BLOCKS], sh: Shape) -> Best
     requires { ⌜ Told sh (now samples) (now scores) (now masks) ⌝ }
     ensures { λ r. ⌜ ((c : Code) (h : List ℕ) (from : ℕ) (x : Word) → Fit h sh → Lent c h sh → from < sh .size
         → (0 < length (now (samples .entry)) → from ≡ 0)
@@ -300,7 +300,7 @@ fn best_of(samples: &[f32], scores: &[u32; BLOCKS], masks: &[u64; BLOCKS], sh: S
 
 // The best bit from bit `from` on, after all blocks have been weighed.
 pub fn choose(
-    samples: &[f32],
+    samples: &[u32],
     rows: &[u64; NARROW_ROWS],
     h: &[u16; TABLE],
     sh: Shape,

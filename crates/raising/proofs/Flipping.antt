@@ -9,7 +9,6 @@ use native.Mathlib.Decide.{decLt, ℕ-discrete}
 use native.Mathlib.Omega.{arith}
 use borrow.Author.Tests.{eqb-true, eq-eqb, lt-ltb, le-ltb, le-leb, leb-true}
 use lib.Dec.{eqb, leb}
-use lib.Ieee.{Float}
 use lib.ListN.{getD}
 use Rattle.bits.specs.Bits.{Word, _⊕_, sum, count, tally, flipped, if_then_else_}
 use Rattle.rules.specs.Codes.{Code}
@@ -156,7 +155,7 @@ module _ (M p q : ℕ) (small : M ≤ 512) (hp : p % 1024 < 2 * M) (is : (q ≡ 
 
 -- ---- a flip of bit k of block b
 
-module _ (samples : List Float) (sh : Shape) (starts counts met kept : List ℕ) (r : Ready sh starts counts met) (bit : ℕ)
+module _ (samples : List ℕ) (sh : Shape) (starts counts met kept : List ℕ) (r : Ready sh starts counts met) (bit : ℕ)
     (hbit : bit < sh .blocks * sh .size) (d d′ : List ℕ) where
   abbrev M : ℕ
   M = sh .size

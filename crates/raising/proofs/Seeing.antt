@@ -10,7 +10,6 @@ use native.Mathlib.Decide.{ℕ-discrete}
 use native.Mathlib.Omega.{arith}
 use borrow.Author.Tests.{eqb-true, eq-eqb, lt-ltb, le-ltb, ltb-true}
 use lib.Dec.{eqb, ltb}
-use lib.Ieee.{Float}
 use lib.ListN.{length, getD, set, length-set}
 use lib.Seq.{getD-set-same, getD-set-other}
 use Rattle.bits.specs.Bits.{Word}
@@ -18,8 +17,8 @@ use Rattle.bits.proofs.Counting.{count-le}
 use Rattle.layout.specs.declared.Shape.{Shape}
 use Rattle.bounds.specs.Reading.{hits}
 use Rattle.bounds.specs.Keeping.{Ready}
-use Rattle.sizes.specs.Samples.{smaller, allFinite}
-use Rattle.sizes.proofs.Orders.{finite-ordered}
+use Rattle.sizes.specs.Patterns.{smaller}
+use Rattle.sizes.proofs.Patterns.{ordered}
 use Rattle.raising.specs.Knowing.{Within, Ahead, Known, Knows, covered, nearer, raised}
 use Rattle.raising.proofs.Orders.{ahead-self, ahead-onward}
 
@@ -39,7 +38,7 @@ or-right false b e = e
 
 -- ---- a bit more
 
-module _ (samples : List Float) (d : Word) (starts : List ℕ) (from n m first : ℕ) where
+module _ (samples : List ℕ) (d : Word) (starts : List ℕ) (from n m first : ℕ) where
   abbrev H : ℕ → ℕ
   H k = hits d starts from n k
 
@@ -72,9 +71,9 @@ module _ (samples : List Float) (d : Word) (starts : List ℕ) (from n m first :
         go j l (inr p) = absurd (omega arith)
 
     -- it has fewer checks met than any before
-    pub look-lower : (finite : allFinite samples ≡ true) → k < m → first + m ≤ length samples → n < H k + met
+    pub look-lower : k < m → first + m ≤ length samples → n < H k + met
         → Known samples d starts from n m first more (n - H k) (first + k)
-    look-lower finite l room h = record {
+    look-lower l room h = record {
       under = λ j lj e. low j lj (split j e);
       inside = λ u. (omega arith, omega arith);
       ahead = λ u j lj e t. over j lj t (split j e);
@@ -90,7 +89,7 @@ module _ (samples : List Float) (d : Word) (starts : List ℕ) (from n m first :
         over : (j : ℕ) → j < m → n ≤ H j + (n - H k) → (seen j ≡ true) ⊎ (j ≡ k) → Ahead (smaller samples) (first + k) (first + j)
         over j lj t (inl p) = absurd (omega (arith, was .under j lj p, few))
         over j lj t (inr p) = subst (λ i. Ahead (smaller samples) (first + k) (first + i)) (sym p)
-            (ahead-self (smaller samples) (length samples) (finite-ordered samples finite) (first + k) (omega arith))
+            (ahead-self (smaller samples) (length samples) (ordered samples (length samples)) (first + k) (omega arith))
 
     -- it has more
     pub look-higher : H k + met < n → Known samples d starts from n m first more met bit
@@ -112,8 +111,8 @@ module _ (samples : List Float) (d : Word) (starts : List ℕ) (from n m first :
     -- it has as many
     pub look-equal : (r : ℕ) → H k + met ≡ n → (r < length samples → (bit < length samples) × ((first ≤ r) × (r < first + m))
         × Ahead (smaller samples) r bit × Ahead (smaller samples) r (first + k))
-        → (finite : allFinite samples ≡ true) → first + m ≤ length samples → Known samples d starts from n m first more met r
-    look-equal r h is finite room = record {
+        → first + m ≤ length samples → Known samples d starts from n m first more met r
+    look-equal r h is room = record {
       under = λ j lj e. low j lj (split j e);
       inside = λ u. is u .1;
       ahead = λ u j lj e t. over u j lj t (split j e);
@@ -125,7 +124,7 @@ module _ (samples : List Float) (d : Word) (starts : List ℕ) (from n m first :
 
         over : r < length samples → (j : ℕ) → j < m → n ≤ H j + met → (seen j ≡ true) ⊎ (j ≡ k)
             → Ahead (smaller samples) r (first + j)
-        over u j lj t (inl p) = ahead-onward (smaller samples) (length samples) (finite-ordered samples finite) r bit (first + j) u (is u
+        over u j lj t (inl p) = ahead-onward (smaller samples) (length samples) (ordered samples (length samples)) r bit (first + j) u (is u
             .0)
             (omega arith) (is u .2) (was .ahead (is u .0) j lj p t)
         over u j lj t (inr p) = subst (λ i. Ahead (smaller samples) r (first + i)) (sym p) (is u .3)
@@ -215,7 +214,7 @@ module _ (sh : Shape) (starts counts met : List ℕ) (r : Ready sh starts counts
   }
 
 -- what is known of one block changed
-module _ (samples : List Float) (sh : Shape) (d : Word) (starts counts met kept : List ℕ) (b v w : ℕ) (lm : b < length met)
+module _ (samples : List ℕ) (sh : Shape) (d : Word) (starts counts met kept : List ℕ) (b v w : ℕ) (lm : b < length met)
     (lk : b < length kept) (seen seen′ : ℕ → ℕ → Bool) where
   abbrev Of : (ℕ → ℕ → Bool) → ℕ → ℕ → ℕ → Type 0
   Of see j x y = Known samples d starts (8 * j) (getD counts j 0) (sh .size) (j * sh .size) (see j) x y
@@ -290,7 +289,7 @@ module _ (seen cover : ℕ → ℕ → Bool) where
       go (inl q) = or-left (seen j i) _ q
       go (inr q) = or-right (seen j i) _ (and-true (ltb j b) (cover j i) (lt-ltb j b l) q)
 
-pub knows-fewer : (samples : List Float) (sh : Shape) (d : Word) (starts counts met kept : List ℕ) (seen seen′ : ℕ → ℕ → Bool)
+pub knows-fewer : (samples : List ℕ) (sh : Shape) (d : Word) (starts counts met kept : List ℕ) (seen seen′ : ℕ → ℕ → Bool)
     → ((j i : ℕ) → j < sh .blocks → i < sh .size → seen′ j i ≡ true → seen j i ≡ true)
     → Knows samples sh d starts counts seen met kept → Knows samples sh d starts counts seen′ met kept
 knows-fewer samples sh d starts counts met kept seen seen′ h was = record {

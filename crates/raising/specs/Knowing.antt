@@ -4,12 +4,11 @@ use mathlib.Core.Bool.{Bool, true, false, _&&_, _||_}
 use mathlib.Core.List.{List}
 use Prim.Native.Nat.{ℕ, zero, suc, _+_, _-_, _*_, _%_, _≤_, _<_}
 use lib.Dec.{eqb, ltb}
-use lib.Ieee.{Float}
 use lib.ListN.{length, getD}
 use Rattle.bits.specs.Bits.{Word, if_then_else_}
 use Rattle.layout.specs.declared.Shape.{Shape}
 use Rattle.bounds.specs.Reading.{hits}
-use Rattle.sizes.specs.Samples.{smaller}
+use Rattle.sizes.specs.Patterns.{smaller}
 
 -- n starts from start `from` on, of which no bit of a block of m bits lies past the end of d.
 pub record Within (starts d : List ℕ) (from n m : ℕ) : Type 0 where
@@ -26,14 +25,14 @@ Ahead less a b = (less b a ≡ false) × (b < a → less a b ≡ true)
 
 -- A block of m bits, the first of which is bit `first`, with n starts. Of those of its bits that are seen: each has at least `met` of its
 -- checks met; and if `bit` is the number of a sample, it is one of the block and ahead of all that have no more of them met.
-pub record Known (samples : List Float) (d : Word) (starts : List ℕ) (from n m first : ℕ) (seen : ℕ → Bool) (met bit : ℕ) : Type 0 where
+pub record Known (samples : List ℕ) (d : Word) (starts : List ℕ) (from n m first : ℕ) (seen : ℕ → Bool) (met bit : ℕ) : Type 0 where
   pub under : (k : ℕ) → k < m → seen k ≡ true → hits d starts from n k + met ≤ n
   pub inside : bit < length samples → (first ≤ bit) × (bit < first + m)
   pub ahead : bit < length samples → (k : ℕ) → k < m → seen k ≡ true → n ≤ hits d starts from n k + met
       → Ahead (smaller samples) bit (first + k)
 
 -- That of every block; `seen` says of each which bits are.
-pub record Knows (samples : List Float) (sh : Shape) (d : Word) (starts counts : List ℕ) (seen : ℕ → ℕ → Bool) (met kept : List ℕ) : Type
+pub record Knows (samples : List ℕ) (sh : Shape) (d : Word) (starts counts : List ℕ) (seen : ℕ → ℕ → Bool) (met kept : List ℕ) : Type
     0 where
   pub block : (b : ℕ) → b < sh .blocks
       → Known samples d starts (8 * b) (getD counts b 0) (sh .size) (b * sh .size) (seen b) (getD met b 0) (getD kept b 0)

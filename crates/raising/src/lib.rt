@@ -12,7 +12,7 @@ ghost use Rattle.vectors.specs.Vectors.{wbit};
 ghost use Rattle.layout.specs.Lent.{Lent, laid};
 ghost use Rattle.bounds.specs.Reading.{hits, Twice, Gathered};
 ghost use Rattle.bounds.specs.Keeping.{Ready};
-ghost use Rattle.sizes.specs.Samples.{smaller, allFinite};
+ghost use Rattle.sizes.specs.Patterns.{smaller};
 ghost use Rattle.raising.specs.Knowing.{Within, Ahead, Known, Knows, whole, covered, nearer as nearerOf, raised};
 use layout::BLOCKS;
 use layout::ROWS;
@@ -51,8 +51,8 @@ pub fn broken_of(d: &[u64], starts: &[u16], from: usize, n: u8, k: usize) -> u8
 }
 
 // Of two bits the smaller; of equals the lower number.
-pub fn lesser(samples: &[f32], a: usize, b: usize) -> usize
-    requires { ⌜ (allFinite (now samples) ≡ true) × (a < length (now samples)) × (b < length (now samples)) ⌝ }
+pub fn lesser(samples: &[u32], a: usize, b: usize) -> usize
+    requires { ⌜ (a < length (now samples)) × (b < length (now samples)) ⌝ }
     ensures { λ r. ⌜ ((r ≡ a) ⊎ (r ≡ b)) × Ahead (smaller (now (samples .entry))) r a × Ahead (smaller (now (samples .entry))) r b ⌝ }
 {
     if a < b {
@@ -77,8 +77,8 @@ fn bit_at(p: usize, s: usize, m: usize) -> usize
 
 // What is known of a block, by the number of checks that every bit has met and the smallest bit, when bit k of it is seen too, of whose n
 // checks so many are broken. It is made of numbers: a record that came in whole would be copied whole.
-fn meet(samples: &[f32], n: u8, broken: u8, first: usize, k: usize, met: u8, known: usize) -> Low
-    requires { ⌜ (allFinite (now samples) ≡ true) × (first + k < length (now samples)) × (n ≤ 8) × (broken ≤ n) × (met ≤ n) ⌝ }
+fn meet(samples: &[u32], n: u8, broken: u8, first: usize, k: usize, met: u8, known: usize) -> Low
+    requires { ⌜ (first + k < length (now samples)) × (n ≤ 8) × (broken ≤ n) × (met ≤ n) ⌝ }
     ensures { λ r. ⌜ (r .met ≤ n) × ((d : Word) (starts : List ℕ) (from m : ℕ) (seen : ℕ → Bool) → k < m
         → first + m ≤ length (now (samples .entry)) → broken ≡ hits d starts from n k
         → Known (now (samples .entry)) d starts from n m first seen met known
@@ -110,7 +110,7 @@ fn meet(samples: &[f32], n: u8, broken: u8, first: usize, k: usize, met: u8, kno
 
 // What is known of a block when bit k is seen too, if it is one of its m bits.
 fn look(
-    samples: &[f32],
+    samples: &[u32],
     d: &[u64],
     starts: &[u16],
     from: usize,
@@ -120,7 +120,7 @@ fn look(
     k: usize,
     low: Low,
 ) -> Low
-    requires { ⌜ Within (now starts) (now d) from n m × (allFinite (now samples) ≡ true) × (first + m ≤ length (now samples))
+    requires { ⌜ Within (now starts) (now d) from n m × (first + m ≤ length (now samples))
         × (low .met ≤ n) ⌝ }
     ensures { λ r. ⌜ (r .met ≤ n) × ((seen : ℕ → Bool)
         → Known (now (samples .entry)) (wbit (now (d .entry))) (now (starts .entry)) from n m first seen (low .met) (low .bit)
@@ -143,7 +143,7 @@ fn look(
 
 // What is known of a block when the bits that the check at p covers are seen too.
 fn raise_in(
-    samples: &[f32],
+    samples: &[u32],
     d: &[u64],
     starts: &[u16],
     from: usize,
@@ -153,7 +153,7 @@ fn raise_in(
     p: usize,
     low: Low,
 ) -> Low
-    requires { ⌜ Within (now starts) (now d) from n m × (allFinite (now samples) ≡ true) × (first + m ≤ length (now samples))
+    requires { ⌜ Within (now starts) (now d) from n m × (first + m ≤ length (now samples))
         × (low .met ≤ n) × (p < 4096) ⌝ }
     ensures { λ r. ⌜ (r .met ≤ n) × ((seen : ℕ → Bool)
         → Known (now (samples .entry)) (wbit (now (d .entry))) (now (starts .entry)) from n m first seen (low .met) (low .bit)
@@ -173,7 +173,7 @@ fn raise_in(
 
 // What is known of block b when the bits that the check at p covers are seen too; what is known of the others stays.
 fn raise_block(
-    samples: &[f32],
+    samples: &[u32],
     d: &[u64; ROWS],
     starts: &[u16; STARTS],
     counts: &[u8; BLOCKS],
@@ -184,7 +184,7 @@ fn raise_block(
     b: usize,
 )
     requires { ⌜ Ready sh (now starts) (now counts) (now met) × (length (now kept) ≡ 16) × (length (now samples) ≡ sh .blocks * sh .size)
-        × (allFinite (now samples) ≡ true) × (p < 4096) × (b < sh .blocks) ⌝ }
+        × (p < 4096) × (b < sh .blocks) ⌝ }
     ensures { λ r. ⌜ Ready sh (now (starts .entry)) (now (counts .entry)) (now (met .exit)) × ((seen seen′ : ℕ → ℕ → Bool)
         → ((i : ℕ) → seen′ b i ≡ true
         → (seen b i || covered (now (starts .entry)) (8 * b) (sh .size) p (getD (now (counts .entry)) b 0) i) ≡ true)
@@ -215,7 +215,7 @@ fn raise_block(
 
 // What is known of every block when the bits that the check at p covers are seen too.
 fn raise_all(
-    samples: &[f32],
+    samples: &[u32],
     d: &[u64; ROWS],
     starts: &[u16; STARTS],
     counts: &[u8; BLOCKS],
@@ -225,7 +225,7 @@ fn raise_all(
     p: usize,
 )
     requires { ⌜ Ready sh (now starts) (now counts) (now met) × (length (now samples) ≡ sh .blocks * sh .size)
-        × (allFinite (now samples) ≡ true) × (p < 4096) ⌝ }
+        × (p < 4096) ⌝ }
     ensures { λ r. ⌜ Ready sh (now (starts .entry)) (now (counts .entry)) (now (met .exit)) × ((seen : ℕ → ℕ → Bool)
         → Knows (now (samples .entry)) sh (wbit (now (d .entry))) (now (starts .entry)) (now (counts .entry)) seen
         (now (met .entry)) (now (kept .entry))
@@ -253,7 +253,7 @@ fn nearer(p: usize, m: usize) -> usize
 
 // The same, if the check at p is broken.
 fn raise_check(
-    samples: &[f32],
+    samples: &[u32],
     d: &[u64; ROWS],
     starts: &[u16; STARTS],
     counts: &[u8; BLOCKS],
@@ -263,7 +263,7 @@ fn raise_check(
     p: usize,
 )
     requires { ⌜ Ready sh (now starts) (now counts) (now met) × (length (now samples) ≡ sh .blocks * sh .size)
-        × (allFinite (now samples) ≡ true) × (p < 4096) × (p % 1024 < 2 * sh .size) ⌝ }
+        × (p < 4096) × (p % 1024 < 2 * sh .size) ⌝ }
     ensures { λ r. ⌜ Ready sh (now (starts .entry)) (now (counts .entry)) (now (met .exit)) × ((seen : ℕ → ℕ → Bool)
         → Knows (now (samples .entry)) sh (wbit (now (d .entry))) (now (starts .entry)) (now (counts .entry)) seen
         (now (met .entry)) (now (kept .entry))
@@ -290,7 +290,7 @@ fn raise_check(
 // What is known of every block when the bits are seen too that a broken check of bit k covers; the starts of its block begin with
 // start `from`.
 fn raise(
-    samples: &[f32],
+    samples: &[u32],
     d: &[u64; ROWS],
     starts: &[u16; STARTS],
     counts: &[u8; BLOCKS],
@@ -302,7 +302,7 @@ fn raise(
     k: usize,
 )
     requires { ⌜ Ready sh (now starts) (now counts) (now met) × (length (now samples) ≡ sh .blocks * sh .size)
-        × (allFinite (now samples) ≡ true) × (from + n ≤ length (now starts))
+        × (from + n ≤ length (now starts))
         × ((e : ℕ) → e < n → (getD (now starts) (from + e) 0 + k < 4096) × ((getD (now starts) (from + e) 0 + k) % 1024 < 2 * sh .size)) ⌝ }
     ensures { λ r. ⌜ Ready sh (now (starts .entry)) (now (counts .entry)) (now (met .exit)) × ((seen : ℕ → ℕ → Bool)
         → Knows (now (samples .entry)) sh (wbit (now (d .entry))) (now (starts .entry)) (now (counts .entry)) seen
@@ -330,7 +330,7 @@ fn raise(
 // Flips the checks of a bit. Only the bits that a check covers which is broken then have fewer checks met than before: these are
 // seen anew.
 pub fn flip(
-    samples: &[f32],
+    samples: &[u32],
     d: &mut [u64; ROWS],
     starts: &[u16; STARTS],
     counts: &[u8; BLOCKS],
@@ -340,7 +340,7 @@ pub fn flip(
     bit: usize,
 )
     requires { ⌜ Ready sh (now starts) (now counts) (now met) × (length (now samples) ≡ sh .blocks * sh .size)
-        × (allFinite (now samples) ≡ true) × (bit < sh .blocks * sh .size) ⌝ }
+        × (bit < sh .blocks * sh .size) ⌝ }
     ensures { λ r. ⌜ Ready sh (now (starts .entry)) (now (counts .entry)) (now (met .exit)) × ((c : Code) (h : List ℕ) (x : Word)
         → Lent c h sh → Gathered h sh (now (starts .entry)) (now (counts .entry)) (sh .blocks)
         → Twice sh (sh .rows) (laid c sh x) (wbit (now (d .entry)))

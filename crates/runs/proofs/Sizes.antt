@@ -8,7 +8,6 @@ use native.Mathlib.Nat.{lt-of-not-le}
 use native.Mathlib.Decide.{decLe}
 use native.Mathlib.Omega.{arith}
 use lib.Dec.{leb, ltb}
-use lib.Ieee.{Float}
 use lib.ListN.{length}
 use lib.IntN.{subℕ}
 use lib.Signed.{ltZ}
@@ -25,7 +24,7 @@ use Rattle.planes.specs.Ranges.{Top}
 use Rattle.planes.proofs.Ranges.{top-ends}
 use Rattle.choice.specs.declared.Best.{Best}
 use Rattle.choice.proofs.Excesses.{score-excess}
-use Rattle.sizes.specs.Samples.{smaller}
+use Rattle.sizes.specs.Patterns.{smaller}
 use Rattle.sizes.specs.Sizes.{smallest, reaching, instead, smallestSent, bySize}
 use Rattle.sizes.proofs.Smallest.{Is, smallest-one, smallest-same}
 use Rattle.sizes.proofs.Choosing.{equal-sizes}
@@ -90,7 +89,7 @@ module _ (less : ℕ → ℕ → Bool) {c : Code} {h : List ℕ} {sh : Shape} (l
 
 -- ---- where one word holds a block
 
-module _ (samples : List Float) {c : Code} {h : List ℕ} {sh : Shape} (lent : Lent c h sh) {from : ℕ} (x : Word) (b : Best)
+module _ (samples : List ℕ) {c : Code} {h : List ℕ} {sh : Shape} (lent : Lent c h sh) {from : ℕ} (x : Word) (b : Best)
     (was : Chosen c sh from x samples b) where
   pub chosen-stuck : c .unsent ≡ from → c .unsent < bits c → (broken c x ≡ 0 → ⊥) → b .score ≤ 8
       → bySize (smaller samples) c x ≡ stuck (chosen c x) (excess c x (chosen c x))
@@ -121,7 +120,7 @@ module _ (samples : List Float) {c : Code} {h : List ℕ} {sh : Shape} (lent : L
     chosen-small = top-small lent x top
 
 -- Without samples it is the flipping run's way.
-pub sized-equal : (samples : List Float) → length samples ≡ 0 → (c : Code) → bySize (smaller samples) c ≡ byExcess c
+pub sized-equal : (samples : List ℕ) → length samples ≡ 0 → (c : Code) → bySize (smaller samples) c ≡ byExcess c
 sized-equal samples e = equal-sizes (smaller samples) (no-samples samples e)
 
 pub equal-runs : {c : Code} {sh : Shape} {limit : ℕ} {x y z : Word} {r : Ran} → RunsTo (bySize (smaller []) c) c sh limit x r y z

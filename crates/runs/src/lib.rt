@@ -10,7 +10,7 @@ ghost use Rattle.rules.specs.Flipping.{byExcess};
 ghost use Rattle.vectors.specs.Vectors.{wbit};
 ghost use Rattle.layout.specs.Lent.{Fit, Lent, laid};
 ghost use Rattle.bounds.specs.Reading.{Gathered};
-ghost use Rattle.sizes.specs.Samples.{smaller};
+ghost use Rattle.sizes.specs.Patterns.{smaller};
 ghost use Rattle.sizes.specs.Sizes.{bySize};
 ghost use Rattle.bounds.specs.Keeping.{Ready, Kept};
 ghost use Rattle.runs.specs.Passes.{Holding, Begins, Beginning, Carried, Continuing, CarriedNarrow, ContinuingNarrow};
@@ -69,7 +69,7 @@ fn next_narrow(z: &[u64; SYNDROME], h: &[u16; TABLE], sh: Shape, from: usize) ->
         × ((c : Code) → Lent c (now (h .entry)) sh → c .unsent ≡ from → (x : Word) → wbit (now (z .entry)) ≡ laid c sh x
         → (broken c x ≡ 0 → ⊥) → byExcess c x ≡ comesNext r) ⌝ }
 {
-    let equal = [0f32; 0];
+    let equal = [0u32; 0];
     let mut rows = [0u64; NARROW_ROWS];
     narrow::begin(z, sh, &mut rows);
     let best = narrow::choose(&equal, &rows, h, sh, from);
@@ -174,7 +174,7 @@ fn go_on(
 // The run by the sizes of the samples from the word y, whose blocks one word holds each and whose rows are kept, under a limit: flips until
 // it ends. So many checks are broken.
 fn go_on_narrow(
-    samples: &[f32],
+    samples: &[u32],
     y: &mut [u64; WORD],
     rows: &mut [u64; NARROW_ROWS],
     h: &[u16; TABLE],
@@ -246,7 +246,7 @@ fn run_bounded(
 
 // The run by the sizes of the samples, where one word holds a block: as many samples as bits, or none, where all bits have equal sizes.
 pub fn run_narrow(
-    samples: &[f32],
+    samples: &[u32],
     y: &mut [u64; WORD],
     z: &[u64; SYNDROME],
     h: &[u16; TABLE],
@@ -286,7 +286,7 @@ pub fn run(
         return at_end(0, 0, 0);
     }
     if sh.words == 1 {
-        let equal = [0f32; 0];
+        let equal = [0u32; 0];
         return run_narrow(&equal, y, z, h, sh, from, limit, first);
     }
     run_bounded(y, z, h, sh, from, limit, first)

@@ -37,7 +37,7 @@ use Rattle.samples.proofs.Answers.{samples-cases, samples-taken}
 abbrev pub sampled : ℕ → Bool
 sampled n = offered n && not (eqb n 5)
 
-some : (n : ℕ) → T (sampled n) → code n .unsent < bits (code n)
+pub some : (n : ℕ) → T (sampled n) → code n .unsent < bits (code n)
 some n t = published n (and-l (offered n) (not (eqb n 5)) t) .some
 
 pub sizes-choose : (n : ℕ) → T (sampled n) → (less : ℕ → ℕ → Bool) → Chooses (code n) (bySize less (code n))

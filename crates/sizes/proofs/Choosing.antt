@@ -18,7 +18,7 @@ use Rattle.rules.specs.Flipping.{Next, quiet, stuck, flip, byExcess}
 use Rattle.rules.proofs.Ways.{Chosen, Chooses, TakesGreatest, above-is}
 use Rattle.rules.proofs.Choosing.{by-excess, by-greatest, chosen, chosen-greatest, next-flip}
 use Rattle.sizes.specs.Sizes.{reaching, instead, smallestSent, bySize}
-use Rattle.sizes.proofs.Smallest.{Is, smallest-one, smallest-stays, Ordered, Smallest, smallest-has}
+use Rattle.sizes.proofs.Smallest.{Is, smallest-one, smallest-stays, smallest-alike, Ordered, Smallest, smallest-has}
 
 -- what is not above and not below is equal
 level : (a b : ℤ) → T (leZ a b) → ltZ a b ≡ false → b ≡ a
@@ -145,6 +145,19 @@ equal-sizes less none c = fun-ext (λ x. go x (byExcess c x))
     go x quiet = refl
     go x (stuck n e) = refl
     go x (flip n e) = ap (λ k. flip k e) (smallest-stays less (reaching c x e) n (c .unsent) (bits c - c .unsent) (λ k f l m. none k n))
+
+-- two orders of the bits that a code sends give one way, if they are alike
+pub same-order : (less less′ : ℕ → ℕ → Bool) (c : Code) → c .unsent < bits c
+    → ((a b : ℕ) → a < bits c → b < bits c → less a b ≡ less′ a b) → bySize less c ≡ bySize less′ c
+unfolding bySize smallestSent
+same-order less less′ c some alike = fun-ext (λ x. go x (byExcess c x) refl)
+  where
+    go : (x : Word) (nx : Next) → byExcess c x ≡ nx → instead (best less c x) nx ≡ instead (best less′ c x) nx
+    go x quiet e = refl
+    go x (stuck n ex) e = refl
+    go x (flip n ex) e =
+        ap (λ k. flip k ex) (smallest-alike less less′ (bits c) alike (reaching c x ex) n (c .unsent) (bits c - c .unsent)
+        (by-excess c some .flips x n ex e .under) (omega arith))
 
 -- where the order is one: of the bits of greatest excess none is smaller than the one that is flipped, and those before it are greater
 pub size-smallest : (less : ℕ → ℕ → Bool) (c : Code) → c .unsent < bits c → Ordered less (bits c) → (x : Word) (n : ℕ) (ex : ℤ)

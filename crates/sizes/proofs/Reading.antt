@@ -1,6 +1,6 @@
 -- Bits read from samples, mark by mark, and samples that are finite, part by part.
 use mathlib.Core.Path.{_≡_, refl, sym, ap, ap₂, _∙_}
-use mathlib.Core.Bool.{Bool, true, false, _&&_, _||_}
+use mathlib.Core.Bool.{Bool, true, false, not, _&&_, _||_}
 use mathlib.Core.Logic.{⊎-elim}
 use Prim.Native.Nat.{ℕ, zero, suc, _+_, _-_, _*_, _%_, _^_, _≤_, _<_}
 use native.Mathlib.Nat.{add-zero, add-suc, one-mul, mod-eq-of-lt, lt-of-not-le}
@@ -9,22 +9,29 @@ use native.Mathlib.Omega.{arith}
 use lib.Bits.{bitOr}
 use lib.Dec.{ltb, eqb}
 use lib.Pow.{pow-lt}
-use lib.Ieee.{Float, nan, inf, fin, lt, neg, ofBits, binary32}
-use borrow.Author.Tests.{lt-ltb, le-ltb, eq-eqb, ne-eqb}
+use borrow.Author.Tests.{lt-ltb, le-ltb, le-leb, lt-leb, eq-eqb, ne-eqb}
 use Rattle.bits.specs.Bits.{Word, digit, below, if_then_else_}
 use Rattle.bits.proofs.Octets.{digit-zero}
 use Rattle.bits.proofs.Orders.{le-or-lt}
 use Rattle.vectors.specs.Vectors.{Holds, upTo, from}
 use Rattle.vectors.proofs.Places.{or-none, place, place-or, place-above, place-cut, place-up, place-below, digit-or, digit-power}
-use Rattle.sizes.specs.Samples.{isFinite}
+use Rattle.sizes.specs.Patterns.{unsigned, isOne}
 
--- finite by two comparisons
-pub finite-between : (s : Float) → (lt s (ofBits binary32 0x7f80_0000) && lt (neg (ofBits binary32 0x7f80_0000)) s) ≡ isFinite s
-unfolding lt neg ofBits
-finite-between nan = refl
-finite-between (inf true) = refl
-finite-between (inf false) = refl
-finite-between (fin s m e) = refl
+-- a number of 32 bits is above the sign alone just where the sign is set and the rest is not 0
+pub above-sign : (p : ℕ) → p < 2 ^ 32 → ltb 0x8000_0000 p ≡ isOne p
+above-sign p h = go (decLt 0x8000_0000 p)
+  where
+    go : Dec (0x8000_0000 < p) → ltb 0x8000_0000 p ≡ isOne p
+    go (yes l) =
+        lt-ltb 0x8000_0000 p l
+        ∙ sym (ap₂ (λ a b. a && not b) (le-leb 0x8000_0000 p (omega arith)) (ne-eqb (unsigned p) 0 (λ e. omega arith)))
+    go (no g) = le-ltb 0x8000_0000 p (omega (arith, lt-of-not-le g)) ∙ by (decLt p 0x8000_0000)
+      where
+        by : Dec (p < 0x8000_0000) → false ≡ isOne p
+        by (yes l) = sym (ap (λ a. a && not (eqb (unsigned p) 0)) (lt-leb 0x8000_0000 p l))
+        by (no k) =
+            let is : p ≡ 0x8000_0000 = omega (arith, lt-of-not-le g, lt-of-not-le k) in
+            sym (ap isOne is)
 
 -- a power of 2 that fits
 pub raised : (i : ℕ) → i < 32 → (1 * 2 ^ i) % 2 ^ 32 ≡ 2 ^ i

@@ -68,6 +68,21 @@ smallest-same less marked marked′ bit first (suc n) h =
     ap₂ (λ k a. if a && less (first + n) k then first + n else k)
     (smallest-same less marked marked′ bit first n (λ k f l. h k f (omega arith))) (h (first + n) (omega arith) (omega arith))
 
+-- and on how the bits below `top` are ordered, if it has no others to choose from
+pub smallest-alike : (less less′ : ℕ → ℕ → Bool) (top : ℕ) → ((a b : ℕ) → a < top → b < top → less a b ≡ less′ a b)
+    → (marked : ℕ → Bool) (bit first n : ℕ) → bit < top → first + n ≤ top
+    → smallest less marked bit first n ≡ smallest less′ marked bit first n
+unfolding smallest
+smallest-alike less less′ top alike marked bit first zero under room = refl
+smallest-alike less less′ top alike marked bit first (suc n) under room =
+    ap (λ a. if marked (first + n) && a then first + n else smallest less marked bit first n)
+    (alike (first + n) (smallest less marked bit first n) (omega arith) (inside (smallest-one less marked bit first n)))
+    ∙ ap (λ k. smallerOf less′ marked k (first + n)) (smallest-alike less less′ top alike marked bit first n under (omega arith))
+  where
+    inside : Is less marked bit first (smallest less marked bit first n) n → smallest less marked bit first n < top
+    inside (inl is) = omega (arith, is)
+    inside (inr p) = omega (arith, p .2)
+
 -- ---- where the order is one
 
 -- of two bits below `top` not both are smaller than the other; and what is not above and not above again is not above

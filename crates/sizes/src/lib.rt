@@ -1,4 +1,5 @@
-// Samples, and the run that chooses by their sizes.
+// Samples by their bit patterns, and the run that chooses by their sizes. A pattern is read and compared as a whole number, so that no mode
+// of the machine's floating point matters.
 ghost use mathlib.Core.Path.{_≡_};
 ghost use mathlib.Core.Bool.{Bool, true, false};
 ghost use Prim.Native.Nat.{ℕ, _+_, _*_, _/_, _^_, _<_, _≤_};
@@ -6,8 +7,8 @@ ghost use lib.Dec.{eqb};
 ghost use lib.ListN.{length};
 ghost use Rattle.bits.specs.Bits.{digit, _⊕_, below, if_then_else_};
 ghost use Rattle.vectors.specs.Vectors.{wbit, Holds, upTo, from, joined};
-ghost use Rattle.sizes.specs.Samples.{isOne, sampleOf, read as readOf, magnitude as magnitudeOf, smaller as smallerOf, isFinite};
-ghost use Rattle.sizes.specs.Samples.{allFinite};
+ghost use Rattle.sizes.specs.Patterns.{isOne, patternOf, read as readOf, unsigned as unsignedOf, smaller as smallerOf, isFinite};
+ghost use Rattle.sizes.specs.Patterns.{allFinite};
 ghost use Rattle.sizes.specs.Sizes.{smallest as smallestOf};
 
 // The bits of some samples, and whether all of these are finite.
@@ -21,27 +22,40 @@ struct Wide {
     finite: bool,
 }
 
-// Whether a sample is finite: each comparison is false of what is not a number.
-fn is_finite(s: f32) -> bool
-    ensures { λ r. ⌜ r ≡ isFinite s ⌝ }
+// A pattern without its sign.
+fn unsigned(p: u32) -> u32
+    ensures { λ r. ⌜ r ≡ unsignedOf p ⌝ }
 {
-    let top = f32::from_bits(0x7f80_0000);
-    (s < top) & (-top < s)
+    p % 0x8000_0000
 }
 
-// The power of 2, if the sample is below 0.
-fn mark(s: f32, place: usize) -> u32
-    requires { ⌜ place < 32 ⌝ }
-    ensures { λ r. ⌜ r ≡ (if isOne s then 2 ^ place else 0) ⌝ }
+// Whether a sample is finite: the exponent's field is not all ones.
+fn is_finite(p: u32) -> bool
+    ensures { λ r. ⌜ r ≡ isFinite p ⌝ }
 {
-    if s < 0.0 { 1 << place } else { 0 }
+    unsigned(p) / 0x80_0000 != 255
+}
+
+// Whether a sample is read as 1: the sign is set, and the rest is not 0.
+pub fn is_one(p: u32) -> bool
+    ensures { λ r. ⌜ r ≡ isOne p ⌝ }
+{
+    p > 0x8000_0000
+}
+
+// The power of 2, if the sample is read as 1.
+fn mark(p: u32, place: usize) -> u32
+    requires { ⌜ place < 32 ⌝ }
+    ensures { λ r. ⌜ r ≡ (if isOne p then 2 ^ place else 0) ⌝ }
+{
+    if is_one(p) { 1 << place } else { 0 }
 }
 
 // The bits of the n samples from sample `at` on, in front, and whether these are finite.
-fn half(samples: &[f32], at: usize, n: usize) -> Narrow
+fn half(samples: &[u32], at: usize, n: usize) -> Narrow
     requires { ⌜ (n ≤ 32) × (at + n ≤ length (now samples)) ⌝ }
     ensures { λ r. ⌜ ((i : ℕ) → i < 32 → digit 32 (r .bits) i ≡ upTo n (from at (readOf (now (samples .entry)))) i)
-        × (r .finite ≡ below n (λ i. isFinite (sampleOf (now (samples .entry)) (at + i)))) ⌝ }
+        × (r .finite ≡ below n (λ i. isFinite (patternOf (now (samples .entry)) (at + i)))) ⌝ }
 {
     let mut bits: u32 = 0;
     let mut finite = true;
@@ -66,10 +80,10 @@ fn front(n: usize) -> usize
 }
 
 // The same of up to 64 samples: in two halves, whose loops the compiler takes four samples at a time.
-fn word(samples: &[f32], at: usize, n: usize) -> Wide
+fn word(samples: &[u32], at: usize, n: usize) -> Wide
     requires { ⌜ (n ≤ 64) × (at + n ≤ length (now samples)) ⌝ }
     ensures { λ r. ⌜ Holds (r .bits) (upTo n (from at (readOf (now (samples .entry)))))
-        × (r .finite ≡ below n (λ i. isFinite (sampleOf (now (samples .entry)) (at + i)))) ⌝ }
+        × (r .finite ≡ below n (λ i. isFinite (patternOf (now (samples .entry)) (at + i)))) ⌝ }
 {
     let m = front(n);
     let a = half(samples, at, m);
@@ -81,11 +95,11 @@ fn word(samples: &[f32], at: usize, n: usize) -> Wide
 }
 
 // The words that the samples fill whole.
-fn read_whole(samples: &[f32], y: &mut [u64]) -> bool
+fn read_whole(samples: &[u32], y: &mut [u64]) -> bool
     requires { ⌜ length (now samples) ≤ 64 * length (now y) ⌝ }
     ensures { λ r. ⌜ (wbit (now (y .exit)) ≡ joined (64 * (length (now (samples .entry)) / 64)) (readOf (now (samples .entry)))
         (wbit (now (y .entry)))) × (r ≡ below (64 * (length (now (samples .entry)) / 64))
-        (λ i. isFinite (sampleOf (now (samples .entry)) i))) ⌝ }
+        (λ i. isFinite (patternOf (now (samples .entry)) i))) ⌝ }
 {
     let whole = samples.len() / 64;
     let mut finite = true;
@@ -100,7 +114,7 @@ fn read_whole(samples: &[f32], y: &mut [u64]) -> bool
 }
 
 // The bits read from the samples, in front of a vector of zeros, and whether every sample is finite.
-pub fn read(samples: &[f32], y: &mut [u64]) -> bool
+pub fn read(samples: &[u32], y: &mut [u64]) -> bool
     requires { ⌜ (length (now samples) < 64 * length (now y)) × (wbit (now y) ≡ (λ n. false)) ⌝ }
     ensures { λ r. ⌜ (wbit (now (y .exit)) ≡ readOf (now (samples .entry))) × (r ≡ allFinite (now (samples .entry))) ⌝ }
 {
@@ -112,19 +126,12 @@ pub fn read(samples: &[f32], y: &mut [u64]) -> bool
     w.finite & finite
 }
 
-// A sample's magnitude.
-fn magnitude(s: f32) -> f32
-    ensures { λ r. ⌜ r ≡ magnitudeOf s ⌝ }
-{
-    if s < 0.0 { -s } else { s }
-}
-
 // Of two bits, the later one only if its sample is smaller.
-pub fn smaller(samples: &[f32], earlier: usize, later: usize) -> usize
+pub fn smaller(samples: &[u32], earlier: usize, later: usize) -> usize
     requires { ⌜ (earlier < length (now samples)) × (later < length (now samples)) ⌝ }
     ensures { λ r. ⌜ r ≡ (if smallerOf (now (samples .entry)) later earlier then later else earlier) ⌝ }
 {
-    if magnitude(samples[later]) < magnitude(samples[earlier]) {
+    if unsigned(samples[later]) < unsigned(samples[earlier]) {
         return later;
     }
     earlier
@@ -147,7 +154,7 @@ fn with_flipped(v: u64, n: usize) -> u64
 }
 
 // The smallest of a bit and of the bits that are set in mask, which begins with bit `first`.
-pub fn smallest_of(samples: &[f32], mask: u64, first: usize, bit: usize) -> usize
+pub fn smallest_of(samples: &[u32], mask: u64, first: usize, bit: usize) -> usize
     requires { ⌜ (bit < length (now samples)) × ((i : ℕ) → i < 64 → digit 64 mask i ≡ true → first + i < length (now samples)) ⌝ }
     ensures { λ r. ⌜ (r < length (now (samples .entry)))
         × ((marked : ℕ → Bool) (n : ℕ) → n ≤ 64 → Holds mask (upTo n (from first marked))

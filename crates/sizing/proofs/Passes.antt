@@ -4,7 +4,6 @@ use mathlib.Core.Bool.{Bool, true, false}
 use mathlib.Core.List.{List}
 use Prim.Native.Nat.{ℕ, zero, suc, _+_, _-_, _*_, _≤_, _<_}
 use native.Mathlib.Omega.{arith}
-use lib.Ieee.{Float}
 use lib.ListN.{length, getD, replicate}
 use Rattle.bits.specs.Bits.{Word, tally, _⊕_, flipped}
 use Rattle.bits.proofs.Counting.{count-le}
@@ -22,7 +21,7 @@ use Rattle.bounds.proofs.Turned.{scored}
 use Rattle.runs.specs.Passes.{Going}
 use Rattle.runs.proofs.Passing.{ends-quiet, runs-as}
 use Rattle.runs.proofs.Sizes.{sized-quiet}
-use Rattle.sizes.specs.Samples.{read, smaller}
+use Rattle.sizes.specs.Patterns.{read, smaller}
 use Rattle.sizes.specs.Sizes.{bySize}
 use Rattle.raising.specs.Knowing.{Knows, whole}
 use Rattle.smallest.specs.Settling.{Leads}
@@ -36,7 +35,7 @@ few true = omega arith
 few false = omega arith
 
 -- one bit more or less differs
-pub differs-flip : (c : Code) (samples : List Float) (y : Word) (r : ℕ) → r < bits c → (unlike v : ℕ)
+pub differs-flip : (c : Code) (samples : List ℕ) (y : Word) (r : ℕ) → r < bits c → (unlike v : ℕ)
     → unlike ≡ differing c (read samples) y
     → (tally (read samples r ⊕ y r) ≤ unlike → v + 2 * tally (read samples r ⊕ y r) ≡ unlike + 1)
     → v ≡ differing c (read samples) (flipped y r)
@@ -51,7 +50,7 @@ unknown zero i l = absurd (omega arith)
 unknown (suc n) zero l = refl
 unknown (suc n) (suc i) l = unknown n i (omega arith)
 
-pub begun-stands : (c : Code) (sh : Shape) (samples : List Float) (starts counts : List ℕ) (x z : Word) (d : List ℕ) → sh .blocks ≤ 16
+pub begun-stands : (c : Code) (sh : Shape) (samples : List ℕ) (starts counts : List ℕ) (x z : Word) (d : List ℕ) → sh .blocks ≤ 16
     → length samples ≤ 8176 → z ≡ laid c sh x → Twice sh (sh .rows) z (wbit d)
     → Stands c sh samples x d starts counts (replicate 16 0) (replicate 16 8176)
 begun-stands c sh samples starts counts x z d blocks long e two = record {
@@ -67,7 +66,7 @@ begun-stands c sh samples starts counts x z d blocks long e two = record {
   };
 }
 
-pub stands-as : {c : Code} {sh : Shape} {samples : List Float} {y z : Word} {d starts counts met kept : List ℕ} → y ≡ z
+pub stands-as : {c : Code} {sh : Shape} {samples : List ℕ} {y z : Word} {d starts counts met kept : List ℕ} → y ≡ z
     → Stands c sh samples y d starts counts met kept → Stands c sh samples z d starts counts met kept
 stands-as {c} {sh} {samples} {y} {z} {d} {starts} {counts} {met} {kept} e was =
     subst (λ x. Stands c sh samples x d starts counts met kept) e was
@@ -75,7 +74,7 @@ stands-as {c} {sh} {samples} {y} {z} {d} {starts} {counts} {met} {kept} e was =
 -- ---- a bit that was chosen
 
 module _ (c : Code) (h : List ℕ) (sh : Shape) (lent : Lent c h sh) (fit : Fit h sh) (starts counts : List ℕ)
-    (g : Gathered h sh starts counts (sh .blocks)) (samples : List Float) (y : Word) (d met kept : List ℕ)
+    (g : Gathered h sh starts counts (sh .blocks)) (samples : List ℕ) (y : Word) (d met kept : List ℕ)
     (was : Stands c sh samples y d starts counts met kept) {met′ kept′ : List ℕ} (r top : ℕ)
     (chose : Knows samples sh (wbit d) starts counts whole met kept → Knows samples sh (wbit d) starts counts whole met′ kept′
     × ((f : ℕ → ℕ) → Scored f sh (wbit d) starts counts
@@ -95,7 +94,7 @@ module _ (c : Code) (h : List ℕ) (sh : Shape) (lent : Lent c h sh) (fit : Fit 
 -- ---- a pass
 
 -- one that flips the bit that comes next
-pub pass-goes : {c : Code} {h : List ℕ} {sh : Shape} {samples : List Float} {limit flips left unlike : ℕ} {x : Word}
+pub pass-goes : {c : Code} {h : List ℕ} {sh : Shape} {samples : List ℕ} {limit flips left unlike : ℕ} {x : Word}
     {y y′ d d′ starts counts met met′ kept kept′ : List ℕ} {n : Chosen} {r : Passed} → Lent c h sh
     → Coming c sh samples limit x flips y d starts counts met kept left unlike → Chooses c sh samples limit flips (wbit y) n
     → n .number ≡ 0 → n .bit < sh .blocks * sh .size → r .number ≡ 0 → r .left ≡ left - n .fewer → wbit y′ ≡ flipped (wbit y) (n .bit)
@@ -119,7 +118,7 @@ pass-goes {c} {h} {sh} {samples} {limit} {flips} {left} {unlike} {x} {y} {n = n}
       differs = λ e. absurd (e none);
     }
 
-module _ {c : Code} {sh : Shape} {samples : List Float} {limit flips left unlike : ℕ} {x : Word} {y d starts counts met kept : List ℕ} where
+module _ {c : Code} {sh : Shape} {samples : List ℕ} {limit flips left unlike : ℕ} {x : Word} {y d starts counts met kept : List ℕ} where
   -- one in which the run ends
   pub pass-ends : {r : Passed} → Passes c sh samples limit x flips y d starts counts met kept left unlike r → (r .number ≡ 0 → ⊥)
       → x ≡ read samples → (e : Ended) → e .ran .number ≡ r .number → e .ran .flips ≡ flips → e .last ≡ left → e .unlike ≡ unlike

@@ -8,7 +8,6 @@ use native.Mathlib.Nat.{lt-of-not-le, zero-add}
 use native.Mathlib.Decide.{decLt}
 use native.Mathlib.Omega.{arith}
 use lib.Dec.{leb}
-use lib.Ieee.{Float}
 use lib.IntN.{subℕ}
 use lib.ListN.{length}
 use borrow.Author.Tests.{le-leb, leb-true, leb-false}
@@ -23,14 +22,14 @@ use Rattle.planes.specs.Ranges.{Top}
 use Rattle.planes.proofs.Ranges.{top-ends}
 use Rattle.runs.proofs.Passing.{next-stuck}
 use Rattle.runs.proofs.Sizes.{score-left, sized-next}
-use Rattle.sizes.specs.Samples.{smaller, allFinite}
+use Rattle.sizes.specs.Patterns.{smaller}
 use Rattle.sizes.specs.Sizes.{smallest, instead, smallestSent, bySize}
-use Rattle.sizes.proofs.Orders.{finite-ordered}
+use Rattle.sizes.proofs.Patterns.{ordered}
 use Rattle.sizes.proofs.Smallest.{Ordered, Is, smallest-one}
 use Rattle.smallest.specs.Settling.{Leads}
 use Rattle.raising.proofs.Orders.{ahead-both, Over, smallest-over}
 
-module _ (samples : List Float) {c : Code} {h : List ℕ} {sh : Shape} (lent : Lent c h sh) (all : c .unsent ≡ 0) (x : Word) where
+module _ (samples : List ℕ) {c : Code} {h : List ℕ} {sh : Shape} (lent : Lent c h sh) (all : c .unsent ≡ 0) (x : Word) where
   abbrev end : ℕ
   end = sh .blocks * sh .size
 
@@ -75,12 +74,12 @@ module _ (samples : List Float) {c : Code} {h : List ℕ} {sh : Shape} (lent : L
     sized-stuck d l = ap (instead (smallestSent (smaller samples) c x)) (next-stuck lent x all-bits all d l)
 
     -- the smallest of these is the one that is ahead of all
-    is-smallest : allFinite samples ≡ true → r ≡ smallest (smaller samples) high low 0 end
-    is-smallest finite = ahead-both (smaller samples) (length samples) order r z (leads .ahead here z (z-inside one) (z-high one))
+    is-smallest : r ≡ smallest (smaller samples) high low 0 end
+    is-smallest = ahead-both (smaller samples) (length samples) order r z (leads .ahead here z (z-inside one) (z-high one))
         (over .all r zero-le (omega (arith, zero-add end)) r-high)
       where
         order : Ordered (smaller samples) (length samples)
-        order = finite-ordered samples finite
+        order = ordered samples (length samples)
 
         z : ℕ
         z = smallest (smaller samples) high low 0 end
@@ -109,11 +108,11 @@ module _ (samples : List Float) {c : Code} {h : List ℕ} {sh : Shape} (lent : L
         z-high (inl e) = subst (λ k. top ≤ score c x k) (sym e) (omega (arith, lowest .is))
         z-high (inr p) = leb-true top (score c x z) (p .0)
 
-    pub sized-flip : allFinite samples ≡ true → (broken c x ≡ 0 → ⊥) → 8 < top → bySize (smaller samples) c x ≡ flip r (subℕ top 8)
-    sized-flip finite d l =
+    pub sized-flip : (broken c x ≡ 0 → ⊥) → 8 < top → bySize (smaller samples) c x ≡ flip r (subℕ top 8)
+    sized-flip d l =
         let none : bits c - 0 ≡ end = omega (arith, lent .bits-are) in
         sized-next (smaller samples) lent x all-bits all d l
-        ∙ ap (λ n. flip n (subℕ top 8)) (ap (smallest (smaller samples) high low 0) none ∙ sym (is-smallest finite))
+        ∙ ap (λ n. flip n (subℕ top 8)) (ap (smallest (smaller samples) high low 0) none ∙ sym is-smallest)
 
     -- what a flip takes from the broken checks
     pub sized-left : 8 < top → broken c (flipped x r) + (top - 8) ≡ broken c x

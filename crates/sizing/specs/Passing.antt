@@ -2,7 +2,6 @@
 use mathlib.Core.Path.{_≡_}
 use mathlib.Core.List.{List}
 use Prim.Native.Nat.{ℕ, _+_, _<_}
-use lib.Ieee.{Float}
 use Rattle.bits.specs.Bits.{Word, flipped}
 use Rattle.rules.specs.Codes.{Code}
 use Rattle.rules.specs.Checks.{broken}
@@ -12,7 +11,7 @@ use Rattle.layout.specs.declared.Shape.{Shape}
 use Rattle.layout.specs.Lent.{Lent, laid}
 use Rattle.bounds.specs.Reading.{Twice}
 use Rattle.runs.specs.Passes.{Going, RunsTo}
-use Rattle.sizes.specs.Samples.{read, smaller}
+use Rattle.sizes.specs.Patterns.{read, smaller}
 use Rattle.sizes.specs.Sizes.{bySize}
 use Rattle.raising.specs.Knowing.{Knows, whole}
 use Rattle.sizing.specs.declared.Ended.{Ended}
@@ -20,12 +19,12 @@ use Rattle.sizing.specs.declared.Chosen.{Chosen}
 use Rattle.sizing.specs.declared.Passed.{Passed}
 
 -- What is kept is that of the word y: its syndrome, doubled, and what is known of each block.
-pub record Stands (c : Code) (sh : Shape) (samples : List Float) (y : Word) (d starts counts met kept : List ℕ) : Type 0 where
+pub record Stands (c : Code) (sh : Shape) (samples : List ℕ) (y : Word) (d starts counts met kept : List ℕ) : Type 0 where
   pub twice : Twice sh (sh .rows) (laid c sh y) (wbit d)
   pub knows : Knows samples sh (wbit d) starts counts whole met kept
 
 -- There is a code of which that is kept, and so many of its checks are broken.
-pub record Starting (h : List ℕ) (sh : Shape) (samples : List Float) (left : ℕ) (y : Word) (d starts counts met kept : List ℕ) : Type 0
+pub record Starting (h : List ℕ) (sh : Shape) (samples : List ℕ) (left : ℕ) (y : Word) (d starts counts met kept : List ℕ) : Type 0
   where
     pub code : Code
     pub lent : Lent code h sh
@@ -35,7 +34,7 @@ pub record Starting (h : List ℕ) (sh : Shape) (samples : List Float) (left : �
 
 -- The run by sizes from x has come to y after so many flips. So many checks are broken; if there is one, what is kept is y's; and y differs
 -- in so many bits from what was read.
-pub record Coming (c : Code) (sh : Shape) (samples : List Float) (limit : ℕ) (x : Word) (flips : ℕ) (y d starts counts met kept : List ℕ)
+pub record Coming (c : Code) (sh : Shape) (samples : List ℕ) (limit : ℕ) (x : Word) (flips : ℕ) (y d starts counts met kept : List ℕ)
     (left unlike : ℕ) : Type 0 where
   pub going : Going (bySize (smaller samples) c) c sh limit x flips (wbit y) (laid c sh (wbit y))
   pub left-is : left ≡ broken c (wbit y)
@@ -44,7 +43,7 @@ pub record Coming (c : Code) (sh : Shape) (samples : List Float) (limit : ℕ) (
 
 -- What comes next for the word y, after so many flips of a run by sizes from any word: the bit is flipped, and so many fewer of its checks
 -- are broken then; or the run ends with that number.
-pub record Chooses (c : Code) (sh : Shape) (samples : List Float) (limit flips : ℕ) (y : Word) (r : Chosen) : Type 0 where
+pub record Chooses (c : Code) (sh : Shape) (samples : List ℕ) (limit flips : ℕ) (y : Word) (r : Chosen) : Type 0 where
   pub goes : r .number ≡ 0 → (x : Word) → Going (bySize (smaller samples) c) c sh limit x flips y (laid c sh y)
       → Going (bySize (smaller samples) c) c sh limit x (flips + 1) (flipped y (r .bit)) (laid c sh (flipped y (r .bit)))
   pub fewer : r .number ≡ 0 → broken c (flipped y (r .bit)) + r .fewer ≡ broken c y
@@ -53,7 +52,7 @@ pub record Chooses (c : Code) (sh : Shape) (samples : List Float) (limit flips :
 
 -- What a pass of the run by sizes from x comes to, after so many flips: the run has come to y by one more; or it ends with y, with that
 -- number.
-pub record Passes (c : Code) (sh : Shape) (samples : List Float) (limit : ℕ) (x : Word) (flips : ℕ) (y d starts counts met kept : List ℕ)
+pub record Passes (c : Code) (sh : Shape) (samples : List ℕ) (limit : ℕ) (x : Word) (flips : ℕ) (y d starts counts met kept : List ℕ)
     (left unlike : ℕ) (r : Passed) : Type 0 where
   pub goes : r .number ≡ 0 → Coming c sh samples limit x (flips + 1) y d starts counts met kept (r .left) (r .unlike)
   pub ends : (r .number ≡ 0 → ⊥)
@@ -62,7 +61,7 @@ pub record Passes (c : Code) (sh : Shape) (samples : List Float) (limit : ℕ) (
   pub differs : (r .number ≡ 0 → ⊥) → unlike ≡ differing c (read samples) (wbit y)
 
 -- The run by sizes from x ends with the word y; so many of its checks are broken, and in so many bits it differs from x.
-pub record SizesTo (c : Code) (sh : Shape) (samples : List Float) (limit : ℕ) (x : Word) (r : Ended) (y : Word) : Type 0 where
+pub record SizesTo (c : Code) (sh : Shape) (samples : List ℕ) (limit : ℕ) (x : Word) (r : Ended) (y : Word) : Type 0 where
   pub runs : RunsTo (bySize (smaller samples) c) c sh limit x (r .ran) y (laid c sh y)
   pub last : r .last ≡ broken c y
   pub differs : r .unlike ≡ differing c x y

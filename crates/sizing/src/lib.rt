@@ -11,7 +11,7 @@ ghost use Rattle.vectors.specs.Vectors.{wbit};
 ghost use Rattle.layout.specs.Lent.{Fit, Lent};
 ghost use Rattle.bounds.specs.Reading.{Twice, Gathered};
 ghost use Rattle.bounds.specs.Keeping.{Ready};
-ghost use Rattle.sizes.specs.Samples.{read as readOf, allFinite};
+ghost use Rattle.sizes.specs.Patterns.{read as readOf};
 ghost use Rattle.sizing.specs.Passing.{Stands, Starting, Coming, Chooses, Passes, SizesTo};
 ghost use Rattle.runs.specs.Passes.{Begins, Beginning};
 use layout::BLOCKS;
@@ -47,12 +47,12 @@ struct Passed {
 }
 
 // In how many bits the word y differs from the one that was read, once bit `bit` is flipped; before that in so many.
-fn counted(samples: &[f32], y: &[u64], bit: usize, unlike: u32) -> u32
+fn counted(samples: &[u32], y: &[u64], bit: usize, unlike: u32) -> u32
     requires { ⌜ (bit < length (now samples)) × (bit < 64 * length (now y)) × (unlike < 65536) ⌝ }
     ensures { λ r. ⌜ (r ≤ unlike + 1) × (tally (readOf (now (samples .entry)) bit ⊕ wbit (now (y .entry)) bit) ≤ unlike
         → r + 2 * tally (readOf (now (samples .entry)) bit ⊕ wbit (now (y .entry)) bit) ≡ unlike + 1) ⌝ }
 {
-    if (samples[bit] < 0.0) == vectors::is_set(y, bit) {
+    if sizes::is_one(samples[bit]) == vectors::is_set(y, bit) {
         return unlike + 1;
     }
     if unlike == 0 {
@@ -62,7 +62,7 @@ fn counted(samples: &[f32], y: &[u64], bit: usize, unlike: u32) -> u32
 }
 
 // Flips a bit of the word y, and says in how many bits y differs from what was read then; before that in so many.
-fn flip_counted(samples: &[f32], y: &mut [u64; WORD], bit: usize, unlike: u32) -> u32
+fn flip_counted(samples: &[u32], y: &mut [u64; WORD], bit: usize, unlike: u32) -> u32
     requires { ⌜ (length (now samples) ≤ 8176) × (bit < length (now samples)) × (unlike < 65536) ⌝ }
     ensures { λ r. ⌜ (r ≤ unlike + 1) × (wbit (now (y .exit)) ≡ flipped (wbit (now (y .entry))) bit)
         × (tally (readOf (now (samples .entry)) bit ⊕ wbit (now (y .entry)) bit) ≤ unlike
@@ -75,7 +75,7 @@ fn flip_counted(samples: &[f32], y: &mut [u64; WORD], bit: usize, unlike: u32) -
 
 // Flips a bit in y, and in what is kept if a check is broken then: so many fewer than before are.
 fn pass(
-    samples: &[f32],
+    samples: &[u32],
     y: &mut [u64; WORD],
     d: &mut [u64; ROWS],
     starts: &[u16; STARTS],
@@ -89,7 +89,7 @@ fn pass(
     unlike: u32,
 ) -> Passed
     requires { ⌜ Ready sh (now starts) (now counts) (now met) × (length (now samples) ≡ sh .blocks * sh .size)
-        × (length (now samples) ≤ 8176) × (allFinite (now samples) ≡ true) × (bit < length (now samples)) × (fewer ≤ was)
+        × (length (now samples) ≤ 8176) × (bit < length (now samples)) × (fewer ≤ was)
         × (unlike < 65536) ⌝ }
     ensures { λ r. ⌜ Ready sh (now (starts .entry)) (now (counts .entry)) (now (met .exit)) × (r .number ≡ 0)
         × (r .left ≡ was - fewer) × (r .unlike ≤ unlike + 1) × (wbit (now (y .exit)) ≡ flipped (wbit (now (y .entry))) bit)
@@ -116,7 +116,7 @@ fn pass(
 // What comes next for a word of which d, starts, counts, met and kept are kept, and that has a broken check: the bit that is flipped; or
 // the run ends, with 5 if it is stuck, or with 6 if it has flipped as many as the limit allows.
 fn comes_next(
-    samples: &[f32],
+    samples: &[u32],
     d: &[u64; ROWS],
     starts: &[u16; STARTS],
     counts: &[u8; BLOCKS],
@@ -126,8 +126,7 @@ fn comes_next(
     limit: u16,
     flips: u32,
 ) -> Chosen
-    requires { ⌜ Ready sh (now starts) (now counts) (now met) × (1 ≤ sh .blocks) × (length (now samples) ≡ sh .blocks * sh .size)
-        × (allFinite (now samples) ≡ true) ⌝ }
+    requires { ⌜ Ready sh (now starts) (now counts) (now met) × (1 ≤ sh .blocks) × (length (now samples) ≡ sh .blocks * sh .size) ⌝ }
     ensures { λ r. ⌜ Ready sh (now (starts .entry)) (now (counts .entry)) (now (met .exit)) × (r .bit < sh .blocks * sh .size)
         × (r .number ≡ 0 → flips < limit) × ((c : Code) (h : List ℕ) (y : Word) → Lent c h sh → c .unsent ≡ 0 → Fit h sh
         → Gathered h sh (now (starts .entry)) (now (counts .entry)) (sh .blocks) → (broken c y ≡ 0 → ⊥)
@@ -160,7 +159,7 @@ fn comes_next(
 
 // A pass of the run, for a word y with so many broken checks, one or more: a bit is flipped, or the run ends.
 fn go_once(
-    samples: &[f32],
+    samples: &[u32],
     y: &mut [u64; WORD],
     d: &mut [u64; ROWS],
     starts: &[u16; STARTS],
@@ -176,7 +175,7 @@ fn go_once(
 ) -> Passed
     requires { ⌜ Fit (now h) sh × Gathered (now h) sh (now starts) (now counts) (sh .blocks)
         × Ready sh (now starts) (now counts) (now met) × (1 ≤ sh .blocks) × (length (now samples) ≡ sh .blocks * sh .size)
-        × (allFinite (now samples) ≡ true) × (unlike < 65536) × (0 < left)
+        × (unlike < 65536) × (0 < left)
         × Starting (now h) sh (now samples) left (wbit (now y)) (now d) (now starts) (now counts) (now met) (now kept) ⌝ }
     ensures { λ r. ⌜ Ready sh (now (starts .entry)) (now (counts .entry)) (now (met .exit)) × (r .number ≡ 0 → flips < limit)
         × (r .unlike ≤ unlike + 1) × ((c : Code) (x : Word) → Lent c (now (h .entry)) sh → c .unsent ≡ 0
@@ -226,7 +225,7 @@ fn at_end(number: u8, flips: u32, last: u32, unlike: u32) -> Ended
 // The run from the word y that was read, of which d, starts, counts, met and kept are kept, under a limit: flips until it ends. So many
 // checks are broken.
 fn go_on(
-    samples: &[f32],
+    samples: &[u32],
     y: &mut [u64; WORD],
     d: &mut [u64; ROWS],
     starts: &[u16; STARTS],
@@ -240,7 +239,7 @@ fn go_on(
 ) -> Ended
     requires { ⌜ Fit (now h) sh × Gathered (now h) sh (now starts) (now counts) (sh .blocks)
         × Ready sh (now starts) (now counts) (now met) × (1 ≤ sh .blocks) × (length (now samples) ≡ sh .blocks * sh .size)
-        × (allFinite (now samples) ≡ true) × (wbit (now y) ≡ readOf (now samples))
+        × (wbit (now y) ≡ readOf (now samples))
         × Starting (now h) sh (now samples) first (wbit (now y)) (now d) (now starts) (now counts) (now met) (now kept) ⌝ }
     ensures { λ r. ⌜ ((c : Code) → Lent c (now (h .entry)) sh → c .unsent ≡ 0 → first ≡ broken c (wbit (now (y .entry)))
         → Stands c sh (now (samples .entry)) (wbit (now (y .entry))) (now (d .entry)) (now (starts .entry)) (now (counts .entry))
@@ -279,7 +278,7 @@ fn go_on(
 // The run from the word y that was read, with the syndrome z, of which d, starts and counts are kept. No bit is known yet, and no met check
 // is counted on.
 fn run_begun(
-    samples: &[f32],
+    samples: &[u32],
     y: &mut [u64; WORD],
     z: &[u64; SYNDROME],
     d: &mut [u64; ROWS],
@@ -290,8 +289,8 @@ fn run_begun(
     limit: u16,
     first: u32,
 ) -> Ended
-    requires { ⌜ Fit (now h) sh × (1 ≤ sh .blocks) × (length (now samples) ≡ sh .blocks * sh .size) × (allFinite (now samples) ≡ true)
-        × (wbit (now y) ≡ readOf (now samples)) × Beginning (now h) sh 0 first (wbit (now y)) (wbit (now z))
+    requires { ⌜ Fit (now h) sh × (1 ≤ sh .blocks) × (length (now samples) ≡ sh .blocks * sh .size) × (wbit (now y) ≡ readOf (now samples))
+        × Beginning (now h) sh 0 first (wbit (now y)) (wbit (now z))
         × Twice sh (sh .rows) (wbit (now z)) (wbit (now d))
         × Gathered (now h) sh (now starts) (now counts) (sh .blocks) × (length (now starts) ≡ 128) × (length (now counts) ≡ 16) ⌝ }
     ensures { λ r. ⌜ ((c : Code) → Begins c (now (h .entry)) sh 0 first (wbit (now (y .entry))) (wbit (now (z .entry)))
@@ -316,7 +315,7 @@ fn run_begun(
 
 // The same from the start: the rows are doubled, and the starts of every block gathered.
 fn run_gathered(
-    samples: &[f32],
+    samples: &[u32],
     y: &mut [u64; WORD],
     z: &[u64; SYNDROME],
     d: &mut [u64; ROWS],
@@ -325,8 +324,8 @@ fn run_gathered(
     limit: u16,
     first: u32,
 ) -> Ended
-    requires { ⌜ Fit (now h) sh × (1 ≤ sh .blocks) × (length (now samples) ≡ sh .blocks * sh .size) × (allFinite (now samples) ≡ true)
-        × (wbit (now y) ≡ readOf (now samples)) × Beginning (now h) sh 0 first (wbit (now y)) (wbit (now z)) ⌝ }
+    requires { ⌜ Fit (now h) sh × (1 ≤ sh .blocks) × (length (now samples) ≡ sh .blocks * sh .size) × (wbit (now y) ≡ readOf (now samples))
+        × Beginning (now h) sh 0 first (wbit (now y)) (wbit (now z)) ⌝ }
     ensures { λ r. ⌜ ((c : Code) → Begins c (now (h .entry)) sh 0 first (wbit (now (y .entry))) (wbit (now (z .entry)))
         → SizesTo c sh (now (samples .entry)) limit (wbit (now (y .entry))) r (wbit (now (y .exit)))) ⌝ }
 {
@@ -338,7 +337,7 @@ fn run_gathered(
 
 // The run from the word y that was read, with the syndrome z, of which so many checks are broken, by the bounds of its blocks.
 fn run_bounded(
-    samples: &[f32],
+    samples: &[u32],
     y: &mut [u64; WORD],
     z: &[u64; SYNDROME],
     h: &[u16; TABLE],
@@ -346,8 +345,8 @@ fn run_bounded(
     limit: u16,
     first: u32,
 ) -> Ended
-    requires { ⌜ Fit (now h) sh × (1 ≤ sh .blocks) × (length (now samples) ≡ sh .blocks * sh .size) × (allFinite (now samples) ≡ true)
-        × (wbit (now y) ≡ readOf (now samples)) × Beginning (now h) sh 0 first (wbit (now y)) (wbit (now z)) ⌝ }
+    requires { ⌜ Fit (now h) sh × (1 ≤ sh .blocks) × (length (now samples) ≡ sh .blocks * sh .size) × (wbit (now y) ≡ readOf (now samples))
+        × Beginning (now h) sh 0 first (wbit (now y)) (wbit (now z)) ⌝ }
     ensures { λ r. ⌜ ((c : Code) → Begins c (now (h .entry)) sh 0 first (wbit (now (y .entry))) (wbit (now (z .entry)))
         → SizesTo c sh (now (samples .entry)) limit (wbit (now (y .entry))) r (wbit (now (y .exit)))) ⌝ }
 {
@@ -371,7 +370,7 @@ fn keep(y: &[u64; WORD], x: &mut [u64])
 }
 
 // The run of `runs` that ended so, and in how many bits the words y at its end differ from x, as they were read.
-fn ended_narrow(samples: &[f32], x: &[u64; NARROW], y: &[u64; WORD], end: runs::Ended) -> Ended
+fn ended_narrow(samples: &[u32], x: &[u64; NARROW], y: &[u64; WORD], end: runs::Ended) -> Ended
     requires { ⌜ length (now samples) ≤ 1024 ⌝ }
     ensures { λ r. ⌜ (r .ran .number ≡ end .ran .number) × (r .ran .flips ≡ end .ran .flips) × (r .last ≡ end .last)
         × (r .unlike ≡ count (64 * ((length (now (samples .entry)) + 63) / 64))
@@ -384,7 +383,7 @@ fn ended_narrow(samples: &[f32], x: &[u64; NARROW], y: &[u64; WORD], end: runs::
 
 // The same where one word holds a block: the run of `runs`, and the words as they were read beside those at its end.
 fn run_narrow(
-    samples: &[f32],
+    samples: &[u32],
     y: &mut [u64; WORD],
     z: &[u64; SYNDROME],
     h: &[u16; TABLE],
@@ -405,7 +404,7 @@ fn run_narrow(
 
 // The run from the word y that was read, with the syndrome z, of which so many checks are broken, under a limit: flips until it ends.
 pub fn run(
-    samples: &[f32],
+    samples: &[u32],
     y: &mut [u64; WORD],
     z: &[u64; SYNDROME],
     h: &[u16; TABLE],
@@ -413,8 +412,8 @@ pub fn run(
     limit: u16,
     first: u32,
 ) -> Ended
-    requires { ⌜ Fit (now h) sh × (1 ≤ sh .blocks) × (length (now samples) ≡ sh .blocks * sh .size) × (allFinite (now samples) ≡ true)
-        × (wbit (now y) ≡ readOf (now samples)) × Beginning (now h) sh 0 first (wbit (now y)) (wbit (now z)) ⌝ }
+    requires { ⌜ Fit (now h) sh × (1 ≤ sh .blocks) × (length (now samples) ≡ sh .blocks * sh .size) × (wbit (now y) ≡ readOf (now samples))
+        × Beginning (now h) sh 0 first (wbit (now y)) (wbit (now z)) ⌝ }
     ensures { λ r. ⌜ ((c : Code) → Begins c (now (h .entry)) sh 0 first (wbit (now (y .entry))) (wbit (now (z .entry)))
         → SizesTo c sh (now (samples .entry)) limit (wbit (now (y .entry))) r (wbit (now (y .exit)))) ⌝ }
 {

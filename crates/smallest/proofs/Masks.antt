@@ -8,14 +8,13 @@ use native.Mathlib.Nat.{lt-of-not-le}
 use native.Mathlib.Decide.{decLt}
 use native.Mathlib.Omega.{arith}
 use borrow.Author.Tests.{lt-ltb}
-use lib.Ieee.{Float}
 use lib.ListN.{length}
 use Rattle.bits.specs.Bits.{digit}
 use Rattle.bits.proofs.Octets.{digit-zero}
 use Rattle.vectors.specs.Vectors.{Holds, upTo, from}
-use Rattle.sizes.specs.Samples.{smaller, allFinite}
+use Rattle.sizes.specs.Patterns.{smaller}
 use Rattle.sizes.specs.Sizes.{smallest}
-use Rattle.sizes.proofs.Orders.{finite-ordered}
+use Rattle.sizes.proofs.Patterns.{ordered}
 use Rattle.sizes.proofs.Smallest.{Is, smallest-one}
 use Rattle.raising.specs.Knowing.{Ahead}
 use Rattle.raising.proofs.Orders.{Over, smallest-over, ahead-self}
@@ -23,7 +22,7 @@ use Rattle.raising.proofs.Orders.{Over, smallest-over, ahead-self}
 pub no-digit : (v i : ℕ) → v ≡ 0 → digit 64 v i ≡ false
 no-digit v i e = ap (λ z. digit 64 z i) e ∙ digit-zero 64 i
 
-module _ (samples : List Float) (finite : allFinite samples ≡ true) (mask first : ℕ) where
+module _ (samples : List ℕ) (mask first : ℕ) where
   abbrev pub marks : ℕ → Bool
   marks j = digit 64 mask (j - first)
 
@@ -43,7 +42,7 @@ module _ (samples : List Float) (finite : allFinite samples ≡ true) (mask firs
     λ u. (u, λ i l. no-digit mask i e),
     λ u. (
       inl refl,
-      λ v. ahead-self (smaller samples) (length samples) (finite-ordered samples finite) bit u,
+      λ v. ahead-self (smaller samples) (length samples) (ordered samples (length samples)) bit u,
       λ i l q. absurd (true≢false (sym q ∙ no-digit mask i e)),
     ),
   )
@@ -55,9 +54,9 @@ module _ (samples : List Float) (finite : allFinite samples ≡ true) (mask firs
         → marks k ≡ true → P k
     from-first P h k f l m = let e : first + (k - first) ≡ k = omega arith in subst P e (h (k - first) (omega arith) m)
 
-    over : Over (smaller samples) (length samples) (finite-ordered samples finite) marks bit first 64 (smallest (smaller samples) marks
+    over : Over (smaller samples) (length samples) (ordered samples (length samples)) marks bit first 64 (smallest (smaller samples) marks
         bit first 64)
-    over = smallest-over (smaller samples) (length samples) (finite-ordered samples finite) marks bit first 64 here
+    over = smallest-over (smaller samples) (length samples) (ordered samples (length samples)) marks bit first 64 here
         (from-first (λ k. bit ≤ k) before) (from-first (λ k. k < length samples) inside)
 
     pub among-bit : Ahead (smaller samples) r bit

@@ -10,7 +10,6 @@ use native.Mathlib.Omega.{arith}
 use borrow.Author.Tests.{lt-ltb, ltb-true, le-leb, leb-true, leb-false}
 use lib.Arith.{digits-mod}
 use lib.Dec.{leb, ltb}
-use lib.Ieee.{Float}
 use lib.ListN.{length, getD, set}
 use lib.Seq.{getD-set-same, getD-set-other}
 use Rattle.bits.specs.Bits.{Word, digit}
@@ -18,8 +17,8 @@ use Rattle.vectors.specs.Vectors.{Holds, from as bitsFrom}
 use Rattle.layout.specs.declared.Shape.{Shape}
 use Rattle.bounds.specs.Reading.{hits, light}
 use Rattle.bounds.specs.Keeping.{bound, Ready, Scored}
-use Rattle.sizes.specs.Samples.{smaller, allFinite}
-use Rattle.sizes.proofs.Orders.{finite-ordered}
+use Rattle.sizes.specs.Patterns.{smaller}
+use Rattle.sizes.proofs.Patterns.{ordered}
 use Rattle.raising.specs.Knowing.{Ahead, Known, Knows, whole}
 use Rattle.smallest.specs.Settling.{Leads, Lightest, Settled}
 use Rattle.raising.proofs.Orders.{ahead-self, ahead-onward}
@@ -27,7 +26,7 @@ use Rattle.raising.proofs.Seeing.{block-room, ready-set}
 
 -- ---- a block, 64 bits after 64 bits
 
-module _ (samples : List Float) (d : Word) (starts : List ℕ) (from n met m first : ℕ) where
+module _ (samples : List ℕ) (d : Word) (starts : List ℕ) (from n met m first : ℕ) where
   abbrev H : ℕ → ℕ
   H k = hits d starts from n k
 
@@ -54,7 +53,7 @@ module _ (samples : List Float) (d : Word) (starts : List ℕ) (from n met m fir
     pub mask-light : (i : ℕ) → i < 64 → digit 64 mask i ≡ true → (at + i < m) × (n ≤ H (at + i) + met)
     mask-light i l e = light-is (at + i) (sym (holds i l) ∙ e)
 
-    module _ (finite : allFinite samples ≡ true) (room : first + m ≤ length samples) (best r : ℕ)
+    module _ (room : first + m ≤ length samples) (best r : ℕ)
         (was : Lightest samples d starts from n met m first at best)
         (none : length samples ≤ r → (length samples ≤ best) × ((i : ℕ) → i < 64 → digit 64 mask i ≡ false))
         (some : r < length samples
@@ -92,9 +91,8 @@ module _ (samples : List Float) (d : Word) (starts : List ℕ) (from n met m fir
 
           over : r < length samples → (k : ℕ) → k < m → k < at + 64 → n ≤ H k + met → Dec (k < at) → Dec (best < length samples)
               → Ahead (smaller samples) r (first + k)
-          over u k l v t (yes f) (yes b) = ahead-onward (smaller samples) (length samples) (finite-ordered samples finite) r best (first +
-              k) u b
-              (omega arith) (some u .1 b) (was .ahead b k l f t)
+          over u k l v t (yes f) (yes b) = ahead-onward (smaller samples) (length samples) (ordered samples (length samples)) r best
+              (first + k) u b (omega arith) (some u .1 b) (was .ahead b k l f t)
           over u k l v t (yes f) (no b) = absurd (omega (arith, was .none (omega (arith, lt-of-not-le b)) k l f))
           over u k l v t (no f) b =
               let w : at ≤ k = omega (arith, lt-of-not-le f) in
@@ -119,8 +117,8 @@ module _ (samples : List Float) (d : Word) (starts : List ℕ) (from n met m fir
 
 -- ---- block after block
 
-module _ (samples : List Float) (sh : Shape) (d : Word) (starts counts : List ℕ) (met kept : List ℕ) (r : Ready sh starts counts met)
-    (long : length samples ≡ sh .blocks * sh .size) (finite : allFinite samples ≡ true) (b : ℕ) (hb : b < sh .blocks) where
+module _ (samples : List ℕ) (sh : Shape) (d : Word) (starts counts : List ℕ) (met kept : List ℕ) (r : Ready sh starts counts met)
+    (long : length samples ≡ sh .blocks * sh .size) (b : ℕ) (hb : b < sh .blocks) where
   abbrev M : ℕ
   M = sh .size
 
@@ -191,7 +189,7 @@ module _ (samples : List Float) (sh : Shape) (d : Word) (starts counts : List �
           onto : z < length samples → (i : ℕ) → top ≤ g i
               → (i < b * M) ⊎ ((b * M ≤ i) × (i - b * M < M) × (b * M + (i - b * M) ≡ i)) → Dec (best < length samples)
               → Ahead (smaller samples) z i
-          onto u i t (inl l) (yes v) = ahead-onward (smaller samples) (length samples) (finite-ordered samples finite) z best i u v
+          onto u i t (inl l) (yes v) = ahead-onward (smaller samples) (length samples) (ordered samples (length samples)) z best i u v
               (omega (arith, room)) (lead u v) (was .ahead v i l t)
           onto u i t (inl l) (no v) = absurd (omega (arith, was .none (omega (arith, lt-of-not-le v)) i l))
           onto u i t (inr p) v = subst (Ahead (smaller samples) z) (p .2)
@@ -217,7 +215,7 @@ module _ (samples : List Float) (sh : Shape) (d : Word) (starts counts : List �
       none = λ u. absurd (omega arith);
       knows = λ was. knows-one met (set kept b bit) (λ j u. refl) (λ j u. getD-set-other kept b j bit 0 u) (here (was .block b hb)) was;
       leads = λ was g scored lead-was. leads-more g scored (was .block b hb) best z lead-was (λ u. by one) (λ u v. lead v)
-          (λ u k l t. ahead-onward (smaller samples) (length samples) (finite-ordered samples finite) z bit (b * M + k) u hbit
+          (λ u k l t. ahead-onward (smaller samples) (length samples) (ordered samples (length samples)) z bit (b * M + k) u hbit
           (omega (arith, room)) over (found .ahead hbit k l l t)) (λ u. absurd (omega arith));
     }
       where
@@ -265,7 +263,7 @@ module _ (samples : List Float) (sh : Shape) (d : Word) (starts counts : List �
             }))
 
         ahead-best : best < length samples → Ahead (smaller samples) best best
-        ahead-best u = ahead-self (smaller samples) (length samples) (finite-ordered samples finite) best u
+        ahead-best u = ahead-self (smaller samples) (length samples) (ordered samples (length samples)) best u
 
   -- the block is passed over, since its bound is less
   pub passed : (top best : ℕ) → bound counts met b ≤ top → (bound counts met b ≡ top → ⊥)
@@ -313,7 +311,7 @@ module _ (samples : List Float) (sh : Shape) (d : Word) (starts counts : List �
     none = λ u. absurd (omega arith);
     knows = λ was. was;
     leads = λ was g scored lead-was. leads-more g scored (was .block b hb) best z lead-was (λ u. by (was .block b hb) one) (λ u v. lead v)
-        (λ u k l t. ahead-onward (smaller samples) (length samples) (finite-ordered samples finite) z (getD kept b 0) (b * M + k) u hbit
+        (λ u k l t. ahead-onward (smaller samples) (length samples) (ordered samples (length samples)) z (getD kept b 0) (b * M + k) u hbit
         (omega (arith, room)) over (was .block b hb .ahead hbit k l refl t)) (λ u. absurd (omega arith));
   }
     where
@@ -336,7 +334,7 @@ module _ (samples : List Float) (sh : Shape) (d : Word) (starts counts : List �
 
 -- ---- all blocks
 
-module _ (samples : List Float) (sh : Shape) (d : Word) (starts counts met kept : List ℕ) (r : Ready sh starts counts met) where
+module _ (samples : List ℕ) (sh : Shape) (d : Word) (starts counts met kept : List ℕ) (r : Ready sh starts counts met) where
   -- no bit has a greater score than any bound
   pub all-under : (top : ℕ) → ((b : ℕ) → b < sh .blocks → bound counts met b ≤ top) → Knows samples sh d starts counts whole met kept
       → (g : ℕ → ℕ) → Scored g sh d starts counts → (i : ℕ) → i < sh .blocks * sh .size → g i ≤ top
@@ -348,7 +346,7 @@ module _ (samples : List Float) (sh : Shape) (d : Word) (starts counts met kept 
       subst (λ j. g j ≤ top) (div-add-mod' i (sh .size))
       (omega (arith, scored b k hb hk, was .block b hb .under k hk refl, le b hb, r .low b hb, r .few b hb))
 
-pub leads-none : (samples : List Float) (g : ℕ → ℕ) (top M r : ℕ) → length samples ≤ r → Leads samples g top (0 * M) r
+pub leads-none : (samples : List ℕ) (g : ℕ → ℕ) (top M r : ℕ) → length samples ≤ r → Leads samples g top (0 * M) r
 leads-none samples g top M r h = record {
   is = λ u. absurd (omega arith);
   ahead = λ u. absurd (omega arith);
@@ -356,7 +354,7 @@ leads-none samples g top M r h = record {
 }
 
 -- the bound of one block changes
-module _ {samples : List Float} {sh : Shape} {d : Word} {starts counts : List ℕ} {b top best r : ℕ} {met met′ kept kept′ : List ℕ}
+module _ {samples : List ℕ} {sh : Shape} {d : Word} {starts counts : List ℕ} {b top best r : ℕ} {met met′ kept kept′ : List ℕ}
     (f : Settled samples sh d starts counts b top best r met met′ kept kept′) where
   pub settled-as : {top′ : ℕ} → top ≡ top′ → Settled samples sh d starts counts b top′ best r met met′ kept kept′
   settled-as e = subst (λ t. Settled samples sh d starts counts b t best r met met′ kept kept′) e f

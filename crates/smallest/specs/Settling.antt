@@ -3,25 +3,24 @@ use mathlib.Core.Path.{_≡_}
 use mathlib.Core.Bool.{_&&_}
 use mathlib.Core.List.{List}
 use Prim.Native.Nat.{ℕ, _+_, _-_, _*_, _≤_, _<_}
-use lib.Ieee.{Float}
 use lib.ListN.{length, getD}
 use Rattle.bits.specs.Bits.{Word}
 use Rattle.layout.specs.declared.Shape.{Shape}
 use Rattle.bounds.specs.Reading.{hits}
 use Rattle.bounds.specs.Keeping.{bound, Ready, Scored}
-use Rattle.sizes.specs.Samples.{smaller}
+use Rattle.sizes.specs.Patterns.{smaller}
 use Rattle.raising.specs.Knowing.{Ahead, Knows, whole}
 
 -- Of the bits before bit `end`, those that have at least the score `top` have just that, and r is one of them and ahead of all; or there is
 -- none, and r is not the number of a sample.
-pub record Leads (samples : List Float) (g : ℕ → ℕ) (top end r : ℕ) : Type 0 where
+pub record Leads (samples : List ℕ) (g : ℕ → ℕ) (top end r : ℕ) : Type 0 where
   pub is : r < length samples → g r ≡ top
   pub ahead : r < length samples → (i : ℕ) → i < end → top ≤ g i → Ahead (smaller samples) r i
   pub none : length samples ≤ r → (i : ℕ) → i < end → g i < top
 
 -- Of the first `at` bits of a block, r is ahead of all that have at most `met` of their n checks met, and is one of them; or there is none,
 -- and r is not the number of a sample.
-pub record Lightest (samples : List Float) (d : Word) (starts : List ℕ) (from n met m first at r : ℕ) : Type 0 where
+pub record Lightest (samples : List ℕ) (d : Word) (starts : List ℕ) (from n met m first at r : ℕ) : Type 0 where
   pub inside : r < length samples → (first ≤ r) × (r < first + m) × (r < first + at)
   pub light : r < length samples → n ≤ hits d starts from n (r - first) + met
   pub ahead : r < length samples → (k : ℕ) → k < m → k < at → n ≤ hits d starts from n k + met → Ahead (smaller samples) r (first + k)
@@ -32,7 +31,7 @@ abbrev pub allSet : Word → ℕ → ℕ → ℕ → ℕ → Word
 allSet d a b c e i = ((d (a + i) && d (b + i)) && d (c + i)) && d (e + i)
 
 -- The search for bits of score `top` has come past block b, with r in place of `best`; only what is kept of that block has changed.
-pub record Settled (samples : List Float) (sh : Shape) (d : Word) (starts counts : List ℕ) (b top best r : ℕ)
+pub record Settled (samples : List ℕ) (sh : Shape) (d : Word) (starts counts : List ℕ) (b top best r : ℕ)
     (met met′ kept kept′ : List ℕ) : Type 0 where
   pub ready : Ready sh starts counts met′
   pub others : (j : ℕ) → (j ≡ b → ⊥) → getD met′ j 0 ≡ getD met j 0

@@ -9,7 +9,7 @@ ghost use Rattle.bits.specs.Bits.{digit};
 ghost use Rattle.vectors.specs.Vectors.{wbit, Holds};
 ghost use Rattle.bounds.specs.Reading.{hits};
 ghost use Rattle.bounds.specs.Keeping.{bound, Ready, Scored};
-ghost use Rattle.sizes.specs.Samples.{smaller, allFinite};
+ghost use Rattle.sizes.specs.Patterns.{smaller};
 ghost use Rattle.raising.specs.Knowing.{Within, Ahead, Knows, whole};
 ghost use Rattle.smallest.specs.Settling.{Leads, Lightest, Settled, allSet};
 use choice::Best;
@@ -19,8 +19,8 @@ use layout::STARTS;
 use layout::Shape;
 
 // The smallest of a bit, if it is one, and of the bits that are set in mask, which begins with bit `first`.
-fn among(samples: &[f32], mask: u64, first: usize, bit: usize) -> usize
-    requires { ⌜ (allFinite (now samples) ≡ true) × (bit < length (now samples) → bit < first)
+fn among(samples: &[u32], mask: u64, first: usize, bit: usize) -> usize
+    requires { ⌜ (bit < length (now samples) → bit < first)
         × ((i : ℕ) → i < 64 → digit 64 mask i ≡ true → first + i < length (now samples)) ⌝ }
     ensures { λ r. ⌜ (length (now (samples .entry)) ≤ r → (length (now (samples .entry)) ≤ bit)
         × ((i : ℕ) → i < 64 → digit 64 mask i ≡ false)) × (r < length (now (samples .entry))
@@ -39,7 +39,7 @@ fn among(samples: &[f32], mask: u64, first: usize, bit: usize) -> usize
 
 // The smallest bit of a block that has at most so many of its n checks met; if there is none, the number of samples.
 fn smallest_in(
-    samples: &[f32],
+    samples: &[u32],
     d: &[u64],
     starts: &[u16],
     from: usize,
@@ -48,7 +48,7 @@ fn smallest_in(
     m: usize,
     first: usize,
 ) -> usize
-    requires { ⌜ Within (now starts) (now d) from n m × (allFinite (now samples) ≡ true) × (first + m ≤ length (now samples))
+    requires { ⌜ Within (now starts) (now d) from n m × (first + m ≤ length (now samples))
         × (met ≤ n) ⌝ }
     ensures { λ r. ⌜ Lightest (now (samples .entry)) (wbit (now (d .entry))) (now (starts .entry)) from n met m first m r ⌝ }
 {
@@ -89,14 +89,14 @@ fn left(m: usize, at: usize) -> usize
 
 // The smallest bit of a block that has none of its four checks met; if there is none, the number of samples.
 fn smallest_none(
-    samples: &[f32],
+    samples: &[u32],
     d: &[u64],
     starts: &[u16],
     from: usize,
     m: usize,
     first: usize,
 ) -> usize
-    requires { ⌜ Within (now starts) (now d) from 4 m × (allFinite (now samples) ≡ true) × (first + m ≤ length (now samples)) ⌝ }
+    requires { ⌜ Within (now starts) (now d) from 4 m × (first + m ≤ length (now samples)) ⌝ }
     ensures { λ r. ⌜ Lightest (now (samples .entry)) (wbit (now (d .entry))) (now (starts .entry)) from 4 0 m first m r ⌝ }
 {
     let s0 = starts[from] as usize;
@@ -117,7 +117,7 @@ fn smallest_none(
 
 // The same as smallest_in; if it is for bits with none of four checks met, by the quicker way.
 fn smallest_light(
-    samples: &[f32],
+    samples: &[u32],
     d: &[u64],
     starts: &[u16],
     from: usize,
@@ -126,7 +126,7 @@ fn smallest_light(
     m: usize,
     first: usize,
 ) -> usize
-    requires { ⌜ Within (now starts) (now d) from n m × (allFinite (now samples) ≡ true) × (first + m ≤ length (now samples))
+    requires { ⌜ Within (now starts) (now d) from n m × (first + m ≤ length (now samples))
         × (met ≤ n) ⌝ }
     ensures { λ r. ⌜ Lightest (now (samples .entry)) (wbit (now (d .entry))) (now (starts .entry)) from n met m first m r ⌝ }
 {
@@ -137,8 +137,8 @@ fn smallest_light(
 }
 
 // The smaller of two bits of which the first may be none.
-fn lead(samples: &[f32], best: usize, bit: usize) -> usize
-    requires { ⌜ (allFinite (now samples) ≡ true) × (bit < length (now samples)) ⌝ }
+fn lead(samples: &[u32], best: usize, bit: usize) -> usize
+    requires { ⌜ (bit < length (now samples)) ⌝ }
     ensures { λ r. ⌜ ((r ≡ best) ⊎ (r ≡ bit)) × (r < length (now (samples .entry))) × Ahead (smaller (now (samples .entry))) r bit
         × (best < length (now (samples .entry)) → Ahead (smaller (now (samples .entry))) r best) ⌝ }
 {
@@ -151,7 +151,7 @@ fn lead(samples: &[f32], best: usize, bit: usize) -> usize
 // The smallest of the bits up to block b, from the one before it and the one that is known of the block; the number of samples if
 // the block is to be weighed for it.
 fn still(
-    samples: &[f32],
+    samples: &[u32],
     d: &[u64],
     starts: &[u16],
     from: usize,
@@ -161,7 +161,7 @@ fn still(
     bit: usize,
     best: usize,
 ) -> usize
-    requires { ⌜ Within (now starts) (now d) from n m × (allFinite (now samples) ≡ true) × (met ≤ n)
+    requires { ⌜ Within (now starts) (now d) from n m × (met ≤ n)
         × (1 ≤ m) ⌝ }
     ensures { λ r. ⌜ (r < length (now (samples .entry)) → (bit < length (now (samples .entry)))
         × Ahead (smaller (now (samples .entry))) r bit
@@ -185,7 +185,7 @@ fn still(
 // The smallest of a bit and of those of block b that have no more checks met than is kept of it. If there is none of these, one more
 // is met.
 fn weigh(
-    samples: &[f32],
+    samples: &[u32],
     d: &[u64; ROWS],
     starts: &[u16; STARTS],
     counts: &[u8; BLOCKS],
@@ -196,7 +196,7 @@ fn weigh(
     best: usize,
 ) -> usize
     requires { ⌜ Ready sh (now starts) (now counts) (now met) × (length (now kept) ≡ 16) × (length (now samples) ≡ sh .blocks * sh .size)
-        × (allFinite (now samples) ≡ true) × (b < sh .blocks) ⌝ }
+        × (b < sh .blocks) ⌝ }
     ensures { λ r. ⌜ Settled (now (samples .entry)) sh (wbit (now (d .entry))) (now (starts .entry)) (now (counts .entry)) b
         (bound (now (counts .entry)) (now (met .entry)) b) best r (now (met .entry)) (now (met .exit)) (now (kept .entry))
         (now (kept .exit)) ⌝ }
@@ -223,7 +223,7 @@ fn weigh(
 
 // The same, by the bit that is known of the block; the block is weighed only if that does not tell.
 fn at_bound(
-    samples: &[f32],
+    samples: &[u32],
     d: &[u64; ROWS],
     starts: &[u16; STARTS],
     counts: &[u8; BLOCKS],
@@ -234,7 +234,7 @@ fn at_bound(
     best: usize,
 ) -> usize
     requires { ⌜ Ready sh (now starts) (now counts) (now met) × (length (now samples) ≡ sh .blocks * sh .size)
-        × (allFinite (now samples) ≡ true) × (b < sh .blocks) ⌝ }
+        × (b < sh .blocks) ⌝ }
     ensures { λ r. ⌜ Settled (now (samples .entry)) sh (wbit (now (d .entry))) (now (starts .entry)) (now (counts .entry)) b
         (bound (now (counts .entry)) (now (met .entry)) b) best r (now (met .entry)) (now (met .exit)) (now (kept .entry))
         (now (kept .exit)) ⌝ }
@@ -258,7 +258,7 @@ fn at_bound(
 
 // The smallest of a bit and of those of block b that have the score `top`, where no bit of the block has a greater one.
 fn settle(
-    samples: &[f32],
+    samples: &[u32],
     d: &[u64; ROWS],
     starts: &[u16; STARTS],
     counts: &[u8; BLOCKS],
@@ -270,7 +270,7 @@ fn settle(
     best: usize,
 ) -> usize
     requires { ⌜ Ready sh (now starts) (now counts) (now met) × (length (now samples) ≡ sh .blocks * sh .size)
-        × (allFinite (now samples) ≡ true) × (b < sh .blocks) × (bound (now counts) (now met) b ≤ top) ⌝ }
+        × (b < sh .blocks) × (bound (now counts) (now met) b ≤ top) ⌝ }
     ensures { λ r. ⌜ Settled (now (samples .entry)) sh (wbit (now (d .entry))) (now (starts .entry)) (now (counts .entry)) b
         top best r (now (met .entry)) (now (met .exit)) (now (kept .entry)) (now (kept .exit)) ⌝ }
 {
@@ -282,7 +282,7 @@ fn settle(
 
 // The smallest bit of score `top`, where no bit has a greater one; if there is none, the number of samples.
 fn smallest_at(
-    samples: &[f32],
+    samples: &[u32],
     d: &[u64; ROWS],
     starts: &[u16; STARTS],
     counts: &[u8; BLOCKS],
@@ -292,7 +292,7 @@ fn smallest_at(
     top: u8,
 ) -> usize
     requires { ⌜ Ready sh (now starts) (now counts) (now met) × (length (now samples) ≡ sh .blocks * sh .size)
-        × (allFinite (now samples) ≡ true) × ((b : ℕ) → b < sh .blocks → bound (now counts) (now met) b ≤ top) ⌝ }
+        × ((b : ℕ) → b < sh .blocks → bound (now counts) (now met) b ≤ top) ⌝ }
     ensures { λ r. ⌜ Ready sh (now (starts .entry)) (now (counts .entry)) (now (met .exit))
         × (length (now (samples .entry)) ≤ r → (b : ℕ) → b < sh .blocks → bound (now (counts .entry)) (now (met .exit)) b < top)
         × (Knows (now (samples .entry)) sh (wbit (now (d .entry))) (now (starts .entry)) (now (counts .entry)) whole
@@ -313,7 +313,7 @@ fn smallest_at(
 
 // The smallest bit of the greatest score: the bounds go down until one is found.
 pub fn choose(
-    samples: &[f32],
+    samples: &[u32],
     d: &[u64; ROWS],
     starts: &[u16; STARTS],
     counts: &[u8; BLOCKS],
@@ -321,8 +321,7 @@ pub fn choose(
     kept: &mut [usize; BLOCKS],
     sh: Shape,
 ) -> Best
-    requires { ⌜ Ready sh (now starts) (now counts) (now met) × (1 ≤ sh .blocks) × (length (now samples) ≡ sh .blocks * sh .size)
-        × (allFinite (now samples) ≡ true) ⌝ }
+    requires { ⌜ Ready sh (now starts) (now counts) (now met) × (1 ≤ sh .blocks) × (length (now samples) ≡ sh .blocks * sh .size) ⌝ }
     ensures { λ r. ⌜ Ready sh (now (starts .entry)) (now (counts .entry)) (now (met .exit)) × (r .bit < sh .blocks * sh .size)
         × (Knows (now (samples .entry)) sh (wbit (now (d .entry))) (now (starts .entry)) (now (counts .entry)) whole
         (now (met .entry)) (now (kept .entry))

@@ -3,7 +3,7 @@ use mathlib.Core.Path.{_∙_}
 use Prim.Native.Nat.{_*_, _≤_, _<_}
 use native.Mathlib.Omega.{arith}
 use borrow.Author.Needs.{needs}
-use Rattle.sizes.specs.Samples.{smaller}
+use Rattle.sizes.specs.Patterns.{smaller}
 use Rattle.narrow.proofs.Blocks.{top-in, chosen}
 use Rattle.narrow.proofs.Peaks.{no-smaller, high-marks, weighed-from, smallest-from}
 use Rattle.narrow.proofs.best_of.Statement.{statement}

@@ -17,21 +17,21 @@ element-copy-out-n : tie.Need-element-copy-out-n
 element-copy-out-n c =
     let s : tie.Start = search in
     let a = s .args in
-    let hb : a .bit / a .sh .size < a .sh .blocks = div-lt-iff-lt-mul (s .pre .0 .some) .1 (s .pre .3) in
+    let hb : a .bit / a .sh .size < a .sh .blocks = div-lt-iff-lt-mul (s .pre .0 .some) .1 (s .pre .2) in
     omega (arith, s .pre .0 .counts-long, s .pre .0 .blocks)
 
 cast-n : tie.Need-cast-n
 cast-n c =
     let s : tie.Start = search in
     let a = s .args in
-    let hb : a .bit / a .sh .size < a .sh .blocks = div-lt-iff-lt-mul (s .pre .0 .some) .1 (s .pre .3) in
+    let hb : a .bit / a .sh .size < a .sh .blocks = div-lt-iff-lt-mul (s .pre .0 .some) .1 (s .pre .2) in
     omega (arith, s .pre .0 .low (a .bit / a .sh .size) hb)
 
 mul-flip-checks : tie.Need-mul-flip-checks
 mul-flip-checks c =
     let s : tie.Start = search in
     let a = s .args in
-    let hb : a .bit / a .sh .size < a .sh .blocks = div-lt-iff-lt-mul (s .pre .0 .some) .1 (s .pre .3) in
+    let hb : a .bit / a .sh .size < a .sh .blocks = div-lt-iff-lt-mul (s .pre .0 .some) .1 (s .pre .2) in
     omega (arith, s .pre .0 .blocks)
 
 flip-checks-requires : tie.Need-flip-checks-requires
@@ -40,7 +40,7 @@ flip-checks-requires c κs =
     let a = s .args in
     let r = s .pre .0 in
     let b = a .bit / a .sh .size in
-    let hb : b < a .sh .blocks = div-lt-iff-lt-mul (r .some) .1 (s .pre .3) in
+    let hb : b < a .sh .blocks = div-lt-iff-lt-mul (r .some) .1 (s .pre .2) in
     let hk : a .bit % a .sh .size < a .sh .size = mod-lt (a .bit) (r .some) in (
       r .some,
       omega (arith, r .held, r .words),
@@ -54,7 +54,7 @@ mul-raise : tie.Need-mul-raise
 mul-raise c =
     let s : tie.Start = search in
     let a = s .args in
-    let hb : a .bit / a .sh .size < a .sh .blocks = div-lt-iff-lt-mul (s .pre .0 .some) .1 (s .pre .3) in
+    let hb : a .bit / a .sh .size < a .sh .blocks = div-lt-iff-lt-mul (s .pre .0 .some) .1 (s .pre .2) in
     omega (arith, s .pre .0 .blocks)
 
 raise-requires : tie.Need-raise-requires
@@ -63,11 +63,10 @@ raise-requires c κs =
     let a = s .args in
     let r = s .pre .0 in
     let b = a .bit / a .sh .size in
-    let hb : b < a .sh .blocks = div-lt-iff-lt-mul (r .some) .1 (s .pre .3) in
+    let hb : b < a .sh .blocks = div-lt-iff-lt-mul (r .some) .1 (s .pre .2) in
     let hk : a .bit % a .sh .size < a .sh .size = mod-lt (a .bit) (r .some) in (
       r,
       s .pre .1,
-      s .pre .2,
       omega (arith, r .low b hb, r .starts-long, r .blocks),
       λ e h. (omega (arith, r .near b e hb h, r .held, r .words), r .inside b e (a .bit % a .sh .size) hb h hk),
     )
@@ -81,15 +80,15 @@ returns c =
     let t = after-flip-checks .flip-checks in (
       f .ensures .0,
       λ k h x lent g two. (
-        twice-flip (a .samples .now) (a .sh) (a .starts .now) (a .counts .now) (a .met .now) (a .kept .now) (s .pre .0) (a .bit) (s .pre .3)
+        twice-flip (a .samples .now) (a .sh) (a .starts .now) (a .counts .now) (a .met .now) (a .kept .now) (s .pre .0) (a .bit) (s .pre .2)
             (a .d .now) _ (t .ensures) k h x lent g two,
         λ was. knows-flip (a .samples .now) (a .sh) (a .starts .now) (a .counts .now) (a .met .now) (a .kept .now) (s .pre .0) (a .bit)
-            (s .pre .3) (a .d .now) _ (t .ensures) k h x lent g two
+            (s .pre .2) (a .d .now) _ (t .ensures) k h x lent g two
             (f .ensures .1 (lowered (a .samples .now) (a .sh) (a .starts .now) (a .counts .now) (a .met .now) (a .kept .now) (s .pre .0)
             (a .bit)
-            (s .pre .3) (a .d .now) _ (t .ensures) k h x lent g two)
+            (s .pre .2) (a .d .now) _ (t .ensures) k h x lent g two)
             (knows-lowered (a .samples .now) (a .sh) (a .starts .now) (a .counts .now) (a .met .now) (a .kept .now) (s .pre .0) (a .bit)
-            (s .pre .3) (a .d .now) _ (t .ensures) k h x lent g two was)),
+            (s .pre .2) (a .d .now) _ (t .ensures) k h x lent g two was)),
       ),
     )
 

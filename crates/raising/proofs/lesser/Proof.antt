@@ -1,8 +1,8 @@
 -- `raising::lesser`: the later one only if it is smaller. Assumes nothing.
 use native.Mathlib.Omega.{arith}
 use lib.ListN.{length}
-use Rattle.sizes.specs.Samples.{smaller}
-use Rattle.sizes.proofs.Orders.{finite-ordered}
+use Rattle.sizes.specs.Patterns.{smaller}
+use Rattle.sizes.proofs.Patterns.{ordered}
 use Rattle.raising.proofs.Orders.{later, swapped}
 use borrow.Author.Needs.{needs}
 use Rattle.raising.proofs.lesser.Statement.{statement}
@@ -15,9 +15,10 @@ returns : tie.Need-returns
 returns c =
     let s = c .before .before .before in
     let a = s .args in
-    later (smaller (a .samples .now)) (length (a .samples .now)) (finite-ordered (a .samples .now) (s .pre .0)) (a .a) (a .b) (c .smaller
+    let x = a .samples .now in
+    later (smaller x) (length x) (ordered x (length x)) (a .a) (a .b) (c .smaller
     .result)
-    (s .pre .1) (s .pre .2) (omega arith) (c .smaller .ensures)
+    (s .pre .0) (s .pre .1) (omega arith) (c .smaller .ensures)
 
 smaller-requires-2 : tie.Need-smaller-requires-2
 smaller-requires-2 c κs = search needs
@@ -26,8 +27,9 @@ returns-2 : tie.Need-returns-2
 returns-2 c =
     let s = c .before .before .before in
     let a = s .args in
-    let p = later (smaller (a .samples .now)) (length (a .samples .now)) (finite-ordered (a .samples .now) (s .pre .0)) (a .b) (a .a)
-    (c .smaller2 .result) (s .pre .2) (s .pre .1) (omega arith) (c .smaller2 .ensures) in
+    let x = a .samples .now in
+    let p = later (smaller x) (length x) (ordered x (length x)) (a .b) (a .a)
+    (c .smaller2 .result) (s .pre .1) (s .pre .0) (omega arith) (c .smaller2 .ensures) in
     (swapped (p .0), p .2, p .1)
 
 pub lesser-spec : {M : Type 1} → statement M

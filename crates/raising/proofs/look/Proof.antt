@@ -12,7 +12,7 @@ returns : tie.Need-returns
 returns c =
     let s : tie.Start = search in
     let a = s .args in (
-      s .pre .3,
+      s .pre .2,
       λ seen was. look-past (a .samples .now) (wbit (a .d .now)) (a .starts .now) (a .from) (a .n) (a .m) (a .first) seen (a .low .met)
           (a .low .bit) was (a .k) (c .if1 .taken),
     )
@@ -27,11 +27,10 @@ meet-requires : tie.Need-meet-requires
 meet-requires c κs =
     let s : tie.Start = search in
     let a = s .args in (
-      s .pre .1,
-      omega (arith, s .pre .2, c .before .if1 .left),
+      omega (arith, s .pre .1, c .before .if1 .left),
       s .pre .0 .few,
       omega (arith, c .broken-of .ensures, count-le (a .n) (λ e. wbit (a .d .now) (getD (a .starts .now) (a .from + e) 0 + a .k))),
-      s .pre .3,
+      s .pre .2,
     )
 
 returns-2 : tie.Need-returns-2
@@ -40,7 +39,7 @@ returns-2 c =
     let a = s .args in
     let f = c .meet .ensures in (
       f .0,
-      λ seen was. f .1 (wbit (a .d .now)) (a .starts .now) (a .from) (a .m) seen (omega (arith, c .before .before .if1 .left)) (s .pre .2)
+      λ seen was. f .1 (wbit (a .d .now)) (a .starts .now) (a .from) (a .m) seen (omega (arith, c .before .before .if1 .left)) (s .pre .1)
           (c .before .broken-of .ensures) was,
     )
 

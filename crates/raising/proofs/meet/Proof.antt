@@ -27,7 +27,7 @@ returns c =
       λ d starts from m seen l room is was.
           subst (λ z. Known (a .samples .now) d starts from (a .n) m (a .first) (λ j. seen j || eqb j (a .k)) (a .n - z)
           (a .first + a .k)) (sym is)
-          (look-lower (a .samples .now) d starts from (a .n) m (a .first) seen (a .met) (a .known) was (a .k) (s .pre .0) l room
+          (look-lower (a .samples .now) d starts from (a .n) m (a .first) seen (a .met) (a .known) was (a .k) l room
           (omega (arith, is, c .if1 .taken))),
     )
 
@@ -38,7 +38,7 @@ returns-2 : tie.Need-returns-2
 returns-2 c =
     let s : tie.Start = search in
     let a = s .args in (
-      s .pre .4,
+      s .pre .3,
       λ d starts from m seen l room is was. look-higher (a .samples .now) d starts from (a .n) m (a .first) seen (a .met)
           (a .known) was (a .k) (omega (arith, is, c .if2 .taken)),
     )
@@ -47,10 +47,10 @@ returns-3 : tie.Need-returns-3
 returns-3 c =
     let s : tie.Start = search in
     let a = s .args in (
-      s .pre .4,
+      s .pre .3,
       λ d starts from m seen l room is was. look-equal (a .samples .now) d starts from (a .n) m (a .first) seen (a .met)
           (a .known) was (a .k) (a .known) (omega (arith, is, c .before .if2 .left, c .before .before .if1 .left))
-          (λ u. absurd (omega (arith, c .if3 .taken))) (s .pre .0) room,
+          (λ u. absurd (omega (arith, c .if3 .taken))) room,
     )
 
 add-lesser : tie.Need-add-lesser
@@ -65,7 +65,7 @@ returns-4 c =
     let a = s .args in
     let f = c .lesser in
     let here = c .before .if3 .left in (
-      s .pre .4,
+      s .pre .3,
       λ d starts from m seen l room is was. look-equal (a .samples .now) d starts from (a .n) m (a .first) seen (a .met)
           (a .known) was (a .k) (f .result)
           (omega (arith, is, c .before .before .if2 .left, c .before .before .before .if1 .left))
@@ -74,7 +74,7 @@ returns-4 c =
             one-inside (a .first) m (f .result) (a .known) (a .k) (f .ensures .0) (was .inside here) l,
             f .ensures .1,
             f .ensures .2,
-          )) (s .pre .0) room,
+          )) room,
     )
 
 pub meet-spec : {M : Type 1} → statement M

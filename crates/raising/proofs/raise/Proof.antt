@@ -33,42 +33,42 @@ loop-holds c =
 add-raise-check : tie.Need-add-raise-check Inv-loop μ-loop
 add-raise-check c =
     let s : tie.Start Inv-loop μ-loop = search in
-    omega (arith, s .pre .3, s .pre .0 .starts-long)
+    omega (arith, s .pre .2, s .pre .0 .starts-long)
 
 mul-raise-check : tie.Need-mul-raise-check Inv-loop μ-loop
 mul-raise-check c =
     let s : tie.Start Inv-loop μ-loop = search in
-    omega (arith, s .pre .3, s .pre .0 .starts-long)
+    omega (arith, s .pre .2, s .pre .0 .starts-long)
 
 element-copy-out-raise-check : tie.Need-element-copy-out-raise-check Inv-loop μ-loop
 element-copy-out-raise-check c =
     let s : tie.Start Inv-loop μ-loop = search in
-    omega (arith, s .pre .3, s .pre .0 .starts-long)
+    omega (arith, s .pre .2, s .pre .0 .starts-long)
 
 cast-raise-check : tie.Need-cast-raise-check Inv-loop μ-loop
 cast-raise-check c =
     let s : tie.Start Inv-loop μ-loop = search in
     let at-loop : tie.At-loop Inv-loop μ-loop = search in
-    omega (arith, s .pre .4 (at-loop .loop .e) (omega arith) .0)
+    omega (arith, s .pre .3 (at-loop .loop .e) (omega arith) .0)
 
 add-raise-check-2 : tie.Need-add-raise-check-2 Inv-loop μ-loop
 add-raise-check-2 c =
     let s : tie.Start Inv-loop μ-loop = search in
     let at-loop : tie.At-loop Inv-loop μ-loop = search in
-    omega (arith, s .pre .4 (at-loop .loop .e) (omega arith) .0)
+    omega (arith, s .pre .3 (at-loop .loop .e) (omega arith) .0)
 
 raise-check-requires : tie.Need-raise-check-requires Inv-loop μ-loop
 raise-check-requires c κs =
     let s : tie.Start Inv-loop μ-loop = search in
     let at-loop : tie.At-loop Inv-loop μ-loop = search in
     let l = at-loop .loop in
-    let near = s .pre .4 (l .e) (omega arith) in
-    (l .inv .1, s .pre .1, s .pre .2, near .0, near .1)
+    let near = s .pre .3 (l .e) (omega arith) in
+    (l .inv .1, s .pre .1, near .0, near .1)
 
 add-e : tie.Need-add-e Inv-loop μ-loop
 add-e c =
     let s : tie.Start Inv-loop μ-loop = search in
-    omega (arith, s .pre .3, s .pre .0 .starts-long)
+    omega (arith, s .pre .2, s .pre .0 .starts-long)
 
 loop-less : tie.Need-loop-less Inv-loop μ-loop
 loop-less c = omega arith

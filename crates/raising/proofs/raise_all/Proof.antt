@@ -35,7 +35,7 @@ raise-block-requires : tie.Need-raise-block-requires Inv-loop μ-loop
 raise-block-requires c κs =
     let s : tie.Start Inv-loop μ-loop = search in
     let l = c .before .before .before .before .loop in
-    (l .inv .1, search needs, s .pre .1, s .pre .2, s .pre .3, c .before .before .if1 .taken)
+    (l .inv .1, search needs, s .pre .1, s .pre .2, c .before .before .if1 .taken)
 
 add-b : tie.Need-add-b Inv-loop μ-loop
 add-b c =

@@ -29,18 +29,17 @@ mul-raise-in-3 : tie.Need-mul-raise-in-3
 mul-raise-in-3 c =
     let s : tie.Start = search in
     let a = s .args in
-    omega (arith, s .pre .2, block-room (a .b) (a .sh .blocks) (a .sh .size) (s .pre .5))
+    omega (arith, s .pre .2, block-room (a .b) (a .sh .blocks) (a .sh .size) (s .pre .4))
 
 raise-in-requires : tie.Need-raise-in-requires
 raise-in-requires c κs =
     let s : tie.Start = search in
     let a = s .args in
     let r = s .pre .0 in (
-      block-within (a .sh) (a .starts .now) (a .counts .now) (a .met .now) r (a .b) (s .pre .5) (a .d .now) (search needs),
+      block-within (a .sh) (a .starts .now) (a .counts .now) (a .met .now) r (a .b) (s .pre .4) (a .d .now) (search needs),
+      omega (arith, s .pre .2, block-room (a .b) (a .sh .blocks) (a .sh .size) (s .pre .4)),
+      r .few (a .b) (s .pre .4),
       s .pre .3,
-      omega (arith, s .pre .2, block-room (a .b) (a .sh .blocks) (a .sh .size) (s .pre .5)),
-      r .few (a .b) (s .pre .5),
-      s .pre .4,
     )
 
 slice-write-met : tie.Need-slice-write-met
@@ -65,7 +64,7 @@ returns c =
     let f = c .raise-in in
     let r = s .pre .0 in
     let b = a .b in
-    let hb = s .pre .5 in (
+    let hb = s .pre .4 in (
       ready-set (a .sh) (a .starts .now) (a .counts .now) (a .met .now) r b hb (f .result .met) (f .ensures .0),
       λ seen seen′ here other was. knows-set (a .samples .now) (a .sh) (wbit (a .d .now)) (a .starts .now) (a .counts .now) (a .met .now)
           (a .kept .now) b (f .result .met) (f .result .bit) (omega (arith, r .met-long, r .blocks))

@@ -23,7 +23,7 @@ loop-holds c =
     let s = c .before .before .before in
     let a = s .args in (
       omega arith,
-      s .pre .3,
+      s .pre .2,
       λ seen was. known-fewer (a .samples .now) (wbit (a .d .now)) (a .starts .now) (a .from) (a .n) (a .m) (a .first) seen _ (a .low .met)
           (a .low .bit) (λ k l t. seen-only (seen k) _ (covered-none (a .starts .now) (a .from) (a .m) (a .p) k) t) was,
     )
@@ -47,7 +47,7 @@ cast-bit-at c = let w = c .before .before .before .before .before .before .pre .
 
 bit-at-requires : tie.Need-bit-at-requires Inv-loop μ-loop
 bit-at-requires c κs = (
-  c .before .before .before .before .before .before .pre .4,
+  c .before .before .before .before .before .before .pre .3,
   c .before .before .before .before .before .before .pre
       .0 .size,
 )
@@ -56,7 +56,6 @@ look-requires : tie.Need-look-requires Inv-loop μ-loop
 look-requires c κs = let s = c .before .before .before .before .before .before .before in (
   s .pre .0,
   s .pre .1,
-  s .pre .2,
   c .before
       .before .before .loop .inv .1,
 )

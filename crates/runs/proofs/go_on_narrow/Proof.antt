@@ -8,7 +8,7 @@ use Rattle.rules.specs.Codes.{Code}
 use Rattle.rules.specs.Checks.{broken}
 use Rattle.vectors.specs.Vectors.{wbit}
 use Rattle.layout.specs.Lent.{Lent, laid}
-use Rattle.sizes.specs.Samples.{smaller}
+use Rattle.sizes.specs.Patterns.{smaller}
 use Rattle.sizes.specs.Sizes.{bySize}
 use Rattle.runs.specs.Passes.{Going, CarriedNarrow}
 use Rattle.runs.proofs.Passing.{going-start, ends-quiet, ends-stuck, ends-limit, goes-on, some-sent, carried-narrow, runs-as}

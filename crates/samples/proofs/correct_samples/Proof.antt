@@ -26,8 +26,8 @@ returns c =
     ∙ sym (samples-refused (a .code) (a .samples .now) (a .limit) (a .out .now) _
     (samples-refusal (a .code) (f .before .of .ensures) _ _ (f .refusal .ensures)) (c .before .if1 .taken))
 
-correct-taken-requires : tie.Need-correct-taken-requires
-correct-taken-requires c κs =
+correct-loaded-requires : tie.Need-correct-loaded-requires
+correct-loaded-requires c κs =
     let s : tie.Start = search in
     let f : tie.After-refusal = search in
     let o = f .before .of in
@@ -47,7 +47,7 @@ returns-2 c =
     let a = s .args in
     let t = taken (a .code) (o .ensures) (o .result .steps) (steps-offered (a .code) (o .ensures)) (length (a .samples .now))
     (o .result .bits) (length (a .out .now)) (o .result .word) (f .refusal .ensures) (else1 .if1 .left) in
-    c .before .before .correct-taken .ensures (a .code) (t .offers) (o .ensures)
+    c .before .before .correct-loaded .ensures (a .code) (t .offers) (o .ensures)
 
 pub correct-samples-spec : {M : Type 1} → statement M
 correct-samples-spec =
@@ -57,6 +57,6 @@ correct-samples-spec =
     refusal-requires
     refused-correct-requires
     returns
-    correct-taken-requires
+    correct-loaded-requires
     same-length
     returns-2)

@@ -5,7 +5,7 @@ use Prim.Native.Nat.{ℕ, suc, _+_, _-_, _≤_, _<_}
 use native.Mathlib.Omega.{arith}
 use Rattle.bits.specs.Bits.{digit, below}
 use Rattle.vectors.specs.Vectors.{upTo, from}
-use Rattle.sizes.specs.Samples.{read, sampleOf, isFinite}
+use Rattle.sizes.specs.Patterns.{read, patternOf, isFinite}
 use Rattle.sizes.proofs.Reading.{marked-more, marked-none}
 use borrow.Author.Needs.{needs}
 use Rattle.sizes.proofs.half.Statement.{statement}
@@ -14,7 +14,7 @@ use Rattle.sizes.proofs.half.Tie as tie
 abbrev Inv-loop : tie.InvT-loop
 Inv-loop samples at n bits₀ finite₀ i₀ bits finite i =
     (i ≤ n) × ((j : ℕ) → j < 32 → digit 32 bits j ≡ upTo i (from at (read samples)) j)
-    × (finite ≡ below i (λ j. isFinite (sampleOf samples (at + j))))
+    × (finite ≡ below i (λ j. isFinite (patternOf samples (at + j))))
 
 abbrev μ-loop : tie.MeasureT-loop
 μ-loop samples at n bits₀ finite₀ i₀ bits finite i = n - i
@@ -66,7 +66,7 @@ loop-again c =
       omega arith,
       marked-more x (l .bits) (l .i) (c .before .before .mark .result) (omega arith) (l .inv .1)
           (unfold read in c .before .before .mark .ensures),
-      ap₂ (λ p q. p && q) (c .is-finite .ensures) (l .inv .2) ∙ ap (λ k. below k (λ j. isFinite (sampleOf (a .samples .now) (a .at + j))))
+      ap₂ (λ p q. p && q) (c .is-finite .ensures) (l .inv .2) ∙ ap (λ k. below k (λ j. isFinite (patternOf (a .samples .now) (a .at + j))))
           (sym one),
     )
 
@@ -76,7 +76,7 @@ returns c =
     let a = c .before .before .before .args in
     let e : l .i ≡ a .n = omega arith in (
       λ j h. l .inv .1 j h ∙ ap (λ k. upTo k (from (a .at) (read (a .samples .now))) j) e,
-      l .inv .2 ∙ ap (λ k. below k (λ j. isFinite (sampleOf (a .samples .now) (a .at + j)))) e,
+      l .inv .2 ∙ ap (λ k. below k (λ j. isFinite (patternOf (a .samples .now) (a .at + j)))) e,
     )
 
 pub half-spec : {M : Type 1} → statement M

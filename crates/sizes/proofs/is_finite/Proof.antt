@@ -1,15 +1,17 @@
--- `sizes::is_finite`: below the one infinity and above the other. Assumes nothing.
-use lib.Ieee.{nanBits}
-use Rattle.sizes.proofs.Reading.{finite-between}
+-- `sizes::is_finite`: the exponent's field. Assumes nothing.
+use mathlib.Core.Path.{ap}
+use mathlib.Core.Bool.{not}
+use Prim.Native.Nat.{_/_}
+use lib.Dec.{eqb}
+use borrow.Author.Needs.{needs}
 use Rattle.sizes.proofs.is_finite.Statement.{statement}
 use Rattle.sizes.proofs.is_finite.Tie as tie
 
-float-from-bits-top : tie.Need-float-from-bits-top
-unfolding nanBits
-float-from-bits-top c = tt
+unsigned-requires : tie.Need-unsigned-requires
+unsigned-requires c κs = search needs
 
 returns : tie.Need-returns
-returns c = finite-between (c .args .s)
+returns c = ap (λ u. not (eqb (u / 0x80_0000) 255)) (c .unsigned .ensures)
 
 pub is-finite-spec : {M : Type 1} → statement M
-is-finite-spec = tie.close (tie.spec float-from-bits-top returns)
+is-finite-spec = tie.close (tie.spec unsigned-requires returns)

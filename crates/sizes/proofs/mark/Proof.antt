@@ -7,6 +7,9 @@ use Rattle.sizes.proofs.Reading.{raised}
 use Rattle.sizes.proofs.mark.Statement.{statement}
 use Rattle.sizes.proofs.mark.Tie as tie
 
+is-one-requires : tie.Need-is-one-requires
+is-one-requires c κs = search needs
+
 cast-result : tie.Need-cast-result
 cast-result c = search needs
 
@@ -14,10 +17,15 @@ shl-result : tie.Need-shl-result
 shl-result c = search needs
 
 returns : tie.Need-returns
-returns c = raised (c .before .args .place) (c .before .pre) ∙ sym (ap (λ b. if b then 2 ^ (c .before .args .place) else 0) (c .if1 .taken))
+returns c =
+    let s : tie.Start = search in
+    let place = s .args .place in
+    raised place (s .pre) ∙ sym (ap (λ b. if b then 2 ^ place else 0) (sym (c .before .is-one .ensures) ∙ c .if1 .taken))
 
 returns-2 : tie.Need-returns-2
-returns-2 c = sym (ap (λ b. if b then 2 ^ (c .before .args .place) else 0) (c .if1 .left))
+returns-2 c =
+    let s : tie.Start = search in
+    sym (ap (λ b. if b then 2 ^ (s .args .place) else 0) (sym (c .before .is-one .ensures) ∙ c .if1 .left))
 
 pub mark-spec : {M : Type 1} → statement M
-mark-spec = tie.close (tie.spec cast-result shl-result returns returns-2)
+mark-spec = tie.close (tie.spec is-one-requires cast-result shl-result returns returns-2)

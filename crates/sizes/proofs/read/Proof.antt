@@ -8,8 +8,8 @@ use Rattle.bits.specs.Bits.{below}
 use Rattle.vectors.specs.Vectors.{wbit}
 use Rattle.vectors.proofs.Cells.{joined-end}
 use Rattle.vectors.proofs.Filling.{word-stored}
-use Rattle.sizes.specs.Samples.{read, sampleOf, isFinite, allFinite}
-use Rattle.sizes.proofs.Orders.{past-read}
+use Rattle.sizes.specs.Patterns.{read, patternOf, isFinite, allFinite}
+use Rattle.sizes.proofs.Patterns.{past-read}
 use Rattle.sizes.proofs.Reading.{rest-held, below-more}
 use borrow.Author.Needs.{needs}
 use Rattle.sizes.proofs.read.Statement.{statement}
@@ -43,7 +43,7 @@ returns c =
     let n = length (a .samples .now) % 64 in
     let r = c .before .before .before .before .read-whole in
     let w = c .before .word in
-    let g : ℕ → _ = λ i. isFinite (sampleOf (a .samples .now) i) in
+    let g : ℕ → _ = λ i. isFinite (patternOf (a .samples .now) i) in
     let all : 64 * k + n ≡ length (a .samples .now) = omega arith in (
       word-stored (r .last .1 .0) k x (wbit (a .y .now)) (r .ensures .0) (w .result .bits) (omega arith)
           (rest-held x (64 * k) n (w .result .bits) (λ i h. past-read (a .samples .now) i (omega (arith, all))) (w .ensures .0))

@@ -7,14 +7,14 @@ use lib.ListN.{length}
 use Rattle.bits.specs.Bits.{below}
 use Rattle.vectors.specs.Vectors.{wbit, joined}
 use Rattle.vectors.proofs.Filling.{Filled, filled-start, filled-more}
-use Rattle.sizes.specs.Samples.{read, sampleOf, isFinite}
+use Rattle.sizes.specs.Patterns.{read, patternOf, isFinite}
 use Rattle.sizes.proofs.Reading.{below-more, all-held}
 use Rattle.sizes.proofs.read_whole.Statement.{statement}
 use Rattle.sizes.proofs.read_whole.Tie as tie
 
 abbrev Inv-loop : tie.InvT-loop
 Inv-loop samples y₀ whole finite₀ k₀ y finite k =
-    (k ≤ length samples / 64) × Filled y₀ (read samples) y k × (finite ≡ below (64 * k) (λ i. isFinite (sampleOf samples i)))
+    (k ≤ length samples / 64) × Filled y₀ (read samples) y k × (finite ≡ below (64 * k) (λ i. isFinite (patternOf samples i)))
 
 abbrev μ-loop : tie.MeasureT-loop
 μ-loop samples y₀ whole finite₀ k₀ y finite k = whole - k
@@ -48,7 +48,7 @@ loop-again c =
     let l = c .before .before .before .loop in
     let w = c .before .word in
     let x = read (a .samples .now) in
-    let g : ℕ → _ = λ i. isFinite (sampleOf (a .samples .now) i) in
+    let g : ℕ → _ = λ i. isFinite (patternOf (a .samples .now) i) in
     let n : 64 * (l .k + 1) ≡ 64 * l .k + 64 = omega arith in (
       omega arith,
       filled-more (a .y .now) x (l .y) (l .k) (l .inv .1) (w .result .bits) (omega arith)
@@ -65,7 +65,7 @@ returns c =
     let l = c .before .loop in
     let all : l .k ≡ length (a .samples .now) / 64 = omega arith in (
       l .inv .1 .bits ∙ ap (λ m. joined (64 * m) (read (a .samples .now)) (wbit (a .y .now))) all,
-      l .inv .2 ∙ ap (λ m. below (64 * m) (λ i. isFinite (sampleOf (a .samples .now) i))) all,
+      l .inv .2 ∙ ap (λ m. below (64 * m) (λ i. isFinite (patternOf (a .samples .now) i))) all,
     )
 
 pub read-whole-spec : {M : Type 1} → statement M

@@ -7,7 +7,7 @@ use native.Mathlib.Omega.{arith}
 use lib.Count.{leadingZeros}
 use lib.ListN.{length}
 use Rattle.bits.specs.Bits.{digit}
-use Rattle.sizes.specs.Samples.{smaller}
+use Rattle.sizes.specs.Patterns.{smaller}
 use Rattle.sizes.specs.Sizes.{smallest}
 use Rattle.sizes.proofs.Masks.{marks, masked, masked-none, masked-more, left-less, left-set, smaller-in}
 use borrow.Author.Needs.{needs}

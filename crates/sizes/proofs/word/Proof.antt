@@ -5,7 +5,7 @@ use Prim.Native.Nat.{ℕ, _+_, _-_}
 use native.Mathlib.Nat.{add-assoc}
 use native.Mathlib.Omega.{arith}
 use Rattle.bits.specs.Bits.{below}
-use Rattle.sizes.specs.Samples.{read, sampleOf, isFinite}
+use Rattle.sizes.specs.Patterns.{read, patternOf, isFinite}
 use Rattle.sizes.proofs.Reading.{two-halves, below-more}
 use borrow.Author.Needs.{needs}
 use Rattle.sizes.proofs.word.Statement.{statement}
@@ -41,12 +41,12 @@ returns c =
     let m = f .front .result in
     let e = f .front .ensures in
     let n : m + (a .n - m) ≡ a .n = omega (arith, e .1) in
-    let g : ℕ → _ = λ i. isFinite (sampleOf (a .samples .now) (a .at + i)) in (
+    let g : ℕ → _ = λ i. isFinite (patternOf (a .samples .now) (a .at + i)) in (
       two-halves (read (a .samples .now)) (a .at) m (a .n) (u .result .bits) (v .result .bits) (e .0) (e .3)
           (c .before .before .before .before .before .before .before .before .pre .0) (e .1) (search needs)
           (u .ensures .0) (v .ensures .0),
       ap₂ (λ p q. p && q) (v .ensures .1
-          ∙ ap (below (a .n - m)) (fun-ext (λ i. ap (λ k. isFinite (sampleOf (a .samples .now) k)) (add-assoc (a .at) m i))))
+          ∙ ap (below (a .n - m)) (fun-ext (λ i. ap (λ k. isFinite (patternOf (a .samples .now) k)) (add-assoc (a .at) m i))))
           (u .ensures .1)
           ∙ sym (below-more m (a .n - m) g) ∙ ap (λ k. below k g) n,
     )

@@ -2,7 +2,7 @@
 use mathlib.Core.Path.{refl}
 use native.Mathlib.Omega.{arith}
 use Rattle.runs.proofs.Passing.{ends-stuck, ends-limit, goes-on}
-use Rattle.sizes.specs.Samples.{smaller}
+use Rattle.sizes.specs.Patterns.{smaller}
 use Rattle.sizes.specs.Sizes.{bySize}
 use Rattle.sizing.proofs.Sized.{sized-stuck, sized-flip, sized-left}
 use Rattle.sizing.proofs.Passes.{chosen-most, chosen-leads, chosen-stands}
@@ -56,7 +56,7 @@ returns-2 c =
           bit top (f .ensures .2) in
           let leads = chosen-leads k h (a .sh) lent fit (a .starts .now) (a .counts .now) g x y (a .d .now) (a .met .now) (a .kept .now) was
           bit top (f .ensures .2) in
-          let next = sized-flip x lent u y bit top (f .ensures .1) (s .pre .2) most leads (s .pre .3) some (c .before .if1 .left) in (
+          let next = sized-flip x lent u y bit top (f .ensures .1) (s .pre .2) most leads some (c .before .if1 .left) in (
             chosen-stands k h (a .sh) lent fit (a .starts .now) (a .counts .now) g x y (a .d .now) (a .met .now) (a .kept .now) was bit top
                 (f .ensures .2),
             record {
@@ -88,7 +88,7 @@ returns-3 c =
           bit top (f .ensures .2) in
           let leads = chosen-leads k h (a .sh) lent fit (a .starts .now) (a .counts .now) g x y (a .d .now) (a .met .now) (a .kept .now) was
           bit top (f .ensures .2) in
-          let next = sized-flip x lent u y bit top (f .ensures .1) (s .pre .2) most leads (s .pre .3) some high in (
+          let next = sized-flip x lent u y bit top (f .ensures .1) (s .pre .2) most leads some high in (
             chosen-stands k h (a .sh) lent fit (a .starts .now) (a .counts .now) g x y (a .d .now) (a .met .now) (a .kept .now) was bit top
                 (f .ensures .2),
             record {

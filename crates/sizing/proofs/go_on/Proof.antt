@@ -10,7 +10,7 @@ use Rattle.vectors.specs.Vectors.{wbit}
 use Rattle.layout.specs.Lent.{Lent, laid}
 use Rattle.bounds.specs.Keeping.{Ready}
 use Rattle.runs.proofs.Passing.{going-start}
-use Rattle.sizes.specs.Samples.{read, smaller}
+use Rattle.sizes.specs.Patterns.{read, smaller}
 use Rattle.sizes.specs.Sizes.{bySize}
 use Rattle.sizing.specs.Passing.{Stands, Coming}
 use Rattle.sizing.proofs.Passes.{pass-ends, comes-quiet}
@@ -40,7 +40,7 @@ loop-holds c =
             (laid k (a .sh) (wbit (a .y .now))) refl;
         left-is = e;
         stands = λ l. w;
-        differs = sym (ap (differing k (read (a .samples .now))) (s .pre .6) ∙ differ-self k (read (a .samples .now)));
+        differs = sym (ap (differing k (read (a .samples .now))) (s .pre .5) ∙ differ-self k (read (a .samples .now)));
       },
     )
 
@@ -49,14 +49,13 @@ go-once-requires c κs =
     let s : tie.Start Inv-loop μ-loop = search in
     let in-loop : tie.In-loop Inv-loop μ-loop = search in
     let l = in-loop .before .loop in
-    let w = s .pre .7 in
+    let w = s .pre .6 in
     let i = l .inv .4 (w .code) (w .lent) (w .unsent) (w .left-is) (w .stands) in (
       s .pre .0,
       s .pre .1,
       l .inv .3,
       s .pre .3,
       s .pre .4,
-      s .pre .5,
       omega (arith, l .inv .0, l .inv .1, l .inv .2),
       in-loop .loop-test .taken,
       record {
@@ -78,7 +77,7 @@ returns c k lent u eq w =
     let a = s .args in
     let e = c .at-end .ensures in
     let p = c .before .before .before .go-once .ensures .3 k (wbit (a .y .now)) lent u (at-loop .loop .inv .4 k lent u eq w) in
-    pass-ends p (c .before .if1 .taken) (s .pre .6) (c .at-end .result) (e .0) (e .1) (e .2) (e .3)
+    pass-ends p (c .before .if1 .taken) (s .pre .5) (c .at-end .result) (e .0) (e .1) (e .2) (e .3)
 
 add-flips : tie.Need-add-flips Inv-loop μ-loop
 add-flips c =
@@ -108,7 +107,7 @@ returns-2 : tie.Need-returns-2 Inv-loop μ-loop
 returns-2 c k lent u eq w =
     let s : tie.Start Inv-loop μ-loop = search in
     let e = c .at-end2 .ensures in
-    comes-quiet (c .before .before .loop .inv .4 k lent u eq w) (c .before .loop-test .left) (s .pre .6) (c .at-end2 .result) (e .0) (e .1)
+    comes-quiet (c .before .before .loop .inv .4 k lent u eq w) (c .before .loop-test .left) (s .pre .5) (c .at-end2 .result) (e .0) (e .1)
     (e .2) (e .3)
 
 pub go-on-spec : {M : Type 1} → statement M

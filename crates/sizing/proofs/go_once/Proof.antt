@@ -20,7 +20,7 @@ returns c =
       omega arith,
       λ k x lent u i.
           let next = n .ensures .3 k (a .h .now) (wbit (a .y .now)) lent u (s .pre .0) (s .pre .1)
-          (λ z. omega (arith, z, i .left-is, s .pre .7)) (i .stands (s .pre .7)) .1 in
+          (λ z. omega (arith, z, i .left-is, s .pre .6)) (i .stands (s .pre .6)) .1 in
           record {
             goes = λ z. absurd (end z);
             ends = λ e. next .ends end x (i .going);
@@ -35,16 +35,15 @@ pass-requires c κs =
     let a = s .args in
     let else1 : tie.Else1 = search in
     let n = else1 .before .before .comes-next in
-    let w = s .pre .8 in
+    let w = s .pre .7 in
     let next = n .ensures .3 (w .code) (a .h .now) (wbit (a .y .now)) (w .lent) (w .unsent) (s .pre .0) (s .pre .1)
-    (λ z. omega (arith, z, w .left-is, s .pre .7)) (w .stands) .1 in (
+    (λ z. omega (arith, z, w .left-is, s .pre .6)) (w .stands) .1 in (
       n .ensures .0,
       s .pre .4,
       omega (arith, s .pre .4, s .pre .0 .bits),
-      s .pre .5,
       omega (arith, s .pre .4, n .ensures .1),
       omega (arith, w .left-is, next .fewer (else1 .if1 .left)),
-      s .pre .6,
+      s .pre .5,
     )
 
 returns-2 : tie.Need-returns-2
@@ -60,7 +59,7 @@ returns-2 c =
       t .3,
       λ k x lent u i.
           let next = n .ensures .3 k (a .h .now) (wbit (a .y .now)) lent u (s .pre .0) (s .pre .1)
-          (λ z. omega (arith, z, i .left-is, s .pre .7)) (i .stands (s .pre .7)) in
+          (λ z. omega (arith, z, i .left-is, s .pre .6)) (i .stands (s .pre .6)) in
           pass-goes lent i (next .1) none (n .ensures .1) (t .1) (t .2) (t .4) (t .5)
           (λ some. t .6 k (a .h .now) lent (s .pre .1) some (next .0)),
     )

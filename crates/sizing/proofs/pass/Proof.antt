@@ -15,7 +15,7 @@ sub-left c = search needs
 flip-requires : tie.Need-flip-requires
 flip-requires c κs =
     let s : tie.Start = search in
-    (s .pre .0, s .pre .1, s .pre .3, omega (arith, s .pre .1, s .pre .4))
+    (s .pre .0, s .pre .1, omega (arith, s .pre .1, s .pre .3))
 
 returns : tie.Need-returns
 returns c =

@@ -7,7 +7,7 @@ use Rattle.vectors.specs.Vectors.{wbit}
 use Rattle.layout.specs.Lent.{laid}
 use Rattle.runs.proofs.Passing.{going-start, ends-quiet, runs-as}
 use Rattle.runs.proofs.Sizes.{sized-quiet}
-use Rattle.sizes.specs.Samples.{smaller}
+use Rattle.sizes.specs.Patterns.{smaller}
 use Rattle.sizes.specs.Sizes.{bySize}
 use Rattle.sizing.proofs.run.Statement.{statement}
 use Rattle.sizing.proofs.run.Tie as tie

@@ -11,7 +11,7 @@ run-begun-requires c κs =
     let s : tie.Start = search in
     let begun : tie.After-begin = search in
     let m = begun .begin .ensures in
-    (s .pre .0, s .pre .1, s .pre .2, s .pre .3, s .pre .4, s .pre .5, m .0, m .1, m .2, m .3)
+    (s .pre .0, s .pre .1, s .pre .2, s .pre .3, s .pre .4, m .0, m .1, m .2, m .3)
 
 returns : tie.Need-returns
 returns c = c .run-begun .ensures

@@ -3,7 +3,7 @@ use mathlib.Core.Path.{refl, _∙_}
 use native.Mathlib.Omega.{arith}
 use Rattle.vectors.specs.Vectors.{wbit}
 use Rattle.runs.proofs.Passing.{some-sent, runs-as}
-use Rattle.sizes.specs.Samples.{smaller}
+use Rattle.sizes.specs.Patterns.{smaller}
 use Rattle.sizing.proofs.Beside.{narrow-few, differs-words}
 use borrow.Author.Needs.{needs}
 use Rattle.sizing.proofs.run_narrow.Statement.{statement}

@@ -25,9 +25,8 @@ still-requires : tie.Need-still-requires
 still-requires c κs =
     let s : tie.Start = search in
     let a = s .args in (
-      block-within (a .sh) (a .starts .now) (a .counts .now) (a .met .now) (s .pre .0) (a .b) (s .pre .3) (a .d .now) (search needs),
-      s .pre .2,
-      s .pre .0 .few (a .b) (s .pre .3),
+      block-within (a .sh) (a .starts .now) (a .counts .now) (a .met .now) (s .pre .0) (a .b) (s .pre .2) (a .d .now) (search needs),
+      s .pre .0 .few (a .b) (s .pre .2),
       s .pre .0 .some,
     )
 
@@ -38,7 +37,7 @@ returns c =
     let f = c .before .still in
     let e = f .ensures (c .if1 .taken) in
     stayed (a .samples .now) (a .sh) (wbit (a .d .now)) (a .starts .now) (a .counts .now) (a .met .now) (a .kept .now) (s .pre .0)
-    (s .pre .1) (s .pre .2) (a .b) (s .pre .3) (a .best) (f .result) (c .if1 .taken) (e .0) (e .1) (e .2) (e .3)
+    (s .pre .1) (a .b) (s .pre .2) (a .best) (f .result) (c .if1 .taken) (e .0) (e .1) (e .2) (e .3)
 
 weigh-requires : tie.Need-weigh-requires
 weigh-requires c κs = search needs

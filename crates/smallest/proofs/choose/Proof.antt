@@ -37,7 +37,6 @@ smallest-at-requires c κs =
     let l = at-loop .loop in (
       l .inv .0,
       s .pre .2,
-      s .pre .3,
       λ b h. subst (λ t. bound (a .counts .now) (l .met) b ≤ t) (sym (c .before .before .greatest .ensures))
           (highest-above (a .counts .now) (l .met) (a .sh .blocks) b h),
     )

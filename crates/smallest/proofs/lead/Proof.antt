@@ -3,8 +3,8 @@ use mathlib.Core.Path.{refl}
 use mathlib.Core.Logic.{inr}
 use native.Mathlib.Omega.{arith}
 use lib.ListN.{length}
-use Rattle.sizes.specs.Samples.{smaller}
-use Rattle.sizes.proofs.Orders.{finite-ordered}
+use Rattle.sizes.specs.Patterns.{smaller}
+use Rattle.sizes.proofs.Patterns.{ordered}
 use Rattle.raising.proofs.Orders.{ahead-self, either-under}
 use borrow.Author.Needs.{needs}
 use Rattle.smallest.proofs.lead.Statement.{statement}
@@ -19,7 +19,7 @@ returns c =
     let a = s .args in
     let p = c .lesser .ensures in (
       p .0,
-      either-under (length (a .samples .now)) (c .lesser .result) (a .best) (a .bit) (p .0) (c .before .if1 .taken) (s .pre .1),
+      either-under (length (a .samples .now)) (c .lesser .result) (a .best) (a .bit) (p .0) (c .before .if1 .taken) (s .pre),
       p
           .2,
       λ u. p .1,
@@ -30,8 +30,9 @@ returns-2 c =
     let s = c .before .before in
     let a = s .args in (
       inr refl,
-      s .pre .1,
-      ahead-self (smaller (a .samples .now)) (length (a .samples .now)) (finite-ordered (a .samples .now) (s .pre .0)) (a .bit) (s .pre .1),
+      s .pre,
+      ahead-self (smaller (a .samples .now)) (length (a .samples .now)) (ordered (a .samples .now) (length (a .samples .now))) (a .bit)
+          (s .pre),
       λ u. absurd (omega (arith, c .if1 .left)),
     )
 

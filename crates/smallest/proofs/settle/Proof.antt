@@ -12,7 +12,7 @@ bound-of-requires : tie.Need-bound-of-requires
 bound-of-requires c κs =
     let s : tie.Start = search in
     let r = s .pre .0 in
-    let hb = s .pre .3 in
+    let hb = s .pre .2 in
     (omega (arith, r .counts-long, r .blocks), omega (arith, r .met-long, r .blocks), r .low (s .args .b) hb, r .few (s .args .b) hb)
 
 returns : tie.Need-returns
@@ -20,7 +20,7 @@ returns c =
     let s : tie.Start = search in
     let a = s .args in
     passed (a .samples .now) (a .sh) (wbit (a .d .now)) (a .starts .now) (a .counts .now) (a .met .now) (a .kept .now) (s .pre .0)
-    (s .pre .1) (s .pre .2) (a .b) (s .pre .3) (a .top) (a .best) (s .pre .4) (λ e. c .if1 .taken (c .before .bound-of .ensures ∙ e))
+    (s .pre .1) (a .b) (s .pre .2) (a .top) (a .best) (s .pre .3) (λ e. c .if1 .taken (c .before .bound-of .ensures ∙ e))
 
 at-bound-requires : tie.Need-at-bound-requires
 at-bound-requires c κs = search needs

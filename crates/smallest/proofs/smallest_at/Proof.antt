@@ -27,7 +27,7 @@ loop-holds c =
     let a = s .args in (
       omega arith,
       s .pre .0,
-      s .pre .3,
+      s .pre .2,
       λ u j l. absurd (omega arith),
       λ was. (was, λ g scored. leads-none (a .samples .now) g (a .top) (a .sh .size) _ (omega arith)),
     )
@@ -37,7 +37,7 @@ settle-requires c κs =
     let s : tie.Start Inv-loop μ-loop = search in
     let l = c .before .before .before .before .loop in
     let here = c .before .before .if1 .taken in
-    (l .inv .1, s .pre .1, s .pre .2, here, l .inv .2 (l .b) here)
+    (l .inv .1, s .pre .1, here, l .inv .2 (l .b) here)
 
 add-b : tie.Need-add-b Inv-loop μ-loop
 add-b c =

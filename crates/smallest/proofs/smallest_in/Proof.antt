@@ -27,21 +27,20 @@ weigh-requires : tie.Need-weigh-requires Inv-loop μ-loop
 weigh-requires c κs =
     let s = c .before .before .before .before .before in
     let w = s .pre .0 in
-    (w .few, s .pre .3, w .room, omega (arith, w .starts-long), omega (arith, w .d-long), λ e l. omega (arith, w .near e l))
+    (w .few, s .pre .2, w .room, omega (arith, w .starts-long), omega (arith, w .d-long), λ e l. omega (arith, w .near e l))
 
 add-among : tie.Need-add-among Inv-loop μ-loop
-add-among c = omega (arith, c .before .before .before .before .before .before .pre .2)
+add-among c = omega (arith, c .before .before .before .before .before .before .pre .1)
 
 among-requires : tie.Need-among-requires Inv-loop μ-loop
 among-requires c κs =
     let s = c .before .before .before .before .before .before in
     let a = s .args in
     let l = c .before .before .loop in (
-      s .pre .1,
       λ u. l .inv .1 .inside u .2,
       λ i h e. omega (
         arith,
-        s .pre .2,
+        s .pre .1,
         mask-light (a .samples .now) (wbit (a .d .now)) (a .starts .now) (a .from) (a .n) (a .met) (a .m) (a .first) (l .at) (c .weigh
             .result)
             (c .weigh .ensures) i h e .0,
@@ -63,7 +62,7 @@ loop-again c =
     let f = c .among in (
       omega arith,
       lightest-more (a .samples .now) (wbit (a .d .now)) (a .starts .now) (a .from) (a .n) (a .met) (a .m) (a .first) (l .at) (w .result)
-          (w .ensures) (s .pre .1) (s .pre .2) (l .best) (f .result) (l .inv .1) (f .ensures .0) (f .ensures .1),
+          (w .ensures) (s .pre .1) (l .best) (f .result) (l .inv .1) (f .ensures .0) (f .ensures .1),
     )
 
 returns : tie.Need-returns Inv-loop μ-loop

@@ -14,7 +14,7 @@ smallest-none-requires c κs =
     let s : tie.Start = search needs in
     let a = s .args in
     let four : a .n ≡ 4 = eqb-true (a .n) 4 (c .if2 .taken) in
-    (subst (λ n. Within (a .starts .now) (a .d .now) (a .from) n (a .m)) four (s .pre .0), s .pre .1, s .pre .2)
+    (subst (λ n. Within (a .starts .now) (a .d .now) (a .from) n (a .m)) four (s .pre .0), s .pre .1)
 
 returns : tie.Need-returns
 returns c =

@@ -99,7 +99,7 @@ front-requires : tie.Need-front-requires Inv-loop μ-loop
 front-requires c κs = search needs
 
 add-among : tie.Need-add-among Inv-loop μ-loop
-add-among c = let s : tie.Start Inv-loop μ-loop = search needs in omega (arith, s .pre .2)
+add-among c = let s : tie.Start Inv-loop μ-loop = search needs in omega (arith, s .pre .1)
 
 among-requires : tie.Need-among-requires Inv-loop μ-loop
 among-requires c κs =
@@ -109,11 +109,10 @@ among-requires c κs =
     let v = c .before .before .before .none-met in
     let t = c .before .left in
     let f = c .front in (
-      s .pre .1,
       λ u. l .inv .1 .inside u .2,
       λ i h e. omega (
         arith,
-        s .pre .2,
+        s .pre .1,
         mask-light (a .samples .now) (wbit (a .d .now)) (a .starts .now) (a .from) 4 0 (a .m) (a .first) (l .at) (f .result)
             (none-cut (wbit (a .d .now)) (a .starts .now) (a .from) (l .at) (a .m) (v .result) (v .ensures) (t .result) (f .result)
             (t .ensures .1) (f .ensures)) i h e .0,
@@ -136,15 +135,15 @@ loop-again c =
     let d = wbit (a .d .now) in
     let h = a .starts .now in
     let found : ℕ → Type 0 = Lightest x d h (a .from) 4 0 (a .m) (a .first) (l .at + 64) in
-    let none = among-none x (s .pre .1) (v .result) (a .first + l .at) in (
+    let none = among-none x (v .result) (a .first + l .at) in (
       omega arith,
       ⊎-elim
           (λ w. subst found (sym (w .4)) (lightest-more x d h (a .from) 4 0 (a .m) (a .first) (l .at) (w .2 .result)
           (none-cut d h (a .from) (l .at) (a .m) (v .result) (v .ensures) (w .1 .result) (w .2 .result) (w .1 .ensures .1) (w .2 .ensures))
-          (s .pre .1) (s .pre .2) (l .best) (w .3 .result) (l .inv .1) (w .3 .ensures .0) (w .3 .ensures .1)))
+          (s .pre .1) (l .best) (w .3 .result) (l .inv .1) (w .3 .ensures .0) (w .3 .ensures .1)))
           (λ w. subst found (sym (w .1)) (lightest-more x d h (a .from) 4 0 (a .m) (a .first) (l .at) (v .result)
           (none-clear d h (a .from) (l .at) (a .m) (v .result) (v .ensures) (w .0 .left))
-          (s .pre .1) (s .pre .2) (l .best) (l .best) (l .inv .1) (none (w .0 .left) (l .best) .0) (none (w .0 .left) (l .best) .1)))
+          (s .pre .1) (l .best) (l .best) (l .inv .1) (none (w .0 .left) (l .best) .0) (none (w .0 .left) (l .best) .1)))
           (c .if1 .came),
     )
 

@@ -7,7 +7,7 @@ use native.Mathlib.Omega.{arith}
 use lib.ListN.{getD}
 use Rattle.bits.proofs.Counting.{count-le}
 use Rattle.vectors.specs.Vectors.{wbit}
-use Rattle.sizes.specs.Samples.{smaller}
+use Rattle.sizes.specs.Patterns.{smaller}
 use Rattle.raising.specs.Knowing.{Ahead}
 use Rattle.raising.proofs.Orders.{other-one}
 use Rattle.raising.proofs.Seeing.{within-less}
@@ -45,7 +45,7 @@ broken-of-requires c κs =
     within-less (a .starts .now) (a .d .now) (a .from) (a .n) (a .m) (a .bit % a .m) (s .pre .0) (omega (
       arith,
       mod-lt (a .bit) (s .pre
-          .3),
+          .2),
     ))
 
 add-if3 : tie.Need-add-if3
@@ -54,7 +54,7 @@ add-if3 c =
     let a = s .args in
     omega (
       arith,
-      s .pre .2,
+      s .pre .1,
       s .pre .0 .few,
       c .broken-of .ensures,
       count-le (a .n) (λ e. wbit (a .d .now) (getD (a .starts .now) (a .from + e) 0 + (a .bit % a .m))),

@@ -11,7 +11,7 @@ element-copy-out-n : tie.Need-element-copy-out-n
 element-copy-out-n c = search needs
 
 cast-n : tie.Need-cast-n
-cast-n c = let s : tie.Start = search in omega (arith, s .pre .0 .low (s .args .b) (s .pre .4))
+cast-n c = let s : tie.Start = search in omega (arith, s .pre .0 .low (s .args .b) (s .pre .3))
 
 mul-smallest-light : tie.Need-mul-smallest-light
 mul-smallest-light c = search needs
@@ -22,22 +22,21 @@ slice-read-smallest-light c = search needs
 cast-smallest-light : tie.Need-cast-smallest-light
 cast-smallest-light c =
     let s : tie.Start = search in
-    omega (arith, s .pre .0 .low (s .args .b) (s .pre .4), s .pre .0 .few (s .args .b) (s .pre .4))
+    omega (arith, s .pre .0 .low (s .args .b) (s .pre .3), s .pre .0 .few (s .args .b) (s .pre .3))
 
 mul-smallest-light-2 : tie.Need-mul-smallest-light-2
 mul-smallest-light-2 c =
     let s : tie.Start = search in
     let a = s .args in
-    omega (arith, s .pre .2, block-room (a .b) (a .sh .blocks) (a .sh .size) (s .pre .4))
+    omega (arith, s .pre .2, block-room (a .b) (a .sh .blocks) (a .sh .size) (s .pre .3))
 
 smallest-light-requires : tie.Need-smallest-light-requires
 smallest-light-requires c κs =
     let s : tie.Start = search in
     let a = s .args in (
-      block-within (a .sh) (a .starts .now) (a .counts .now) (a .met .now) (s .pre .0) (a .b) (s .pre .4) (a .d .now) (search needs),
-      s .pre .3,
-      omega (arith, s .pre .2, block-room (a .b) (a .sh .blocks) (a .sh .size) (s .pre .4)),
-      s .pre .0 .few (a .b) (s .pre .4),
+      block-within (a .sh) (a .starts .now) (a .counts .now) (a .met .now) (s .pre .0) (a .b) (s .pre .3) (a .d .now) (search needs),
+      omega (arith, s .pre .2, block-room (a .b) (a .sh .blocks) (a .sh .size) (s .pre .3)),
+      s .pre .0 .few (a .b) (s .pre .3),
     )
 
 mul-kept : tie.Need-mul-kept
@@ -59,7 +58,7 @@ returns c =
     let f = c .before .before .smallest-light in
     let e = c .lead .ensures in
     weighed-some (a .samples .now) (a .sh) (wbit (a .d .now)) (a .starts .now) (a .counts .now) (a .met .now) (a .kept .now) (s .pre .0)
-    (s .pre .2) (s .pre .3) (a .b) (s .pre .4) (f .result) (f .ensures) (omega (arith, s .pre .1, s .pre .4, s .pre .0 .blocks)) (a .best)
+    (s .pre .2) (a .b) (s .pre .3) (f .result) (f .ensures) (omega (arith, s .pre .1, s .pre .3, s .pre .0 .blocks)) (a .best)
     (c .lead .result) (c .before .if1 .taken) (e .0) (e .1) (e .2) (e .3)
 
 slice-read-met : tie.Need-slice-read-met
@@ -68,7 +67,7 @@ slice-read-met c = search needs
 add-met : tie.Need-add-met
 add-met c =
     let s : tie.Start = search in
-    omega (arith, s .pre .0 .low (s .args .b) (s .pre .4), s .pre .0 .few (s .args .b) (s .pre .4))
+    omega (arith, s .pre .0 .low (s .args .b) (s .pre .3), s .pre .0 .few (s .args .b) (s .pre .3))
 
 slice-write-met : tie.Need-slice-write-met
 slice-write-met c = search needs
@@ -85,7 +84,7 @@ returns-2 c =
     let a = s .args in
     let f = c .before .before .smallest-light in
     weighed-none (a .samples .now) (a .sh) (wbit (a .d .now)) (a .starts .now) (a .counts .now) (a .met .now) (a .kept .now) (s .pre .0)
-    (s .pre .2) (s .pre .3) (a .b) (s .pre .4) (f .result) (f .ensures) (omega (arith, s .pre .1, s .pre .4, s .pre .0 .blocks)) (a .best)
+    (s .pre .2) (a .b) (s .pre .3) (f .result) (f .ensures) (omega (arith, s .pre .1, s .pre .3, s .pre .0 .blocks)) (a .best)
     (c .before .if1 .left)
 
 pub weigh-spec : {M : Type 1} → statement M
