@@ -4,8 +4,10 @@
 # the others as outside/compare_all says; SEED=.. repeats a campaign. `make bench` counts the instructions of each call.
 # `make alist` writes the parity matrices of codes 1 to 4 in target/alist, in a format that other programs read; `make peers`
 # asks such programs about the library's words. `make install PREFIX=.. DESTDIR=..` installs header, Rust module, libraries,
-# pkg-config file, programs, the Python package and its command with a man page, building what is missing; `make uninstall`
-# removes just those. `make man` makes the man page again.
+# asks such programs about the library's words. `make install PREFIX=.. DESTDIR=..` installs header, Rust module, libraries,
+# pkg-config file, programs, the Python package and its command with a man page and what shells complete, README and the
+# examples, building what is missing; `make uninstall` removes just those. `make man` makes the man page and what shells
+# complete again.
 .PHONY: run test lib shared compare bench alist peers man install uninstall
 N ?= 20000
 SAMPLE ?= samples/code5.bin
@@ -21,6 +23,10 @@ INCLUDEDIR ?= $(PREFIX)/include
 LIBDIR ?= $(PREFIX)/lib
 MANDIR ?= $(PREFIX)/share/man
 DATADIR ?= $(PREFIX)/share/pandoricchia
+DOCDIR ?= $(PREFIX)/share/doc/pandoricchia
+BASHDIR ?= $(PREFIX)/share/bash-completion/completions
+ZSHDIR ?= $(PREFIX)/share/zsh/site-functions
+EXAMPLES = use.c use.rs use.stdout cluster.py
 # The Python package stands here, and the command's launcher finds it from its own place; so a staged install can be tried.
 PACKAGE = $(DATADIR)/python/pandoricchia
 
@@ -52,8 +58,12 @@ alist: target/bin/charts
 peers: lib target/bin/charts
 	outside/peers
 
+man: export PYTHONPATH = python
+man: export PYTHONDONTWRITEBYTECODE = 1
 man:
-	PYTHONPATH=python PYTHONDONTWRITEBYTECODE=1 python3 -m pandoricchia.command.manual > man/pandoricchia.1
+	python3 -m pandoricchia.command.manual > man/pandoricchia.1
+	python3 -m pandoricchia completion bash > completion/pandoricchia.bash
+	python3 -m pandoricchia completion zsh > completion/_pandoricchia
 
 # What install finds missing.
 $(ARCHIVE):
@@ -68,7 +78,7 @@ target/bin/%:
 
 install: $(ARCHIVE) $(SHARED) $(PROGRAMS:%=target/bin/%)
 	install -d $(DESTDIR)$(BINDIR) $(DESTDIR)$(INCLUDEDIR) $(DESTDIR)$(LIBDIR)/pkgconfig $(DESTDIR)$(PACKAGE)/command \
-	    $(DESTDIR)$(MANDIR)/man1
+	    $(DESTDIR)$(MANDIR)/man1 $(DESTDIR)$(BASHDIR) $(DESTDIR)$(ZSHDIR) $(DESTDIR)$(DOCDIR)/examples/gnuradio
 	install -m 755 $(PROGRAMS:%=target/bin/%) $(DESTDIR)$(BINDIR)
 	install -m 644 include/pandoricchia.h $(DESTDIR)$(INCLUDEDIR)
 	install -m 644 include/pandoricchia.rs $(DESTDIR)$(DATADIR)
@@ -84,12 +94,19 @@ install: $(ARCHIVE) $(SHARED) $(PROGRAMS:%=target/bin/%)
 	sed 's|@PYTHON@|$(shell realpath -m --relative-to=$(BINDIR) $(dir $(PACKAGE)))|' python/pandoricchia.in > $(DESTDIR)$(BINDIR)/pandoricchia
 	chmod 755 $(DESTDIR)$(BINDIR)/pandoricchia
 	install -m 644 man/pandoricchia.1 $(DESTDIR)$(MANDIR)/man1
+	install -m 644 completion/pandoricchia.bash $(DESTDIR)$(BASHDIR)/pandoricchia
+	install -m 644 completion/_pandoricchia $(DESTDIR)$(ZSHDIR)
+	install -m 644 README.md $(DESTDIR)$(DOCDIR)
+	install -m 644 $(EXAMPLES:%=examples/%) $(DESTDIR)$(DOCDIR)/examples
+	sed -i 's|"../include/|"$(shell realpath -m --relative-to=$(DOCDIR)/examples $(DATADIR))/|' $(DESTDIR)$(DOCDIR)/examples/use.rs
+	install -m 644 examples/gnuradio/*.py $(DESTDIR)$(DOCDIR)/examples/gnuradio
 
 uninstall:
 	rm -f $(PROGRAMS:%=$(DESTDIR)$(BINDIR)/%) $(DESTDIR)$(INCLUDEDIR)/pandoricchia.h $(DESTDIR)$(DATADIR)/pandoricchia.rs
 	rm -f $(DESTDIR)$(LIBDIR)/libpandoricchia.a $(DESTDIR)$(LIBDIR)/libpandoricchia.so
 	rm -f $(DESTDIR)$(LIBDIR)/libpandoricchia.so.$(MAJOR) $(DESTDIR)$(LIBDIR)/libpandoricchia.so.$(VERSION)
 	rm -f $(DESTDIR)$(LIBDIR)/pkgconfig/pandoricchia.pc $(DESTDIR)$(BINDIR)/pandoricchia $(DESTDIR)$(MANDIR)/man1/pandoricchia.1
-	rm -rf $(DESTDIR)$(PACKAGE)
+	rm -f $(DESTDIR)$(BASHDIR)/pandoricchia $(DESTDIR)$(ZSHDIR)/_pandoricchia
+	rm -rf $(DESTDIR)$(PACKAGE) $(DESTDIR)$(DOCDIR)
 	[ ! -d $(DESTDIR)$(DATADIR)/python ] || rmdir $(DESTDIR)$(DATADIR)/python
 	[ ! -d $(DESTDIR)$(DATADIR) ] || rmdir $(DESTDIR)$(DATADIR)

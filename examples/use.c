@@ -32,6 +32,12 @@ int main(void)
     const uint8_t information[INFORMATION] = {'T', 'U', 'R', 'N', ' ', 'O', 'F', 'F'};
     uint8_t word[WORD], out[WORD];
 
+    /* A library of another major number has other records, and must not be called. */
+    if (pandoricchia_version() >> 16 != PANDORICCHIA_VERSION_NUMBER >> 16) {
+        printf("the library's version is %X, the header's %X\n", pandoricchia_version(), PANDORICCHIA_VERSION_NUMBER);
+        return EXIT_FAILURE;
+    }
+
     print_octets("information", information, INFORMATION);
     demand_done("encode", pandoricchia_encode(CODE, information, INFORMATION, word, WORD));
     print_octets("word", word, WORD);

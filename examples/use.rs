@@ -23,6 +23,9 @@ fn demand_done(call: &str, number: u8) {
 }
 
 fn main() {
+    // A library of another major number has other records, and must not be called.
+    assert_eq!(pandoricchia::version() >> 16, pandoricchia::VERSION_NUMBER >> 16);
+
     let information = b"TURN OFF";
     let mut word = [0; pandoricchia::WORD_OCTETS[CODE as usize]];
     let mut out = word;

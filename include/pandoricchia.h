@@ -30,7 +30,10 @@
 extern "C" {
 #endif
 
-#define PANDORICCHIA_VERSION "0.9.0"
+/* The version of this header, and the same as a number: 65536 times the major number, 256 times the minor one, and the patch number.
+ * The major number moves with the records and with what the calls take, and the shared library's soname moves with it. */
+#define PANDORICCHIA_VERSION "0.10.0"
+#define PANDORICCHIA_VERSION_NUMBER 0x000A00
 
 /* The table above; for a code number that is not known until the program runs there are two calls below. */
 #define PANDORICCHIA_WORD_OCTETS_1 16
@@ -50,6 +53,7 @@ extern "C" {
 
 /* Octets of stack that each call takes at most, and the most of them. Measured by outside/boundary.c, which paints the stack for each call
  * and code, on words that are quiet, that flip and that are refused; rounded up to hundreds with 32 octets or more to spare; not proved. */
+#define PANDORICCHIA_VERSION_STACK_OCTETS 200
 #define PANDORICCHIA_WORD_OCTETS_STACK_OCTETS 200
 #define PANDORICCHIA_INFORMATION_OCTETS_STACK_OCTETS 200
 #define PANDORICCHIA_ENCODE_STACK_OCTETS 1400
@@ -81,8 +85,8 @@ extern "C" {
  * come before 3, 21 to 23 block by block. A call that returns any other number than PANDORICCHIA_DONE is refused and has written nothing,
  * but for list, which writes its records with 5 to 8 too. */
 enum pandoricchia_number {
-    PANDORICCHIA_DONE = 0,           /* all but word_octets, information_octets, unit_octets, imported_octets, exported_octets and taker,
-                                      * which have no number: done; the output, if there is one, is written whole */
+    PANDORICCHIA_DONE = 0,           /* all but version, word_octets, information_octets, unit_octets, imported_octets, exported_octets and
+                                      * taker, which have no number: done; the output, if there is one, is written whole */
     PANDORICCHIA_CODE = 1,           /* encode, check, quick, open, correct, correct_samples, list, step, write_unit, reader, read: the
                                       * code is not offered by this call */
     PANDORICCHIA_INPUT_LENGTH = 2,   /* encode, check, quick, open, correct, correct_samples, list, step, nearest, bch_encode, bch_check;
@@ -169,6 +173,9 @@ static inline const char *pandoricchia_text(uint8_t number)
         return "no such number";
     }
 }
+
+/* The version of the library, as a number. One whose major number is not the header's has other records, or other calls. */
+uint32_t pandoricchia_version(void);
 
 /* The octets of a word of a code, and of its information; 0 for a code that is not offered. */
 size_t pandoricchia_word_octets(uint8_t code);

@@ -6,9 +6,12 @@
 //!     #[path = "include/pandoricchia.rs"]
 //!     mod pandoricchia;
 //!
-//! and `rustc -L target/staticlib -l static=pandoricchia`.
+//! and `rustc -L target/staticlib -l static=pandoricchia`. It compiles in the editions 2021 and 2024, with Rust 1.82 or newer.
 
-pub const VERSION: &str = "0.9.0";
+/// The version of this module, and the same as a number: 65536 times the major number, 256 times the minor one, and the patch number.
+/// The major number moves with the records and with what the calls take, and the shared library's soname moves with it.
+pub const VERSION: &str = "0.10.0";
+pub const VERSION_NUMBER: u32 = 0x00_0A_00;
 
 /// Octets of a word and of its information, by code number; there is no code 0.
 pub const WORD_OCTETS: [usize; 6] = [0, 16, 32, 64, 1022, 1020];
@@ -173,7 +176,8 @@ pub struct Imported {
     pub block: u32,
 }
 
-extern "C" {
+unsafe extern "C" {
+    fn pandoricchia_version() -> u32;
     fn pandoricchia_word_octets(code: u8) -> usize;
     fn pandoricchia_information_octets(code: u8) -> usize;
     fn pandoricchia_encode(code: u8, information: *const u8, information_len: usize, word: *mut u8, word_len: usize) -> u8;
@@ -233,6 +237,12 @@ pub fn text(number: u8) -> &'static str {
         BLOCK_COUNT => "a block's count or filling",
         _ => "no such number",
     }
+}
+
+/// The version of the library, as a number. One whose major number is not this module's has other records, or other calls.
+#[must_use]
+pub fn version() -> u32 {
+    unsafe { pandoricchia_version() }
 }
 
 /// The octets of a word; 0 for a code that is not offered.

@@ -306,8 +306,8 @@ __attribute__((noinline)) static size_t painted_over(void)
 }
 
 enum {
-    WORD_OCTETS, INFORMATION_OCTETS, ENCODE, CHECK, QUICK, OPEN, CORRECT, CORRECT_SAMPLES, LIST, STEP, NEAREST, UNIT_OCTETS, WRITE_UNIT,
-    READER, READ, TAKER, TAKER_FOR, TAKE, BCH_ENCODE, BCH_CHECK, IMPORT_BLOCKS, IMPORTED_OCTETS, EXPORT_BLOCKS, EXPORTED_OCTETS, CALLS
+    VERSION, WORD_OCTETS, INFORMATION_OCTETS, ENCODE, CHECK, QUICK, OPEN, CORRECT, CORRECT_SAMPLES, LIST, STEP, NEAREST, UNIT_OCTETS,
+    WRITE_UNIT, READER, READ, TAKER, TAKER_FOR, TAKE, BCH_ENCODE, BCH_CHECK, IMPORT_BLOCKS, IMPORTED_OCTETS, EXPORT_BLOCKS, EXPORTED_OCTETS, CALLS
 };
 
 /* Of each call the stack that the header allows it, and the numbers that it gives, as README, docs/RULES.md and the header have them:
@@ -319,6 +319,7 @@ static struct call {
     size_t most;     /* the most stack that a try took */
     uint32_t given;  /* a bit for each number that came */
 } calls[CALLS] = {
+    [VERSION] = {"version", PANDORICCHIA_VERSION_STACK_OCTETS, "", 0, 0},
     [WORD_OCTETS] = {"word_octets", PANDORICCHIA_WORD_OCTETS_STACK_OCTETS, "", 0, 0},
     [INFORMATION_OCTETS] = {"information_octets", PANDORICCHIA_INFORMATION_OCTETS_STACK_OCTETS, "", 0, 0},
     [ENCODE] = {"encode", PANDORICCHIA_ENCODE_STACK_OCTETS, "0 1 2 3 4", 0, 0},
@@ -454,6 +455,7 @@ static void try_refused(uint8_t code)
     TRY(CORRECT_SAMPLES, pandoricchia_correct_samples(code, samples, 8 * n, 9, out, n).number);
     samples[8 * n - 1] = NAN;
     TRY(CORRECT_SAMPLES, pandoricchia_correct_samples(code, samples, 8 * n, 9, out, n).number);
+    TRY_LENGTH(VERSION, pandoricchia_version());
     TRY_LENGTH(WORD_OCTETS, pandoricchia_word_octets(code));
     TRY_LENGTH(INFORMATION_OCTETS, pandoricchia_information_octets(code));
 }

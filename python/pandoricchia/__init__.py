@@ -12,11 +12,19 @@ they are, and return named tuples; a refused call returns its ``Number`` and wri
 writes its records with 5 to 8 too. ``Reader`` goes through the codeblocks of a transmission unit, ``Taker`` through the words of
 a telemetry stream. ``pandoricchia.raising`` has the same calls with outputs made for the caller, and raises ``Refused``.
 
+Two calls have a name that Python has too. ``from pandoricchia import *`` leaves them out, and so does the list below:
+
+    open(code, word) -> Opened                  a codeword's information: how many of its leading octets
+    list(code, word, limit, table) -> Listed    correct's run, with a record for each flip in the table
+
 What is proved is proved of the library. This package stands outside the proofs; what it computes it asks of the library.
 
 The shared library is loaded at the first call: the one that the environment variable PANDORICCHIA_LIBRARY names, else one in
 this package's folder, else the system's. ``pandoricchia.command`` is the command for a shell.
 """
+import builtins as _builtins
+import types as _types
+
 from ._library import VERSION as VERSION
 from .calls import bch_check as bch_check
 from .calls import bch_encode as bch_encode
@@ -42,6 +50,7 @@ from .calls import take as take
 from .calls import taker as taker
 from .calls import taker_for as taker_for
 from .calls import unit_octets as unit_octets
+from .calls import version as version
 from .calls import word_octets as word_octets
 from .calls import write_unit as write_unit
 from .numbers import Number as Number
@@ -68,3 +77,9 @@ from .results import Taken as Taken
 from .results import Taking as Taking
 
 __version__ = VERSION
+
+__all__ = [
+    name
+    for name, value in globals().items()
+    if name[0] != "_" and not isinstance(value, _types.ModuleType) and not hasattr(_builtins, name)
+]

@@ -7,18 +7,18 @@ from __future__ import annotations
 import ctypes
 import operator
 import os
-import pathlib
 from ctypes import POINTER, c_bool, c_int8, c_size_t, c_ssize_t, c_uint8, c_uint16, c_uint32, c_void_p
 from typing import TYPE_CHECKING, Any, Dict, List, Tuple, Type
 
 if TYPE_CHECKING:
     from typing_extensions import Buffer
 
-VERSION = "0.9.0"
+VERSION = "0.10.0"
+MAJOR = int(VERSION.split(".", maxsplit=1)[0])
 
 #: Names the shared library, where neither the package's folder nor the system's loader has it.
 ENVIRONMENT = "PANDORICCHIA_LIBRARY"
-SONAME = "libpandoricchia.so." + VERSION.split(".", maxsplit=1)[0]
+SONAME = f"libpandoricchia.so.{MAJOR}"
 
 
 class CheckedRecord(ctypes.Structure):
@@ -108,6 +108,7 @@ _OCTETS: List[Any] = [c_void_p, c_size_t]
 
 #: What each call gives and takes, under its name without ``pandoricchia_``.
 CALLS: Dict[str, Tuple[Any, List[Any]]] = {
+    "version": (c_uint32, []),
     "word_octets": (c_size_t, [c_uint8]),
     "information_octets": (c_size_t, [c_uint8]),
     "encode": (c_uint8, [c_uint8, *_OCTETS, *_OCTETS]),
@@ -138,8 +139,8 @@ CALLS: Dict[str, Tuple[Any, List[Any]]] = {
 def _named() -> str:
     """The library's name for the loader: the environment's, else one in the package's folder, else the system's."""
     named = os.environ.get(ENVIRONMENT)
-    beside = pathlib.Path(__file__).with_name(SONAME)
-    return named or (str(beside) if beside.exists() else SONAME)
+    beside = os.path.join(os.path.dirname(__file__), SONAME)
+    return named or (beside if os.path.exists(beside) else SONAME)
 
 
 def declare(library: ctypes.CDLL, prefix: str, calls: Dict[str, Tuple[Any, List[Any]]]) -> None:
@@ -149,8 +150,13 @@ def declare(library: ctypes.CDLL, prefix: str, calls: Dict[str, Tuple[Any, List[
         function.restype, function.argtypes = gives, takes
 
 
+def written(version: int) -> str:
+    """A version as it is written: its major, minor and patch number."""
+    return f"{version >> 16}.{version >> 8 & 255}.{version & 255}"
+
+
 def load() -> ctypes.CDLL:
-    """The shared library, its calls declared. ImportError where there is none, or where it lacks a call."""
+    """The shared library, its calls declared. ImportError where there is none, or where it has other records, or lacks a call."""
     name = _named()
     try:
         library = ctypes.CDLL(name)
@@ -159,11 +165,29 @@ def load() -> ctypes.CDLL:
             f"the shared library of pandoricchia can't be loaded: {error}. `make lib` writes it and `make install` installs it; "
             f"where the loader does not look, name the file in {ENVIRONMENT}."
         ) from error
-    try:
-        declare(library, "pandoricchia_", CALLS)
-    except AttributeError as error:
-        raise ImportError(f"{name} is no library of version {VERSION}: {error}") from error
+    missing = [call for call in CALLS if not hasattr(library, "pandoricchia_" + call)]
+    if "version" in missing:
+        raise ImportError(f"{name} is no library of version {VERSION}: it does not tell its version")
+    declare(library, "pandoricchia_", {call: kinds for call, kinds in CALLS.items() if call not in missing})
+    version = library.pandoricchia_version()  # before any record comes from it
+    if version >> 16 != MAJOR:
+        raise ImportError(f"{name} is no library of version {VERSION}: it is {written(version)}, whose records are others")
+    if missing:
+        raise ImportError(f"{name} is no library of version {VERSION}: it is {written(version)}, and has no call {missing[0]}")
     return library
+
+
+class _Place(ctypes.Structure):
+    """Dl_info."""
+
+    _fields_ = [("file", ctypes.c_char_p), ("base", c_void_p), ("symbol", ctypes.c_char_p), ("address", c_void_p)]
+
+
+def file_of(library: ctypes.CDLL) -> str:
+    """The file that the loader took for the library."""
+    place = _Place()
+    ctypes.CDLL(None).dladdr(ctypes.cast(library.pandoricchia_version, c_void_p), ctypes.byref(place))
+    return os.path.realpath(os.fsdecode(place.file or b""))
 
 
 class _Library:

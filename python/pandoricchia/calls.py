@@ -42,6 +42,11 @@ FlipTable = Sequence[Any]
 _FLOATS = ("f", "@f", "=f", "<f")
 
 
+def version() -> int:
+    """The library's version: 65536 times its major number, 256 times its minor one, and its patch number."""
+    return int(LIBRARY.pandoricchia_version())
+
+
 def word_octets(code: int) -> int:
     """The octets of a word of a code; 0 for a code that is not offered."""
     return int(LIBRARY.pandoricchia_word_octets(fit("code", code, c_uint8)))

@@ -1,10 +1,12 @@
-"""The command run in this process: its standard streams are files for that long."""
+"""The command run in this process, its standard streams files for that long; or as a process of its own."""
 from __future__ import annotations
 
 import os
 import pathlib
+import subprocess
+import sys
 import tempfile
-from typing import List, NamedTuple
+from typing import Any, List, NamedTuple, Union
 
 from pandoricchia.command.entry import run
 
@@ -42,3 +44,10 @@ def command(*arguments: object, given: bytes = b"") -> Ran:
         written.append(file.read())
         file.close()
     return Ran(status, written[1], written[2].decode())
+
+
+def process(*arguments: object, **more: Any) -> subprocess.Popen[bytes]:
+    """The command as a process of its own; arguments may be octets that are no text."""
+    environment = {**os.environ, "PYTHONPATH": str(TOP / "python"), **more.pop("env", {})}
+    words: List[Union[str, bytes]] = [argument if isinstance(argument, bytes) else str(argument) for argument in arguments]
+    return subprocess.Popen([sys.executable, "-m", "pandoricchia", *words], env=environment, **more)

@@ -20,7 +20,7 @@ _library.declare(
     {
         name: kinds
         for name, kinds in _library.CALLS.items()
-        if name not in ("word_octets", "information_octets", "taker", "taker_for", "take")
+        if name not in ("version", "word_octets", "information_octets", "taker", "taker_for", "take")
     },
 )
 

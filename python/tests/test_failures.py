@@ -11,20 +11,11 @@ import sys
 import tempfile
 import time
 import unittest
-from typing import Any, List
-
 from pandoricchia import _library
 
-from .command import SAMPLES, TOP, command
+from .command import SAMPLES, TOP, command, process
 
 CODE1 = SAMPLES / "code1.bin"
-
-
-def process(*arguments: object, **more: Any) -> subprocess.Popen[bytes]:
-    """The command as a process of its own."""
-    environment = {**os.environ, "PYTHONPATH": str(TOP / "python"), **more.pop("env", {})}
-    whole: List[str] = [sys.executable, "-m", "pandoricchia", *map(str, arguments)]
-    return subprocess.Popen(whole, env=environment, **more)
 
 
 class Failures(unittest.TestCase):
@@ -170,6 +161,71 @@ class Failures(unittest.TestCase):
         self.assertEqual(running.wait(), -signal.SIGTERM)
         running.stdin.close()
         self.assertEqual(list(self.place.iterdir()), [])
+
+    def test_not_text(self) -> None:
+        """Names and seeds may be any octets; on a page those that are no text have their numbers."""
+        for name, shown in ((b"bad\xff.bin", "bad\\xff.bin"), ("файл.bin".encode(), "файл.bin")):
+            path = os.path.join(os.fsencode(self.place), name)
+            shutil.copy(os.fsencode(CODE1), path)
+            for env in ({}, {"LC_ALL": "C"}, {"LC_ALL": "C", "PYTHONUTF8": "0", "PYTHONCOERCECLOCALE": "0"}):
+                for verb in ("report", "correct", "samples make"):
+                    running = process(*verb.split(), path, env=env, stdout=subprocess.PIPE, stderr=subprocess.PIPE)
+                    out, said = running.communicate()
+                    self.assertEqual((running.returncode, said), (0 if verb == "samples make" else 1, b""), (verb, env))
+                    self.assertEqual(verb == "report" and shown.encode() in out, verb == "report")
+                running = process("correct", path + b".none", env=env, stderr=subprocess.PIPE)
+                said = running.communicate()[1]
+                self.assertEqual((running.returncode, said.count(b"\n"), name in said), (2, 1, True), env)
+        drawn = []
+        for seed in (b"\xff", b"\xff", b"\xfe"):
+            running = process("spoil", "--wrong", 9, "--seed", seed, CODE1, stdout=subprocess.PIPE, stderr=subprocess.PIPE)
+            out, said = running.communicate()
+            self.assertEqual((running.returncode, said), (0, b""))
+            drawn.append(out)
+        self.assertEqual((drawn[0] == drawn[1], drawn[0] == drawn[2]), (True, False))
+        words = ("campaign", "--code", 1, "--words", 1, "--wrong", 0)
+        running = process(*words, "--seed", b"<\xff>", "--output", self.out, stdout=subprocess.DEVNULL)
+        self.assertEqual(running.wait(), 0)
+        self.assertIn("seed &lt;\\xff&gt;.", self.out.read_text(encoding="utf-8"))
+
+    def test_interrupted_at_once(self) -> None:
+        """An interrupt while modules are loaded ends it by the signal, and nothing is said."""
+        (self.place / "sitecustomize.py").write_text(
+            "import os, signal, sys\n"
+            "class Finder:\n"
+            "    def find_spec(self, name, path=None, target=None):\n"
+            "        if name == os.environ['INTERRUPTED_AT']:\n"
+            "            os.kill(os.getpid(), signal.SIGINT)\n"
+            "sys.meta_path.insert(0, Finder())\n"
+        )
+        launcher = self.place / "pandoricchia.py"
+        launcher.write_text((TOP / "python/pandoricchia.in").read_text(encoding="utf-8").replace("@PYTHON@", str(TOP / "python")))
+        ways = [(["-m", "pandoricchia"], "pandoricchia.command.entry"), (["-m", "pandoricchia"], "pandoricchia.command.parser")]
+        ways += [([str(launcher)], name) for name in ("pandoricchia", "pandoricchia.calls", "pandoricchia.command.parser")]
+        for words, name in ways:
+            environment = {**os.environ, "PYTHONPATH": f"{self.place}:{TOP / 'python'}", "INTERRUPTED_AT": name}
+            ran = subprocess.run(
+                [sys.executable, *words, "correct", CODE1], env=environment, capture_output=True, check=False,
+                preexec_fn=lambda: signal.signal(signal.SIGINT, signal.SIG_DFL),  # these tests may run where it is ignored
+            )
+            self.assertEqual((ran.returncode, ran.stdout, ran.stderr), (-signal.SIGINT, b"", b""), (words, name))
+
+    def test_ignored(self) -> None:
+        """A signal that is ignored, as by nohup, stays ignored."""
+        running = process(
+            "correct", "--output", self.out, stdin=subprocess.PIPE, stdout=subprocess.PIPE,
+            preexec_fn=lambda: signal.signal(signal.SIGHUP, signal.SIG_IGN),
+        )
+        assert running.stdin is not None and running.stdout is not None
+        running.stdin.write(CODE1.read_bytes())
+        running.stdin.flush()
+        for _ in range(600):
+            if list(self.place.iterdir()):  # it has begun
+                break
+            time.sleep(0.05)
+        running.send_signal(signal.SIGHUP)
+        self.assertEqual((running.communicate()[0], running.returncode), ((SAMPLES / "code1.log").read_bytes(), 1))
+        self.assertTrue(self.out.exists())
 
     def test_no_library(self) -> None:
         """A line where the library is not there; help and summaries do without."""

@@ -51,6 +51,9 @@ class Header(unittest.TestCase):
         self.assertEqual(version, [pandoricchia.VERSION])
         self.assertEqual(version, [pandoricchia.__version__])
         self.assertEqual(version, re.findall(r'^version = "([^"]*)"$', project, re.M))
+        self.assertEqual(version, [_library.written(pandoricchia.version())])
+        number = re.findall(r"#define PANDORICCHIA_VERSION_NUMBER (\w+)", self.text)
+        self.assertEqual([pandoricchia.version()], [int(text, 16) for text in number])
 
     def test_records(self) -> None:
         found = re.findall(r"typedef struct pandoricchia_(\w+) \{([^}]*)\} pandoricchia_\1;", self.text)
@@ -66,7 +69,7 @@ class Header(unittest.TestCase):
     def test_calls(self) -> None:
         found = re.findall(r"^(\w+) pandoricchia_(\w+)\(([^)]*)\);", self.text, re.M)
         declared = {
-            name: (kind(gives), [ctypes.c_void_p if "*" in part else kind(part.split()[0]) for part in takes.split(",")])
+            name: (kind(gives), [ctypes.c_void_p if "*" in part else kind(part.split()[0]) for part in takes.split(",") if part != "void"])
             for gives, name, takes in found
         }
         self.assertEqual(_library.CALLS, declared)

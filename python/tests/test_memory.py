@@ -25,9 +25,13 @@ class Memory(unittest.TestCase):
             file.write(head)
             for _ in range(int(parts * PART) // len(octets)):
                 file.write(octets)
+        return self.peak(*words, given)
+
+    def peak(self, *words: object) -> int:
+        """The most memory that the command has at a time."""
         tracemalloc.start()
         try:
-            status = command(*words, given).status
+            status = command(*words).status
             peak = tracemalloc.get_traced_memory()[1]
         finally:
             tracemalloc.stop()
@@ -57,5 +61,11 @@ class Memory(unittest.TestCase):
         self.same((SAMPLES / "frames.stream").read_bytes()[2:], b"", 3, "frames", "--limit", 4)
 
     def test_logs(self) -> None:
-        head, lines = (SAMPLES / "code5.log").read_bytes().split(b"\n", 1)
-        self.same(lines, head + b"\n", 1, "summary")
+        head, *lines = (SAMPLES / "code5.log").read_bytes().splitlines(True)
+        for times in (1, 3):  # indexes go on, so the lines are not the same
+            log = self.place / f"log{times}"
+            with log.open("wb") as file:
+                file.write(head)
+                file.writelines(b"%d %s" % (k, lines[k % len(lines)].split(b" ", 1)[1]) for k in range(4000 * times))
+        short, long = (self.peak("summary", self.place / f"log{times}", "--output", self.place / "out") for times in (1, 3))
+        self.assertLess(long, short + MORE)

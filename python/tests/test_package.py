@@ -2,11 +2,13 @@
 from __future__ import annotations
 
 import base64
+import builtins
 import doctest
 import hashlib
 import importlib.util
 import os
 import pathlib
+import pydoc
 import shutil
 import subprocess
 import sys
@@ -15,8 +17,10 @@ import unittest
 import zipfile
 from typing import Dict, Optional, Set
 
+import pandoricchia
 from pandoricchia import _library
 
+from .command import SAMPLES
 from .judge import TOP
 
 ASK = "import pandoricchia; print(pandoricchia.__file__, pandoricchia.word_octets(5))"
@@ -62,8 +66,54 @@ class Package(unittest.TestCase):
 
     def test_another_library(self) -> None:
         found = self.run_python(TOP / "python", os.environ["PANDORICCHIA_JUDGE"])
-        self.assertIn(f"is no library of version {_library.VERSION}", found.stderr)
+        self.assertIn(f"is no library of version {_library.VERSION}: it does not tell its version", found.stderr)
         self.assertIn("ImportError", found.stderr)
+
+    def test_other_records(self) -> None:
+        """A library of another major number, or one that lacks a call: a line, and status 2, before any record is read."""
+        cc = next(filter(None, map(shutil.which, ("x86_64-linux-gnu-gcc", "cc", "gcc", "clang"))), None)
+        if not cc:
+            self.skipTest("another library needs a C compiler")
+        major, minor, _ = map(int, _library.VERSION.split("."))
+        for number, wrong in (
+            ((major + 1) << 16, f"it is {major + 1}.0.0, whose records are others"),
+            (major << 16 | minor << 8 | 7, f"it is {major}.{minor}.7, and has no call word_octets"),
+        ):
+            source, library = self.place / "other.c", self.place / f"other{number}.so"
+            source.write_text(f"unsigned pandoricchia_version(void) {{ return {number}; }}\n", encoding="ascii")
+            subprocess.run([cc, "-shared", "-fPIC", "-o", str(library), str(source)], check=True)
+            said = f"{library} is no library of version {_library.VERSION}: {wrong}\n"
+            found = self.run_python(TOP / "python", str(library))
+            self.assertIn(f"ImportError: {said}", found.stderr)
+            environment = {**os.environ, _library.ENVIRONMENT: str(library), "PYTHONPATH": str(TOP / "python")}
+            for words, label in ((["correct", str(SAMPLES / "code1.bin")], "pandoricchia correct"), (["--version"], "pandoricchia")):
+                given = [sys.executable, "-m", "pandoricchia", *words]
+                ran = subprocess.run(given, env=environment, capture_output=True, text=True, check=False)
+                self.assertEqual((ran.returncode, ran.stderr), (2, f"{label}: {said}"))
+
+    def test_identity(self) -> None:
+        """--version says which library is taken: its version, its file, and the file's hash."""
+        shutil.copy(self.library, self.place / _library.SONAME)
+        digest = hashlib.sha256(self.library.read_bytes()).hexdigest()
+        for named in ({_library.ENVIRONMENT: str(self.library)}, {"LD_LIBRARY_PATH": str(self.place)}):
+            environment = {"PATH": os.environ.get("PATH", ""), "PYTHONPATH": str(TOP / "python"), **named}
+            given = [sys.executable, "-m", "pandoricchia", "--version"]
+            ran = subprocess.run(given, env=environment, capture_output=True, text=True, check=False)
+            file = self.library if _library.ENVIRONMENT in named else self.place / _library.SONAME
+            wanted = [f"pandoricchia {_library.VERSION}", f"library {_library.VERSION}, {file}", f"SHA-256 {digest}"]
+            self.assertEqual((ran.returncode, ran.stdout.splitlines(), ran.stderr), (0, wanted, ""))
+
+    def test_help(self) -> None:
+        """help() lists every call; what Python has a name for itself is named there, and is not brought by a star."""
+        page = pydoc.plain(pydoc.render_doc(pandoricchia))
+        for name in (*_library.CALLS, "Reader", "Taker", "Refused", "Number"):
+            self.assertRegex(page, rf"(?m)^ +(class )?{name}\(|^ +{name} ", name)
+        brought: Dict[str, object] = {}
+        exec("from pandoricchia import *", brought)  # pylint: disable=exec-used
+        self.assertEqual(set(brought) & set(vars(builtins)), set())
+        self.assertLess(set(_library.CALLS) - {"open", "list"}, set(brought))
+        for name in ("open", "list"):
+            self.assertIn(f"    {name}(", pandoricchia.__doc__ or "")
 
     def test_installed(self) -> None:
         """By pip, without a network and without setuptools; all of the package is there, and the command."""
@@ -77,9 +127,9 @@ class Package(unittest.TestCase):
         self.assertEqual(files(target / "pandoricchia"), files(TOP / "python/pandoricchia"))
         found = self.run_python(target, str(self.library))
         self.assertEqual(found.stdout.split(), [str(target / "pandoricchia/__init__.py"), "1020"], found.stderr)
-        environment = {"PATH": os.environ.get("PATH", ""), "PYTHONPATH": str(target)}
+        environment = {"PATH": os.environ.get("PATH", ""), "PYTHONPATH": str(target), _library.ENVIRONMENT: str(self.library)}
         ran = subprocess.run([target / "bin/pandoricchia", "--version"], env=environment, capture_output=True, text=True, check=False)
-        self.assertEqual((ran.returncode, ran.stdout), (0, f"pandoricchia {_library.VERSION}\n"), ran.stderr)
+        self.assertEqual((ran.returncode, ran.stdout.splitlines()[0]), (0, f"pandoricchia {_library.VERSION}"), ran.stderr)
 
     def test_wheel(self) -> None:
         """The wheel's list has every file with its hash and its length, and is the same when it is made again."""

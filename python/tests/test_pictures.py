@@ -9,7 +9,8 @@ import unittest
 import pandoricchia
 
 from .command import SAMPLES, command
-from .pages import Page, browser, labels, overlap, shown
+from .pages import WIDTHS, Page, browser, labels, looked_at, overlap, shown
+from .test_words import no_words, not_offered
 
 
 class Pictures(unittest.TestCase):
@@ -45,9 +46,28 @@ class Pictures(unittest.TestCase):
     def test_bare(self) -> None:
         words = (SAMPLES / "code3.bin").read_bytes()[3:]
         self.assertIn("Words of code 3", Page(self, command("report", "--code", 3, "--limit", 4, given=words).out).text)
-        said = "pandoricchia report: standard input: no log, and as a recording number 1: code not offered by this call\n"
-        self.assertEqual(command("report", given=b"\x09\0\0words"), (1, b"", said))
-        self.assertEqual(command("report", given=b""), (1, b"", said))
+        for recording in (b"\x09\0\0words", b"\x01\0", b""):
+            said = not_offered("report", recording).replace("\n", "; and it is no log\n")
+            self.assertEqual(command("report", given=recording), (1, b"", said))
+        self.assertEqual(command("report", given=b"\x03\0\0").status, 1)
+        self.assertEqual(command("report", given=b"\x03\0\0").said, no_words("report"))
+
+    def test_like_a_log(self) -> None:
+        """Words alone whose information begins as a log does are words."""
+        words = command("encode", "--code", 1, "--bare", given=b"word and").out
+        self.assertIn("Words of code 1, (128,64)", Page(self, command("report", "--code", 1, given=words).out).text)
+
+    def test_in_proportion(self) -> None:
+        """Many wrong bits in every word of code 5 are said of all; single words need a look if they stand out."""
+        sent = command("encode", "--code", 5, given=bytes(892 * 30)).out
+        heard = command("spoil", "--wrong", 7, given=sent).out[:-1020] + command("spoil", "--wrong", 16, given=sent).out[-1020:]
+        ran = command("report", given=heard)
+        page = Page(self, ran.out)
+        self.assertEqual(ran.status, 0)
+        said = "30 of 30 words taken (100.0 %) have more bits changed than is promised for code 5, which is 2; at most 16."
+        self.assertIn(said, page.text)
+        self.assertIn("1 with more than 14 bits changed", page.text)
+        self.assertNotIn("<li class=bad>", ran.out.decode())
 
     def test_campaign(self) -> None:
         out = self.place / "page.html"
@@ -73,9 +93,10 @@ class Pictures(unittest.TestCase):
         for code, wrong in ((1, 0), (1, 30), (1, 31), (1, 128), (2, 256)):
             command("campaign", "--code", code, "--words", 1, "--wrong", wrong, "--output", out)
             for chart in Page(self, out.read_bytes()).charts:
-                said = labels(chart)
-                for k, (text, box) in enumerate(said):
-                    self.assertFalse([other for other, place in said[:k] if overlap(box, place)], text)
+                for width, narrow in WIDTHS:
+                    said = labels(chart, width, narrow)
+                    for k, (text, box) in enumerate(said):
+                        self.assertFalse([other for other, place in said[:k] if overlap(box, place)], (width, text))
 
     def test_browser(self) -> None:
         if not browser():
@@ -87,3 +108,5 @@ class Pictures(unittest.TestCase):
             document, console = shown(out, self.place / "profile")
             self.assertEqual(console, "")
             self.assertEqual(document.count("<svg"), out.read_text(encoding="utf-8").count("<svg"))
+            for width in (400, 1280):
+                self.assertEqual(looked_at(out, self.place / "profile", width)[0], [], name)

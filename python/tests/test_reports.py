@@ -8,8 +8,10 @@ import shutil
 import tempfile
 import unittest
 
+from pandoricchia.command.page import DARK, LIGHT, STYLE
+
 from .command import LOGS, SAMPLES, TOP, command
-from .pages import Page, browser, dots, labels, overlap, shown
+from .pages import WIDTHS, Page, browser, contrast, dots, labels, looked_at, overlap, shown
 
 WHY = TOP / "crates/why/stdout"
 
@@ -21,8 +23,8 @@ class Reports(unittest.TestCase):
 
     def test_samples(self) -> None:
         for log in LOGS:
-            ran = command("report", log)
-            self.assertEqual((ran.status, ran.said), (command("summary", log).status, ""), log.name)
+            ran, short = command("report", log), command("summary", log)
+            self.assertEqual((ran.status, ran.said), (short.status, short.said.replace("summary", "report")), log.name)
             page = Page(self, ran.out)
             self.assertIn(hashlib.sha256(log.read_bytes()).hexdigest(), page.text)
             self.assertIn("What was proved of these numbers", page.text)
@@ -44,8 +46,9 @@ class Reports(unittest.TestCase):
 
     def test_told(self) -> None:
         """A word's index is its name, as the log has it; and a log has its limit already."""
-        page = command("report", given=b"word answer flips first last unlike\n16681 5 1 4 2 1\n").out.decode()
-        self.assertIn("<td>16681</td>", page)
+        lines = b"".join(b"%d 0 0 0 0 0\n" % k for k in range(1200))
+        page = command("report", given=b"word answer flips first last unlike\n" + lines + b"1200 5 1 4 2 1\n").out.decode()
+        self.assertIn("<td>1200</td>", page)
         said = "pandoricchia report: standard input: --limit is for words, and this is a log: they are corrected already\n"
         self.assertEqual(command("report", "--limit", 5, given=(SAMPLES / "code5.log").read_bytes()), (2, b"", said))
 
@@ -63,12 +66,49 @@ class Reports(unittest.TestCase):
         shutil.copy(SAMPLES / "paper.log", log)
         self.assertIn(str(log), Page(self, command("report", log).out).text)
 
+    def test_nothing_received(self) -> None:
+        """A log without words: the page does not say that all was taken, and the status is not that of success."""
+        ran = command("report", SAMPLES / "no_words.log")
+        said = f"pandoricchia report: {SAMPLES}/no_words.log: no words in it: nothing was received\n"
+        self.assertEqual((ran.status, ran.said), (1, said))
+        page = Page(self, ran.out)
+        self.assertIn("There are no words in it: nothing was received.", page.text)
+        self.assertNotIn("every word was taken", page.text)
+
+    def test_stream(self) -> None:
+        """A log of frames is of code 5, and its words have their offsets."""
+        ran = command("report", SAMPLES / "frames.log", "--worst", 3)
+        page = Page(self, ran.out)
+        self.assertIn("Words of code 5, (8160,7136), by their log", page.text)
+        self.assertIn("A log does not say which limit it is of.", page.text)
+        self.assertIn("at most half of the broken checks", page.text)
+        worst = [line.split() for line in (SAMPLES / "frames.log").read_text(encoding="ascii").splitlines()[1:] if line.split()[2] == "6"]
+        self.assertIn(f"<td>{worst[0][0]}</td><td>{worst[0][1]}</td><td>6</td>", ran.out.decode())
+        self.assertIn("pandoricchia frames --received", page.text)
+        short = command("summary", SAMPLES / "frames.log").out.decode()
+        self.assertIn(f"word {worst[0][0]} at offset {worst[0][1]}: answer 6", short)
+
+    def test_code(self) -> None:
+        """With --code a log is of words of that code, and what is promised is that code's; it is not read as words."""
+        log = SAMPLES / "code1.log"
+        page = Page(self, command("report", "--code", 1, log).out)
+        self.assertIn("Words of code 1, (128,64), by their log", page.text)
+        self.assertIn("promised for code 1, which is 1", page.text)
+        self.assertIn("promised for any code, which is 2", Page(self, command("report", log).out).text)
+
+    def test_red(self) -> None:
+        """A box is red where something is refused, and nowhere else."""
+        head = "word answer flips first last unlike\n"
+        for line, bad in (("0 0 9 36 0 9\n", 0), ("0 5 1 4 2 1\n", 1)):
+            page = command("report", given=(head + line).encode()).out.decode()
+            self.assertEqual(page.count("<li class=bad>"), bad)
+
     def test_many(self) -> None:
         """Many words that a chart can't tell apart: the page stays small, and no dot lies above the bound."""
-        lines = ["word answer flips first last unlike"]
-        lines += [f"{k} {5 * (k % 3 == 0)} {k % (first // 2 + 1)} {first} {k % 2} 0" for k, first in enumerate(range(4, 1000))]
-        lines += [f"0 0 {flips} {first} 0 0" for first in range(100, 900, 9) for flips in range(0, first // 2, 9)]
-        ran = command("report", given=("\n".join(lines) + "\n").encode())
+        lines = [f"{5 * (k % 3 == 0)} {k % (first // 2 + 1)} {first} {k % 2} 0" for k, first in enumerate(range(4, 1000))]
+        lines += [f"0 {flips} {first} 0 0" for first in range(100, 900, 9) for flips in range(0, first // 2, 9)]
+        log = "".join(f"{k} {line}\n" for k, line in enumerate(lines))
+        ran = command("report", given=("word answer flips first last unlike\n" + log).encode())
         self.assertLess(len(ran.out), 1_500_000)
         dots = [said for said in Page(self, ran.out).bars() if "broken check" in said]
         self.assertGreater(len(dots), 500)
@@ -83,13 +123,16 @@ class Reports(unittest.TestCase):
         for flips, many in ((1, 100), (14, 200), (14, 1500), (40, 3), (60, 3)):
             logs.append(head + "".join(line.format(k, k % flips, 4 * (k % flips)) for k in range(flips * many)))
         for log in logs:
-            for chart in Page(self, command("report", "--worst", 30, given=log.encode()).out).charts:
-                said = labels(chart)
-                for k, (text, box) in enumerate(said):
-                    for other, place in said[:k]:
-                        self.assertFalse(overlap(box, place), (text, other))
-                if "against flips" in said[0][0]:
-                    self.assertFalse(any(overlap(box, dot) for text, box in said if text.isdigit() for dot in dots(chart)))
+            page = Page(self, command("report", "--worst", 30, given=log.encode()).out)
+            for title, chart in zip(page.titles(), page.charts):
+                for width, narrow in WIDTHS:
+                    said = labels(chart, width, narrow)
+                    for k, (text, box) in enumerate(said):
+                        for other, place in said[:k]:
+                            self.assertFalse(overlap(box, place), (title, width, text, other))
+                    if "against flips" in title:
+                        drawn = dots(chart, width)
+                        self.assertFalse(any(overlap(box, dot) for text, box in said if text.isdigit() for dot in drawn), (title, width))
 
     def test_browser(self) -> None:
         if not browser():
@@ -101,3 +144,24 @@ class Reports(unittest.TestCase):
         for said in ("<title>Words of a log</title>", "Words by answer", "Word 14: answer 5", "What was proved of these numbers", "</svg>"):
             self.assertTrue(said in document, said)
         self.assertEqual(document.count("<svg"), out.read_text(encoding="utf-8").count("<svg"))
+
+    def test_looked_at(self) -> None:
+        """On a phone, on a desk and on a dark page nothing stands out of the page, no letters lie over others, and all can be read."""
+        if not browser():
+            self.skipTest("looking at a report needs chromium")
+        out = self.place / "page.html"
+        command("report", WHY, "--worst", 4, "--output", out)
+        for width, dark in ((360, False), (400, False), (1280, False), (400, True)):
+            wrong, (ground, letters) = looked_at(out, self.place / "profile", width, dark)
+            self.assertEqual(wrong, [], width)
+            self.assertGreater(contrast(ground, letters), 7)
+            self.assertEqual(sum(ground) < sum(letters), dark)
+
+    def test_colours(self) -> None:
+        """Letters and lines stand out from the ground, light and dark."""
+        for colours in (LIGHT, DARK):
+            seen = {name: tuple(int(colour[k:k + 2], 16) for k in (1, 3, 5)) for name, colour in colours.items()}
+            for name, least in (("text", 7), ("grey", 4.5), ("ink", 4.5), ("red", 4.5), ("light", 1.8), ("amber", 2), ("pale", 1.2)):
+                self.assertGreater(contrast(seen["paper"], seen[name]), least, name)
+        self.assertEqual(LIGHT.keys(), DARK.keys())
+        self.assertIn("@media screen and (prefers-color-scheme: dark)", STYLE)  # so paper is never dark

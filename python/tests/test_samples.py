@@ -19,7 +19,7 @@ import pandoricchia
 from .command import SAMPLES, TOP, command
 from .judge import ask, information, received
 from .pages import Page
-from .test_words import MANY, lines, taken
+from .test_words import MANY, lines, no_words, not_offered, taken
 
 CODES = (1, 2, 3, 4)
 COLUMNS = b"word answer flips first last unlike\n"
@@ -164,8 +164,8 @@ class Samples(unittest.TestCase):
     def test_cut_short(self) -> None:
         """A last word that is cut short, or whose last sample is: answer 2, and whole octets of the bits that were read."""
         word = file([-1.0, 1.0] * 64)
-        self.assertEqual(command("samples", "correct", "--code", 1, "--output", self.out), (0, COLUMNS, ""))
-        self.assertEqual(self.out.read_bytes(), b"\x01\xff\xff")
+        self.assertEqual(command("samples", "correct", "--code", 1, "--output", self.out), (1, COLUMNS, no_words("samples correct")))
+        self.assertFalse(self.out.exists())
         for octets, read in ((1, 0), (3, 0), (4, 0), (31, 0), (32, 1), (35, 1), (63, 1), (64, 2), (508, 15), (511, 15)):
             ran = command("samples", "correct", "--code", 1, "--output", self.out, given=word[:octets])
             self.assertEqual(ran, (1, COLUMNS + b"0 2 0 0 0 0\n", ""), octets)
@@ -178,8 +178,8 @@ class Samples(unittest.TestCase):
     def test_not_offered(self) -> None:
         """A recording of code 5, or of no code: one line, and an output that is there stays."""
         self.out.write_bytes(b"before")
-        said = "pandoricchia samples make: standard input: number 1: code not offered by this call; samples are for codes 1 to 4\n"
         for recording in (b"\x05\0\0" + bytes(1020), b"\0\0\0", b"\x06\0\0words", b"\x01", b""):
+            said = not_offered("samples make", recording, codes="codes 1, 2, 3 and 4")
             self.assertEqual(command("samples", "make", "--output", self.out, given=recording), (1, b"", said))
         self.assertEqual(self.out.read_bytes(), b"before")
         ran = command("samples", "make", "--noise", -1)
@@ -190,6 +190,8 @@ class Samples(unittest.TestCase):
         """Its log has a summary and a report, which says what is proved of such a log."""
         heard = command("samples", "make", "--noise", 0.6, given=self.sent(1)).out + file([math.nan] * 128)
         log = command("samples", "correct", "--code", 1, given=heard).out
+        said = "pandoricchia samples correct: standard input: 41 words\n"
+        self.assertEqual(command("samples", "correct", "--code", 1, "--count", given=heard).said, said)
         answers = [line[1] for line in lines(log)]
         ran = command("summary", given=log)
         self.assertEqual((ran.status, ran.said), (1, ""))

@@ -4,6 +4,7 @@ from __future__ import annotations
 import pathlib
 import random
 import shutil
+import subprocess
 import tempfile
 import unittest
 from typing import List, Tuple
@@ -11,20 +12,32 @@ from typing import List, Tuple
 import pandoricchia
 from pandoricchia import raising
 
-from .command import SAMPLES, TOP, command
+from .command import SAMPLES, TOP, command, process
 from .judge import CODES, ask, information, plain, received, spoiled
 
 MANY = {1: 40, 2: 20, 3: 10, 4: 4, 5: 4}
 
 
 def taken(log: bytes) -> int:
-    """The status that a log should have: whether every answer in it is 0."""
-    return 0 if all(line.split()[1] == b"0" for line in log.splitlines()[1:] if not line.startswith(b" ")) else 1
+    """The status that a log should have: whether there is a word in it, and every answer is 0."""
+    answers = [line.split()[1] for line in log.splitlines()[1:] if not line.startswith(b" ")]
+    return 0 if answers and set(answers) == {b"0"} else 1
 
 
-def not_offered(verb: str, name: object = "standard input") -> str:
-    """What is said of a recording as a whole whose code is not offered."""
-    return f"pandoricchia {verb}: {name}: number 1: code not offered by this call\n"
+def not_offered(verb: str, recording: bytes, name: object = "standard input", codes: str = "codes 1, 2, 3, 4 and 5") -> str:
+    """What is said of a recording as a whole whose code is not offered, or not by the verb; or which is none."""
+    if len(recording) < 3:
+        held = {0: "nothing", 1: "1 octet", 2: "2 octets"}[len(recording)]
+        said = f"no recording: {held} in it, and a recording begins with three octets, its code and its limit"
+    else:
+        said = f"number 1: code not offered by this call: code {recording[0]}, where it takes {codes}"
+        said += "" if recording[0] in CODES else "; words alone need --code"
+    return f"pandoricchia {verb}: {name}: {said}\n"
+
+
+def no_words(verb: str, name: object = "standard input") -> str:
+    """What is said of an input in which nothing was received."""
+    return f"pandoricchia {verb}: {name}: no words in it: nothing was received\n"
 
 
 def lines(ran: bytes) -> List[List[int]]:
@@ -45,11 +58,11 @@ class Logs(unittest.TestCase):
         self.assertGreater(len(logs), 20)
         for log in logs:
             wanted, recording = log.read_bytes(), log.with_suffix(".bin")
-            none = b"\n0 1 " in wanted
-            said = not_offered("correct", recording) if none else ""
-            self.assertEqual(command("correct", recording), (taken(wanted), wanted, said), log.name)
-            said = not_offered("correct") if none else ""
-            self.assertEqual(command("correct", given=recording.read_bytes()), (taken(wanted), wanted, said), log.name)
+            octets = recording.read_bytes()
+            for name, words, given in ((recording, (recording,), b""), ("standard input", (), octets)):
+                said = no_words("correct", name) if wanted.count(b"\n") == 1 else ""
+                said = not_offered("correct", octets, name) if b"\n0 1 " in wanted else said
+                self.assertEqual(command("correct", *words, given=given), (taken(wanted), wanted, said), log.name)
             reasons = command("why", recording)
             self.assertEqual(b"".join(line for line in reasons.out.splitlines(True) if not line.startswith(b" ")), wanted, log.name)
 
@@ -121,7 +134,7 @@ class Words(unittest.TestCase):
             quiet = bytes([code, 0, 0]) + bytes(3 * pandoricchia.word_octets(code))
             self.assertEqual((command("check", given=quiet).status, command("quick", given=quiet).status), (0, 0))
         ran = command("check", given=b"\x06\0\0abc")
-        self.assertEqual(ran, (1, b"word answer broken lowest\n0 1 0 0\n", not_offered("check")))
+        self.assertEqual(ran, (1, b"word answer broken lowest\n0 1 0 0\n", not_offered("check", b"\x06\0\0")))
 
     def test_encoded(self) -> None:
         for code in CODES:
@@ -145,7 +158,8 @@ class Words(unittest.TestCase):
         out = self.place / "out"
         out.write_bytes(b"before")
         ran = command("encode", "--code", 1, "--output", out, given=b"eight oct")
-        self.assertEqual(ran, (1, b"", "pandoricchia encode: word 1: number 2: input length differs\n"))
+        said = "word 1: number 2: input length differs: 1 octet where 8 make a word; --fill fills it up"
+        self.assertEqual(ran, (1, b"", f"pandoricchia encode: {said}\n"))
         ran = command("encode", "--code", 4, "--fill", "--output", out, given=b"\xff" * 895)
         self.assertEqual(ran, (1, b"", "pandoricchia encode: word 0: number 4: one of the six last bits set\n"))
         self.assertEqual([path.name for path in self.place.iterdir()], ["out"])
@@ -197,16 +211,72 @@ class Words(unittest.TestCase):
         """A code that a verb does not take: one line in the log and one on standard error, and an output that is there stays."""
         out = self.place / "out"
         out.write_bytes(b"before")
-        for verb, recording, log in (
-            ("correct", b"\x09\0\0words", b"word answer flips first last unlike\n0 1 0 0 0 0\n"),
-            ("open", b"\x04\0\0" + bytes(3 * 1022), b"word answer lowest information\n0 1 0 -\n"),
-            ("nearest", b"\x02\0\0" + bytes(32), b"word answer least bits\n0 1 0\n"),
+        for verb, recording, log, codes in (
+            ("correct", b"\x09\0\0words", b"word answer flips first last unlike\n0 1 0 0 0 0\n", "codes 1, 2, 3, 4 and 5"),
+            ("correct", b"\x01\0", b"word answer flips first last unlike\n0 1 0 0 0 0\n", ""),
+            ("correct", b"", b"word answer flips first last unlike\n0 1 0 0 0 0\n", ""),
+            ("open", b"\x04\0\0" + bytes(3 * 1022), b"word answer lowest information\n0 1 0 -\n", "codes 1, 2, 3 and 5"),
+            ("nearest", b"\x02\0\0" + bytes(32), b"word answer least bits\n0 1 0\n", "code 1"),
         ):
-            self.assertEqual(command(verb, "--output", out, given=recording), (1, log, not_offered(verb)))
+            said = not_offered(verb, recording, codes=codes)
+            self.assertEqual(command(verb, "--output", out, given=recording), (1, log, said))
         self.assertEqual(command("open", "--code", 4, given=bytes(2044)).out, b"word answer lowest information\n0 1 0 -\n")
         ran = command("spoil", "--wrong", 1, "--output", out, given=b"\x09\0\0words")
-        self.assertEqual(ran, (1, b"", not_offered("spoil")))
+        self.assertEqual(ran, (1, b"", not_offered("spoil", b"\x09\0\0")))
         self.assertEqual(out.read_bytes(), b"before")
+
+    def test_nothing_received(self) -> None:
+        """A recording without words is no success, and an output that is there stays."""
+        out = self.place / "out"
+        out.write_bytes(b"before")
+        for verb in ("correct", "check", "quick", "open", "why", "nearest"):
+            more = ("--output", out) if verb in ("correct", "open", "nearest") else ()
+            ran = command(verb, *more, given=b"\x01\0\5")
+            self.assertEqual((ran.status, ran.out.count(b"\n"), ran.said), (1, 1, no_words(verb)))
+            ran = command(verb, "--code", 1, *more)
+            self.assertEqual((ran.status, ran.out.count(b"\n"), ran.said), (1, 1, no_words(verb)))
+        self.assertEqual(out.read_bytes(), b"before")
+
+    def test_own_head(self) -> None:
+        """Words are said to be alone by --code, and are a recording: its length tells, of a file before anything is printed."""
+        out, path = self.place / "out", self.place / "heard.bin"
+        for code, verbs in ((1, ("correct", "spoil --wrong 1", "nearest", "samples make")), (5, ("correct", "check", "why", "open"))):
+            recording = (SAMPLES / f"code{code}.bin").read_bytes()
+            length = pandoricchia.word_octets(code)
+            whole = recording[:3 + (len(recording) - 3) // length * length]
+            path.write_bytes(whole)
+            many = (len(whole) - 3) // length
+            said = f"three octets, of which the first is {code}, and {many} whole words"
+            said += ": that is a recording, which has its code in it; leave --code out\n"
+            for verb in verbs:
+                words = verb.split()
+                more = ("--output", out) if verb not in ("check", "why") else ()
+                label = " ".join(words[:1] if words[0] != "samples" else words)
+                ran = command(*words, "--code", code, path, *more)
+                self.assertEqual(ran, (2, b"", f"pandoricchia {label}: {path}: {said}"), verb)
+                self.assertFalse(out.exists())
+            self.assertEqual(command("report", "--code", code, path), (2, b"", f"pandoricchia report: {path}: {said}"))
+            running = process("correct", "--code", code, stdin=subprocess.PIPE, stdout=subprocess.PIPE, stderr=subprocess.PIPE)
+            printed, error = running.communicate(whole)  # of a pipe it shows at the end
+            self.assertEqual((running.returncode, error.decode()), (2, f"pandoricchia correct: standard input: {said}"))
+            self.assertEqual(printed.count(b"\n"), many + 2)
+        two = (SAMPLES / "code1.bin").read_bytes()[3:3 + 32]
+        for octets in (two, two + b"\x01\0", b"\x02\0\0" + two, b"\x01\0\0\0" + two):
+            path.write_bytes(octets)
+            self.assertEqual(command("correct", "--code", 1, path).said, "")
+        with open(path, "rb") as file:  # some of it may be read already
+            path.write_bytes(b"\x01\0\5" + two)
+            file.seek(3)
+            running = process("correct", "--code", 1, "--limit", 5, stdin=file, stdout=subprocess.PIPE)
+            self.assertEqual(running.communicate()[0], command("correct", path).out)
+
+    def test_counted(self) -> None:
+        """With --count the last line on standard error says how many words there were, a short last one among them."""
+        recording = (SAMPLES / "code1.bin").read_bytes()
+        for verb in ("correct", "why"):
+            ran = command(verb, given=recording)
+            wanted = ran._replace(said=f"pandoricchia {verb}: standard input: 15 words\n")
+            self.assertEqual(command(verb, "--count", given=recording), wanted)
 
     def test_nearest(self) -> None:
         out = self.place / "out"

@@ -5,6 +5,9 @@ use borrow.Fn.World.{ArgsD, ResD}
 use borrow.Fn.Kinds.{endedOf}
 use denote.Triple.Clauses.{AtExit}
 use denote.Ref.{now}
+use Rattle.capi.proofs.pandoricchia_version as version
+use Rattle.capi.proofs.pandoricchia_version.Kinds as version-kinds
+use Rattle.capi.proofs.pandoricchia_version.Reads as version-reads
 use Rattle.capi.proofs.pandoricchia_word_octets as word-octets
 use Rattle.capi.proofs.pandoricchia_word_octets.Kinds as word-octets-kinds
 use Rattle.capi.proofs.pandoricchia_word_octets.Reads as word-octets-reads
@@ -79,6 +82,11 @@ use Rattle.capi.proofs.pandoricchia_exported_octets.Reads as exported-o
 use Rattle.answers.specs.Calls.{Corrected}
 use Rattle.blocks.specs.Blocks.{Imported, Exported}
 use Rattle.endings.specs.declared.Corrected.{Corrected as Numbers}
+
+pub version-outcome : (κs : Lfts 0) (a : ArgsD version.signature κs) (r₁ r₂ : ResD version.signature κs)
+    (s₁ s₂ : AtExit (endedOf 0 version-kinds.ps version-kinds.r) κs)
+    → version-reads.Post κs a r₁ s₁ → version-reads.Post κs a r₂ s₂ → r₁ ≡ r₂
+version-outcome κs a r₁ r₂ s₁ s₂ p q = p ∙ sym q
 
 pub word-octets-outcome : (κs : Lfts 0) (a : ArgsD word-octets.signature κs) (r₁ r₂ : ResD word-octets.signature κs)
     (s₁ s₂ : AtExit (endedOf 0 word-octets-kinds.ps word-octets-kinds.r) κs)

@@ -1,5 +1,6 @@
 // The calls for C and Rust. A slice is handed over as a pointer and its length; the records are those of the calls.
 ghost use mathlib.Core.Path.{_≡_};
+ghost use Prim.Native.Nat.{_+_, _*_};
 ghost use lib.ListN.{length};
 ghost use Rattle.answers.specs.Calls.{wordOctetsAnswer, informationOctetsAnswer, encodeAnswer, checkAnswer, openAnswer, correctAnswer};
 ghost use Rattle.answers.specs.Calls.{stepAnswer};
@@ -36,6 +37,15 @@ use readings::Reading;
 use taker::Made;
 use taker::Taken;
 use taker::Taker;
+
+// The version that the header names: 65536 times its major number, 256 times its minor number, and its patch number. The major
+// number moves with the records and with what the calls take.
+#[no_mangle]
+pub extern "C" fn pandoricchia_version() -> u32
+    ensures { λ r. ⌜ r ≡ 65536 * 0 + 256 * 10 + 0 ⌝ }
+{
+    65536 * 0 + 256 * 10 + 0
+}
 
 // The octets of a word; 0 for a code that is not offered.
 #[no_mangle]

@@ -4,13 +4,14 @@ from __future__ import annotations
 from argparse import Namespace
 from collections import Counter
 from functools import partial
+from html import escape
 from typing import Counter as Counts
 from typing import Dict, Iterator, List, NamedTuple, Sequence, Tuple
 
 from .. import calls
 from ..numbers import Number, text
 from . import charts, spoiling
-from .files import Failed, Sink, kept
+from .files import Failed, Sink, kept, printable
 from .jobs import ordered
 from .page import NAMES, page, section, table
 from .progress import Progress
@@ -100,7 +101,7 @@ def printed(code: int, rows: Rows) -> str:
 def drawn(found: Dict[int, Rows], options: Namespace) -> str:
     """The page: a table and a chart for each code."""
     limit = NO_LIMIT if options.limit is None else options.limit
-    colours = [charts.INK, charts.AMBER, charts.RED, "#e39a92", "#777"]
+    colours = [charts.INK, charts.AMBER, charts.RED, charts.ROSE, charts.GREY]
     kinds = _kinds()
     sections = [
         "<p>Random information was encoded, so many bits of the word were flipped, and the word was corrected. <i>Right</i>:"
@@ -119,7 +120,7 @@ def drawn(found: Dict[int, Rows], options: Namespace) -> str:
         sections.append(
             section(f"Code {code}, {NAMES[code]}", charts.outcomes(rows, shown, title), table(("wrong bits", *kinds), numbers))
         )
-    under = f"{options.words:,} words for each number of wrong bits, limit {limit:,}, seed {options.seed}."
+    under = f"{options.words:,} words for each number of wrong bits, limit {limit:,}, seed {escape(printable(options.seed))}."
     return page("A campaign of wrong bits", under, sections)
 
 

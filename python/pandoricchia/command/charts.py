@@ -1,22 +1,29 @@
-"""Charts, drawn as SVG that stands in a page: no script, no font and no picture from elsewhere."""
+"""Charts, drawn as SVG that stands in a page: no script, no font and no picture from elsewhere.
+
+A chart is as wide as the page lets it be: across, all is in parts of a hundred, and down in points, so that lines and letters
+keep their size on a phone and on paper. Colours are the page's (``page.STYLE``), light or dark. What has room on a wide page alone
+is marked so, and a narrow one does not show it.
+"""
 from __future__ import annotations
 
 from collections import Counter
 from html import escape
 from typing import Counter as Counts
-from typing import Dict, List, Mapping, NamedTuple, Sequence, Tuple
+from typing import Dict, List, Mapping, NamedTuple, Optional, Sequence, Tuple
 
-from .logs import plural
+from .files import plural
 
-INK, LIGHT, PALE, RED, AMBER, GREY = "#16365c", "#8fb0d3", "#d5dbe1", "#c0392b", "#e0a030", "#555"
+#: Colours, by the page's names for them.
+INK, LIGHT, PALE, RED, ROSE, AMBER, GREY, TEXT = "ink", "light", "pale", "red", "rose", "amber", "grey", "text"
 
 #: Inside and edge of a dot, for words that were refused and taken.
-TAKEN = {False: ("#f3c6c0", RED), True: (LIGHT, INK)}
+TAKEN = {False: (ROSE, RED), True: (LIGHT, INK)}
 
 #: Radii of dots whose area is a count.
 SMALLEST, GREATEST = 3.5, 11.0
 
-WIDE = 900
+#: The least width of a chart's inside, in points, on a page of a phone and on one that is not narrow.
+NARROW, WIDE = 230, 510
 
 
 class Flip(NamedTuple):
@@ -27,61 +34,76 @@ class Flip(NamedTuple):
     left: int
 
 
-class Picture:
-    """A drawing of so many points."""
+def long(words: object, size: float = 12) -> float:
+    """About how long words are, in points."""
+    return 0.6 * size * len(str(words))
 
-    def __init__(self, height: float, title: str, width: float = WIDE) -> None:
+
+def room(between: float, needed: float) -> Optional[str]:
+    """Where something is shown that has a part of a chart's width and needs so many points: everywhere, on a wide page, nowhere."""
+    return "" if between * NARROW >= needed else "wide" if between * WIDE >= needed else None
+
+
+class Picture:
+    """A drawing that is so many points high. Places across are parts of a hundred, with points added where that is said."""
+
+    def __init__(self, height: float, title: str, axes: bool = True) -> None:
+        self._title, self._class = title, " class=axes" if axes else ""
+        self._key: List[str] = []
         self._parts = [
-            f'<svg xmlns="http://www.w3.org/2000/svg" viewBox="0 0 {width:g} {height:g}" role="img"'
-            f' aria-label="{escape(title)}" font-family="Helvetica, Arial, sans-serif">',
+            f'<svg xmlns="http://www.w3.org/2000/svg" width="100%" height="{height:g}" role="img" aria-label="{escape(title)}">',
             f"<title>{escape(title)}</title>",
         ]
 
-    def text(self, x: float, y: float, words: object, size: float = 13, anchor: str = "middle", fill: str = "#222") -> None:
+    def text(
+        self, x: float, y: float, words: object, size: float = 12, anchor: str = "middle", more: float = 0, kind: str = ""
+    ) -> None:
         """Words that stay readable over lines."""
+        shift = f' dx="{more:g}"' if more else ""
+        named = f' class="{kind.strip()}"' if kind.strip() else ""
         self._parts.append(
-            f'<text x="{x:.1f}" y="{y:.1f}" font-size="{size:g}" text-anchor="{anchor}" fill="{fill}" stroke="#fff"'
-            f' stroke-width="3" paint-order="stroke">{escape(str(words))}</text>'
+            f'<text x="{x:.2f}%" y="{y:.1f}"{shift} font-size="{size:g}" text-anchor="{anchor}"{named}>{escape(str(words))}</text>'
         )
 
-    def upright(self, x: float, y: float, words: object, size: float = 13) -> None:
-        """Words from below to above."""
+    def upright(self, x: float, y: float, words: object) -> None:
+        """Words from below to above, so many points from the left."""
         self._parts.append(
-            f'<text x="{x:.1f}" y="{y:.1f}" font-size="{size:g}" text-anchor="middle" fill="#222"'
-            f' transform="rotate(-90 {x:.1f} {y:.1f})">{escape(str(words))}</text>'
+            f'<text x="{x:g}" y="{y:.1f}" font-size="13" text-anchor="middle" transform="rotate(-90 {x:g} {y:.1f})">'
+            f"{escape(str(words))}</text>"
         )
 
-    def line(self, commands: str, colour: str, width: float = 1, dashes: str = "") -> None:
-        """A path."""
+    def line(self, start: Tuple[float, float], end: Tuple[float, float], colour: str, width: float = 1, dashes: str = "") -> None:
+        """A line between two places."""
         more = f' stroke-dasharray="{dashes}"' if dashes else ""
-        self._parts.append(f'<path d="{commands}" fill="none" stroke="{colour}" stroke-width="{width:g}"{more}/>')
-
-    def bar(self, x: float, y: float, width: float, height: float, fill: str, said: str = "") -> None:
-        """A filled rectangle, with words for who points at it."""
-        inner = f"<title>{escape(said)}</title>" if said else ""
         self._parts.append(
-            f'<rect x="{x:.2f}" y="{y:.2f}" width="{width:.2f}" height="{height:.2f}" fill="{fill}">{inner}</rect>'
+            f'<line x1="{start[0]:.2f}%" y1="{start[1]:.1f}" x2="{end[0]:.2f}%" y2="{end[1]:.1f}" class="{colour}-line"'
+            f' stroke-width="{width:g}"{more}/>'
         )
 
-    def dot(self, x: float, y: float, radius: float, fill: str, edge: str = "none", said: str = "", clear: float = 1) -> None:
-        """A circle, with words for who points at it."""
+    def bar(self, x: float, y: float, width: float, height: float, colour: str, said: str) -> None:
+        """A filled rectangle, with words for who points at it."""
+        self._parts.append(
+            f'<rect x="{x:.2f}%" y="{y:.2f}" width="{width:.2f}%" height="{height:.2f}" class="{colour}">'
+            f"<title>{escape(said)}</title></rect>"
+        )
+
+    def dot(self, x: float, y: float, radius: float, colours: Tuple[str, str], said: str = "", clear: float = 1) -> None:
+        """A circle of an inside and an edge, with words for who points at it."""
         inner = f"<title>{escape(said)}</title>" if said else ""
         self._parts.append(
-            f'<circle cx="{x:.2f}" cy="{y:.2f}" r="{radius:.2f}" fill="{fill}" fill-opacity="{clear:g}" stroke="{edge}"'
+            f'<circle cx="{x:.2f}%" cy="{y:.2f}" r="{radius:.2f}" class="{colours[0]} {colours[1]}-line" fill-opacity="{clear:g}"'
             f' stroke-width="1.5">{inner}</circle>'
         )
 
-    def key(self, y: float, entries: Sequence[Tuple[str, str]], left: float) -> None:
-        """What the colours mean, in one row."""
-        x = left
-        for colour, words in entries:
-            self.bar(x, y - 10, 12, 12, colour)
-            self.text(x + 18, y, words, 12, "start")
-            x += 42 + 6.6 * len(words)
+    def key(self, words: str, colour: str = "") -> None:
+        """What a colour means, below the chart; or something else that is to be said there."""
+        self._key.append(f'<li><i class="{colour}"></i>{escape(words)}</li>' if colour else f"<li>{escape(words)}</li>")
 
     def drawn(self) -> str:
         """The drawing."""
-        return "\n".join([*self._parts, "</svg>"])
+        key = f"<ul class=key>{''.join(self._key)}</ul>\n" if self._key else ""
+        chart = "\n".join([*self._parts, "</svg>"])
+        return f"<figure{self._class}>\n<figcaption>{escape(self._title)}</figcaption>\n{chart}\n{key}</figure>"
 
 
 def ticks(most: float, about: int = 6) -> List[int]:
@@ -91,33 +113,52 @@ def ticks(most: float, about: int = 6) -> List[int]:
     return [k * step for k in range(count + 1)]
 
 
-class Field:
-    """The inside of a chart with two axes: from numbers to points."""
+def short(number: int) -> str:
+    """A number on an axis: whole thousands and millions in fewer letters."""
+    for unit, name in ((10**9, "G"), (10**6, "M"), (10**3, "k")):
+        if number >= 10 * unit and number % unit == 0:
+            return f"{number // unit:,} {name}"
+    return f"{number:,}"
 
-    def __init__(self, picture: Picture, top: float, high: float, left: float = 76, wide: float = WIDE - 110) -> None:
-        self.picture, self.top, self.high, self.left, self.wide = picture, top, high, left, wide
+
+class Field:
+    """The inside of a chart with two axes: from numbers to places."""
+
+    def __init__(self, picture: Picture, top: float, high: float) -> None:
+        self.picture, self.top, self.high = picture, top, high
         self.across, self.most = 1.0, 1.0
 
     def x(self, value: float) -> float:
         """Where a number stands across."""
-        return self.left + self.wide * value / self.across
+        return 100 * value / self.across
 
     def y(self, value: float) -> float:
         """How high a number stands."""
         return self.top + self.high - self.high * value / self.most
 
-    def side(self, most: float, name: str, after: str = "", gap: float = 10) -> None:
-        """The axis at the left, with lines across; its numbers stand so far from it."""
+    def side(self, most: float, name: str, after: str = "", gap: float = 8) -> None:
+        """The axis at the left, with lines across; its numbers stand so many points from it."""
         marks = ticks(most)
         self.most = marks[-1]
         for mark in marks:
-            self.picture.line(f"M{self.left} {self.y(mark):.1f}H{self.left + self.wide}", PALE if mark else "#444")
-            self.picture.text(self.left - gap, self.y(mark) + 4, f"{mark:,}{after}", 12, "end")
-        self.picture.upright(18, self.top + self.high / 2, name)
+            self.picture.line((0, self.y(mark)), (100, self.y(mark)), PALE if mark else GREY)
+            self.picture.text(0, self.y(mark) + 4, short(mark) + after, 12, "end", more=-gap)
+        self.picture.upright(-56, self.top + self.high / 2, name)
+
+    def numbers(self, said: Sequence[Tuple[float, object]], down: float = 18, size: float = 11) -> None:
+        """Numbers below the axis, at their places: as many as have room, on a narrow page fewer."""
+        longest = max(long(words, size) for _, words in said) + 6
+        apart = (said[-1][0] - said[0][0]) / (len(said) - 1) if len(said) > 1 else 1.0
+        steps = [m * 10**power for power in range(6) for m in (1, 2, 5)]
+        wide = next(step for step in steps if step * apart / self.across * WIDE >= longest)
+        narrow = next(step for step in steps if step % wide == 0 and step * apart / self.across * NARROW >= longest)
+        for k, (value, words) in enumerate(said):
+            if k % wide == 0:
+                self.picture.text(self.x(value), self.y(0) + down, words, size, kind="" if k % narrow == 0 else "wide")
 
     def foot(self, name: str) -> None:
         """The name of the axis below."""
-        self.picture.text(self.left + self.wide / 2, self.top + self.high + 42, name, 13)
+        self.picture.text(50, self.top + self.high + 44, name, 13)
 
 
 def share(count: int, of: int) -> str:
@@ -126,53 +167,47 @@ def share(count: int, of: int) -> str:
 
 
 def answers(counts: Mapping[int, int], meaning: Mapping[int, str], title: str) -> str:
-    """How many words have each answer: a bar for each."""
+    """How many words have each answer: a bar for each, under what it means."""
     shown = sorted(counts)
-    picture = Picture(60 + 34 * len(shown), title)
-    picture.text(0, 18, title, 16, "start")
+    picture = Picture(46 * len(shown), title, axes=False)
     whole, most = sum(counts.values()), max(counts.values(), default=0) or 1
-    left, wide = 330, WIDE - 330 - 130
     for k, answer in enumerate(shown):
-        y = 42 + 34 * k
-        long = max(1.5, wide * counts[answer] / most) if counts[answer] else 0
-        picture.text(left - 12, y + 16, f"{answer}: {meaning[answer]}", 13, "end")
-        picture.bar(left, y, long, 24, RED if answer else INK, f"answer {answer}: {plural(counts[answer], 'word')}")
-        picture.text(left + long + 8, y + 16, share(counts[answer], whole), 13, "start")
-    picture.line(f"M{left} 34V{42 + 34 * len(shown)}", "#444")
+        y = 46 * k
+        part = max(0.3, 58 * counts[answer] / most) if counts[answer] else 0
+        picture.text(0, y + 14, f"{answer}: {meaning[answer]}", 13, "start")
+        picture.bar(0, y + 20, part, 18, RED if answer else INK, f"answer {answer}: {plural(counts[answer], 'word')}")
+        picture.text(part, y + 34, share(counts[answer], whole), 13, "start", more=8)
     return picture.drawn()
 
 
 def columns(series: Sequence[Tuple[str, str, Mapping[int, int]]], title: str, across: str) -> str:
     """How many words have each number, for several series side by side: (name, colour, counts)."""
-    picture = Picture(400, title)
-    picture.text(0, 18, title, 16, "start")
+    picture = Picture(300, title)
     most = max((value for _, _, counts in series for value in counts), default=0)
-    bin_width = -(-(most + 1) // 48)
-    bins = most // bin_width + 1
+    width = -(-(most + 1) // 40)
+    bins = most // width + 1
     binned: List[Counts[int]] = []
     for _, _, counts in series:
         binned.append(Counter())
         for value, count in counts.items():
-            binned[-1][value // bin_width] += count
-    field = Field(picture, 50, 240)
+            binned[-1][value // width] += count
+    field = Field(picture, 22, 220)
     greatest = max((max(counts.values(), default=0) for counts in binned), default=1) or 1
     field.side(greatest, "words")
     field.across = bins
-    room = 0.8 / len(series)
-    small = field.wide * room / bins < 8 * len(f"{greatest:,}")
+    part = 0.8 / len(series)
+    over = room(part / bins, long(f"{greatest:,}", 11) + 4)
     for s, (name, colour, _) in enumerate(series):
         for value, count in sorted(binned[s].items()):
-            x, wide = field.x(value + 0.1 + s * room), field.wide * room / bins
+            x, wide = field.x(value + 0.1 + s * part), 100 * part / bins
             high = max(1.5, field.y(0) - field.y(count))
-            numbers = _binned(value, bin_width)
-            picture.bar(x, field.y(0) - high, max(1.0, wide - 1), high, colour, f"{name} {numbers}: {plural(count, 'word')}")
-            if not small:
-                picture.text(x + wide / 2, field.y(0) - high - 5, f"{count:,}", 11, fill=GREY)
-    every = 1 if bin_width == 1 and bins <= 24 else 2 if bin_width == 1 else 6
-    for value in range(0, bins, every):
-        picture.text(field.x(value + 0.5), field.y(0) + 18, _binned(value, bin_width), 11)
+            said = f"{name} {_binned(value, width)}: {plural(count, 'word')}"
+            picture.bar(x, field.y(0) - high, 0.94 * wide, high, colour, said)
+            if over is not None:
+                picture.text(x + wide / 2, field.y(0) - high - 5, f"{count:,}", 11, kind=GREY + " " + over)
+        picture.key(name, colour)
+    field.numbers([(value + 0.5, _binned(value, width)) for value in range(bins)])
     field.foot(across)
-    picture.key(375, [(colour, name) for name, colour, _ in series], field.left)
     return picture.drawn()
 
 
@@ -185,34 +220,32 @@ def starts(counts: Mapping[Tuple[int, int, bool], int], halved: bool, title: str
 
     The bound is the checks broken at the start, or half of them for codes 4 and 5; where the code is not known, the first.
     """
-    picture = Picture(470, title)
-    picture.text(0, 18, title, 16, "start")
+    picture = Picture(370, title)
     bound = 0.5 if halved else 1.0
     broken = max((first for first, _, _ in counts), default=0)
     flips = max((flips for _, flips, _ in counts), default=0)
-    field = Field(picture, 50, 300)
+    field = Field(picture, 22, 290)
     field.side(max(flips, 1), "flips", gap=GREATEST + 4)
     marks = ticks(max(broken, 1), 12)
     field.across = marks[-1]
     for mark in marks:
-        picture.line(f"M{field.x(mark):.1f} {field.top}V{field.y(0)}", PALE if mark else "#444")
-        picture.text(field.x(mark), field.y(0) + 22, f"{mark:,}", 12)
+        picture.line((field.x(mark), field.top), (field.x(mark), field.y(0)), PALE if mark else GREY)
     end = min(field.across, field.most / bound)
-    picture.line(f"M{field.x(0):.1f} {field.y(0):.1f}L{field.x(end):.1f} {field.y(end * bound):.1f}", GREY, 1.5, "6 4")
+    picture.line((0, field.y(0)), (field.x(end), field.y(end * bound)), GREY, 1.5, "6 4")
     cells = counts if len(counts) <= 2000 else _together(counts, field.across / 90, field.most / 45)
     most = max(cells.values(), default=1)
     for (x, y, taken), count in sorted(cells.items(), key=lambda cell: -cell[1]):
         radius = SMALLEST + (GREATEST - SMALLEST) * (count / max(most, 25)) ** 0.5
         said = f"{count:,} {'taken' if taken else 'refused'}: {plural(x, 'broken check')}, {plural(y, 'flip')}"
-        picture.dot(field.x(x), field.y(y), radius, *TAKEN[taken], said, 0.75)
+        picture.dot(field.x(x), field.y(y), radius, TAKEN[taken], said, 0.75)
+    field.numbers([(mark, f"{mark:,}") for mark in marks], 24)
     field.foot("broken checks at the start")
-    for x, taken, words in ((6, True, "taken"), (76, False, "refused")):
-        picture.dot(field.left + x, 424, 6, *TAKEN[taken])
-        picture.text(field.left + x + 12, 428, words, 12, "start")
-    picture.text(field.left + 160, 428, f"area: number of words, {most:,} at most", 12, "start")
-    picture.line(f"M{field.left} 446h26", GREY, 1.5, "6 4")
+    for taken, words in ((True, "taken"), (False, "refused")):
+        if any(key[2] == taken for key in counts):
+            picture.key(words, " ".join((TAKEN[taken][0], TAKEN[taken][1] + "-edge")))
+    picture.key(f"area: number of words, {most:,} at most")
     words = "half of the broken checks" if halved else "the broken checks"
-    picture.text(field.left + 34, 450, f"no run lies above this line: its flips are at most {words} (proved)", 12, "start")
+    picture.key(f"no run lies above this line: its flips are at most {words} (proved)", "dashed")
     return picture.drawn()
 
 
@@ -228,46 +261,41 @@ def _together(counts: Mapping[Tuple[int, int, bool], int], wide: float, high: fl
 
 def run(first: int, flips: Sequence[Flip], title: str) -> str:
     """A run: the broken checks left after each flip."""
-    again = len({flip.bit for flip in flips}) < len(flips)
-    picture = Picture(325 if again else 300, title)
-    picture.text(0, 18, title, 15, "start")
-    field = Field(picture, 60, 190)
+    picture = Picture(290, title)
+    field = Field(picture, 46, 190)
     field.side(max(first, 1), "checks still broken")
     field.across = max(1, len(flips))
     heights = [first] + [flip.left for flip in flips]
-    steps = "".join(f"H{field.x(k):.1f}V{field.y(high):.1f}" for k, high in enumerate(heights[1:], 1))
-    picture.line(f"M{field.x(0):.1f} {field.y(first):.1f}{steps}", INK, 2)
-    picture.dot(field.x(0), field.y(first), 3, INK)
+    for k, (high, low) in enumerate(zip(heights, heights[1:])):
+        picture.line((field.x(k), field.y(high)), (field.x(k + 1), field.y(high)), INK, 2)
+        picture.line((field.x(k + 1), field.y(high)), (field.x(k + 1), field.y(low)), INK, 2)
+    picture.dot(0, field.y(first), 3, (INK, INK))
     seen: Dict[int, int] = {}
-    few, labels = len(flips) <= 14, len(flips) <= 45
+    labels = room(1 / len(flips), 62) if flips else None
+    again = False
     for k, flip in enumerate(flips, 1):
         back = seen.get(flip.bit, 0) % 2 == 1
         seen[flip.bit] = seen.get(flip.bit, 0) + 1
+        again = again or back
         said = f"flip {k}: bit {flip.bit}, excess {flip.excess}, {plural(flip.left, 'check')} left"
-        radius = 5 if labels else 2.5
-        picture.dot(field.x(k), field.y(flip.left), radius, "#fff" if back else INK, RED if back else INK, said)
-        colour = RED if back else "#222"
-        if few:
-            picture.text(field.x(k), field.y(heights[k - 1]) - 20, f"bit {flip.bit}", 11, "end", colour)
-            picture.text(field.x(k), field.y(heights[k - 1]) - 7, f"excess {flip.excess}", 10, "end", colour)
-        if labels or k % 20 == 0:
-            picture.text(field.x(k), field.y(0) + 17, k, 11 if few else 9)
-    picture.text(field.x(0), field.y(0) + 17, 0, 11 if few else 9)
+        picture.dot(field.x(k), field.y(flip.left), 5 if len(flips) <= 45 else 2.5, ("paper" if back else INK, RED if back else INK), said)
+        if labels is not None:
+            kind = ("red " if back else "") + labels
+            picture.text(field.x(k), field.y(heights[k - 1]) - 20, f"bit {flip.bit}", 11, "end", kind=kind)
+            picture.text(field.x(k), field.y(heights[k - 1]) - 7, f"excess {flip.excess}", 10, "end", kind=kind)
+    field.numbers([(k, k) for k in range(len(flips) + 1)])
     field.foot("flips made")
     if again:
-        picture.dot(field.left + 6, 308, 5, "#fff", RED)
-        picture.text(field.left + 18, 312, "a bit flipped back", 12, "start")
+        picture.key("a bit flipped back", "paper red-edge")
     return picture.drawn()
 
 
 def outcomes(rows: Sequence[Tuple[int, Mapping[str, int]]], kinds: Sequence[Tuple[str, str]], title: str) -> str:
     """What became of words by their number of wrong bits: a stacked column for each, of (kind, colour)."""
-    picture = Picture(400, title)
-    picture.text(0, 18, title, 16, "start")
-    field = Field(picture, 50, 250)
+    picture = Picture(310, title)
+    field = Field(picture, 14, 240)
     field.side(100, "words", " %")
     field.across = len(rows)
-    every = ticks(len(rows) - 1, 30)[1]
     for k, (wrong, counts) in enumerate(rows):
         whole, below = sum(counts.values()) or 1, 0.0
         for kind, colour in kinds:
@@ -275,10 +303,10 @@ def outcomes(rows: Sequence[Tuple[int, Mapping[str, int]]], kinds: Sequence[Tupl
             if part:
                 high = field.y(below) - field.y(below + part)
                 said = f"{plural(wrong, 'wrong bit')}, {kind}: {counts[kind]:,} of {whole:,}"
-                picture.bar(field.x(k + 0.1), field.y(below + part), 0.8 * field.wide / len(rows), high, colour, said)
+                picture.bar(field.x(k + 0.1), field.y(below + part), 80 / len(rows), high, colour, said)
             below += part
-        if k % every == 0:
-            picture.text(field.x(k + 0.5), field.y(0) + 18, wrong, 11)
+    field.numbers([(k + 0.5, wrong) for k, (wrong, _) in enumerate(rows)])
     field.foot("wrong bits in the word")
-    picture.key(380, [(colour, kind) for kind, colour in kinds], field.left)
+    for kind, colour in kinds:
+        picture.key(kind, colour)
     return picture.drawn()

@@ -55,12 +55,18 @@ def _end(number: int, _: object) -> None:
     raise Ended(number)
 
 
+def _signals() -> None:
+    """From here on there may be something to put away; a signal that is ignored, as by nohup, stays so."""
+    for number, handler in ((signal.SIGTERM, _end), (signal.SIGHUP, _end), (signal.SIGINT, signal.default_int_handler)):
+        if signal.getsignal(number) != signal.SIG_IGN:
+            signal.signal(number, handler)
+
+
 def main() -> int:
-    """The console script. Interrupts, and a pipe that nobody reads, end it as they end any program: by the signal, quietly."""
-    _descriptors()
-    signal.signal(signal.SIGTERM, _end)
-    signal.signal(signal.SIGHUP, _end)
+    """What the console script does. Interrupts, and a pipe that nobody reads, end it as they end any program: by the signal, quietly."""
     try:
+        _descriptors()
+        _signals()
         return run()
     except KeyboardInterrupt:
         number = signal.SIGINT

@@ -26,6 +26,20 @@ def reason(error: OSError) -> str:
     return os.strerror(error.errno) if error.errno else str(error)
 
 
+def printable(given: str) -> str:
+    """What an argument says, for a page: octets of it that are no text are shown by their numbers, as \\xff."""
+    return given.encode("utf-8", "surrogateescape").decode("utf-8", "backslashreplace")
+
+
+def plural(count: int, word: str) -> str:
+    """So many of them, in words of a sentence."""
+    return f"{count:,} {word}" if count == 1 else f"{count:,} {word}s"
+
+
+#: So many octets of an input are looked at before all others: a recording's head, or the first line of a log.
+FIRST = 64
+
+
 class Source:
     """An input that is read in order: a file, or standard input for no name or ``-``."""
 
@@ -35,6 +49,8 @@ class Source:
         #: Octets read so far.
         self.place = 0
         self._descriptor = 0
+        self._first: Optional[bytes] = None
+        self._held = b""
         if not standard:
             try:
                 self._descriptor = os.open(self.name, os.O_RDONLY)
@@ -50,12 +66,27 @@ class Source:
 
     @property
     def size(self) -> Optional[int]:
-        """How many octets there are, where that is known."""
+        """How many octets there are, read or not, where that is known; a shell may have read some of standard input before."""
         found = os.fstat(self._descriptor)
-        return found.st_size if stat.S_ISREG(found.st_mode) else None
+        if not stat.S_ISREG(found.st_mode):
+            return None
+        return found.st_size - os.lseek(self._descriptor, 0, os.SEEK_CUR) + self.place + len(self._held)
+
+    def first(self) -> bytes:
+        """The first octets of all, a line's worth, read already or not; fewer where there are no more."""
+        if self._first is None:
+            self._first = self._held = self._taken(FIRST)
+        return self._first
 
     def read(self, most: int) -> bytes:
         """So many octets; fewer at the input's end alone."""
+        self.first()
+        held, self._held = self._held[:most], self._held[most:]
+        octets = held + self._taken(most - len(held))
+        self.place += len(octets)
+        return octets
+
+    def _taken(self, most: int) -> bytes:
         parts, got = [], 0
         while got < most:
             try:
@@ -66,8 +97,12 @@ class Source:
                 break
             parts.append(part)
             got += len(part)
-        self.place += got
         return parts[0] if len(parts) == 1 else b"".join(parts)
+
+
+def no_words(source: Source) -> Refusal:
+    """What is said of an input in which nothing was received."""
+    return Refusal(f"{source.name}: no words in it: nothing was received")
 
 
 class Sink:

@@ -3,18 +3,33 @@ from __future__ import annotations
 
 import argparse
 import sys
-from typing import Iterator, List
+from typing import Dict, Iterator, List
 
 from .._library import ENVIRONMENT, VERSION
+from ..numbers import Number
 from .parser import DESCRIPTION, filled, parser
 
 #: When it last changed.
-DATE = "2026-11-16"
+DATE = "2026-11-18"
+
+#: The words of these pages beside those of the field. README has the same; a test compares.
+GLOSSARY = (
+    ("word", "a received codeword, right or wrong: information bits, then parity. A codeword is a word that the encoder can give"),
+    ("check", "a parity check. The broken checks of a word are the ones of its syndrome"),
+    ("quiet", "with no check broken: the syndrome is zero"),
+    ("excess", "of a bit: the number of its broken checks less that of its met ones. A flip takes the bit that has most"),
+    ("run", "iterative bit flipping, a bit in each iteration; flips are its iterations, and the limit is the most that it makes"),
+    ("unlike", "the Hamming distance between the word as it was received and the run's last word"),
+    ("taken", "decoded: answer 0. Refused is any other answer, a decoding failure by its number"),
+    ("unit", "a CLTU, the telecommand transmission unit: start sequence, codeblocks, tail sequence"),
+    ("marker", "an ASM, the attached sync marker 1A CF FC 1D before each randomised telemetry word (together a CADU)"),
+    ("sample", "a float for each bit: a soft decision, used to choose among bits of equal excess. All else here is hard decision"),
+)
 
 STATUS = (
     ("0", "All is taken. Of check and quick: no check is broken."),
-    ("1", "Something is refused: the log says which words. Where it is the whole input, or the verb writes octets alone, one line on"
-          " standard error says what, and no output file is left or changed."),
+    ("1", "Something is refused: the log says which words. Where it is the whole input, or nothing was received, or the verb writes octets"
+          " alone, one line on standard error says what, and no output file is left or changed; report and summary are written."),
     ("2", "Bad usage, or a read or write that failed: one line on standard error says what, and no output file is left or changed."),
 )
 
@@ -30,7 +45,7 @@ def _usage(made: argparse.ArgumentParser) -> str:
     needed = [_named(action) for action in made._actions if action.required and action.option_strings]
     groups = [group for group in made._mutually_exclusive_groups if group.required]
     needed += ["(" + " | ".join(_named(action) for action in group._group_actions) + ")" for group in groups]
-    files = ["[FILE]" for action in made._actions if not action.option_strings]
+    files = [f"[{action.metavar}]" if action.nargs == "?" else str(action.metavar) for action in made._actions if not action.option_strings]
     return " ".join([made.prog, *needed, "[OPTION]..", *files])
 
 
@@ -43,13 +58,17 @@ def _value(action: argparse.Action) -> str:
     return f" {action.metavar or action.dest.upper()}" if action.option_strings and action.nargs != 0 else ""
 
 
+def below(made: argparse.ArgumentParser) -> Dict[str, argparse.ArgumentParser]:
+    """The verbs of a parser, in their order."""
+    groups = [action for action in made._actions if isinstance(action, argparse._SubParsersAction)]
+    return {name: inner for action in groups for name, inner in action.choices.items()}
+
+
 def leaves(made: argparse.ArgumentParser) -> Iterator[argparse.ArgumentParser]:
     """The verbs that can be run, in their order."""
-    below = [action for action in made._actions if isinstance(action, argparse._SubParsersAction)]
-    for action in below:
-        for inner in action.choices.values():
-            yield from leaves(inner)
-    if not below:
+    for inner in below(made).values():
+        yield from leaves(inner)
+    if not below(made):
         yield made
 
 
@@ -88,12 +107,18 @@ def manual() -> str:
         ".PP",
         filled(
             "The codes are 1 (128,64), 2 (256,128), 3 (512,256), 4 (8176,7154) and 5 (8160,7136). Answers are the library's numbers:"
-            " 0 is taken, any other is a refusal."
+            " 0 is taken, any other is a refusal; they and the words of this page are explained below."
         ),
         ".SH VERBS",
     ]
     for verb in leaves(made):
         lines += _verb(verb)
+    lines.append(".SH ANSWERS")
+    for number in Number:
+        lines += [".TP", f".B {int(number)}", escaped(number.text[0].upper() + number.text[1:] + ".")]
+    lines.append(".SH WORDS")
+    for word, meaning in GLOSSARY:
+        lines += [".TP", f".B {escaped(word)}", escaped(filled(meaning[0].upper() + meaning[1:] + "."))]
     lines.append(".SH EXIT STATUS")
     for status, meaning in STATUS:
         lines += [".TP", f".B {status}", escaped(filled(meaning))]

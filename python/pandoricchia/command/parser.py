@@ -2,9 +2,10 @@
 from __future__ import annotations
 
 import argparse
+import hashlib
 from typing import IO, Any, Callable, List, NoReturn, Optional, Tuple
 
-from .._library import VERSION
+from .. import _library
 from . import campaign, links, report, samples, summary, words
 from .files import Failed, Sink
 
@@ -32,6 +33,19 @@ class Parser(argparse.ArgumentParser):
         Sink(None).write(message.encode())
 
 
+class Version(argparse.Action):
+    """Says the command's version, and which library it asks: its version, its file, and the file's hash."""
+
+    def __call__(self, *_: object) -> NoReturn:
+        Sink(None).write(f"pandoricchia {_library.VERSION}\n".encode())
+        library = _library.load()
+        file = _library.file_of(library)
+        Sink(None).write(f"library {_library.written(library.pandoricchia_version())}, {file}\n".encode("utf-8", "surrogateescape"))
+        with open(file, "rb") as octets:
+            Sink(None).write(f"SHA-256 {hashlib.sha256(octets.read()).hexdigest()}\n".encode())
+        raise SystemExit(0)
+
+
 def _number(least: int, most: int) -> Callable[[str], int]:
     """The type of a whole number between two."""
 
@@ -47,15 +61,16 @@ def _number(least: int, most: int) -> Callable[[str], int]:
     return read
 
 
-def _one_of(codes: Tuple[int, ...]) -> Callable[[str], int]:
+class _OneOf:
     """The type of a code's number."""
 
-    def read(given: str) -> int:
-        if given not in map(str, codes):
-            raise argparse.ArgumentTypeError(f"{given!r} is no code of this verb ({', '.join(map(str, codes))})")
-        return int(given)
+    def __init__(self, codes: Tuple[int, ...]) -> None:
+        self.codes = codes
 
-    return read
+    def __call__(self, given: str) -> int:
+        if given not in map(str, self.codes):
+            raise argparse.ArgumentTypeError(f"{given!r} is no code of this verb ({', '.join(map(str, self.codes))})")
+        return int(given)
 
 
 def _real(most: float, what: str) -> Callable[[str], float]:
@@ -83,7 +98,7 @@ class Verbs:
         """A verb: what it does in a few words, what there is more to say, and examples."""
         parser: Parser = self._made.add_parser(name, help=gives, description=filled(f"{gives[0].upper()}{gives[1:]}. {more}"))
         parser.epilog = "example:\n" + "\n".join(f"  {example}" for example in examples)
-        parser.set_defaults(run=run, label=parser.prog, code=None, limit=None, output=None, jobs=1)
+        parser.set_defaults(run=run, label=parser.prog, code=None, limit=None, output=None, jobs=1, count=False)
         return parser
 
     def group(self, name: str, gives: str) -> Verbs:
@@ -114,7 +129,7 @@ def _output(parser: argparse.ArgumentParser, what: str) -> None:
 
 
 def _code(parser: argparse.ArgumentParser, what: str, codes: Tuple[int, ...] = (1, 2, 3, 4, 5), required: bool = False) -> None:
-    parser.add_argument("-c", "--code", type=_one_of(codes), metavar="CODE", required=required, help=what)
+    parser.add_argument("-c", "--code", type=_OneOf(codes), metavar="CODE", required=required, help=what)
 
 
 def _limit(parser: argparse.ArgumentParser, what: str = "the most flips of a word, 0 to 65535") -> None:
@@ -130,11 +145,22 @@ def _jobs(parser: argparse.ArgumentParser) -> None:
     parser.add_argument("-j", "--jobs", type=_number(1, 256), default=1, metavar="N", help=many)
 
 
+def _count(parser: argparse.ArgumentParser) -> None:
+    many = "when all is printed, say on standard error how many words there were: summary --words demands as many"
+    parser.add_argument("--count", action="store_true", help=many)
+
+
+def _words_demanded(parser: argparse.ArgumentParser) -> None:
+    many = "demand so many words: a log whose end is missing has fewer, which nothing in it tells"
+    parser.add_argument("--words", type=_number(0, 10**15), metavar="N", help=many)
+
+
 def _worst(parser: argparse.ArgumentParser, default: int) -> None:
     many = f"show the N worst words ({default} unless said)"
     parser.add_argument("--worst", type=_number(0, 1000), default=default, metavar="N", help=many)
 
 
+MENDED = "one wrong bit is promised to be mended under code 1, two under codes 2 to 5"
 BARE = "the input is words of this code, 1 to 5, without the three octets of a recording"
 OWN_LIMIT = "the most flips of a word, 0 to 65535; else the recording's own, and with --code 65535, which no run reaches"
 
@@ -198,6 +224,7 @@ def _words(verbs: Verbs) -> None:
     _output(correct, "where the corrected words go, else nowhere")
     _code(correct, BARE)
     _limit(correct, OWN_LIMIT)
+    _count(correct)
     _jobs(correct)
 
     opened = verbs.add(
@@ -221,6 +248,7 @@ def _words(verbs: Verbs) -> None:
     _input(why, "the recording")
     _code(why, BARE)
     _limit(why, OWN_LIMIT)
+    _count(why)
     _jobs(why)
 
     nearest = verbs.add(
@@ -268,6 +296,7 @@ def _samples(verbs: Verbs) -> None:
     _output(correct, "where a recording of the corrected words goes, else nowhere")
     _code(correct, "the code, 1 to 4", samples.CODES, True)
     _limit(correct, "the most flips of a word, 0 to 65535 (65535 unless said, which no run reaches)")
+    _count(correct)
     _jobs(correct)
 
 
@@ -292,21 +321,26 @@ def _links(verbs: Verbs) -> None:
     _output(read, "where the information goes, else nowhere")
     _code(read, "the code, 1 or 3", (1, 3), True)
     _limit(read, "the most flips of a codeblock, 0 to 65535 (65535 unless said, which no run reaches)")
+    _count(read)
 
     frames = verbs.add(
         "frames", links.frames, "take marked words of code 5 out of a stream, and print what frames prints",
         "The input is the stream alone, of any length: limit and edition are options. A line for each word goes to standard output:"
-        " index, the offset of its first octet in the stream, and correct's numbers. With --output the words that are taken are written"
-        " as a recording.",
+        " index, the offset of its first octet in the stream, and correct's numbers. With --output the words are written as a recording,"
+        " without the randomiser: corrected, and those that are refused as they were received. Where nothing is taken, a line on standard"
+        " error says how many words the other randomiser's editions would take.",
         "pandoricchia frames --limit 40 received.octets --output received.bin > received.log",
+        "pandoricchia frames --received received.octets --output heard.bin > received.log; pandoricchia why heard.bin",
     )
     _input(frames, "the stream")
-    _output(frames, "where a recording of the taken words goes, else nowhere")
+    _output(frames, "where a recording of the words goes, else nowhere")
+    frames.add_argument("--received", action="store_true", help="write every word as it was received, for why and report")
     _limit(frames, "the most flips of a word, 0 to 65535 (65535 unless said, which no run reaches)")
     frames.add_argument(
         "-e", "--edition", type=_number(0, 255), default=0, metavar="ISSUE",
         help="the issue of CCSDS 131.0-B, which fixes the randomiser: 1 to 5, or 0 where none is stated (0 unless said)",
     )
+    _count(frames)
 
     blocks = verbs.group("blocks", "recordings in blocks of the lab's disk")
     taken = blocks.add(
@@ -346,27 +380,32 @@ def _links(verbs: Verbs) -> None:
 def _pictures(verbs: Verbs) -> None:
     short = verbs.add(
         "summary", summary.summary, "say what a log holds as a whole",
-        "The input is a log of correct, samples correct, why, frames or unit read, or of the program of that kind. How many words have"
-        " each answer, flips and unlike by how many, and the words that need a look: those that are refused, those in which a bit was"
-        " flipped and flipped back, and those that were taken with more than two bits changed, which is more than is promised for any"
-        " code. The status is 1 if a word was refused.",
+        "The input is a log of correct, samples correct, why, frames or unit read, or of the program of that kind, whole: a line that is"
+        " missing or moved refuses it. How many words have each answer, flips and unlike by how many, how many were changed in more bits"
+        " than is promised, and the words that need a look: those that are refused, those in which a bit was flipped and flipped back,"
+        " and those that were taken with more bits changed than is promised, and than twice as many as half of the words have. The"
+        " status is 1 if a word was refused, or there is none.",
         "pandoricchia summary heard.log",
+        "pandoricchia summary --code 1 --words 8 heard.log",
     )
     _input(short, "the log")
     _output(short, "where the summary goes, else to standard output")
+    _code(short, f"the log is of words of this code, 1 to 5: {MENDED}")
+    _words_demanded(short)
     _worst(short, 10)
 
     long = verbs.add(
         "report", report.report, "make one page of HTML from a log or a recording",
         "The input is a log, as for summary, or a recording, or with --code words. The page needs nothing from elsewhere: answers by"
         " kind, flips and unlike, broken checks at the start against flips, the worst words with their runs flip by flip (of a"
-        " recording, or of a log of why), and what was proved of these numbers. The status is 1 if a word was refused.",
+        " recording, or of a log of why), and what was proved of these numbers. The status is 1 if a word was refused, or there is none.",
         "pandoricchia report heard.bin --output heard.html",
     )
     _input(long, "the log or the recording")
     _output(long, "where the page goes, else to standard output")
-    _code(long, BARE)
+    _code(long, f"{BARE}; or the log is of words of this code")
     _limit(long, OWN_LIMIT)
+    _words_demanded(long)
     _worst(long, 5)
     _jobs(long)
 
@@ -388,6 +427,22 @@ def _pictures(verbs: Verbs) -> None:
     _jobs(tried)
 
 
+def _completion(options: argparse.Namespace) -> int:
+    from .completion import completion  # which is made from what is made here  # pylint: disable=import-outside-toplevel
+
+    return completion(options)
+
+
+def _shells(verbs: Verbs) -> None:
+    given = verbs.add(
+        "completion", _completion, "write what bash or zsh completes",
+        "Verbs, options and codes are completed, and files where one is named. An installed kit has both in their usual places.",
+        "pandoricchia completion bash > ~/.local/share/bash-completion/completions/pandoricchia",
+    )
+    given.add_argument("shell", choices=("bash", "zsh"), metavar="SHELL", help="bash or zsh")
+    _output(given, "where it goes, else to standard output")
+
+
 DESCRIPTION = (
     "Encode, spoil, check, open and correct words of five CCSDS LDPC codes, and what lies around them: samples, units, streams,"
     " blocks, BCH words; and make summaries, reports and campaigns. It is thin and stands outside the proofs: what it computes it asks"
@@ -402,10 +457,12 @@ STATUS = (
 def parser() -> Parser:
     """The command's parser."""
     made = Parser(prog="pandoricchia", description=filled(DESCRIPTION), epilog=filled(STATUS))
-    made.add_argument("--version", action="version", version=f"pandoricchia {VERSION}")
+    said = "say the versions of the command and of the library, and which file that is"
+    made.add_argument("--version", action=Version, nargs=0, help=said)
     verbs = Verbs(made, "verb")
     _words(verbs)
     _samples(verbs)
     _links(verbs)
     _pictures(verbs)
+    _shells(verbs)
     return made

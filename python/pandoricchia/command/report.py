@@ -11,13 +11,13 @@ from .. import calls
 from ..numbers import Number, text
 from . import charts
 from .charts import Flip
-from .files import Failed, Refusal, Sink, Source
+from .files import Failed, Refusal, Sink, Source, plural, printable
 from .jobs import ordered
-from .logs import PROMISED, RUN_REFUSED, Entry, Tally, entries, is_log, plural
+from .logs import RUN_REFUSED, Entry, Tally, is_log
 from .page import NAMES, facts, page, section, table
 from .progress import Progress
-from .recordings import Head, Part, parts, told
-from .summary import lines_of
+from .recordings import Head, Part, head, not_offered, words
+from .summary import as_many, status, tallied
 from .words import PLACES, nearest_text
 
 
@@ -49,33 +49,30 @@ class _Hashed(Source):
 
 def count_part(code: int, limit: int, worst: int, part: Part) -> Tally:
     """The tally of some words, which another process may make."""
-    tally = Tally(worst)
+    tally = Tally(worst, code)
     length = calls.word_octets(code)
     out = bytearray(length)
     for index, word in part.words(length):
         given = calls.correct(code, word, limit, out)
         entry = Entry(index, int(given.number), given.flips, given.first, given.last, given.unlike)
-        tally.add(entry._replace(octets=bytes(word)) if entry.looks else entry)
+        tally.add(entry._replace(octets=bytes(word)) if entry.may_be_looked_at(tally.promised) else entry)
     return tally
 
 
 def _counted(source: Source, options: Namespace, bar: Progress) -> Counted:
-    tally = Tally(options.worst)
-    start = b"" if options.code is not None else source.read(3)
-    if is_log(start):
+    if is_log(source.first()):
         if options.limit is not None:
             raise Failed(f"{source.name}: --limit is for words, and this is a log: they are corrected already")
-        for entry in entries(lines_of(source, bar, start), source.name):
-            tally.add(entry)
-        return Counted(tally, None)
-    head = told(start, options)
-    if not head.offered:
-        raise Refusal(f"{source.name}: no log, and as a recording number {int(Number.CODE)}: {Number.CODE.text}")
-    work = partial(count_part, head.code, head.limit, options.worst)
-    for counted in ordered(work, parts(source, calls.word_octets(head.code)), options.jobs):
+        return Counted(tallied(source, options, bar), None)
+    found = head(source, options)
+    if not found.offered:
+        raise Refusal(f"{not_offered(source, found)}; and it is no log")
+    tally = Tally(options.worst, found.code)
+    work = partial(count_part, found.code, found.limit, options.worst)
+    for counted in ordered(work, words(source, found), options.jobs):
         tally.join(counted)
         bar.at(source.place)
-    return Counted(tally, head)
+    return Counted(tally, found)
 
 
 # What is shown.
@@ -88,16 +85,16 @@ class Shown(NamedTuple):
     notes: List[str]
 
 
-def _run_of(entry: Entry, head: Optional[Head]) -> Optional[Shown]:
+def _run_of(entry: Entry, found: Optional[Head]) -> Optional[Shown]:
     """The run on a word, from the library where its octets are at hand, else from the lines under it in the log."""
     if entry.answer not in (0, *RUN_REFUSED):
         return None
-    if head is not None:
+    if found is not None:
         places = calls.flip_table(PLACES)
-        listed = calls.list(head.code, entry.octets, head.limit, places)
+        listed = calls.list(found.code, entry.octets, found.limit, places)
         flips = [Flip(*record) for record in calls.flip_records(places, listed.flips)]
         notes = [f"stuck {listed.bit} {listed.excess}"] if listed.number == Number.STUCK else []
-        if head.code == 1 and listed.number in (Number.STUCK, Number.LIMIT):
+        if found.code == 1 and listed.number in (Number.STUCK, Number.LIMIT):
             notes.append("nearest " + nearest_text(memoryview(entry.octets)))
         return Shown(flips, notes)
     if not entry.under and entry.flips:
@@ -120,12 +117,13 @@ def _note(line: str) -> str:
     return f"The nearest codeword is {plural(len(rest) - 1, 'flip')} from the word as it was received: {bits}."
 
 
-def _word(entry: Entry, head: Optional[Head]) -> str:
+def _word(entry: Entry, counted: Counted) -> str:
     """A word that needs a look, with its run."""
-    title = f"Word {entry.word}: answer {entry.answer}, {text(entry.answer)}"
+    where = "" if entry.offset is None else f" at offset {entry.offset} of the stream"
+    title = f"Word {entry.word}{where}: answer {entry.answer}, {text(entry.answer)}"
     said = f"{plural(entry.flips, 'flip')}, {plural(entry.unlike, 'bit')} unlike, {plural(entry.first, 'check')} broken at the start,"
-    said += f" {entry.last} at the end. It needs a look: {'; '.join(entry.looks)}."
-    shown = _run_of(entry, head)
+    said += f" {entry.last} at the end. It needs a look: {'; '.join(counted.tally.reasons(entry))}."
+    shown = _run_of(entry, counted.head)
     pieces = [f"<h3>{escape(title)}</h3>", f"<p>{escape(said)}"]
     if shown is not None:
         pieces[-1] += " " + " ".join(escape(_note(line)) for line in shown.notes)
@@ -141,8 +139,18 @@ def _word(entry: Entry, head: Optional[Head]) -> str:
     return "\n".join(pieces)
 
 
-def _proved(code: Optional[int]) -> List[str]:
-    """What was proved of these numbers, in sentences; for one code, or for what a log tells."""
+def _whose(counted: Counted) -> str:
+    """Where the numbers come from."""
+    if counted.head is not None:
+        return "The numbers on this page were asked of the library, word by word."
+    if counted.tally.streamed:
+        return "The numbers of a word of a stream are those of that definition for the word with the randomiser removed."
+    return "A log that <code>wordbench</code> wrote is that definition's log, line by line, up to the system's reading and writing."
+
+
+def _proved(counted: Counted) -> List[str]:
+    """What was proved of these numbers, in sentences; for one code or for any."""
+    code = counted.tally.code
     half = "half of the checks broken at the start" if code in (4, 5) else "the checks broken at the start"
     if code is None:
         half += " (codes 4 and 5: half of them)"
@@ -150,9 +158,7 @@ def _proved(code: Optional[int]) -> List[str]:
     said = [
         "For every input the library's number, flips, broken checks at the start and at the end, unlike bits and output octets"
         " are those of one short definition, the flipping run.",
-        "A log that <code>wordbench</code> wrote is that definition's log, line by line, up to the system's reading and writing."
-        if code is None
-        else "The numbers on this page were asked of the library, word by word.",
+        _whose(counted),
         "Answer 0 means: the run ended with no check broken, at a word that the encoder can give.",
         f"Flips are never more than the limit, and never more than {half}. Unlike is never more than flips, and the two are both"
         " even or both odd.",
@@ -164,7 +170,7 @@ def _proved(code: Optional[int]) -> List[str]:
         said.append(f"{where} such wrong bits, under a limit of at least 2, are mended by exactly two flips.")
     if code in (None, 1, 2, 3):
         said.append("Codes 1 to 3 never give answer 8.")
-    if code is None:
+    if counted.head is None and code != 5:
         said.append(
             "A log of <code>pandoricchia samples correct</code> is of another run, which chooses by the sizes of samples, and its numbers"
             " are those of a definition of its own. What is said of codewords, of one wrong bit and of the most flips is proved of it too;"
@@ -191,30 +197,40 @@ def _items(sentences: List[str]) -> str:
     return "<ul>" + "\n".join(f"<li>{sentence}</li>" for sentence in sentences) + "</ul>"
 
 
+def _title(counted: Counted) -> str:
+    code = counted.tally.code
+    if code is None:
+        return "Words of a log"
+    return f"Words of code {code}, {NAMES[code]}" + ("" if counted.head else ", by their log")
+
+
+def _under(counted: Counted, name: str, digest: str) -> str:
+    """Of what the page is."""
+    said = f"From the {'recording' if counted.head else 'log'} <code>{escape(printable(name))}</code>, SHA-256 <code>{digest}</code>"
+    if counted.head:
+        return f"{said}, under a limit of {counted.head.limit:,} flips."
+    return f"{said}. A log does not say which {'limit' if counted.tally.code else 'code and which limit'} it is of."
+
+
 def made(counted: Counted, name: str, digest: str, worst: int) -> str:
     """The page."""
-    tally, head = counted
-    code = head.code if head else None
+    tally, code = counted.tally, counted.tally.code
     meaning: Dict[int, str] = {answer: text(answer) for answer in tally.answers}
-    title = f"Words of code {head.code}, {NAMES[head.code]}" if head else "Words of a log"
-    under = f"From the {'recording' if head else 'log'} <code>{escape(name)}</code>, SHA-256 <code>{digest}</code>"
-    under += f", under a limit of {head.limit:,} flips." if head else ". A log does not say which code and which limit it is of."
-    most = max(tally.unlike, default=0)
     sections = [
         facts(
             [
                 (f"{tally.words:,}", "words", False),
-                (f"{tally.answers[0]:,}", "taken", False),
+                (f"{tally.taken:,}", "taken", False),
                 (f"{tally.refused:,}", "refused", tally.refused > 0),
-                (f"{most:,}", "bits changed at most in a word that was taken", most > PROMISED),
+                (f"{max(tally.unlike, default=0):,}", "bits changed at most in a word that was taken", False),
             ]
         )
     ]
     if not tally.words:
-        sections.append("<p>There are no words in it.</p>")
+        sections.append("<p>There are no words in it: nothing was received.</p>")
     else:
         sections.append(section("Answers", charts.answers(tally.answers, meaning, "Words by answer")))
-    if tally.answers[0]:
+    if tally.taken:
         series = [("flips", charts.INK, tally.flips), ("unlike", charts.LIGHT, tally.unlike)]
         sections.append(
             section(
@@ -227,26 +243,44 @@ def made(counted: Counted, name: str, digest: str, worst: int) -> str:
     if tally.starts:
         halved = code in (4, 5)
         sections.append(section("Broken checks and flips", charts.starts(tally.starts, halved, "Broken checks at the start against flips")))
-    sections.append(_looks(tally, head, worst))
-    sections.append(section("What was proved of these numbers", _items(_proved(code))))
+    if tally.words:
+        sections.append(_looks(counted, worst))
+    sections.append(section("What was proved of these numbers", _items(_proved(counted))))
     sections.append(section("What is not claimed", _items(_not_claimed(code))))
-    return page(title, under, sections)
+    return page(_title(counted), _under(counted, name, digest), sections)
 
 
-def _looks(tally: Tally, head: Optional[Head], worst: int) -> str:
-    if not tally.looks:
-        return section("Words that need a look", "<p>None: every word was taken, with at most two bits changed and none flipped back.</p>")
-    rows = [(str(e.word), e.answer, e.flips, e.first, e.last, e.unlike, "; ".join(e.looks)) for e in tally.worst]
-    columns = ("word", "answer", "flips", "first", "last", "unlike", "why")
-    pieces = [f"<p>{escape(tally.looked())}. The worst, at most {worst}, first:</p>", table(columns, rows, (6,))]
-    if head is None and not any(entry.under for entry in tally.worst):
-        pieces.append(
-            "<p class=small>This log has no flips. A report of the recording, or of the log of <code>pandoricchia why</code>, shows the"
-            " runs flip by flip; not those of <code>pandoricchia samples correct</code>, which may flip other bits.</p>"
-        )
+def _looks(counted: Counted, worst: int) -> str:
+    tally = counted.tally
+    pieces = [f"<p>{escape(tally.beyond())}.</p>" if tally.beyond() else ""]
+    if not tally.looked():
+        none = "none has many more bits changed than most" if tally.beyond() else "none has more bits changed than is promised"
+        pieces.append(f"<p>None: every word was taken, {none}, and in none a bit was flipped back.</p>")
+        return section("Words that need a look", *pieces)
+    columns = ["word", *(["offset"] if tally.streamed else []), "answer", "flips", "first", "last", "unlike", "why"]
+    rows = []
+    for e in tally.worst:
+        named = [str(e.word), *([str(e.offset)] if tally.streamed else [])]
+        rows.append((*named, e.answer, e.flips, e.first, e.last, e.unlike, "; ".join(tally.reasons(e))))
+    pieces += [f"<p>{escape(tally.looked())}. The worst, at most {worst}, first:</p>", table(columns, rows, (len(columns) - 1,))]
+    if counted.head is None and not any(entry.under for entry in tally.worst):
+        pieces.append(f"<p class=small>{_no_flips(tally)}</p>")
     else:
-        pieces += [_word(entry, head) for entry in tally.worst]
+        pieces += [_word(entry, counted) for entry in tally.worst]
     return section("Words that need a look", *pieces)
+
+
+def _no_flips(tally: Tally) -> str:
+    """How to see the runs of a log that has no flips."""
+    if tally.streamed:
+        return (
+            "This log has no flips. <code>pandoricchia frames --received --output FILE</code> writes the words as they were received, and a"
+            " report of that recording shows the runs flip by flip."
+        )
+    return (
+        "This log has no flips. A report of the recording, or of the log of <code>pandoricchia why</code>, shows the runs flip by flip;"
+        " not those of <code>pandoricchia samples correct</code>, which may flip other bits."
+    )
 
 
 def report(options: Namespace) -> int:
@@ -254,5 +288,6 @@ def report(options: Namespace) -> int:
     with _Hashed(options.input) as source, Sink(options.output) as out:
         with Progress("report", source.size) as bar:
             counted = _counted(source, options, bar)
+        as_many(counted.tally, source, options)
         out.write(made(counted, source.name, source.hash.hexdigest(), options.worst).encode())
-    return 1 if counted.tally.refused else 0
+    return status(counted.tally, source, options)

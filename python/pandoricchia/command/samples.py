@@ -12,10 +12,10 @@ from functools import partial
 from .. import calls
 from ..numbers import Number
 from . import spoiling
-from .files import Refusal, Source, octets_out
+from .files import Source, octets_out
 from .jobs import ordered
 from .progress import Progress
-from .recordings import NO_LIMIT, PART, Part, head, header, not_offered, parts
+from .recordings import NO_LIMIT, PART, Part, head, header, not_offered, parts, words
 from .words import LOG, Ask, Done, log
 
 #: The codes that have samples.
@@ -71,11 +71,10 @@ def make(options: Namespace) -> int:
     with Source(options.input) as source:
         told = head(source, options)
         if told.code not in CODES:
-            raise Refusal(f"{not_offered(source)}; samples are for codes 1 to 4")
+            raise not_offered(source, told, CODES)
         ask = Ask(told.code, seed=options.seed, noise=options.noise)
         with octets_out(options.output) as out, Progress("samples make", source.size) as bar:
-            some = parts(source, calls.word_octets(ask.code), PART // SAMPLES)
-            for done in ordered(partial(make_part, ask), some, options.jobs):
+            for done in ordered(partial(make_part, ask), words(source, told, PART // SAMPLES), options.jobs):
                 out.write(b"".join(done.octets))
                 bar.at(source.place)
     return 0
@@ -87,4 +86,5 @@ def correct(options: Namespace) -> int:
     ask = Ask(options.code, limit, keep=options.output is not None)
     length = SAMPLES * calls.word_octets(options.code)
     with Source(options.input) as source:
-        return log("samples correct", LOG, partial(correct_part, ask), source, length, header(options.code, limit), options)
+        some = parts(source, length)
+        return log(LOG, partial(correct_part, ask), source, some, length, header(options.code, limit), options)

@@ -10,8 +10,10 @@ from . import recordings
 
 
 def chance(*what: object) -> random.Random:
-    """Draws of its own for each thing that is named, as a seed and a word's index; the same with every Python."""
-    return random.Random(" ".join(map(str, what)))
+    """Draws of its own for each thing that is named, as a seed and a word's index; the same with every Python.
+
+    A seed may be any octets: those that are no text count as they are."""
+    return random.Random(" ".join(map(str, what)).encode("utf-8", "surrogateescape"))
 
 
 def bits(code: int) -> int:

@@ -6,15 +6,19 @@ from __future__ import annotations
 
 from argparse import Namespace
 from functools import partial
-from typing import Callable, List, NamedTuple, Optional
+from typing import Callable, Iterable, List, NamedTuple, Optional
 
 from .. import calls
 from ..numbers import Number
 from . import spoiling
-from .files import Failed, Refusal, Sink, Source, kept, octets_out
+from .files import Failed, Refusal, Sink, Source, kept, no_words, octets_out, plural, say
 from .jobs import ordered
 from .progress import Progress
 from .recordings import NO_LIMIT, Part, head, header, information, not_offered, parts
+from .recordings import words as words_of
+
+#: The codes.
+CODES = (1, 2, 3, 4, 5)
 
 #: No run of any code has more flips than this.
 PLACES = 511
@@ -145,9 +149,15 @@ def encode_part(ask: Ask, part: Part) -> Done:
             given = memoryview(information(bytes(given).ljust(length, bytes([FILL])), ask.code))
         number = calls.encode(ask.code, given, word)
         if number != Number.DONE:
-            return Done([], octets, False, f"word {index}: number {int(number)}: {number.text}")
+            return Done([], octets, False, refused_word(index, number, len(given), length, "; --fill fills it up"))
         octets.append(bytes(word))
     return Done([], octets, True)
+
+
+def refused_word(index: int, number: Number, octets: int, wanted: int, more: str = "") -> str:
+    """What is said of information that is refused: of a length that differs also both lengths, and what helps."""
+    said = f"word {index}: number {int(number)}: {number.text}"
+    return said if number != Number.INPUT_LENGTH else f"{said}: {plural(octets, 'octet')} where {wanted} make a word{more}"
 
 
 def spoil_part(ask: Ask, part: Part) -> Done:
@@ -164,60 +174,72 @@ def spoil_part(ask: Ask, part: Part) -> Done:
 # The verbs.
 
 
-def log(verb: str, columns: str, work: Callable[[Part], Done], source: Source, length: int, start: bytes, options: Namespace) -> int:
+def log(
+    columns: str, work: Callable[[Part], Done], source: Source, some: Iterable[Part], length: int, start: bytes, options: Namespace
+) -> int:
     """A line for each word of so many octets, and octets to --output, which begin so; 0 if all is taken."""
-    taken = True
-    with Sink(None) as printed, kept(options.output) as out, Progress(verb, source.size, lines=True) as bar:
+    taken, begun = True, source.place
+    with Sink(None) as printed, kept(options.output) as out, Progress(options.label.partition(" ")[2], source.size, lines=True) as bar:
         printed.write(columns.encode() + b"\n")
         out.write(start)
-        for done in ordered(work, parts(source, length), options.jobs):
+        for done in ordered(work, some, options.jobs):
             printed.write("".join(done.lines).encode())
             out.write(b"".join(done.octets))
             taken = taken and done.taken
             bar.at(source.place)
+        words = -(-(source.place - begun) // length)
+        if not words:
+            raise no_words(source)
+    counted(source, words, options)
     return 0 if taken else 1
 
 
-def _log(verb: str, columns: str, work: Callable[[Ask, Part], Done], options: Namespace, *offered: int) -> int:
+def counted(source: Source, words: int, options: Namespace, what: str = "word") -> None:
+    """With --count, how many words there were: a log whose end is missing has fewer."""
+    if options.count:
+        say(f"{options.label}: {source.name}: {plural(words, what)}")
+
+
+def _log(columns: str, work: Callable[[Ask, Part], Done], options: Namespace, *offered: int) -> int:
     """The log of a recording."""
     with Source(options.input) as source:
         told = head(source, options)
         ask = Ask(told.code, told.limit, keep=options.output is not None, reach=getattr(options, "reach", 0))
         if not told.offered or offered and told.code not in offered:
             Sink(None).write((columns + "\n" + "".join(work(Ask(0), Part(0, b"")).lines)).encode())
-            raise not_offered(source)
-        start = b"" if verb == "open" else told.octets
-        return log(verb, columns, partial(work, ask), source, calls.word_octets(ask.code), start, options)
+            raise not_offered(source, told, offered or CODES)
+        start = b"" if work is open_part else told.octets
+        return log(columns, partial(work, ask), source, words_of(source, told), calls.word_octets(ask.code), start, options)
 
 
 def correct(options: Namespace) -> int:
     """What `wordbench` prints."""
-    return _log("correct", LOG, correct_part, options)
+    return _log(LOG, correct_part, options)
 
 
 def check(options: Namespace) -> int:
     """Broken checks of each word."""
-    return _log("check", "word answer broken lowest", check_part, options)
+    return _log("word answer broken lowest", check_part, options)
 
 
 def quick(options: Namespace) -> int:
     """Whether no check of a word is broken."""
-    return _log("quick", "word answer yes evaluated", quick_part, options)
+    return _log("word answer yes evaluated", quick_part, options)
 
 
 def open_words(options: Namespace) -> int:
     """The information of each codeword."""
-    return _log("open", "word answer lowest information", open_part, options, 1, 2, 3, 5)
+    return _log("word answer lowest information", open_part, options, 1, 2, 3, 5)
 
 
 def why(options: Namespace) -> int:
     """What `why` prints."""
-    return _log("why", LOG, why_part, options)
+    return _log(LOG, why_part, options)
 
 
 def nearest(options: Namespace) -> int:
     """The nearest codeword of each word of code 1."""
-    return _log("nearest", "word answer least bits", nearest_part, options, 1)
+    return _log("word answer least bits", nearest_part, options, 1)
 
 
 def encode(options: Namespace) -> int:
@@ -239,13 +261,13 @@ def spoil(options: Namespace) -> int:
     with Source(options.input) as source:
         told = head(source, options)
         if not told.offered:
-            raise not_offered(source)
+            raise not_offered(source, told)
         if options.wrong is not None and options.wrong > spoiling.bits(told.code):
             raise Failed(f"--wrong: a word of code {told.code} has {spoiling.bits(told.code)} bits that can be wrong")
         ask = Ask(told.code, seed=options.seed, wrong=options.wrong, rate=options.rate or 0.0)
         with octets_out(options.output) as out, Progress("spoil", source.size) as bar:
             out.write(told.octets)
-            for done in ordered(partial(spoil_part, ask), parts(source, calls.word_octets(ask.code)), options.jobs):
+            for done in ordered(partial(spoil_part, ask), words_of(source, told), options.jobs):
                 out.write(b"".join(done.octets))
                 bar.at(source.place)
     return 0
