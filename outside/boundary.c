@@ -1,5 +1,6 @@
 /* What the header says beside the calls' answers: lengths, texts, NULL with length 0, odd addresses, modes of floating point,
- * stack, which numbers a call gives.
+ * stack, which numbers a call gives. With the argument any-stack, for code that was compiled without optimising or with a sanitizer, the
+ * stack is measured and not held to the header.
  *
  *     outside/build_c target/outside/boundary outside/boundary.c outside/frames_judge.c outside/judge.c
  *     outside/run_x86 target/outside/boundary
@@ -584,7 +585,7 @@ static int given_as_listed(const struct call *call)
     return 0;
 }
 
-static void test_stack_and_numbers(void)
+static void test_stack_and_numbers(int any_stack)
 {
     for (uint8_t code = 1; code <= 5; code++)
         try_words(code);
@@ -603,14 +604,14 @@ static void test_stack_and_numbers(void)
     size_t most = 0;
     for (unsigned i = 0; i < CALLS; i++) {
         printf("boundary: stack of %s: %zu octets, %zu allowed\n", calls[i].name, calls[i].most, calls[i].allowed);
-        expect(calls[i].most <= calls[i].allowed, "more stack than the header says", i);
+        expect(any_stack || calls[i].most <= calls[i].allowed, "more stack than the header says", i);
         expect(given_as_listed(&calls[i]), "the numbers of a call", i);
         most = calls[i].allowed > most ? calls[i].allowed : most;
     }
     expect(most == PANDORICCHIA_STACK_OCTETS, "the most stack of any call", 0);
 }
 
-int main(void)
+int main(int argc, char **argv)
 {
     test_lengths();
     test_texts();
@@ -621,7 +622,7 @@ int main(void)
     test_null_part();
     test_addresses();
     test_modes();
-    test_stack_and_numbers();
+    test_stack_and_numbers(argc > 1 && strcmp(argv[1], "any-stack") == 0);
     printf("boundary: %u passed, %u failed\n", passed, failed);
     return failed != 0;
 }

@@ -161,10 +161,10 @@ def load() -> ctypes.CDLL:
     try:
         library = ctypes.CDLL(name)
     except OSError as error:
-        raise ImportError(
-            f"the shared library of pandoricchia can't be loaded: {error}. `make lib` writes it and `make install` installs it; "
-            f"where the loader does not look, name the file in {ENVIRONMENT}."
-        ) from error
+        from ._machine import other_machine  # pylint: disable=import-outside-toplevel
+
+        unknown = f"{error}. `make lib` writes it and `make install` installs it; where the loader does not look, name the file in {ENVIRONMENT}."
+        raise ImportError(f"the shared library of pandoricchia can't be loaded: {other_machine(name) or unknown}") from error
     missing = [call for call in CALLS if not hasattr(library, "pandoricchia_" + call)]
     if "version" in missing:
         raise ImportError(f"{name} is no library of version {VERSION}: it does not tell its version")
