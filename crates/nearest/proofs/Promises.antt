@@ -8,7 +8,7 @@ use native.Mathlib.Omega.{arith}
 use lib.ListN.{length, getD, take}
 use Rattle.bits.specs.Bits.{Word, bit, octets}
 use Rattle.bits.proofs.Orders.{le-or-lt, eq-or-not}
-use Rattle.bits.proofs.Octets.{Octets, octets-bit}
+use Rattle.bits.proofs.Octets.{Octets, octets-bit, length-octets}
 use Rattle.rules.specs.Codes.{code}
 use Rattle.rules.specs.Encoding.{codeword}
 use Rattle.answers.specs.Calls.{differing}
@@ -140,6 +140,30 @@ refused-empty word reach out =
 
     empty : (k : ℕ) → nearestAnswer word reach out ≡ refused k out → Empty (nearestAnswer word reach out)
     empty k e d = e ∙ ap (λ a. refused (a .number) out) (sym e)
+
+-- Where the number is 0 the output octets are a codeword, whatever was handed in.
+pub out-codeword : (word : List ℕ) (reach : ℕ) (out : List ℕ) → nearestAnswer word reach out .number ≡ 0
+    → (length (nearestAnswer word reach out .out) ≡ 16) × (codeword (code 1) (bit (nearestAnswer word reach out .out)) ≡ true)
+out-codeword word reach out =
+    ⊎-elim
+    (λ (lw : length word ≡ 16).
+    ⊎-elim
+    (λ (lo : length out ≡ 16).
+    ⊎-elim
+    (λ (h : reach ≤ 3). answer-cases word reach out lw lo h Taken (λ w e. absurd (omega (arith, e)))
+    (λ bits w e. (length-octets 16 (flips bits (bit word)), near word reach out lw lo h bits w .sound)))
+    (λ (h : 3 < reach). other 18 (λ e. omega (arith, e)) (nearest-eighteen word reach out lw lo h))
+    (le-or-lt reach 3))
+    (λ d. other 3 (λ e. omega (arith, e)) (nearest-three word reach out lw d))
+    (eq-or-not (length out) 16))
+    (λ d. other 2 (λ e. omega (arith, e)) (nearest-two word reach out d))
+    (eq-or-not (length word) 16)
+  where
+    Taken : Reached → Type 0
+    Taken a = a .number ≡ 0 → (length (a .out) ≡ 16) × (codeword (code 1) (bit (a .out)) ≡ true)
+
+    other : (k : ℕ) → (k ≡ 0 → ⊥) → nearestAnswer word reach out ≡ refused k out → Taken (nearestAnswer word reach out)
+    other k d is e = absurd (d (sym (ap (λ a. a .number) is) ∙ e))
 
 -- ---- a codeword
 
