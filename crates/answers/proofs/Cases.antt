@@ -16,8 +16,8 @@ use Rattle.rules.specs.Codes.{code, code1, code4, code5, bits, checks, informat
 use Rattle.rules.specs.Checks.{covers, check, broken, lowest, degreeOf}
 use Rattle.rules.specs.Encoding.{rowBit, parityBit, encoded, lifted, sent, codeword, written, OwnParity}
 use Rattle.rules.specs.Flipping.{flip, byExcess, run, ended}
-use Rattle.answers.specs.Calls.{refusedEncode, encodeAnswer, refusedCheck, checkAnswer, refusedOpen, openAnswer, judged, refusal, unless}
-use Rattle.answers.specs.Calls.{refusedCorrect, ranCorrect, correctAnswer, refusedStep, nextStep, stepAnswer, ranFrom}
+use Rattle.answers.specs.Calls.{refusedEncode, encodeAnswer, refusedCheck, checkAnswer, refusedOpen, openAnswer, judged, refusal}
+use Rattle.answers.specs.Calls.{unless, refusedCorrect, ranCorrect, correctAnswer, refusedStep, nextStep, stepAnswer, ranFrom}
 use Rattle.answers.specs.Lists.{Entry, refusedList, listAnswer}
 use Rattle.bits.proofs.Sums.{⊕-eq, sum-none, below-at, not-true, and-l}
 use Rattle.bits.proofs.Counting.{count-none, count-same, none-counted}
@@ -34,6 +34,7 @@ use Rattle.rules.proofs.Codewords.{own-codeword, codeword-bit, sent-bit, encode
 use Rattle.answers.proofs.Three.{among}
 use Rattle.answers.proofs.Answers.{check-taken, correct-taken, step-taken}
 use Rattle.answers.proofs.Opening.{codeword-opened}
+use Rattle.answers.proofs.Steps.{one-flipped}
 use Rattle.rules.proofs.Numbers.{published, encoded-meets, whole, lifted-whole, four-quiet, met-codeword}
 use Rattle.answers.proofs.Corrections.{oneWrong, bit-one-wrong, lifted-flip, one-back, unsent-wrong, near-degree}
 
@@ -76,7 +77,8 @@ Holds (steps n word k ex after) =
 Holds (opens n word part) = openAnswer n word ≡ record { number = 0; lowest = checks (code n); part = part }
 Holds (corrects n word limit number flips first last) = Corrects n word limit number flips first last
 Holds (always n word number flips first last) = (limit : ℕ) → Corrects n word limit number flips first last
-Holds (input n long number) = (word out : List ℕ) (limit : ℕ) → length word ≡ long → correctAnswer n word limit out ≡ refusedCorrect out number
+Holds (input n long number) = (word out : List ℕ) (limit : ℕ) → length word ≡ long
+    → correctAnswer n word limit out ≡ refusedCorrect out number
 Holds (output n long room number) = (word out : List ℕ) (limit : ℕ) → length word ≡ long → length out ≡ room
     → correctAnswer n word limit out ≡ refusedCorrect out number
 Holds (unoffered n) =
@@ -261,11 +263,18 @@ next1 =
     ∙ one-next code1 (published1 .girth) none (none-met 1 tt) 0 (lit< tt) (by-excess code1 (published1 .some))
     (by-greatest code1 (published1 .some)) zero-le ∙ ap (λ d. flip 0 (pos d)) degree1
 
+flip-cleared : written code1 (flipped (lifted code1 (bit (only 16 0))) 0) ≡ replicate 16 0
+unfolding code1 parity16 sent lifted octets number
+flip-cleared = refl
+
 steps3 : Holds (steps 1 (only 16 0) 0 (pos 5) (replicate 16 0))
-unfolding code code1 parity16 nextStep sent lifted octets number
+unfolding code code1 nextStep
 steps3 out lo =
+    let x = lifted code1 (bit (only 16 0)) in
     step-taken 1 (only 16 0) out tt (length-octets 16 (λ n. eqb n 0)) lo
-    ∙ ap (nextStep code1 (only 16 0) (lifted code1 (bit (only 16 0))) out) next1
+    ∙ ap (nextStep code1 (only 16 0) x out) next1
+    ∙ ap (λ o. record { number = 0; quiet = false; bit = 0; excess = pos 5; out = o })
+    (one-flipped code1 (only 16 0) x out 0 (pos 5) ∙ flip-cleared)
 
 -- code 1: the word of ones meets every check
 ones-met : broken code1 (lifted code1 (bit (allOnes 16))) ≡ 0
