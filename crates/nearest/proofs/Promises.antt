@@ -8,7 +8,7 @@ use native.Mathlib.Omega.{arith}
 use lib.ListN.{length, getD, take}
 use Rattle.bits.specs.Bits.{Word, bit, octets}
 use Rattle.bits.proofs.Orders.{le-or-lt}
-use Rattle.bits.proofs.Octets.{Octets, octets-bit}
+use Rattle.bits.proofs.Octets.{Octets, octets-bit, length-octets}
 use Rattle.rules.specs.Codes.{code}
 use Rattle.rules.specs.Encoding.{codeword}
 use Rattle.answers.specs.Calls.{differing}
@@ -122,7 +122,7 @@ module _ (word : List ℕ) (reach : ℕ) (out : List ℕ) (lw : length word ≡ 
 pub refused-empty : (word : List ℕ) (reach : ℕ) (out : List ℕ) → (nearestAnswer word reach out .number ≡ 0 → ⊥)
     → nearestAnswer word reach out ≡ refused (nearestAnswer word reach out .number) out
 refused-empty word reach out =
-    nearest-cases word reach out Empty (λ k d. refl) (λ lw lo.
+    nearest-cases word reach out Empty (λ k some d. refl) (λ lw lo.
     ⊎-elim
     (λ (h : reach ≤ 3). answer-cases word reach out lw lo h Empty (λ w d. refl) (λ bits w d. absurd (d refl)))
     (λ (h : 3 < reach). subst Empty (sym (nearest-eighteen word reach out lw lo h)) (λ d. refl))
@@ -130,6 +130,20 @@ refused-empty word reach out =
   where
     Empty : Reached → Type 0
     Empty a = (a .number ≡ 0 → ⊥) → a ≡ refused (a .number) out
+
+-- Where the number is 0 the output octets are a codeword, whatever was handed in.
+pub out-codeword : (word : List ℕ) (reach : ℕ) (out : List ℕ) → nearestAnswer word reach out .number ≡ 0
+    → (length (nearestAnswer word reach out .out) ≡ 16) × (codeword (code 1) (bit (nearestAnswer word reach out .out)) ≡ true)
+out-codeword word reach out =
+    nearest-cases word reach out Taken (λ k some e. absurd (omega (arith, some, e))) (λ lw lo.
+    ⊎-elim
+    (λ (h : reach ≤ 3). answer-cases word reach out lw lo h Taken (λ w e. absurd (omega (arith, e)))
+    (λ bits w e. (length-octets 16 (flips bits (bit word)), near word reach out lw lo h bits w .sound)))
+    (λ (h : 3 < reach). subst Taken (sym (nearest-eighteen word reach out lw lo h)) (λ e. absurd (omega (arith, e))))
+    (le-or-lt reach 3))
+  where
+    Taken : Reached → Type 0
+    Taken a = a .number ≡ 0 → (length (a .out) ≡ 16) × (codeword (code 1) (bit (a .out)) ≡ true)
 
 -- ---- a codeword
 

@@ -4,6 +4,7 @@ use mathlib.Core.Bool.{true, false, true≢false}
 use mathlib.Core.List.{List}
 use Prim.Native.Nat.{ℕ, _≤_, _<_}
 use native.Mathlib.Nat.{zero-add}
+use native.Mathlib.Omega.{arith}
 use lib.Dec.{ltb}
 use lib.ListN.{length}
 use borrow.Author.Tests.{lt-ltb, le-ltb}
@@ -35,11 +36,11 @@ module _ (word : List ℕ) (reach : ℕ) (out : List ℕ) where
   pub nearest-right : {k : ℕ} → k ≡ refusal true (length word) 16 (length out) 16 → k ≡ 0 → Right true (length word) 16 (length out) 16
   nearest-right e z = refusal-right true (length word) 16 (length out) 16 (sym e ∙ z)
 
-  pub nearest-cases : (P : Reached → Type 0) → ((k : ℕ) → P (refused k out))
+  pub nearest-cases : (P : Reached → Type 0) → ((k : ℕ) → 1 ≤ k → P (refused k out))
       → (length word ≡ 16 → length out ≡ 16 → P (nearestAnswer word reach out)) → P (nearestAnswer word reach out)
   unfolding nearestAnswer
   nearest-cases P p q = unless-cases true (length word) 16 (length out) 16 P (λ number. refused number out) (reached word reach out)
-      (p 1) (p 2) (p 3) (λ t e f. subst P (right e f) (q e f))
+      (p 1 (omega arith)) (p 2 (omega arith)) (p 3 (omega arith)) (λ t e f. subst P (right e f) (q e f))
 
   pub nearest-eighteen : length word ≡ 16 → length out ≡ 16 → 3 < reach → nearestAnswer word reach out ≡ refused 18 out
   nearest-eighteen e f h = right e f ∙ ap (λ b. if b then refused 18 out else searched reach (bit word) out) (lt-ltb 3 reach h)

@@ -3,7 +3,7 @@
 use mathlib.Core.Path.{_≡_, refl, sym, ap, ap₂, _∙_, fun-ext, subst}
 use mathlib.Core.Bool.{Bool, true, false, not, _&&_}
 use mathlib.Core.List.{List}
-use Prim.Native.Nat.{ℕ, suc, _+_, _-_, _*_, _≤_, _<_, zero-le}
+use Prim.Native.Nat.{ℕ, suc, _+_, _-_, _*_, _%_, _≤_, _<_, zero-le}
 use native.Mathlib.Nat.{lt-of-not-le}
 use native.Mathlib.Decide.{decLt}
 use native.Mathlib.Omega.{arith}
@@ -13,7 +13,7 @@ use lib.IntN.{ℤ}
 use lib.ListN.{length}
 use borrow.Author.Tests.{lt-ltb, le-ltb}
 use Rattle.bits.specs.Bits.{Word, bit, octets, flipped, if_then_else_}
-use Rattle.rules.specs.Codes.{bits, checks, code, offered}
+use Rattle.rules.specs.Codes.{bits, checks, code, offered, telecommanded}
 use Rattle.rules.specs.Checks.{lowest, degreeOf}
 use Rattle.rules.specs.Encoding.{lifted, codeword}
 use Rattle.rules.specs.Flipping.{flip, byExcess, run}
@@ -24,7 +24,9 @@ use Rattle.rules.proofs.Ways.{Chooses}
 use Rattle.rules.proofs.Numbers.{published, whole, lifted-whole}
 use Rattle.answers.proofs.Answers.{refusal-cases, correct-taken}
 use Rattle.answers.proofs.Corrections.{ran-within-limit, ran-fall, ran-enough, ran-unchanged, ran-within-half, ran-half-enough, nearEarthed}
-use Rattle.answers.proofs.Corrections.{near-degree, ran-back, ran-one-back}
+use Rattle.answers.proofs.Corrections.{near-degree, ran-back, ran-one-back, ran-codeword}
+use Rattle.answers.proofs.Unlike.{ran-unlike, ran-parity}
+use Rattle.answers.proofs.Refusals.{few-numbers, never-seven}
 use Rattle.sizes.specs.Samples.{read, sampleOf, magnitude, smaller, isOne, allFinite}
 use Rattle.sizes.specs.Sizes.{reaching, bySize}
 use Rattle.sizes.proofs.Smallest.{Ordered, Smallest}
@@ -78,6 +80,40 @@ module _ (n : ℕ) (samples : List Float) (limit : ℕ) (out : List ℕ) where
       go : (f : Bool) → T (sampled n) → (all 0 f limit .number ≡ 6 → ⊥) → all 0 f (limit + more) ≡ all 0 f limit
       go true t h = ran-unchanged (code n) (sizes-choose n t (smaller samples)) (read samples) limit out more h
       go false t h = refl
+
+  -- unlike is never above the flips, and both are even or both odd
+  pub unlike-within-flips : samplesAnswer n samples limit out .unlike ≤ samplesAnswer n samples limit out .flips
+  unlike-within-flips = samples-cases n samples limit out (λ r. r .unlike ≤ r .flips) zero-le zero-le zero-le zero-le
+      (λ t ls lo f. ran-unlike (sizes-choose n t (smaller samples)) (read samples) limit out)
+
+  pub unlike-parity : (samplesAnswer n samples limit out .unlike + samplesAnswer n samples limit out .flips) % 2 ≡ 0
+  unlike-parity = samples-cases n samples limit out (λ r. (r .unlike + r .flips) % 2 ≡ 0) refl refl refl refl
+      (λ t ls lo f. ran-parity (sizes-choose n t (smaller samples)) (read samples) limit out)
+
+  -- where the number is 0 the output octets are a codeword
+  pub out-codeword : samplesAnswer n samples limit out .number ≡ 0
+      → (length (samplesAnswer n samples limit out .out) ≡ code n .wordOctets)
+      × (codeword (code n) (bit (samplesAnswer n samples limit out .out)) ≡ true)
+  out-codeword =
+      samples-cases n samples limit out
+      (λ r. r .number ≡ 0 → (length (r .out) ≡ code n .wordOctets) × (codeword (code n) (bit (r .out)) ≡ true))
+      (λ e. absurd (omega (arith, e))) (λ e. absurd (omega (arith, e))) (λ e. absurd (omega (arith, e))) (λ e. absurd (omega (arith, e)))
+      (λ t ls lo f. ran-codeword (code n) (published n (and-l (offered n) (not (eqb n 5)) t)) (read samples)
+      (run (bySize (smaller samples) (code n)) limit (read samples)) out)
+
+  -- 7 is never given, and 8 not by codes 1 to 3
+  pub seven-never-given : samplesAnswer n samples limit out .number ≡ 7 → ⊥
+  unfolding ranCorrect
+  seven-never-given =
+      samples-cases n samples limit out (λ r. r .number ≡ 7 → ⊥) (λ q. omega arith) (λ q. omega arith) (λ q. omega arith) (λ q. omega arith)
+      (λ t ls lo f. never-seven (code n) (sizes-choose n t (smaller samples)) limit (read samples)
+      (λ k h. absurd (omega (arith, whole n t .unsent))))
+
+  pub telecommand-numbers : T (telecommanded n) → samplesAnswer n samples limit out .number ≡ 8 → ⊥
+  unfolding ranCorrect
+  telecommand-numbers tele =
+      samples-cases n samples limit out (λ r. r .number ≡ 8 → ⊥) (λ q. omega arith) (λ q. omega arith) (λ q. omega arith) (λ q. omega arith)
+      (λ t ls lo f. few-numbers n tele (sizes-choose n t (smaller samples)) limit (read samples) _ refl .1)
 
   -- code 4: never more than half
   module _ (near : n ≡ 4) where

@@ -20,6 +20,10 @@ use Rattle.rules.proofs.Choosing.{by-excess, by-greatest, chosen, chosen-greate
 use Rattle.sizes.specs.Sizes.{reaching, instead, smallestSent, bySize}
 use Rattle.sizes.proofs.Smallest.{Is, smallest-one, smallest-stays, smallest-alike, Ordered, Smallest, smallest-has}
 
+-- a bit of smaller excess is not looked at
+pub smaller-left-out : (c : Code) (x : Word) (e : ℤ) (n : ℕ) → ltZ (excess c x n) e ≡ true → reaching c x e n ≡ false
+smaller-left-out c x e n h = ap not h
+
 -- what is not above and not below is equal
 level : (a b : ℤ) → T (leZ a b) → ltZ a b ≡ false → b ≡ a
 level (pos a) (pos b) h e = ap pos (omega (arith, leb→le a b h, nltb→le a b (subst (λ t. T (not t)) (sym e) tt)))

@@ -8,7 +8,7 @@ use lib.Dec.{T}
 use lib.ListN.{length, getD}
 use Rattle.bits.specs.Bits.{number}
 use Rattle.randomiser.specs.Randomiser.{register, sequence, sequenceOctet}
-use Rattle.randomiser.proofs.Sequences.{within, walked, walked-octets, octet-again, comes-again}
+use Rattle.randomiser.proofs.Sequences.{within, walked, walked-octets, octet-again, comes-again, none-full, ones-least}
 use Rattle.telemetry.specs.Telemetry.{telemetry}
 
 pub telemetry-within : T (within (telemetry .powers) (length (telemetry .first)))
@@ -33,6 +33,15 @@ back = refl
 -- it comes again after 255 bits
 pub telemetry-period : (n : ℕ) → sequence telemetry (n + 255) ≡ sequence telemetry n
 telemetry-period n = ap (λ r. getD r 0 false) (comes-again telemetry (omega (arith, telemetry-some)) 255 back n)
+
+telemetry-others : T (none-full (telemetry .powers) 254 (register telemetry 1))
+unfolding register telemetry
+telemetry-others = tt
+
+-- and after no fewer
+pub telemetry-least : (p : ℕ) → 0 < p → p < 255 → ((n : ℕ) → sequence telemetry (n + p) ≡ sequence telemetry n) → ⊥
+unfolding telemetry
+telemetry-least p some few = ones-least telemetry (omega arith) refl 254 telemetry-others p some (omega arith)
 
 -- octet i of the table, k times 255 octets on
 pub table-octet : (k i : ℕ) → i < 255 → getD (walked (telemetry .powers) 255 (telemetry .first)) i 0 ≡ sequenceOctet telemetry (k * 255 + i)

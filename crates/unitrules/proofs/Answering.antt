@@ -1,15 +1,15 @@
 -- The reader's answers by cases.
-use mathlib.Core.Path.{_≡_, ap, _∙_}
+use mathlib.Core.Path.{_≡_, refl, ap, _∙_}
 use mathlib.Core.Bool.{Bool, true, false, not}
 use mathlib.Core.List.{List}
 use Prim.Native.Nat.{ℕ, _≤_, _<_}
 use lib.Dec.{eqb, ltb}
 use lib.ListN.{length, replicate}
-use borrow.Author.Tests.{eq-eqb, ne-eqb, lt-ltb, le-ltb}
+use borrow.Author.Tests.{eq-eqb, ne-eqb, lt-ltb, le-ltb, not-false}
 use Rattle.bits.specs.Bits.{if_then_else_}
 use Rattle.rules.specs.Codes.{code}
 use Rattle.answers.specs.Calls.{Corrected, refusedCorrect, correctAnswer}
-use Rattle.unitrules.specs.Units.{unitCode, started, shaped, blocksIn, received, Reading, withOut, handedOut, handedLast}
+use Rattle.unitrules.specs.Units.{unitCode, started, shaped, blocksIn, received, Reading, Handed, withOut, handedOut, handedLast}
 use Rattle.unitrules.specs.Units.{handedAgain, readNext, readAnswer, readerNumber}
 
 pub if-is : {A : Type 0} (b : Bool) (a r : A) → b ≡ true → (if b then a else r) ≡ a
@@ -23,6 +23,10 @@ not-is b a r e = ap (λ b. if not b then a else r) e
 
 pub not-isnt : {A : Type 0} (b : Bool) (a r : A) → b ≡ false → (if not b then a else r) ≡ a
 not-isnt b a r e = ap (λ b. if not b then a else r) e
+
+pub if-cases : {A : Type 0} (P : A → Type 0) (b : Bool) (a r : A) → (b ≡ true → P a) → (b ≡ false → P r) → P (if b then a else r)
+if-cases P true a r p q = p refl
+if-cases P false a r p q = q refl
 
 module _ (n : ℕ) (unit : List ℕ) where
   pub number-one : unitCode n ≡ false → readerNumber n unit ≡ 1
@@ -97,3 +101,17 @@ module _ (s : Reading) (unit out : List ℕ) where
   unfolding readNext
   next-last r e d = ap (λ r. if eqb (r .number) 0 then handedOut s r else handedLast s r out) e
       ∙ if-isnt (eqb (r .number) 0) (handedOut s r) (handedLast s r out) (ne-eqb (r .number) 0 d)
+
+  -- an answer by its ladder
+  pub read-cases : (P : Handed → Type 0) → P (handedAgain s (refusedCorrect out 1) false) → P (handedAgain s (refusedCorrect out 3) false)
+      → P (handedAgain s (withOut (s .kept) out) false) → P (handedAgain s (refusedCorrect out 0) true)
+      → (unitCode (s .code) ≡ true → P (handedOut s correctedAt)) → (unitCode (s .code) ≡ true → P (handedLast s correctedAt out))
+      → P (readAnswer s unit out)
+  unfolding readAnswer readNext
+  read-cases P p1 p3 kept none handed last =
+      if-cases P (not (unitCode (s .code))) _ _ (λ e. p1) (λ e.
+      if-cases P (not (eqb (length out) (code (s .code) .informationOctets))) _ _ (λ _. p3) (λ _.
+      if-cases P (not (eqb (s .kept .number) 0)) _ _ (λ _. kept) (λ _.
+      if-cases P (not (ltb (s .place) (blocksIn (s .code) unit))) _ _ (λ _. none) (λ _.
+      if-cases P (eqb (correctedAt .number) 0) (handedOut s correctedAt) (handedLast s correctedAt out)
+      (λ _. handed (not-false (unitCode (s .code)) e)) (λ _. last (not-false (unitCode (s .code)) e))))))

@@ -14,12 +14,13 @@ use borrow.Author.Tests.{eq-eqb, ne-eqb, le-leb, lt-ltb}
 use Rattle.bits.specs.Bits.{Word, bit, digit, octets, flipped, if_then_else_}
 use Rattle.bits.proofs.Octets.{Octets, length-octets, bit-octets, octets-bit, octets-same, octets-lt}
 use Rattle.rules.specs.Tables.{parity16, parity64, generator16, generator64}
-use Rattle.rules.specs.Codes.{Code, code, code1, code3, bits, information, offered}
+use Rattle.rules.specs.Codes.{Code, code, code1, code3, bits, information, offered, telecommanded}
 use Rattle.rules.specs.Encoding.{lifted, encoded, sent, written, codeword}
 use Rattle.rules.proofs.Codewords.{encoded-information, lifted-sent-bit, sent-bit, encoded-codeword}
 use Rattle.rules.proofs.Numbers.{published}
 use Rattle.answers.specs.Calls.{Corrected, refusedCorrect, correctAnswer}
 use Rattle.answers.proofs.Corrections.{codeword-back, one-back, oneWrong}
+use Rattle.answers.proofs.Refusals.{telecommand-numbers}
 use Rattle.randomiser.specs.Randomiser.{telecommand, randomised}
 use Rattle.randomiser.proofs.Randomising.{length-randomised, randomised-append, randomised-twice, randomised-flip}
 use Rattle.unitrules.specs.Units.{unitCode, start, tail, blocksFor, filled, part}
@@ -31,6 +32,7 @@ use Rattle.unitrules.proofs.Shapes.{both, unit-offered, Sizes, sizes}
 use Rattle.unitrules.proofs.Blocks.{encodedOf, length-codeblock, length-codeblocks, randomised-codeblocks, length-filled}
 use Rattle.unitrules.proofs.Compared.{same-refl}
 use Rattle.unitrules.proofs.Answering.{number-none, read-three, read-kept, read-none, read-more, next-out, next-last, correctedAt}
+use Rattle.unitrules.proofs.Answering.{if-cases, read-cases}
 
 -- ---- lengths
 
@@ -397,3 +399,48 @@ module _ (s : Reading) (unit out : List ℕ) where
       refused-again unit′ out′ lo′ =
           subst (λ x. readAnswer (x .next) unit′ out′ ≡ handedAgain (x .next) (withOut (x .corrected) out′) false) (sym refused-is)
           (read-kept (handedLast s (correctedAt s unit out) out .next) unit′ out′ u lo′ d)
+
+-- ---- numbers that are never given
+
+-- a reading, asked so many times before, each time with a unit and an output
+abbrev pub askedBefore : Reading → List (List ℕ × List ℕ) → Reading
+askedBefore s [] = s
+askedBefore s (a ∷ asks) = askedBefore (readAnswer s (a .0) (a .1) .next) asks
+
+abbrev Neither : ℕ → Type 0
+Neither k = (k ≡ 7 → ⊥) × (k ≡ 8 → ⊥)
+
+unit-telecommand : (n : ℕ) → unitCode n ≡ true → T (telecommanded n)
+unit-telecommand = both (λ n. T (telecommanded n)) tt tt
+
+reader-neither : (n : ℕ) (unit : List ℕ) → Neither (readerNumber n unit)
+unfolding readerNumber
+reader-neither n unit =
+    if-cases Neither (not (unitCode n)) 1 _ (λ e. ((λ q. omega arith), (λ q. omega arith))) (λ e.
+    if-cases Neither (not (started unit)) 11 _ (λ e. ((λ q. omega arith), (λ q. omega arith))) (λ e.
+    if-cases Neither (not (shaped n unit)) 12 0 (λ e. ((λ q. omega arith), (λ q. omega arith)))
+    (λ e. ((λ q. omega arith), (λ q. omega arith)))))
+
+-- an asking gives neither, and keeps neither
+module _ (s : Reading) (kept : Neither (s .kept .number)) (unit out : List ℕ) where
+  read-neither : Neither (readAnswer s unit out .corrected .number) × Neither (readAnswer s unit out .next .kept .number)
+  read-neither =
+      read-cases s unit out (λ h. Neither (h .corrected .number) × Neither (h .next .kept .number))
+      (((λ q. omega arith), (λ q. omega arith)), kept) (((λ q. omega arith), (λ q. omega arith)), kept) (kept, kept)
+      (((λ q. omega arith), (λ q. omega arith)), kept)
+      (λ u. (corrected u, kept)) (λ u. (corrected u, corrected u))
+    where
+      corrected : unitCode (s .code) ≡ true → Neither (correctedAt s unit out .number)
+      corrected u = telecommand-numbers (s .code) (unit-telecommand (s .code) u) (received (s .code) unit (s .place)) (s .limit)
+          (replicate (code (s .code) .wordOctets) 0)
+
+before-neither : (s : Reading) → Neither (s .kept .number) → (asks : List (List ℕ × List ℕ)) → Neither (askedBefore s asks .kept .number)
+before-neither s kept [] = kept
+before-neither s kept (a ∷ asks) = before-neither (readAnswer s (a .0) (a .1) .next) (read-neither s kept (a .0) (a .1) .1) asks
+
+-- no asking of a reader gives 7 or 8, however often it was asked before
+pub neither-given : (n : ℕ) (unit : List ℕ) (limit : ℕ) (asks : List (List ℕ × List ℕ)) (unit′ out : List ℕ)
+    → (readAnswer (askedBefore (readerAnswer n unit limit) asks) unit′ out .corrected .number ≡ 7 → ⊥)
+    × (readAnswer (askedBefore (readerAnswer n unit limit) asks) unit′ out .corrected .number ≡ 8 → ⊥)
+neither-given n unit limit asks unit′ out = read-neither (askedBefore (readerAnswer n unit limit) asks)
+    (before-neither (readerAnswer n unit limit) (reader-neither n unit) asks) unit′ out .0
