@@ -110,6 +110,7 @@ class Package(unittest.TestCase):
             self.assertRegex(page, rf"(?m)^ +(class )?{name}\(|^ +{name} ", name)
         brought: Dict[str, object] = {}
         exec("from pandoricchia import *", brought)  # pylint: disable=exec-used
+        del brought["__builtins__"]
         self.assertEqual(set(brought) & set(vars(builtins)), set())
         self.assertLess(set(_library.CALLS) - {"open", "list"}, set(brought))
         for name in ("open", "list"):
