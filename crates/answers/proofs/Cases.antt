@@ -53,15 +53,15 @@ pub data Case : Type 0 where
   -- correct refuses an input of this length, whatever the output; and an output of this length, where the input has that one
   input : (n long number : ℕ) → Case
   output : (n long room number : ℕ) → Case
-  -- no call has this code; open has not this one, step has not this one
+  -- no call has this code (here six; `capi/proofs/Unoffered` has every call); open has not this one, step has not this one
   unoffered : (n : ℕ) → Case
   unopened : (n : ℕ) → Case
   unstepped : (n : ℕ) → Case
 
-abbrev Breaks : ℕ → List ℕ → List ℕ → Type 0
+abbrev pub Breaks : ℕ → List ℕ → List ℕ → Type 0
 Breaks n word ks = (k : ℕ) → k < checks (code n) → check (code n) (lifted (code n) (bit word)) k ≡ among k ks
 
-abbrev Corrects : ℕ → List ℕ → ℕ → ℕ → ℕ → ℕ → ℕ → Type 0
+abbrev pub Corrects : ℕ → List ℕ → ℕ → ℕ → ℕ → ℕ → ℕ → Type 0
 Corrects n word limit number flips first last =
     (out : List ℕ) → length out ≡ code n .wordOctets
     → (correctAnswer n word limit out .number ≡ number) × (correctAnswer n word limit out .flips ≡ flips)
