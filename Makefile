@@ -106,7 +106,7 @@ target/bin/%:
 # On an x86-64 machine with the toolchain what was proved here is installed, on any other what the C file gives.
 ifneq ($(and $(TOOLCHAIN),$(X86)),)
 install: $(ARCHIVE) $(SHARED) $(PROGRAMS:%=target/bin/%)
-	@$(NATIVE) put LIBRARIES=target/staticlib BINARIES=target/bin
+	@$(NATIVE) install READY= LIBRARIES=target/staticlib BINARIES=target/bin
 else
 install:
 	@portable/proved_elsewhere portable/pandoricchia.c

@@ -5324,6 +5324,13 @@ static uint8_t units_write_unit(uint8_t code, const uint8_t *information, uint64
 /* What open gives, with the number of leading octets for the part: a returned reference has no form in C. */
 typedef pandoricchia_opened capi_Opened;
 
+/* The version that the header names: 65536 times its major number, 256 times its minor number, and its patch number.
+ * The major number moves with the records and with what the calls take. */
+uint32_t pandoricchia_version(void)
+{
+    return UINT32_C(0x10000) * 0 + UINT32_C(256) * 10 + 0;
+}
+
 /* The octets of a word; 0 for a code that is not offered. */
 size_t pandoricchia_word_octets(uint8_t code)
 {

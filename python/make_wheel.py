@@ -1,8 +1,8 @@
 """Makes the package's wheel and source archive by Python alone, so that pip needs neither a network nor setuptools.
 
 pyproject.toml names this module, and pip calls ``build_wheel``, ``build_editable`` and ``build_sdist``. What they say of the package is read
-from there. Where there is a C compiler (``CC``, or the system's), the wheel has the shared library, compiled from the C file for this
-machine; where there is none, or ``CC`` is empty, it is Python alone, and the library has to be the system's or named.
+from there. Where there is a C compiler (``CC`` with ``CFLAGS``, or the system's), the wheel has the shared library, compiled from the C file
+for this machine; where there is none, or ``CC`` is empty, it is Python alone, and the library has to be the system's or named.
 
 By hand: ``python3 make_wheel.py FOLDER`` writes wheel and source archive into a folder.
 """
@@ -59,7 +59,8 @@ def library() -> Optional[bytes]:
     linking = ["-s", f"-Wl,-soname,{soname()}"] if sys.platform.startswith("linux") else []
     with tempfile.TemporaryDirectory() as place:
         out = pathlib.Path(place) / soname()
-        command = [*words, "-std=c99", "-O3", "-fPIC", "-shared", *linking, "-I", str(header.parent), "-o", str(out), str(source)]
+        flags = ["-std=c99", *shlex.split(os.environ.get("CFLAGS", "-O3")), "-fPIC", "-shared", *linking, "-I", str(header.parent)]
+        command = [*words, *flags, "-o", str(out), str(source)]
         ran = subprocess.run(command, stdout=subprocess.PIPE, stderr=subprocess.STDOUT, text=True, check=False)
         if ran.returncode:
             raise RuntimeError(f"the shared library can't be compiled; CC= as an empty text installs without it:\n{shlex.join(command)}\n{ran.stdout}")

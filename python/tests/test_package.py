@@ -71,7 +71,7 @@ class Package(unittest.TestCase):
 
     def test_other_records(self) -> None:
         """A library of another major number, or one that lacks a call: a line, and status 2, before any record is read."""
-        cc = next(filter(None, map(shutil.which, ("x86_64-linux-gnu-gcc", "cc", "gcc", "clang"))), None)
+        cc = next(filter(None, map(shutil.which, ("cc", "gcc", "clang"))), None)
         if not cc:
             self.skipTest("another library needs a C compiler")
         major, minor, _ = map(int, _library.VERSION.split("."))

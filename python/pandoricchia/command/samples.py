@@ -1,10 +1,11 @@
 """The verbs on a receiver's samples: samples make, samples correct.
 
-A file of samples has nothing else in it: 32-bit floats, little-endian, one for each bit, word after word. That is how the
-machine has them too, since the library is for x86-64 alone.
+A file of samples has nothing else in it: 32-bit floats, little-endian, one for each bit, word after word. A machine with the other
+order turns them round.
 """
 from __future__ import annotations
 
+import sys
 from argparse import Namespace
 from array import array
 from functools import partial
@@ -29,6 +30,13 @@ SAMPLES = 8 * SAMPLE
 LOUDEST = 1e30
 
 
+def little(samples: array[float]) -> array[float]:
+    """Samples from this machine's order of octets to the file's, or back; they are turned where they are."""
+    if sys.byteorder == "big":
+        samples.byteswap()
+    return samples
+
+
 def bits_read(samples: array[float]) -> bytes:
     """The bits of samples as whole octets: 1 where the sample is below 0. The library writes nothing for a refused word."""
     many = len(samples) // 8
@@ -44,7 +52,7 @@ def make_part(ask: Ask, part: Part) -> Done:
     for index, word in part.words(calls.word_octets(ask.code)):
         sent = (-1 if octet >> place & 1 else 1 for octet in word for place in range(7, -1, -1))
         noise = spoiling.noise(spoiling.chance(ask.seed, "noise", index))
-        octets.append(array("f", [one + ask.noise * more for one, more in zip(sent, noise)]).tobytes())
+        octets.append(little(array("f", [one + ask.noise * more for one, more in zip(sent, noise)])).tobytes())
     return Done([], octets, True)
 
 
@@ -54,7 +62,7 @@ def correct_part(ask: Ask, part: Part) -> Done:
     length = calls.word_octets(ask.code)
     out = bytearray(length)
     for index, held in part.words(SAMPLES * length):
-        samples = array("f", bytes(held[:len(held) - len(held) % SAMPLE]))
+        samples = little(array("f", bytes(held[:len(held) - len(held) % SAMPLE])))
         number, flips, first, last, unlike, _ = calls.correct_samples(ask.code, samples, ask.limit, out)
         lines.append("%d %d %d %d %d %d\n" % (index, number, flips, first, last, unlike))
         taken = taken and number == Number.DONE
