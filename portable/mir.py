@@ -396,7 +396,7 @@ class Body:
 
     def op1_with(self, op, a):
         kind, parts = the_only(op, "an operation on one value")
-        if kind == "Cast" and a.ty[0] in ("int", "bool") and parts[2] in (8, 16, 32, 64):
+        if kind == "Cast" and parts[2] in (8, 16, 32, 64) and (a.ty == BOOL or a.ty[0] == "int" and (parts[0] != parts[1] or parts[2] != a.ty[1])):
             return Op1(kind, parts[0], a, integer(parts[2]))
         if kind == "FloatFromBits" and a.ty == integer(parts) and parts == 32:
             return Op1(kind, None, a, ("float", parts))

@@ -169,7 +169,7 @@ class Scan:
         return end
 
     def bound(self, at, end):
-        """The names that a body binds: by let, and in the patterns of a match."""
+        """The names that a body binds: by let, for and the patterns of a match, in their order."""
         made = []
         while at < end:
             word = self.tokens[at]
@@ -178,22 +178,34 @@ class Scan:
                 at = self.close(at) if self.tokens[at] == "{" else at + 1
                 continue
             if word == "let":
-                at += 2 if self.tokens[at + 1] == "mut" else 1
-                made.append(self.tokens[at])
+                last = self.find(at + 1, "=", ";", ":") if self.tokens[at + 2] != "::" else self.find(at + 1, "=")
+                made += names_of(self.tokens[at + 1:last])
+            elif word == "for":
+                made += names_of(self.tokens[at + 1:self.find(at, "in")])
             elif word == "=>":
-                made += self.pattern(at)
+                made += names_of(self.tokens[self.before(at):at])
             at += 1
         return made
 
-    def pattern(self, at):
-        """The names in the brackets before an arrow."""
-        if self.tokens[at - 1] != ")":
-            return []
-        start = at - 1
-        depth = 0
-        while True:
-            depth += (self.tokens[start] == ")") - (self.tokens[start] == "(")
-            if depth == 0:
-                break
-            start -= 1
-        return [w for w in self.tokens[start + 1:at - 1] if re.fullmatch(r"[a-z]\w*", w) and w != "mut"]
+    def before(self, at):
+        """Where the pattern begins that an arrow is behind."""
+        at -= 1
+        if self.tokens[at] in CLOSE:
+            depth = 1
+            while depth:
+                at -= 1
+                depth += (self.tokens[at] in CLOSE) - (self.tokens[at] in OPEN)
+            at -= 1
+        while self.tokens[at] not in ("{", "}", ",", "=>"):
+            at -= 1
+        return at + 1
+
+
+def names_of(pattern):
+    """The names that a pattern binds: no paths, no fields that are bound to something else, no numbers."""
+    made = []
+    for at, word in enumerate(pattern):
+        after, before = pattern[at + 1:at + 2], pattern[at - 1:at] if at else []
+        if re.fullmatch(r"[a-z]\w*", word) and word not in ("mut", "true", "false") and "::" not in after + before and after != [":"]:
+            made.append(word)
+    return made

@@ -954,7 +954,7 @@ class Routine:
         arms = [(keys, body) for keys, body in s.arms] + ([(None, s.default)] if s.default is not None else [])
         for at, (keys, body) in enumerate(arms):
             for key in keys or []:
-                self.line("case %s:" % (names[key] if names else key))
+                self.line("case %s:" % (names[key] if names else self.number(Const(s.on.ty[1], key), False).text))
             if keys is None or s.default is None and at == len(arms) - 1:
                 self.line("default:")
             self.depth += 1
@@ -978,17 +978,18 @@ class Routine:
             self.loop(s.body[0], s)
         else:
             self.statements(s.body)
-        if s in self.labels:
-            self.depth -= 1
-            self.line("%s:;" % self.labels[s])
-            self.depth += 1
+        self.label(s)
 
     def loop(self, s, block):
         self.line("while (%s) {" % self.value(s.cond).text if isinstance(s, While) else "for (;;) {")
         self.breaks.append((s.loop if isinstance(s, While) else s, block))
         self.inside(s.body)
-        self.breaks.pop()
+        self.label(self.breaks.pop()[0])
         self.line("}")
+
+    def label(self, target):
+        if target in self.labels:
+            self.line("%s:;" % self.labels[target])
 
     def exit(self, s):
         if isinstance(s.target, Loop):
@@ -996,11 +997,11 @@ class Routine:
             if loops and loops[-1][0] is s.target:
                 self.line("continue;")
                 return
-            raise Refused("a jump to a loop that is not the innermost")
-        if self.breaks and isinstance(self.breaks[-1], tuple) and self.breaks[-1][1] is s.target:
+        elif self.breaks and isinstance(self.breaks[-1], tuple) and self.breaks[-1][1] is s.target:
             self.line("break;")
             return
-        self.labels.setdefault(s.target, self.fresh("end"))
+        if s.target not in self.labels:
+            self.labels[s.target] = self.fresh("again" if isinstance(s.target, Loop) else "end")
         self.line("goto %s;" % self.labels[s.target])
 
     def returns(self, s):
@@ -1075,9 +1076,13 @@ class Routine:
             return
         octets = "%d * sizeof(%s)" % (n, w.scalar(base)) if w.reader.size(base) > 1 else "%d" % n
         if isinstance(value, Call):
-            if any(isinstance(e, (Use,)) and e.ty[0] == "array" for e in within(value)):
-                raise Refused("an array is made of arrays")
-            self.line(self.call(value, into).text + ";")
+            if any(isinstance(e, (Use, Field, Deref)) and e.ty[0] == "array" and self.place(e).text == into for e in within(value)):
+                name = self.fresh("t")
+                self.line(w.declared(value.ty, name) + ";")
+                self.line(self.call(value, name).text + ";")
+                self.line("memcpy(%s, %s, %s);" % (into, name, octets))
+            else:
+                self.line(self.call(value, into).text + ";")
         elif isinstance(value, Repeat) and isinstance(value.item, Const) and value.item.value == 0:
             self.line("memset(%s, 0, %s);" % (into, octets))
         elif isinstance(value, Repeat) and value.item.ty[0] != "array":
