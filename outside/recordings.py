@@ -15,6 +15,14 @@ def compiler():
     return shutil.which("cc") or shutil.which("gcc") or shutil.which("clang")
 
 
+def running(name):
+    """The words that run a program: the one of a folder that PROGRAMS names, as it is; else the one that was proved, which is x86-64."""
+    folder = os.environ.get("PROGRAMS")
+    if folder:
+        return [os.path.join(TOP, folder, name)]
+    return [os.path.join(TOP, "outside", "run_x86"), os.path.join(TOP, "target", "bin", name)]
+
+
 def build(name, *words):
     """Compiles files of outside/ to target/outside/NAME, and gives its path."""
     os.makedirs(BUILT, exist_ok=True)
