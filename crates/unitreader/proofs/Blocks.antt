@@ -30,8 +30,8 @@ refused-kept s unit out =
     pick (not (unitCode (s .code))) (handedAgain s (refusedCorrect out 1) false) _ (λ d. refl)
     (pick (not (eqb (length out) (code (s .code) .informationOctets))) (handedAgain s (refusedCorrect out 3) false) _ (λ d. refl)
     (pick (not (eqb (s .kept .number) 0)) (handedAgain s (withOut (s .kept) out) false) _ (λ d. refl)
-    (pick (not (ltb (s .place) (blocksIn (s .code) unit))) (handedAgain s (refusedCorrect out 0) true) _ (λ d. refl) (next (eqb (r .number) 0)
-    refl))))
+    (pick (not (ltb (s .place) (blocksIn (s .code) unit))) (handedAgain s (refusedCorrect out 0) true) _ (λ d. refl)
+    (next (eqb (r .number) 0) refl))))
   where
     r : Corrected
     r = correctAnswer (s .code) (received (s .code) unit (s .place)) (s .limit) (replicate (code (s .code) .wordOctets) 0)
@@ -60,7 +60,8 @@ module _ (unit : List ℕ) (place n limit : ℕ) where
         length-replicate {A = ℕ} (roomFor n) 0,
       )
 
-  pub refused-zeros : (handedAt unit place n limit .corrected .number ≡ 0 → ⊥) → handedAt unit place n limit .corrected .out ≡ replicate 32 0
+  pub refused-zeros : (handedAt unit place n limit .corrected .number ≡ 0 → ⊥)
+      → handedAt unit place n limit .corrected .out ≡ replicate 32 0
   refused-zeros d =
       ap (λ z. z ++ replicate (32 - roomFor n) 0) (refused-kept (readingFrom 0 n limit place) unit (replicate (roomFor n) 0) d)
       ∙ replicate-append-replicate (roomFor n) (32 - roomFor n) 0
