@@ -1,7 +1,6 @@
 // The reader as a struct that holds the unit's slice and a place. Each function over it is proved by hand and only takes it apart or puts
 // it together; `begin` and `block_at` do the work on a plain slice and numbers.
 ghost use mathlib.Core.Path.{_≡_};
-ghost use Prim.Native.Nat.{ℕ};
 ghost use mathlib.Core.List.{[]};
 ghost use lib.Dec.{eqb};
 ghost use lib.ListN.{replicate};

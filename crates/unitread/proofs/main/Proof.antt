@@ -82,7 +82,10 @@ array-borrow-prefix-out : tie.Need-array-borrow-prefix-out
 array-borrow-prefix-out c = search needs
 
 slice-aggregate-lines-2 : tie.Need-slice-aggregate-lines-2
-slice-aggregate-lines-2 c = ?
+slice-aggregate-lines-2 c =
+    let r = c .before .before .room in
+    let b = c .before .before .before .out-buffer in
+    sym (length-take-le (r .result) (b .result) (omega (arith, r .ensures .1, b .ensures)))
 
 lines-requires : tie.Need-lines-requires
 lines-requires c κs = search needs

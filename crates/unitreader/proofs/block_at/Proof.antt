@@ -33,12 +33,13 @@ read-requires c κs = search needs
 returns : tie.Need-returns
 returns c =
     let s : tie.Start = search in
-    let r = c .before .before .before .before in
-    let b = c .before .before .before .buffer in
-    let read = c .before .read in
+    let stands : tie.After-standing = search in
+    let r : tie.After-room = search in
+    let b : tie.After-buffer = search in
+    let d : tie.After-read = search in
     handed-at (s .args .unit .now) (s .args .place) (s .args .code) (s .args .limit) (r .room .result) (r .room .ensures .0)
-    (r .room .ensures .1) (b .result) (b .ensures) (asReading (r .before .standing .result)) (r .before .standing .ensures)
-    (asHanded (read .result) (read .last .1 .1 .0)) (read .ensures)
+    (r .room .ensures .1) (b .buffer .result) (b .buffer .ensures) (asReading (stands .standing .result)) (stands .standing .ensures)
+    (asHanded (d .read .result) (d .read .last .1 .1 .0)) (d .read .ensures)
 
 pub block-at-spec : {M : Type 1} → statement M
 block-at-spec =
