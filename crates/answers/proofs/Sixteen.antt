@@ -133,10 +133,6 @@ pair-run j h =
 
 -- ---- the same of correct, whatever codeword was sent
 
-first-bits : bits (code 1) - code 1 .unsent ≡ 128
-unfolding code code1 parity16
-first-bits = refl
-
 module _ (word out : List ℕ) (lw : length word ≡ code 1 .wordOctets) (lo : length out ≡ code 1 .wordOctets) (oct : Octets word)
     (is : codeword (code 1) (bit word) ≡ true) where
   abbrev x : Word

@@ -168,7 +168,8 @@ module _ (c : Code) where
 
 -- ---- runs that do not end quiet
 
-pub stuck-run : (c : Code) (y : Word) (k : ℕ) (ex : ℤ) → byExcess c y ≡ stuck k ex → (limit : ℕ) → (run (byExcess c) limit y .number ≡ 0 → ⊥)
+pub stuck-run : (c : Code) (y : Word) (k : ℕ) (ex : ℤ) → byExcess c y ≡ stuck k ex → (limit : ℕ)
+    → (run (byExcess c) limit y .number ≡ 0 → ⊥)
 stuck-run c y k ex e limit q = let z : _≡_ {A = ℕ} 5 0 = sym (ap (λ r. r .number) (run-stuck (byExcess c) limit y k ex e))
     ∙ q in omega arith
 
@@ -263,7 +264,8 @@ module _ (n : ℕ) (off : T (offered n)) (a b d : ℕ) (ha : a < 8 * code n .wor
 
   not-zero : ((limit : ℕ) → run (byExcess (code n)) limit
       (wrongBits ((d + code n .unsent) ∷ (b + code n .unsent) ∷ (a + code n .unsent) ∷ [])) .number ≡ 0 → ⊥)
-      → (limit : ℕ) (out : List ℕ) → length out ≡ code n .wordOctets → correctAnswer n (threeWrong (code n) (replicate (code n .wordOctets) 0) a b d) limit out .number ≡ 0 → ⊥
+      → (limit : ℕ) (out : List ℕ) → length out ≡ code n .wordOctets
+      → correctAnswer n (threeWrong (code n) (replicate (code n .wordOctets) 0) a b d) limit out .number ≡ 0 → ⊥
   unfolding ranCorrect
   not-zero ran limit out lo e =
       let r : Run = run (byExcess (code n)) limit (lifted (code n) (bit (threeWrong (code n) (replicate (code n .wordOctets) 0) a b d))) in

@@ -128,8 +128,8 @@ module _ (n : ℕ) (off : T (offered n)) (a b k : ℕ) (ha : a < bits (code n)) 
   the-third : Third a b k
   the-third =
       let e = first-code in
-      third-one a b k (subst (λ m. a < bits (code m)) e ha) (subst (λ m. b < bits (code m)) e hb) (subst (λ m. k < bits (code m)) e hk) apart
-      ka kb (subst (λ m. Tied (code m) a b k) e tied)
+      third-one a b k (subst (λ m. a < bits (code m)) e ha) (subst (λ m. b < bits (code m)) e hb) (subst (λ m. k < bits (code m)) e hk)
+      apart ka kb (subst (λ m. Tied (code m) a b k) e tied)
 
   pub decided : T (not (undecided n a b)) → ⊥
   decided = not-both (eqb n 1) (eighty a b) (eq-eqb n 1 first-code) (third-eighty a b k the-third)
@@ -294,8 +294,8 @@ module _ (n : ℕ) (off : T (offered n)) (word out : List ℕ) (lw : length word
         → covers (code n) k (d + code n .unsent) ≡ true → covers (code n) k (e + code n .unsent) ≡ true → (limit : ℕ)
         → limitForThree ≤ limit → correctAnswer n (threeWrong (code n) word b d e) limit out ≡ mendedBy n 3 (gotThree b d e) word
     three-in-one-back k l eb ed ee =
-        with-limit (all-shared (code n) (b + code n .unsent) (d + code n .unsent) (e + code n .unsent) (published n off .girth) (omega arith)
-        (omega arith) (omega arith) (λ q. bd (omega arith)) (λ q. be (omega arith)) k l eb ed ee)
+        with-limit (all-shared (code n) (b + code n .unsent) (d + code n .unsent) (e + code n .unsent) (published n off .girth)
+        (omega arith) (omega arith) (omega arith) (λ q. bd (omega arith)) (λ q. be (omega arith)) k l eb ed ee)
 
 -- ---- which codeword was sent
 

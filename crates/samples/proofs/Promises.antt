@@ -145,8 +145,8 @@ module _ (n : ℕ) (t : T (sampled n)) (samples : List Float) (ls : length sampl
       }) up
 
   -- two wrong bits, if the limit is at least 2
-  module _ (b d : ℕ) (hb : b < bits (code n)) (hd : d < bits (code n)) (apart : b ≡ d → ⊥) (e : read samples ≡ flipped (flipped (bit word) b) d)
-      where
+  module _ (b d : ℕ) (hb : b < bits (code n)) (hd : d < bits (code n)) (apart : b ≡ d → ⊥)
+      (e : read samples ≡ flipped (flipped (bit word) b) d) where
     abbrev both : Word
     both = flipped (flipped (lifted (code n) (bit word)) b) d
 
@@ -163,8 +163,9 @@ module _ (n : ℕ) (t : T (sampled n)) (samples : List Float) (ls : length sampl
         ∙ samples-taken n samples (suc (suc (limit - 2))) out t ls lo finite
         ∙ ap (λ x. ranCorrect (code n) x (run (bySize (smaller samples) (code n)) (suc (suc (limit - 2))) x) out)
         (e ∙ ap (λ x. flipped (flipped x b) d) (sym up))
-        ∙ ran-two-back n off word out lw lo oct is (sizes-choose n t (smaller samples)) (size-greatest (smaller samples) (code n) (some n t))
-        (limit - 2) b d (omega (arith, whole n t .unsent)) (omega (arith, whole n t .unsent)) hb hd apart only
+        ∙ ran-two-back n off word out lw lo oct is (sizes-choose n t (smaller samples))
+        (size-greatest (smaller samples) (code n) (some n t)) (limit - 2) b d (omega (arith, whole n t .unsent))
+        (omega (arith, whole n t .unsent)) hb hd apart only
         ∙ ap (λ x. mendedBy n 2 (flipped (flipped x b) d) word) up
 
     -- whatever the magnitudes: codes 2 to 4, and every pair of code 1 but 80
@@ -181,13 +182,14 @@ module _ (n : ℕ) (t : T (sampled n)) (samples : List Float) (ls : length sampl
         both k ex q in
         let reaches : reaching (code n) both ex b ≡ true =
         ap not (ap (ltZ (excess (code n) both b)) (chosen .value)
-        ∙ tied-first (code n) (published n off .girth) (lifted (code n) (bit word)) (met n off word out lw lo oct is) b d hb hd apart k tied) in
+        ∙ tied-first (code n) (published n off .girth) (lifted (code n) (bit word)) (met n off word out lw lo oct is) b d hb hd apart k
+        tied) in
         true≢false (sym (small k (chosen .under) tied)
         ∙ s .least b (omega (arith, whole n t .unsent)) (omega (arith, whole n t .unsent)) reaches))
 
   -- three wrong bits of code 4, if the limit is at least 3: where no check covers the first and just one of the others
-  module _ (near : T (nearEarthed n)) (b d f : ℕ) (hb : b < bits (code n)) (hd : d < bits (code n)) (hf : f < bits (code n)) (bd : b ≡ d → ⊥)
-      (bf : b ≡ f → ⊥) (df : d ≡ f → ⊥) (e : read samples ≡ flipped (flipped (flipped (bit word) b) d) f) (limit : ℕ)
+  module _ (near : T (nearEarthed n)) (b d f : ℕ) (hb : b < bits (code n)) (hd : d < bits (code n)) (hf : f < bits (code n))
+      (bd : b ≡ d → ⊥) (bf : b ≡ f → ⊥) (df : d ≡ f → ⊥) (e : read samples ≡ flipped (flipped (flipped (bit word) b) d) f) (limit : ℕ)
       (enough : limitForThree ≤ limit) where
     by-three : withOne (code n) b d f ≡ 0
         → samplesAnswer n samples limit out ≡ mendedBy n 3 (flipped (flipped (flipped (bit word) b) d) f) word

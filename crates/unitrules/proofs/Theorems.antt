@@ -275,15 +275,15 @@ module _ (n : ℕ) (u : unitCode n ≡ true) (info : List ℕ) (oct : Octets inf
     one-word k b =
         ap (randomised telecommand (k * code n .wordOctets)) (ap (λ z. octets z (flipped (bit (sentBlock k)) b)) (sym (sent-long k)))
         ∙ randomised-flip telecommand (k * code n .wordOctets) (sentBlock k) b
-        ∙ ap₂ (λ x y. octets x (flipped (bit y) b)) (sent-long k) (randomised-twice telecommand (k * code n .wordOctets) (codeblock n info k)
-        (block-octets k))
+        ∙ ap₂ (λ x y. octets x (flipped (bit y) b)) (sent-long k)
+        (randomised-twice telecommand (k * code n .wordOctets) (codeblock n info k) (block-octets k))
 
     wrong-word : (k b : ℕ) → got k ≡ oneWrong (code n) (sentBlock k) b → randomised telecommand (k * code n .wordOctets) (got k) ≡ oneWrong
         (code n) (codeblock n info k) b
     wrong-word k b e = ap (randomised telecommand (k * code n .wordOctets)) e ∙ one-word k b
 
-    two-word : (k b d : ℕ) → got k ≡ twoWrong (code n) (sentBlock k) b d → randomised telecommand (k * code n .wordOctets) (got k) ≡ twoWrong
-        (code n) (codeblock n info k) b d
+    two-word : (k b d : ℕ) → got k ≡ twoWrong (code n) (sentBlock k) b d
+        → randomised telecommand (k * code n .wordOctets) (got k) ≡ twoWrong (code n) (codeblock n info k) b d
     two-word k b d e =
         let o : List ℕ = oneWrong (code n) (sentBlock k) b in
         let long : length o ≡ code n .wordOctets = length-octets (code n .wordOctets) (flipped (bit (sentBlock k)) b) in
