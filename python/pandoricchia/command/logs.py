@@ -6,7 +6,7 @@ import heapq
 import re
 from collections import Counter
 from typing import Counter as Counts
-from typing import Dict, Iterable, Iterator, List, NamedTuple, Optional, Tuple
+from typing import Iterable, Iterator, List, NamedTuple, Optional, Tuple
 
 from .files import Failed, plural
 
