@@ -19,8 +19,10 @@ use Rattle.rules.specs.Encoding.{lifted, encoded, sent, written, codeword}
 use Rattle.rules.proofs.Codewords.{encoded-information, lifted-sent-bit, sent-bit, encoded-codeword}
 use Rattle.rules.proofs.Numbers.{published}
 use Rattle.answers.specs.Calls.{Corrected, refusedCorrect, correctAnswer}
+use Rattle.answers.specs.Promises.{limitForTwo, unmended}
 use Rattle.answers.proofs.Corrections.{codeword-back, one-back, oneWrong}
 use Rattle.answers.proofs.Refusals.{telecommand-numbers}
+use Rattle.answers.proofs.Wrong.{two-back, twoWrong}
 use Rattle.randomiser.specs.Randomiser.{telecommand, randomised}
 use Rattle.randomiser.proofs.Randomising.{length-randomised, randomised-append, randomised-twice, randomised-flip}
 use Rattle.unitrules.specs.Units.{unitCode, start, tail, blocksFor, filled, part}
@@ -174,6 +176,12 @@ pub data Near (n : ℕ) (block got : List ℕ) : Type 0 where
   right : got ≡ block → Near n block got
   wrong : (b : ℕ) → b < 8 * code n .wordOctets → got ≡ oneWrong (code n) block b → Near n block got
 
+-- a codeblock with at most two wrong bits, none of the 16 pairs of code 1
+pub data NearTwo (n : ℕ) (block got : List ℕ) : Type 0 where
+  one : Near n block got → NearTwo n block got
+  two : (b d : ℕ) → b < 8 * code n .wordOctets → d < 8 * code n .wordOctets → (b ≡ d → ⊥) → T (not (unmended n b d))
+      → got ≡ twoWrong (code n) block b d → NearTwo n block got
+
 -- the answer of an asking that hands out a part, after at most so many flips
 pub record Out (h : Handed) (flips : ℕ) (p : List ℕ) (next : Reading) : Type 0 where
   pub number : h .corrected .number ≡ 0
@@ -249,7 +257,7 @@ module _ (n : ℕ) (u : unitCode n ≡ true) (info : List ℕ) (oct : Octets inf
   unfolding codeblock
   block-is k = encoded-codeword (code n) (published n (unit-offered n u)) (bit (part n info k))
 
-  -- codeblocks X as they are received, each with at most one wrong bit
+  -- codeblocks X as they are received, each with at most one wrong bit, or two
   module _ (X : List ℕ) (lx : length X ≡ blocksFor n (length info) * code n .wordOctets) where
     abbrev got : ℕ → List ℕ
     got k = take (code n .wordOctets) (drop (k * code n .wordOctets) X)
@@ -261,15 +269,28 @@ module _ (n : ℕ) (u : unitCode n ≡ true) (info : List ℕ) (oct : Octets inf
     right-word k e = ap (randomised telecommand (k * code n .wordOctets)) e
         ∙ randomised-twice telecommand (k * code n .wordOctets) (codeblock n info k) (block-octets k)
 
+    sent-long : (k : ℕ) → length (sentBlock k) ≡ code n .wordOctets
+    sent-long k = length-randomised telecommand (k * code n .wordOctets) (codeblock n info k) ∙ length-codeblock n info k
+
+    one-word : (k b : ℕ) → randomised telecommand (k * code n .wordOctets) (oneWrong (code n) (sentBlock k) b) ≡ oneWrong (code n)
+        (codeblock n info k) b
+    one-word k b =
+        ap (randomised telecommand (k * code n .wordOctets)) (ap (λ z. octets z (flipped (bit (sentBlock k)) b)) (sym (sent-long k)))
+        ∙ randomised-flip telecommand (k * code n .wordOctets) (sentBlock k) b
+        ∙ ap₂ (λ x y. octets x (flipped (bit y) b)) (sent-long k)
+        (randomised-twice telecommand (k * code n .wordOctets) (codeblock n info k) (block-octets k))
+
     wrong-word : (k b : ℕ) → got k ≡ oneWrong (code n) (sentBlock k) b → randomised telecommand (k * code n .wordOctets) (got k) ≡ oneWrong
         (code n) (codeblock n info k) b
-    wrong-word k b e =
-        let long : length (sentBlock k) ≡ code n .wordOctets = length-randomised telecommand (k * code n .wordOctets) (codeblock n info k)
-        ∙ length-codeblock n info k in
-        ap (randomised telecommand (k * code n .wordOctets)) (e ∙ ap (λ z. octets z (flipped (bit (sentBlock k)) b)) (sym long))
-        ∙ randomised-flip telecommand (k * code n .wordOctets) (sentBlock k) b
-        ∙ ap₂ (λ x y. octets x (flipped (bit y) b)) long (randomised-twice telecommand (k * code n .wordOctets) (codeblock n info k)
-        (block-octets k))
+    wrong-word k b e = ap (randomised telecommand (k * code n .wordOctets)) e ∙ one-word k b
+
+    two-word : (k b d : ℕ) → got k ≡ twoWrong (code n) (sentBlock k) b d
+        → randomised telecommand (k * code n .wordOctets) (got k) ≡ twoWrong (code n) (codeblock n info k) b d
+    two-word k b d e =
+        let o : List ℕ = oneWrong (code n) (sentBlock k) b in
+        let long : length o ≡ code n .wordOctets = length-octets (code n .wordOctets) (flipped (bit (sentBlock k)) b) in
+        ap (randomised telecommand (k * code n .wordOctets)) (e ∙ ap (λ z. octets z (flipped (bit o) d)) (sym long))
+        ∙ randomised-flip telecommand (k * code n .wordOctets) o d ∙ ap₂ (λ x y. octets x (flipped (bit y) d)) long (one-word k b)
 
     -- what correct answers on codeblock k
     record Mended (r : Corrected) (k flips : ℕ) : Type 0 where
@@ -308,6 +329,26 @@ module _ (n : ℕ) (u : unitCode n ≡ true) (info : List ℕ) (oct : Octets inf
           out = ap (λ r. r .out) back;
         }
 
+    near-two-mended : (k limit : ℕ) → limitForTwo ≤ limit → NearTwo n (sentBlock k) (got k) → Mended (answer k limit) k 2
+    near-two-mended k limit enough (one (right e)) = right-mended k limit 2 e
+    near-two-mended k limit enough (one (wrong b h e)) =
+        let l : limit ≡ suc (limit - 1) = omega arith in
+        let m = near-mended k (limit - 1) (wrong b h e) in
+        subst (λ z. Mended (answer k z) k 2) (sym l)
+        (record { number = m .number; few = omega (arith, m .few); last = m .last; out = m .out })
+    near-two-mended k limit enough (two b d hb hd apart but e) =
+        let q = plain n u in
+        let back = ap (λ z. correctAnswer n z limit (replicate (code n .wordOctets) 0)) (two-word k b d e)
+        ∙ two-back n (unit-offered n u) (codeblock n info k) (replicate (code n .wordOctets) 0) (length-codeblock n info k)
+        (length-replicate (code n .wordOctets) 0) (block-octets k) (block-is k) limit b d enough
+        (omega (arith, q .full, q .unsent)) (omega (arith, q .full, q .unsent)) apart but in
+        record {
+          number = ap (λ r. r .number) back;
+          few = subst (λ z. z ≤ 2) (sym (ap (λ r. r .flips) back)) (omega arith);
+          last = ap (λ r. r .last) back;
+          out = ap (λ r. r .out) back;
+        }
+
     handed : (k limit flips : ℕ) (out : List ℕ) → k < blocksFor n (length info) → length out ≡ code n .informationOctets
         → Mended (answer k limit) k flips
         → Out (readAnswer (readingFrom 0 n limit k) (start ++ (X ++ tail n)) out) flips (part n info k) (readingFrom 0 n limit (suc k))
@@ -337,6 +378,12 @@ module _ (n : ℕ) (u : unitCode n ≡ true) (info : List ℕ) (oct : Octets inf
         → Out (readAnswer (readingFrom 0 n (suc limit) k) (start ++ (X ++ tail n)) out) 1 (part n info k)
         (readingFrom 0 n (suc limit) (suc k))
     read-near k limit out h lo near = handed k (suc limit) 1 out h lo (near-mended k limit near)
+
+    -- with at most two and a limit of at least 2, after at most two flips: every pair of code 3, and all but 16 of code 1
+    pub read-near-two : (k limit : ℕ) (out : List ℕ) → limitForTwo ≤ limit → k < blocksFor n (length info)
+        → length out ≡ code n .informationOctets → NearTwo n (sentBlock k) (got k)
+        → Out (readAnswer (readingFrom 0 n limit k) (start ++ (X ++ tail n)) out) 2 (part n info k) (readingFrom 0 n limit (suc k))
+    read-near-two k limit out enough h lo near = handed k limit 2 out h lo (near-two-mended k limit enough near)
 
     -- after the last codeblock there is none
     pub read-past : (limit : ℕ) (out : List ℕ) → length out ≡ code n .informationOctets
