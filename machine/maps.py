@@ -77,6 +77,9 @@ def sums(masks, bits):
     zeros = next((i for i, bit in enumerate(bits) if bit), 0)
     if bits[zeros] > 1 and bits[zeros:] == [bits[zeros] << i for i in range(len(bits) - zeros)]:
         return [(mask >> zeros) * bits[zeros] for mask in masks]  # variables in their order: the sum is the mask, put in its place
+    if max(bits) <= 1:  # constants
+        number = sum(bit << i for i, bit in enumerate(bits))
+        return [bin(mask & number).count("1") & 1 for mask in masks]
     return [functools.reduce(operator.xor, [bit for i, bit in enumerate(bits) if mask >> i & 1], 0) for mask in masks]
 
 

@@ -14,15 +14,17 @@ class Figures:
 
     def __init__(self):
         self.paths = self.instructions = self.stack = 0
-        self.text = ""
+        self.read = set()  # of the image: addresses and how many octets
 
     def end(self, m):
         self.paths += 1
+        self.read |= m.read
         self.instructions = max(self.instructions, m.count)
         self.stack = max(self.stack, m.stack_octets())
 
     def add(self, other):
         self.paths += other.paths
+        self.read |= other.read
         self.instructions, self.stack = max(self.instructions, other.instructions), max(self.stack, other.stack)
 
 
@@ -90,6 +92,8 @@ def export_most(image, settings):
 
 def lowest(end, checks):
     """The lowest broken check, or how many there are. Where a path knows that one of the first is broken, no more are asked."""
+    if end.drawing is None:
+        raise Unlike("a path with a broken check is not drawn")
     first, none = [], end.m.path
     for at in range(0, len(checks), 64):
         some = [(n, end.bit(checks[n])) for n in range(at, min(at + 64, len(checks)))]
