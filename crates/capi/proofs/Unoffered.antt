@@ -11,9 +11,9 @@ use Rattle.answers.specs.Calls.{refusedCorrect}
 use Rattle.answers.proofs.Cases.{Holds, unoffered, none-offered}
 use Rattle.quick.specs.Quick.{refusedQuick, quickAnswer}
 use Rattle.samples.specs.Answers.{samplesAnswer}
-use Rattle.unitrules.specs.Units.{unitCode, writeAnswer, readingFrom, readerAnswer, Reading, handedAgain, readAnswer}
-use Rattle.unitrules.proofs.Shapes.{unit-offered}
-use Rattle.unitrules.proofs.Answering.{not-isnt, number-one, read-one}
+use Rattle.units.specs.unitrules.Units.{unitCode, writeAnswer, readingFrom, readerAnswer, Reading, handedAgain, readAnswer}
+use Rattle.units.proofs.unitrules.Shapes.{unit-offered}
+use Rattle.units.proofs.unitrules.Answering.{not-isnt, number-one, read-one}
 
 pub record Refuses (n : ℕ) : Type 0 where
   -- encode, check, open, correct, step and list

@@ -328,7 +328,7 @@ fn searched(word: &[u8], reach: u8, out: &mut [u8]) -> Reached
 pub fn nearest(word: &[u8], reach: u8, out: &mut [u8]) -> Reached
     ensures { λ r. ⌜ asReached r (now (out .exit)) ≡ nearestAnswer (now (word .entry)) reach (now (out .entry)) ⌝ }
 {
-    let refused = ladder::refusal(true, word.len(), 16, out.len(), 16);
+    let refused = refusals::refusal(true, word.len(), 16, out.len(), 16);
     if refused != 0 {
         return refused_by(refused);
     }

@@ -18,15 +18,15 @@ use Rattle.rules.proofs.Numbers.{whole}
 use Rattle.answers.specs.Calls.{refusal, Corrected, differing, judged, ranCorrect}
 use Rattle.answers.proofs.Answers.{refusal-as}
 use Rattle.layout.specs.declared.Shape.{Shape}
-use Rattle.offer.specs.declared.Offer.{Offer}
-use Rattle.offer.specs.Offers.{offerOf}
-use Rattle.offer.proofs.Offers.{offers}
-use Rattle.ladder.proofs.Admitted.{steps-by, bits-are, word-long}
-use Rattle.sizes.specs.Patterns.{samplesOf, read, smaller, allFinite}
-use Rattle.sizes.specs.Sizes.{bySize}
-use Rattle.sizes.proofs.Patterns.{read-same, way-same}
-use Rattle.sizing.specs.declared.Ended.{Ended}
-use Rattle.sizing.specs.Passing.{SizesTo}
+use Rattle.catalogue.specs.declared.offer.Offer.{Offer}
+use Rattle.catalogue.specs.offer.Offers.{offerOf}
+use Rattle.catalogue.proofs.offer.Offers.{offers}
+use Rattle.refusals.proofs.Admitted.{steps-by, bits-are, word-long}
+use Rattle.magnitudes.specs.Patterns.{samplesOf, read, smaller, allFinite}
+use Rattle.magnitudes.specs.Sizes.{bySize}
+use Rattle.magnitudes.proofs.Patterns.{read-same, way-same}
+use Rattle.samples.specs.declared.sizing.Ended.{Ended}
+use Rattle.samples.specs.sizing.Passing.{SizesTo}
 use Rattle.samples.specs.Answers.{ranSamples}
 use Rattle.samples.specs.Found.{ranPatterns}
 use Rattle.samples.proofs.Promises.{some, sizes-choose}

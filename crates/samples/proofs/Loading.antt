@@ -11,8 +11,8 @@ use lib.Ieee.{Float, nan, inf, fin, eq, ne, isNan, ofBits, binary32}
 use lib.Ieee.Compare.{differs-from-itself}
 use lib.ListN.{length, take, set}
 use lib.Seq.{getD-set-same, getD-set-other}
-use Rattle.sizes.specs.Samples.{sampleOf}
-use Rattle.sizes.specs.Patterns.{samplesOf, patternOf}
+use Rattle.magnitudes.specs.Samples.{sampleOf}
+use Rattle.magnitudes.specs.Patterns.{samplesOf, patternOf}
 
 -- a number equals itself
 pub is-number : (s : Float) → eq s s ≡ true → T (not (isNan s))

@@ -32,11 +32,11 @@ use Rattle.answers.proofs.Corrections.{near-degree, ran-back, ran-one-back, ran
 use Rattle.answers.proofs.Unlike.{ran-unlike, ran-parity}
 use Rattle.answers.proofs.Refusals.{few-numbers, never-seven}
 use Rattle.answers.proofs.Wrong.{decided, ran-two-back, ran-three-back}
-use Rattle.sizes.specs.Samples.{read, sampleOf, magnitude, smaller, isOne, allFinite}
-use Rattle.sizes.specs.Sizes.{reaching, bySize}
-use Rattle.sizes.proofs.Smallest.{Ordered, Smallest}
-use Rattle.sizes.proofs.Choosing.{by-size, size-greatest, equal-sizes, size-smallest}
-use Rattle.sizes.proofs.Orders.{eq-lt, past-read, past-smaller, finite-ordered}
+use Rattle.magnitudes.specs.Samples.{read, sampleOf, magnitude, smaller, isOne, allFinite}
+use Rattle.magnitudes.specs.Sizes.{reaching, bySize}
+use Rattle.magnitudes.proofs.Smallest.{Ordered, Smallest}
+use Rattle.magnitudes.proofs.Choosing.{by-size, size-greatest, equal-sizes, size-smallest}
+use Rattle.magnitudes.proofs.Orders.{eq-lt, past-read, past-smaller, finite-ordered}
 use Rattle.samples.specs.Answers.{ranSamples, samplesAnswer}
 use Rattle.samples.proofs.Answers.{samples-cases, samples-taken}
 

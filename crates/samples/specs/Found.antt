@@ -8,10 +8,10 @@ use Rattle.rules.specs.Codes.{code}
 use Rattle.rules.specs.Encoding.{written}
 use Rattle.rules.specs.Flipping.{run}
 use Rattle.answers.specs.Calls as calls
-use Rattle.endings.specs.declared.Corrected.{Corrected}
-use Rattle.endings.specs.Answers.{asCorrected}
-use Rattle.sizes.specs.Patterns.{read, smaller}
-use Rattle.sizes.specs.Sizes.{bySize}
+use Rattle.flipping.specs.declared.endings.Corrected.{Corrected}
+use Rattle.flipping.specs.endings.Answers.{asCorrected}
+use Rattle.magnitudes.specs.Patterns.{read, smaller}
+use Rattle.magnitudes.specs.Sizes.{bySize}
 
 -- The run from the bits read, by the sizes of the patterns.
 abbrev pub ranPatterns : ℕ → List ℕ → ℕ → List ℕ → calls.Corrected

@@ -1,4 +1,8 @@
 // Correct on samples: the run on the bits read from them, which chooses by their sizes. What runs is given samples by their bit patterns.
+pub mod raising;
+pub mod sizing;
+pub mod smallest;
+
 ghost use mathlib.Core.Path.{_≡_};
 ghost use mathlib.Core.Bool.{true, false, not, _&&_};
 ghost use Prim.Native.Nat.{ℕ, _*_, _≤_, _<_};
@@ -9,22 +13,27 @@ ghost use Rattle.rules.specs.Checks.{broken as brokenOf, lowest as lowestOf};
 ghost use Rattle.answers.specs.Calls.{refusal as refusalOf};
 ghost use Rattle.vectors.specs.Vectors.{wbit};
 ghost use Rattle.layout.specs.Lent.{Fit, laid};
-ghost use Rattle.offer.specs.Offers.{offerOf, Known};
-ghost use Rattle.tables.specs.Flat.{Lends};
-ghost use Rattle.measured.specs.Measured.{Size};
-ghost use Rattle.runs.specs.Passes.{Begins, Beginning};
-ghost use Rattle.endings.specs.Answers.{asCorrected};
+ghost use Rattle.catalogue.specs.offer.Offers.{offerOf, Known};
+ghost use Rattle.catalogue.specs.tables.Flat.{Lends};
+ghost use Rattle.word.specs.measured.Measured.{Size};
+ghost use Rattle.flipping.specs.runs.Passes.{Begins, Beginning};
+ghost use Rattle.flipping.specs.endings.Answers.{asCorrected};
 ghost use lib.Ieee.{ofBits, binary32};
-ghost use Rattle.sizes.specs.Samples.{sampleOf};
-ghost use Rattle.sizes.specs.Patterns.{samplesOf, patternOf, read as readOf};
+ghost use Rattle.magnitudes.specs.Samples.{sampleOf};
+ghost use Rattle.magnitudes.specs.Patterns.{samplesOf, patternOf, read as readOf};
 ghost use Rattle.samples.specs.Answers.{samplesAnswer};
 ghost use Rattle.samples.specs.Found.{ranPatterns, Finds};
-use endings::Corrected;
+use catalogue::offer;
+use catalogue::offer::Offer;
+use flipping::endings;
+use flipping::endings::Corrected;
 use layout::SYNDROME;
 use layout::Shape;
 use layout::TABLE;
 use layout::WORD;
-use offer::Offer;
+use word::judging;
+use word::measured;
+use word::received;
 
 // The most samples that a code takes.
 const MOST: usize = 8176;
@@ -138,7 +147,7 @@ fn correct_taken(o: Offer, samples: &[u32], limit: u16, out: &mut [u8]) -> Corre
         → asCorrected r (now (out .exit)) ≡ samplesAnswer n (samplesOf (now (samples .entry))) limit (now (out .entry))) ⌝ }
 {
     let mut y = [0u64; WORD];
-    if !sizes::read(samples, &mut y) {
+    if !magnitudes::read(samples, &mut y) {
         return endings::refused_correct(16);
     }
     correct_read(o, samples, limit, &mut y, out)
@@ -148,7 +157,7 @@ fn correct_taken(o: Offer, samples: &[u32], limit: u16, out: &mut [u8]) -> Corre
 fn refusal(o: Offer, samples: usize, octets: usize) -> u8
     ensures { λ r. ⌜ r ≡ refusalOf (o .steps) samples (o .bits) octets (o .word) ⌝ }
 {
-    ladder::refusal(o.steps, samples, o.bits, octets, o.word)
+    refusals::refusal(o.steps, samples, o.bits, octets, o.word)
 }
 
 // The run on samples by their bit patterns, one for each bit, under a limit.

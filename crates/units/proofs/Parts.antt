@@ -9,9 +9,9 @@ use lib.Seq.{take-all, take-append-le, drop-append-le, take-append-add}
 use Rattle.rules.specs.Codes.{code, code1, code3}
 use Rattle.answers.specs.Calls.{encodeAnswer, sixSet}
 use Rattle.answers.proofs.Answers.{encode-taken}
-use Rattle.unitrules.specs.Units.{unitCode, blocksFor, filled, part}
-use Rattle.unitrules.proofs.Shapes.{both, unit-offered}
-use Rattle.unitrules.proofs.Blocks.{encodedOf, take-replicate, drop-replicate}
+use Rattle.units.specs.unitrules.Units.{unitCode, blocksFor, filled, part}
+use Rattle.units.proofs.unitrules.Shapes.{both, unit-offered}
+use Rattle.units.proofs.unitrules.Blocks.{encodedOf, take-replicate, drop-replicate}
 
 -- a whole part, encoded
 pub encode-part : (n : ℕ) (part out : List ℕ) → unitCode n ≡ true → length part ≡ code n .informationOctets

@@ -1,4 +1,6 @@
 // Vectors of bits in words of 64.
+pub mod copying;
+
 ghost use mathlib.Core.Path.{_≡_};
 ghost use mathlib.Core.List.{[], _∷_};
 ghost use mathlib.Core.Bool.{false};

@@ -6,12 +6,6 @@ use borrow.Author.Needs.{needs}
 use Rattle.nearest.proofs.nearest.Statement.{statement}
 use Rattle.nearest.proofs.nearest.Tie as tie
 
-refusal-requires : tie.Need-refusal-requires
-refusal-requires c κs = search needs
-
-refused-by-requires : tie.Need-refused-by-requires
-refused-by-requires c κs = search needs
-
 returns : tie.Need-returns
 returns c =
     let s : tie.Start = search in
@@ -19,9 +13,6 @@ returns c =
     c .refused-by .ensures (s .args .out .now)
     ∙ sym (nearest-refused (s .args .word .now) (s .args .reach) (s .args .out .now) (f .refusal .result) (f .refusal .ensures)
     (c .before .if1 .taken))
-
-refused-by-requires-2 : tie.Need-refused-by-requires-2
-refused-by-requires-2 c κs = search needs
 
 returns-2 : tie.Need-returns-2
 returns-2 c =
@@ -38,9 +29,6 @@ searched-requires c κs =
     let r = nearest-right (s .args .word .now) (s .args .reach) (s .args .out .now) (f .refusal .ensures) (c .before .before .if1 .left) in
     (r .long-is, r .room-is, omega arith)
 
-same-length : tie.Need-same-length
-same-length c = search needs
-
 returns-3 : tie.Need-returns-3
 returns-3 c =
     let s : tie.Start = search in
@@ -51,14 +39,5 @@ returns-3 c =
     ∙ sym (nearest-searched (s .args .word .now) (s .args .reach) (s .args .out .now) (r .long-is) (r .room-is) (omega arith))
 
 pub nearest-spec : {M : Type 1} → statement M
-nearest-spec =
-    tie.close
-    (tie.spec
-    refusal-requires
-    refused-by-requires
-    returns
-    refused-by-requires-2
-    returns-2
-    searched-requires
-    same-length
-    returns-3)
+nearest-spec = tie.close (tie.spec (λ c κs. search needs) (λ c κs. search needs) returns (λ c κs. search needs) returns-2 searched-requires
+    (λ c. search needs) returns-3)

@@ -2,15 +2,12 @@
 use mathlib.Core.Path.{ap, _∙_}
 use native.Mathlib.Omega.{arith}
 use lib.ListN.{length-take}
-use Rattle.offer.proofs.Offers.{small}
+use Rattle.catalogue.proofs.offer.Offers.{small}
 use Rattle.samples.specs.Answers.{samplesAnswer}
 use Rattle.samples.proofs.Loading.{loaded}
 use borrow.Author.Needs.{needs}
 use Rattle.samples.proofs.correct_loaded.Statement.{statement}
 use Rattle.samples.proofs.correct_loaded.Tie as tie
-
-slice-aggregate-load : tie.Need-slice-aggregate-load
-slice-aggregate-load c = search needs
 
 load-requires : tie.Need-load-requires
 load-requires c κs = let s : tie.Start = search in omega (arith, s .pre .2, small (s .pre .0) .bits)
@@ -28,9 +25,6 @@ correct-taken-requires c κs =
     let s : tie.Start = search in
     (s .pre .0, s .pre .1, simp length-take (omega (arith, s .pre .2, small (s .pre .0) .bits)), s .pre .3)
 
-same-length : tie.Need-same-length
-same-length c = search needs
-
 returns : tie.Need-returns
 returns c n off is =
     let s : tie.Start = search in
@@ -43,13 +37,5 @@ returns c n off is =
     (loaded (a .samples .now) _ (omega (arith, s .pre .2, small (s .pre .0) .bits)) (l .ensures .1))
 
 pub correct-loaded-spec : {M : Type 1} → statement M
-correct-loaded-spec =
-    tie.close
-    (tie.spec
-    slice-aggregate-load
-    load-requires
-    array-share-prefix-patterns
-    slice-aggregate-correct-taken
-    correct-taken-requires
-    same-length
-    returns)
+correct-loaded-spec = tie.close (tie.spec (λ c. search needs) load-requires array-share-prefix-patterns slice-aggregate-correct-taken
+    correct-taken-requires (λ c. search needs) returns)

@@ -1,22 +1,13 @@
 -- `samples::correct_patterns`: refusals in their order, then the run. Assumes nothing.
 use mathlib.Core.Path.{sym, _∙_}
 use lib.ListN.{length}
-use Rattle.ladder.proofs.Admitted.{taken, steps-offered}
-use Rattle.sizes.specs.Patterns.{samplesOf}
+use Rattle.refusals.proofs.Admitted.{taken, steps-offered}
+use Rattle.magnitudes.specs.Patterns.{samplesOf}
 use Rattle.samples.proofs.Answers.{samples-refused}
 use Rattle.samples.proofs.Correcting.{patterns-refusal}
 use borrow.Author.Needs.{needs}
 use Rattle.samples.proofs.correct_patterns.Statement.{statement}
 use Rattle.samples.proofs.correct_patterns.Tie as tie
-
-of-requires : tie.Need-of-requires
-of-requires c κs = search needs
-
-refusal-requires : tie.Need-refusal-requires
-refusal-requires c κs = search needs
-
-refused-correct-requires : tie.Need-refused-correct-requires
-refused-correct-requires c κs = search needs
 
 returns : tie.Need-returns
 returns c =
@@ -36,9 +27,6 @@ correct-taken-requires c κs =
     (c .before .if1 .left) in
     (t .known, t .chosen, t .input-is, t .output-is)
 
-same-length : tie.Need-same-length
-same-length c = search needs
-
 returns-2 : tie.Need-returns-2
 returns-2 c =
     let s : tie.Start = search in
@@ -51,13 +39,5 @@ returns-2 c =
     c .before .before .correct-taken .ensures (a .code) (t .offers) (o .ensures)
 
 pub correct-patterns-spec : {M : Type 1} → statement M
-correct-patterns-spec =
-    tie.close
-    (tie.spec
-    of-requires
-    refusal-requires
-    refused-correct-requires
-    returns
-    correct-taken-requires
-    same-length
-    returns-2)
+correct-patterns-spec = tie.close (tie.spec (λ c κs. search needs) (λ c κs. search needs) (λ c κs. search needs) returns
+    correct-taken-requires (λ c. search needs) returns-2)

@@ -1,21 +1,12 @@
 -- `samples::correct_samples`: refusals in their order, then the run. Assumes nothing.
 use mathlib.Core.Path.{sym, _∙_}
 use lib.ListN.{length}
-use Rattle.ladder.proofs.Admitted.{taken, steps-offered}
+use Rattle.refusals.proofs.Admitted.{taken, steps-offered}
 use Rattle.samples.proofs.Answers.{samples-refused}
 use Rattle.samples.proofs.Correcting.{samples-refusal}
 use borrow.Author.Needs.{needs}
 use Rattle.samples.proofs.correct_samples.Statement.{statement}
 use Rattle.samples.proofs.correct_samples.Tie as tie
-
-of-requires : tie.Need-of-requires
-of-requires c κs = search needs
-
-refusal-requires : tie.Need-refusal-requires
-refusal-requires c κs = search needs
-
-refused-correct-requires : tie.Need-refused-correct-requires
-refused-correct-requires c κs = search needs
 
 returns : tie.Need-returns
 returns c =
@@ -35,9 +26,6 @@ correct-loaded-requires c κs =
     (c .before .if1 .left) in
     (t .known, t .chosen, t .input-is, t .output-is)
 
-same-length : tie.Need-same-length
-same-length c = search needs
-
 returns-2 : tie.Need-returns-2
 returns-2 c =
     let s : tie.Start = search in
@@ -50,13 +38,5 @@ returns-2 c =
     c .before .before .correct-loaded .ensures (a .code) (t .offers) (o .ensures)
 
 pub correct-samples-spec : {M : Type 1} → statement M
-correct-samples-spec =
-    tie.close
-    (tie.spec
-    of-requires
-    refusal-requires
-    refused-correct-requires
-    returns
-    correct-loaded-requires
-    same-length
-    returns-2)
+correct-samples-spec = tie.close (tie.spec (λ c κs. search needs) (λ c κs. search needs) (λ c κs. search needs) returns
+    correct-loaded-requires (λ c. search needs) returns-2)

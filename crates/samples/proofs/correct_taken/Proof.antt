@@ -5,27 +5,21 @@ use lib.Ieee.{ofBits, binary32}
 use lib.ListN.{length-map}
 use borrow.Author.Tests.{not-true, not-false}
 use Rattle.vectors.proofs.Filling.{zero-words}
-use Rattle.offer.proofs.Offers.{small}
-use Rattle.ladder.proofs.Admitted.{as-truth, steps-by, bits-are, word-long}
-use Rattle.sizes.specs.Patterns.{samplesOf}
-use Rattle.sizes.proofs.Patterns.{finite-same}
+use Rattle.catalogue.proofs.offer.Offers.{small}
+use Rattle.refusals.proofs.Admitted.{as-truth, steps-by, bits-are, word-long}
+use Rattle.magnitudes.specs.Patterns.{samplesOf}
+use Rattle.magnitudes.proofs.Patterns.{finite-same}
 use Rattle.samples.proofs.Answers.{samples-taken, samples-sixteen}
 use Rattle.samples.proofs.Correcting.{by-patterns}
 use borrow.Author.Needs.{needs}
 use Rattle.samples.proofs.correct_taken.Statement.{statement}
 use Rattle.samples.proofs.correct_taken.Tie as tie
 
-slice-aggregate-read : tie.Need-slice-aggregate-read
-slice-aggregate-read c = search needs
-
 read-requires : tie.Need-read-requires
 read-requires c κs =
     let s : tie.Start = search in
     let z = zero-words 130 in
     (omega (arith, s .pre .2, small (s .pre .0) .bits), z)
-
-refused-correct-requires : tie.Need-refused-correct-requires
-refused-correct-requires c κs = search needs
 
 returns : tie.Need-returns
 returns c n off is =
@@ -45,9 +39,6 @@ correct-read-requires c κs =
     let after-read : tie.After-read = search in
     (s .pre .0, s .pre .1, s .pre .2, s .pre .3, after-read .read .ensures .0)
 
-same-length : tie.Need-same-length
-same-length c = search needs
-
 returns-2 : tie.Need-returns-2
 returns-2 c n off is =
     let s : tie.Start = search in
@@ -63,13 +54,5 @@ returns-2 c n off is =
     ∙ bits-are n is off) (word-long n is off (s .pre .3)) (finite-same x ∙ finite))
 
 pub correct-taken-spec : {M : Type 1} → statement M
-correct-taken-spec =
-    tie.close
-    (tie.spec
-    slice-aggregate-read
-    read-requires
-    refused-correct-requires
-    returns
-    correct-read-requires
-    same-length
-    returns-2)
+correct-taken-spec = tie.close (tie.spec (λ c. search needs) read-requires (λ c κs. search needs) returns correct-read-requires
+    (λ c. search needs) returns-2)

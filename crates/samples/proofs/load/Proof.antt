@@ -4,8 +4,8 @@ use Prim.Native.Nat.{ℕ, _-_, _≤_, _<_}
 use native.Mathlib.Omega.{arith}
 use lib.Ieee.{ofBits, binary32}
 use lib.ListN.{length, length-set}
-use Rattle.sizes.specs.Samples.{sampleOf}
-use Rattle.sizes.specs.Patterns.{patternOf}
+use Rattle.magnitudes.specs.Samples.{sampleOf}
+use Rattle.magnitudes.specs.Patterns.{patternOf}
 use Rattle.samples.proofs.Loading.{load-more}
 use borrow.Author.Needs.{needs}
 use Rattle.samples.proofs.load.Statement.{statement}
@@ -22,29 +22,11 @@ abbrev μ-loop : tie.MeasureT-loop
 loop-holds : tie.Need-loop-holds Inv-loop μ-loop
 loop-holds c = (omega arith, refl, λ j l. absurd (omega arith))
 
-mul-pattern : tie.Need-mul-pattern Inv-loop μ-loop
-mul-pattern c = search needs
-
-shared-slice-read-pattern : tie.Need-shared-slice-read-pattern Inv-loop μ-loop
-shared-slice-read-pattern c = search needs
-
-pattern-requires : tie.Need-pattern-requires Inv-loop μ-loop
-pattern-requires c κs = search needs
-
-mul-patterns : tie.Need-mul-patterns Inv-loop μ-loop
-mul-patterns c = search needs
-
 slice-write-patterns : tie.Need-slice-write-patterns Inv-loop μ-loop
 slice-write-patterns c =
     let s : tie.Start Inv-loop μ-loop = search in
     let at-loop : tie.At-loop Inv-loop μ-loop = search in
     omega (arith, s .pre, at-loop .loop .inv .1)
-
-add-i : tie.Need-add-i Inv-loop μ-loop
-add-i c = search needs
-
-loop-less : tie.Need-loop-less Inv-loop μ-loop
-loop-less c = omega arith
 
 loop-again : tie.Need-loop-again Inv-loop μ-loop
 loop-again c =
@@ -69,19 +51,5 @@ returns c =
     (l .inv .1, λ j h. l .inv .2 j (omega arith))
 
 pub load-spec : {M : Type 1} → statement M
-load-spec =
-    tie.close
-    (tie.spec
-    Inv-loop
-    μ-loop
-    loop-holds
-    mul-pattern
-    shared-slice-read-pattern
-    pattern-requires
-    mul-patterns
-    slice-write-patterns
-    add-i
-    loop-less
-    loop-again
-    same-length
-    returns)
+load-spec = tie.close (tie.spec Inv-loop μ-loop loop-holds (λ c. search needs) (λ c. search needs) (λ c κs. search needs)
+    (λ c. search needs) slice-write-patterns (λ c. search needs) (λ c. omega arith) loop-again same-length returns)

@@ -10,9 +10,6 @@ run-requires c κs =
     let s : tie.Start = search in
     (s .pre .1, s .pre .2, s .pre .3, s .pre .4, s .pre .5)
 
-judge-requires : tie.Need-judge-requires
-judge-requires c κs = search needs
-
 returns : tie.Need-returns
 returns c n off is t begins low =
     let s : tie.Start = search in
@@ -31,9 +28,4 @@ returns c n off is t begins low =
     }
 
 pub run-judged-spec : {M : Type 1} → statement M
-run-judged-spec =
-    tie.close
-    (tie.spec
-    run-requires
-    judge-requires
-    returns)
+run-judged-spec = tie.close (tie.spec run-requires (λ c κs. search needs) returns)

@@ -12,8 +12,4 @@ returns : tie.Need-returns
 returns c = c .run-within .ensures
 
 pub run-read-spec : {M : Type 1} → statement M
-run-read-spec =
-    tie.close
-    (tie.spec
-    run-within-requires
-    returns)
+run-read-spec = tie.close (tie.spec run-within-requires returns)

@@ -1,7 +1,7 @@
 -- `samples::run_within`: what the run begins with is the code's. Assumes nothing.
 use mathlib.Core.Path.{sym, ap, _∙_}
 use Rattle.rules.specs.Codes.{code}
-use Rattle.ladder.proofs.Admitted.{as-truth, shaped, steps-by, bits-are}
+use Rattle.refusals.proofs.Admitted.{as-truth, shaped, steps-by, bits-are}
 use Rattle.samples.proofs.Correcting.{all-sent}
 use Rattle.samples.proofs.run_within.Statement.{statement}
 use Rattle.samples.proofs.run_within.Tie as tie
@@ -38,9 +38,4 @@ returns c n off is =
     (record { lent = e .1 .lent; unsent = all-sent n is (s .pre .1); held = e .2; broken = e .3 }) (e .4)
 
 pub run-within-spec : {M : Type 1} → statement M
-run-within-spec =
-    tie.close
-    (tie.spec
-    begin-requires
-    run-judged-requires
-    returns)
+run-within-spec = tie.close (tie.spec begin-requires run-judged-requires returns)
