@@ -52,7 +52,8 @@ class Boundary:
             if ty[0] == "slice":
                 if not pointer or const == ty[1] or params.pop(0) != (name + "_len", "size_t", False, False):
                     raise Refused("%s is no slice in the header" % name)
-                self.same(ty[2], kind)
+                if (ty[2], ty[1], kind) != (("int", 32), False, "float"):  # floats are read by their patterns of bits
+                    self.same(ty[2], kind)
             elif pointer:
                 raise Refused("%s is a pointer in the header" % name)
             else:
@@ -74,6 +75,5 @@ class Boundary:
                         raise Refused("%s has another array in the header" % ty[1])
                     field = field[1]
                 self.same(field, inner)
-        elif not (ty == ("int", WIDTHS.get(kind)) or ty == ("int", 64) and kind == "size_t" or ty == ("bool",) and kind == "bool"
-                  or ty == ("float", 32) and kind == "float"):
+        elif not (ty == ("int", WIDTHS.get(kind)) or ty == ("int", 64) and kind == "size_t" or ty == ("bool",) and kind == "bool"):
             raise Refused("%s is %s in the header" % (ty, kind))

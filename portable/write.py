@@ -87,6 +87,14 @@ static uint32_t float_to_bits(float x)
     return bits;
 }
 """,
+    "pattern_at": """/* One of the patterns of bits that are lent. A caller may have them as floats, so it is copied out by its octets. */
+static uint32_t pattern_at(const uint32_t *patterns, uint64_t i)
+{
+    uint32_t pattern;
+    memcpy(&pattern, patterns + i, sizeof pattern);
+    return pattern;
+}
+""",
     "narrowed": """/* A length for the caller; 0 where no object is that long. */
 static size_t narrowed(uint64_t length)
 {
@@ -110,7 +118,7 @@ static uint%(b)d_t shift_right_signed%(b)d(uint%(b)d_t x, uint%(b)d_t n)
 """ % {"b": _bits}
 NEEDS = {"trailing_zeros64": ["leading_zeros64"]}
 HELPER_ORDER = (["narrowed"] + ["signed%d" % b for b in (8, 16, 32, 64)] + ["shift_right_signed%d" % b for b in (8, 16, 32, 64)]
-                + ["leading_zeros64", "trailing_zeros64", "count_ones64", "float_from_bits", "float_to_bits"])
+                + ["leading_zeros64", "trailing_zeros64", "count_ones64", "float_from_bits", "float_to_bits", "pattern_at"])
 
 
 def c_name(symbol):
@@ -591,6 +599,16 @@ class Routine:
 
     # -- values
 
+    def pattern(self, e):
+        """An element of 32 bits that is read through a pointer: the only ones of the library are a receiver's samples."""
+        if not isinstance(e, Deref) or e.ty != ("int", 32) or not isinstance(e.of, Op2):
+            return None
+        start, n = self.counted(e.of)
+        if self.through(start) is not None:
+            return None
+        self.writer.helpers.add("pattern_at")
+        return Value("pattern_at(%s, %s)" % (self.address(start).text, self.value(n).text if n is not None else "0"), POSTFIX, kind_of(e.ty))
+
     def number(self, e, typed):
         """A constant."""
         bits, value = e.ty[1], e.value
@@ -612,7 +630,7 @@ class Routine:
         if isinstance(e, (Use, Field, Deref)):
             if e.ty[0] in ("ref", "ptr"):
                 return self.address(e)
-            return self.place(e)
+            return self.pattern(e) or self.place(e)
         if isinstance(e, AddrOf):
             return self.address(e)
         if isinstance(e, Op1):
@@ -779,7 +797,8 @@ class Routine:
         made = []
         for i, (arg, var) in enumerate(zip(e.args, callee.params)):
             if var.ty[0] == "slice":
-                made.append(self.slice_part(arg, 0).text)
+                start = self.slice_part(arg, 0).text
+                made.append("(const uint32_t *)(const void *)" + start if self.exported and start in self.floats() else start)
                 if i in w.lengths[e.name]:
                     made.append(self.as_type_length(arg))
             elif var.by_address:
@@ -787,6 +806,11 @@ class Routine:
             elif var.ty != UNIT:
                 made.append(self.as_type(arg, var.ty).text)
         return made
+
+    def floats(self):
+        """The parameters of an exported function that the header has as floats, and the library as their patterns of bits."""
+        _, params = self.writer.header.functions[self.function.name.split("::")[-1]]
+        return {param for param, kind, pointer, _ in params if pointer and kind == "float"}
 
     def as_type_length(self, arg):
         if isinstance(arg, Aggregate):
