@@ -600,11 +600,11 @@ class Routine:
     # -- values
 
     def pattern(self, e):
-        """An element of 32 bits that is read through a pointer: the only ones of the library are a receiver's samples."""
+        """An element of what the header has as floats, and the library as their patterns of bits; or nothing."""
         if not isinstance(e, Deref) or e.ty != ("int", 32) or not isinstance(e.of, Op2):
             return None
         start, n = self.counted(e.of)
-        if self.through(start) is not None:
+        if self.through(start) is not None or self.address(start).text not in self.floats():
             return None
         self.writer.helpers.add("pattern_at")
         return Value("pattern_at(%s, %s)" % (self.address(start).text, self.value(n).text if n is not None else "0"), POSTFIX, kind_of(e.ty))
@@ -798,6 +798,8 @@ class Routine:
         for i, (arg, var) in enumerate(zip(e.args, callee.params)):
             if var.ty[0] == "slice":
                 start = self.slice_part(arg, 0).text
+                if start in self.floats() and var.name not in self.floats():
+                    raise Refused("%s is handed on as %s: patterns of floats have one name" % (start, var.name))
                 made.append("(const uint32_t *)(const void *)" + start if self.exported and start in self.floats() else start)
                 if i in w.lengths[e.name]:
                     made.append(self.as_type_length(arg))
@@ -808,9 +810,9 @@ class Routine:
         return made
 
     def floats(self):
-        """The parameters of an exported function that the header has as floats, and the library as their patterns of bits."""
-        _, params = self.writer.header.functions[self.function.name.split("::")[-1]]
-        return {param for param, kind, pointer, _ in params if pointer and kind == "float"}
+        """The names of what the header has as floats, and the library, which hands it on under the same name, as patterns of bits."""
+        header = self.writer.header
+        return {param for _, params in header.functions.values() for param, kind, pointer, _ in params if pointer and kind == "float"} if header else set()
 
     def as_type_length(self, arg):
         if isinstance(arg, Aggregate):

@@ -264,20 +264,23 @@ static void os_fail(const uint8_t *what, uint64_t what_len)
 
 /* Reads blocks of the lab's disk from standard input and writes the octets of the recording. */
 
-static const uint8_t fromblocks_is_ended_table[14] = {
-    115, 116, 97, 110, 100, 97, 114, 100, 32, 105, 110, 112, 117, 116,
+static const uint8_t fromblocks_is_ended_table[26] = {
+    102, 114, 111, 109, 98, 108, 111, 99, 107, 115, 58, 32, 115, 116, 97, 110, 100, 97, 114, 100, 32, 105, 110, 112,
+    117, 116,
 };
 
-static const uint8_t fromblocks_refuse_table[16] = {
-    114, 101, 102, 117, 115, 101, 100, 58, 32, 110, 117, 109, 98, 101, 114, 32,
+static const uint8_t fromblocks_refuse_table[28] = {
+    102, 114, 111, 109, 98, 108, 111, 99, 107, 115, 58, 32, 114, 101, 102, 117, 115, 101, 100, 58, 32, 110, 117, 109,
+    98, 101, 114, 32,
 };
 
 static const uint8_t fromblocks_refuse_table_2[7] = {
     32, 98, 108, 111, 99, 107, 32,
 };
 
-static const uint8_t fromblocks_convert_table[15] = {
-    115, 116, 97, 110, 100, 97, 114, 100, 32, 111, 117, 116, 112, 117, 116,
+static const uint8_t fromblocks_convert_table[27] = {
+    102, 114, 111, 109, 98, 108, 111, 99, 107, 115, 58, 32, 115, 116, 97, 110, 100, 97, 114, 100, 32, 111, 117, 116,
+    112, 117, 116,
 };
 
 /* One octet more than a recording holds, so that more than fits is seen. */
@@ -297,7 +300,7 @@ static bool fromblocks_is_ended(void)
     uint8_t one[1] = {0};
     uint64_t got = libc_read(0, one, 1);
     if (signed64(got) < 0) {
-        os_fail(fromblocks_is_ended_table, 14);
+        os_fail(fromblocks_is_ended_table, 26);
     }
     return got == 0;
 }
@@ -314,7 +317,7 @@ static uint64_t fromblocks_least(uint64_t a, uint64_t b)
 /* A line with the number of a refusal and the block at fault. */
 static void fromblocks_refuse(uint8_t number, uint32_t block)
 {
-    io_write_all(2, fromblocks_refuse_table, 16);
+    io_write_all(2, fromblocks_refuse_table, 28);
     io_number_print_decimal(2, number);
     io_write_all(2, fromblocks_refuse_table_2, 7);
     io_number_print_decimal(2, block);
@@ -324,19 +327,19 @@ static void fromblocks_refuse(uint8_t number, uint32_t block)
 /* The octets of the blocks into an output of the right length, and out. */
 static void fromblocks_convert(const uint8_t *blocks, uint64_t blocks_len, uint8_t *restrict out, uint64_t out_len)
 {
-    importing_Imported answer = importing_import_blocks(blocks, blocks_len, out, out_len);
+    blocks_importing_Imported answer = blocks_importing_import_blocks(blocks, blocks_len, out, out_len);
     if (answer.number != 0) {
         fromblocks_refuse(answer.number, answer.block);
         return;
     }
     if (!io_write_all(1, out, out_len)) {
-        os_fail(fromblocks_convert_table, 15);
+        os_fail(fromblocks_convert_table, 27);
     }
 }
 
 static void fromblocks_all(const uint8_t *blocks, uint64_t blocks_len, uint8_t *restrict out, uint64_t out_len)
 {
-    uint64_t n = fromblocks_least(importing_imported_octets(blocks, blocks_len), out_len);
+    uint64_t n = fromblocks_least(blocks_importing_imported_octets(blocks, blocks_len), out_len);
     fromblocks_convert(blocks, blocks_len, out, n);
 }
 

@@ -264,20 +264,22 @@ static void os_fail(const uint8_t *what, uint64_t what_len)
 
 /* Reads the octets of a recording from standard input and writes them in blocks of the lab's disk. */
 
-static const uint8_t toblocks_is_ended_table[14] = {
-    115, 116, 97, 110, 100, 97, 114, 100, 32, 105, 110, 112, 117, 116,
+static const uint8_t toblocks_is_ended_table[24] = {
+    116, 111, 98, 108, 111, 99, 107, 115, 58, 32, 115, 116, 97, 110, 100, 97, 114, 100, 32, 105, 110, 112, 117, 116,
 };
 
-static const uint8_t toblocks_refuse_table[16] = {
-    114, 101, 102, 117, 115, 101, 100, 58, 32, 110, 117, 109, 98, 101, 114, 32,
+static const uint8_t toblocks_refuse_table[26] = {
+    116, 111, 98, 108, 111, 99, 107, 115, 58, 32, 114, 101, 102, 117, 115, 101, 100, 58, 32, 110, 117, 109, 98, 101,
+    114, 32,
 };
 
 static const uint8_t toblocks_refuse_table_2[9] = {
     32, 98, 108, 111, 99, 107, 32, 48, 10,
 };
 
-static const uint8_t toblocks_convert_table[15] = {
-    115, 116, 97, 110, 100, 97, 114, 100, 32, 111, 117, 116, 112, 117, 116,
+static const uint8_t toblocks_convert_table[25] = {
+    116, 111, 98, 108, 111, 99, 107, 115, 58, 32, 115, 116, 97, 110, 100, 97, 114, 100, 32, 111, 117, 116, 112, 117,
+    116,
 };
 
 /* More than a recording holds, so that more than fits is seen. */
@@ -297,7 +299,7 @@ static bool toblocks_is_ended(void)
     uint8_t one[1] = {0};
     uint64_t got = libc_read(0, one, 1);
     if (signed64(got) < 0) {
-        os_fail(toblocks_is_ended_table, 14);
+        os_fail(toblocks_is_ended_table, 24);
     }
     return got == 0;
 }
@@ -314,7 +316,7 @@ static uint64_t toblocks_least(uint64_t a, uint64_t b)
 /* A line with the number of a refusal; there is no block at fault. */
 static void toblocks_refuse(uint8_t number)
 {
-    io_write_all(2, toblocks_refuse_table, 16);
+    io_write_all(2, toblocks_refuse_table, 26);
     io_number_print_decimal(2, number);
     io_write_all(2, toblocks_refuse_table_2, 9);
 }
@@ -322,19 +324,19 @@ static void toblocks_refuse(uint8_t number)
 /* The blocks of the octets into an output of the right length, and out. */
 static void toblocks_convert(const uint8_t *octets, uint64_t octets_len, uint8_t *restrict out, uint64_t out_len)
 {
-    uint8_t number = exporting_export_blocks(octets, octets_len, out, out_len);
+    uint8_t number = blocks_exporting_export_blocks(octets, octets_len, out, out_len);
     if (number != 0) {
         toblocks_refuse(number);
         return;
     }
     if (!io_write_all(1, out, out_len)) {
-        os_fail(toblocks_convert_table, 15);
+        os_fail(toblocks_convert_table, 25);
     }
 }
 
 static void toblocks_all(const uint8_t *octets, uint64_t octets_len, uint8_t *restrict out, uint64_t out_len)
 {
-    uint64_t n = toblocks_least(exporting_exported_octets(octets_len), out_len);
+    uint64_t n = toblocks_least(blocks_exporting_exported_octets(octets_len), out_len);
     toblocks_convert(octets, octets_len, out, n);
 }
 
