@@ -52,20 +52,20 @@ typedef struct lent_uint8_t {
 } lent_uint8_t;
 
 /* A length for the caller; 0 where no object is that long. */
-static size_t narrowed(uint64_t length)
+static inline size_t narrowed(uint64_t length)
 {
     size_t n = (size_t)length;
     return n == length ? n : 0;
 }
 
 /* The number that bits have if the first of them is a sign. */
-static int8_t signed8(uint8_t x)
+static inline int8_t signed8(uint8_t x)
 {
     return x <= INT8_MAX ? (int8_t)x : (int8_t)(-(int8_t)(UINT8_MAX - x) - 1);
 }
 
 /* How many zeros are before the first one. */
-static uint32_t leading_zeros64(uint64_t x)
+static inline uint32_t leading_zeros64(uint64_t x)
 {
     uint32_t n = 0;
     if (x == 0) {
@@ -95,7 +95,7 @@ static uint32_t leading_zeros64(uint64_t x)
 }
 
 /* How many ones there are. */
-static uint32_t count_ones64(uint64_t x)
+static inline uint32_t count_ones64(uint64_t x)
 {
     x -= x >> 1 & UINT64_C(0x5555555555555555);
     x = (x & UINT64_C(0x3333333333333333)) + (x >> 2 & UINT64_C(0x3333333333333333));
@@ -104,12 +104,16 @@ static uint32_t count_ones64(uint64_t x)
 }
 
 /* The float of a pattern of bits, and the other way round. */
-static float float_from_bits(uint32_t bits)
+static inline float float_from_bits(uint32_t bits)
 {
     float x;
     memcpy(&x, &bits, sizeof x);
     return x;
 }
+
+/* What a pointer points to where the caller hands over no elements. */
+static const float no_float[1] = {0};
+static const uint8_t no_uint8_t[1] = {0};
 
 /* ---- vectors ---------------------------------------------------------------------------------------- */
 
@@ -122,7 +126,7 @@ typedef struct vectors_Pair {
 } vectors_Pair;
 
 /* The number of the first n octets from octet at on. */
-static uint64_t vectors_gathered(const uint8_t *octets, uint64_t at, uint64_t n)
+static inline uint64_t vectors_gathered(const uint8_t *octets, uint64_t at, uint64_t n)
 {
     uint64_t number = 0;
     uint64_t j = 0;
@@ -134,13 +138,13 @@ static uint64_t vectors_gathered(const uint8_t *octets, uint64_t at, uint64_t n)
 }
 
 /* The 64 bits of the eight octets from octet at on: in two halves the compiler knows them as one load. */
-static uint64_t vectors_eight(const uint8_t *octets, uint64_t at)
+static inline uint64_t vectors_eight(const uint8_t *octets, uint64_t at)
 {
     return (vectors_gathered(octets, at, 4) << 32) | vectors_gathered(octets, at + 4, 4);
 }
 
 /* The 64 bits of a and then b from bit t on. */
-static uint64_t vectors_funnel(uint64_t a, uint64_t b, uint64_t t)
+static inline uint64_t vectors_funnel(uint64_t a, uint64_t b, uint64_t t)
 {
     if (t == 0) {
         return a;
@@ -149,7 +153,7 @@ static uint64_t vectors_funnel(uint64_t a, uint64_t b, uint64_t t)
 }
 
 /* The first t bits of v. */
-static uint64_t vectors_front(uint64_t v, uint64_t t)
+static inline uint64_t vectors_front(uint64_t v, uint64_t t)
 {
     if (t == 64) {
         return v;
@@ -158,7 +162,7 @@ static uint64_t vectors_front(uint64_t v, uint64_t t)
 }
 
 /* Clears the bits from bit n on. */
-static void vectors_trim(uint64_t *restrict ws, uint64_t ws_len, uint64_t n)
+static inline void vectors_trim(uint64_t *restrict ws, uint64_t ws_len, uint64_t n)
 {
     uint64_t k = n / 64;
     uint64_t t = n % 64;
@@ -170,7 +174,7 @@ static void vectors_trim(uint64_t *restrict ws, uint64_t ws_len, uint64_t n)
 }
 
 /* All bits u places later, of which the last u are 0; zeros in front. */
-static void vectors_lift(uint64_t *restrict ws, uint64_t ws_len, uint64_t u)
+static inline void vectors_lift(uint64_t *restrict ws, uint64_t ws_len, uint64_t u)
 {
     if (0 < u) {
         uint64_t before = 0;
@@ -186,7 +190,7 @@ static void vectors_lift(uint64_t *restrict ws, uint64_t ws_len, uint64_t u)
 
 /* The words of v that have a right neighbour among its first n, and n words behind each of them the 64 bits that
  * begin t bits later in v. */
-static void vectors_double_words(const uint64_t *v, uint64_t n, uint64_t t, uint64_t *restrict d)
+static inline void vectors_double_words(const uint64_t *v, uint64_t n, uint64_t t, uint64_t *restrict d)
 {
     uint64_t a = v[0];
     uint64_t k = 0;
@@ -201,7 +205,7 @@ static void vectors_double_words(const uint64_t *v, uint64_t n, uint64_t t, uint
 
 /* The m bits of v twice over. They stand in n words, t bits short of filling them, so they begin again t bits before
  * word n. */
-static void vectors_double(const uint64_t *v, uint64_t m, uint64_t *restrict d, uint64_t d_len)
+static inline void vectors_double(const uint64_t *v, uint64_t m, uint64_t *restrict d, uint64_t d_len)
 {
     uint64_t n = (m + 63) / 64;
     uint64_t t = 64 * n - m;
@@ -215,13 +219,13 @@ static void vectors_double(const uint64_t *v, uint64_t m, uint64_t *restrict d, 
 }
 
 /* The 64 bits from bit t of word q on. */
-static uint64_t vectors_span(const uint64_t *y, uint64_t q, uint64_t t)
+static inline uint64_t vectors_span(const uint64_t *y, uint64_t q, uint64_t t)
 {
     return vectors_funnel(y[q], y[q + 1], t);
 }
 
 /* Adds the w words of d from bit s on to those of acc from word at on. */
-static void vectors_add_turned(const uint64_t *d, uint64_t s, uint64_t *restrict acc, uint64_t at, uint64_t w)
+static inline void vectors_add_turned(const uint64_t *d, uint64_t s, uint64_t *restrict acc, uint64_t at, uint64_t w)
 {
     uint64_t q = s / 64;
     uint64_t t = s % 64;
@@ -233,13 +237,13 @@ static void vectors_add_turned(const uint64_t *d, uint64_t s, uint64_t *restrict
 }
 
 /* Adds the 64 bits of v to word at of acc. */
-static void vectors_add_word(uint64_t v, uint64_t *restrict acc, uint64_t at)
+static inline void vectors_add_word(uint64_t v, uint64_t *restrict acc, uint64_t at)
 {
     acc[at] ^= v;
 }
 
 /* Writes the first n octets of v from octet at on. */
-static void vectors_put(uint64_t v, uint64_t n, uint8_t *restrict out, uint64_t at)
+static inline void vectors_put(uint64_t v, uint64_t n, uint8_t *restrict out, uint64_t at)
 {
     uint64_t j = 0;
     while (j < n) {
@@ -249,7 +253,7 @@ static void vectors_put(uint64_t v, uint64_t n, uint8_t *restrict out, uint64_t 
 }
 
 /* The octets of the bits from bit u on. */
-static void vectors_store(const uint64_t *ws, uint64_t u, uint8_t *restrict out, uint64_t out_len)
+static inline void vectors_store(const uint64_t *ws, uint64_t u, uint8_t *restrict out, uint64_t out_len)
 {
     uint64_t q = u / 64;
     uint64_t t = u % 64;
@@ -266,7 +270,7 @@ static void vectors_store(const uint64_t *ws, uint64_t u, uint8_t *restrict out,
 }
 
 /* The words that the octets fill whole. */
-static void vectors_load_whole(const uint8_t *octets, uint64_t octets_len, uint64_t *restrict ws)
+static inline void vectors_load_whole(const uint8_t *octets, uint64_t octets_len, uint64_t *restrict ws)
 {
     uint64_t whole = octets_len / 8;
     uint64_t k = 0;
@@ -277,7 +281,7 @@ static void vectors_load_whole(const uint8_t *octets, uint64_t octets_len, uint6
 }
 
 /* The octets behind the words that they fill whole, fewer than eight, and zeros behind them. */
-static uint64_t vectors_last(const uint8_t *octets, uint64_t octets_len)
+static inline uint64_t vectors_last(const uint8_t *octets, uint64_t octets_len)
 {
     uint64_t n = octets_len % 8;
     if (n == 0) {
@@ -287,7 +291,7 @@ static uint64_t vectors_last(const uint8_t *octets, uint64_t octets_len)
 }
 
 /* The octets, put in front of a vector of zeros. */
-static void vectors_load(const uint8_t *octets, uint64_t octets_len, uint64_t *restrict ws, uint64_t ws_len)
+static inline void vectors_load(const uint8_t *octets, uint64_t octets_len, uint64_t *restrict ws, uint64_t ws_len)
 {
     vectors_load_whole(octets, octets_len, ws);
     uint64_t k = octets_len / 8;
@@ -297,19 +301,20 @@ static void vectors_load(const uint8_t *octets, uint64_t octets_len, uint64_t *r
 }
 
 /* The 64 bits from bit p on. */
-static uint64_t vectors_window(const uint64_t *y, uint64_t p)
+static inline uint64_t vectors_window(const uint64_t *y, uint64_t p)
 {
     return vectors_span(y, p / 64, p % 64);
 }
 
 /* The m bits of v twice over, where one word holds them. Two shifts to the right, since m may be 64. */
-static vectors_Pair vectors_double_word(uint64_t v, uint64_t m)
+static inline vectors_Pair vectors_double_word(uint64_t v, uint64_t m)
 {
     return (vectors_Pair){.first = v | ((v >> 1) >> (m - 1)), .second = vectors_funnel(v, 0, 64 - m)};
 }
 
 /* The words that the octets fill whole, all bits u places later, and the last of them as it was. */
-static uint64_t vectors_load_whole_later(const uint8_t *octets, uint64_t octets_len, uint64_t u, uint64_t *restrict ws)
+static inline uint64_t vectors_load_whole_later(const uint8_t *octets, uint64_t octets_len, uint64_t u,
+        uint64_t *restrict ws)
 {
     uint64_t whole = octets_len / 8;
     uint64_t before = 0;
@@ -325,7 +330,7 @@ static uint64_t vectors_load_whole_later(const uint8_t *octets, uint64_t octets_
 
 /* The octets, put u bits behind the front of a vector of zeros: moved as they are loaded, since a sweep of its own
  * takes longer. */
-static void vectors_load_later(const uint8_t *octets, uint64_t octets_len, uint64_t u, uint64_t *restrict ws)
+static inline void vectors_load_later(const uint8_t *octets, uint64_t octets_len, uint64_t u, uint64_t *restrict ws)
 {
     uint64_t before = vectors_load_whole_later(octets, octets_len, u, ws);
     uint64_t k = octets_len / 8;
@@ -335,7 +340,7 @@ static void vectors_load_later(const uint8_t *octets, uint64_t octets_len, uint6
 }
 
 /* The m bits from bit p on. */
-static void vectors_cut(const uint64_t *y, uint64_t p, uint64_t m, uint64_t *restrict v, uint64_t v_len)
+static inline void vectors_cut(const uint64_t *y, uint64_t p, uint64_t m, uint64_t *restrict v, uint64_t v_len)
 {
     uint64_t q = p / 64;
     uint64_t t = p % 64;
@@ -348,7 +353,7 @@ static void vectors_cut(const uint64_t *y, uint64_t p, uint64_t m, uint64_t *res
 }
 
 /* How many bits are set. */
-static uint64_t vectors_ones(const uint64_t *ws, uint64_t ws_len)
+static inline uint64_t vectors_ones(const uint64_t *ws, uint64_t ws_len)
 {
     uint64_t n = 0;
     uint64_t k = 0;
@@ -360,7 +365,7 @@ static uint64_t vectors_ones(const uint64_t *ws, uint64_t ws_len)
 }
 
 /* How many words in front are 0, counted by fours. */
-static uint64_t vectors_skip(const uint64_t *ws, uint64_t ws_len)
+static inline uint64_t vectors_skip(const uint64_t *ws, uint64_t ws_len)
 {
     uint64_t k = 0;
     while (k + 4 <= ws_len) {
@@ -373,7 +378,7 @@ static uint64_t vectors_skip(const uint64_t *ws, uint64_t ws_len)
 }
 
 /* The first bit that is set, or the number of bits if none is. */
-static uint64_t vectors_first(const uint64_t *ws, uint64_t ws_len)
+static inline uint64_t vectors_first(const uint64_t *ws, uint64_t ws_len)
 {
     uint64_t k = vectors_skip(ws, ws_len);
     while (k < ws_len) {
@@ -386,7 +391,7 @@ static uint64_t vectors_first(const uint64_t *ws, uint64_t ws_len)
 }
 
 /* Whether a bit is set. */
-static bool vectors_any(const uint64_t *ws, uint64_t ws_len)
+static inline bool vectors_any(const uint64_t *ws, uint64_t ws_len)
 {
     uint64_t v = 0;
     uint64_t k = 0;
@@ -398,21 +403,21 @@ static bool vectors_any(const uint64_t *ws, uint64_t ws_len)
 }
 
 /* Flips bit n. */
-static void vectors_flip_bit(uint64_t *restrict ws, uint64_t n)
+static inline void vectors_flip_bit(uint64_t *restrict ws, uint64_t n)
 {
     uint64_t q = n / 64;
     ws[q] ^= UINT64_C(1) << (63 - n % 64);
 }
 
 /* Clears the bits from bit n on of the word that has it. */
-static void vectors_trim_word(uint64_t *restrict ws, uint64_t n)
+static inline void vectors_trim_word(uint64_t *restrict ws, uint64_t n)
 {
     uint64_t k = n / 64;
     ws[k] = vectors_front(ws[k], n % 64);
 }
 
 /* Whether bit n is set. */
-static bool vectors_is_set(const uint64_t *ws, uint64_t n)
+static inline bool vectors_is_set(const uint64_t *ws, uint64_t n)
 {
     return (ws[n / 64] >> (63 - n % 64)) % 2 == 1;
 }
@@ -433,7 +438,7 @@ static const uint64_t bch_ROWS[7] = {
 };
 
 /* The bits of eight octets at most, zeros behind them. */
-static uint64_t bch_taken(const uint8_t *octets, uint64_t octets_len)
+static inline uint64_t bch_taken(const uint8_t *octets, uint64_t octets_len)
 {
     uint64_t y[2] = {0};
     vectors_load(octets, octets_len, y, 2);
@@ -441,13 +446,13 @@ static uint64_t bch_taken(const uint8_t *octets, uint64_t octets_len)
 }
 
 /* 1 if an odd number of bits are set. */
-static uint64_t bch_odd(uint64_t v)
+static inline uint64_t bch_odd(uint64_t v)
 {
     return count_ones64(v) % 2;
 }
 
 /* What the generator leaves of a word's 63 bits. */
-static uint64_t bch_divide(uint64_t v)
+static inline uint64_t bch_divide(uint64_t v)
 {
     uint64_t r = 0;
     uint64_t j = 0;
@@ -459,7 +464,7 @@ static uint64_t bch_divide(uint64_t v)
 }
 
 /* The octets of a word, the fill bit 0. */
-static void bch_write(uint64_t v, uint8_t *restrict out, uint64_t out_len)
+static inline void bch_write(uint64_t v, uint8_t *restrict out, uint64_t out_len)
 {
     uint64_t y[2] = {0};
     y[0] = v & UINT64_C(0xFFFFFFFFFFFFFFFE);
@@ -467,7 +472,7 @@ static void bch_write(uint64_t v, uint8_t *restrict out, uint64_t out_len)
 }
 
 /* Information in, word out. */
-static uint8_t bch_bch_encode(const uint8_t *information, uint64_t information_len, uint8_t *restrict word,
+static inline uint8_t bch_bch_encode(const uint8_t *information, uint64_t information_len, uint8_t *restrict word,
         uint64_t word_len)
 {
     if (information_len != 7) {
@@ -483,7 +488,7 @@ static uint8_t bch_bch_encode(const uint8_t *information, uint64_t information_l
 }
 
 /* The bits of the 63 each of which alone leaves r. */
-static uint64_t bch_places(uint64_t r)
+static inline uint64_t bch_places(uint64_t r)
 {
     uint64_t m = UINT64_C(0xFFFFFFFFFFFFFFFE);
     uint64_t j = 0;
@@ -499,7 +504,7 @@ static uint64_t bch_places(uint64_t r)
 }
 
 /* A word of the right length, into an output of the right length. */
-static bch_Mended bch_judge(bool detect_only, const uint8_t *word, uint64_t word_len, uint8_t *restrict out,
+static inline bch_Mended bch_judge(bool detect_only, const uint8_t *word, uint64_t word_len, uint8_t *restrict out,
         uint64_t out_len)
 {
     uint64_t v = bch_taken(word, word_len);
@@ -520,7 +525,7 @@ static bch_Mended bch_judge(bool detect_only, const uint8_t *word, uint64_t word
 }
 
 /* Single error correction, or detect-only: the word out, or 13. */
-static bch_Mended bch_bch_check(bool detect_only, const uint8_t *word, uint64_t word_len, uint8_t *restrict out,
+static inline bch_Mended bch_bch_check(bool detect_only, const uint8_t *word, uint64_t word_len, uint8_t *restrict out,
         uint64_t out_len)
 {
     if (word_len != 8) {
@@ -562,7 +567,7 @@ typedef struct planes_Sum {
 } planes_Sum;
 
 /* The last bit of v at each of 64 places. */
-static uint64_t planes_spread(uint64_t v)
+static inline uint64_t planes_spread(uint64_t v)
 {
     if (v % 2 == 1) {
         return UINT64_C(0xFFFFFFFFFFFFFFFF);
@@ -571,13 +576,13 @@ static uint64_t planes_spread(uint64_t v)
 }
 
 /* Every count is v. */
-static planes_Planes planes_all(uint64_t v)
+static inline planes_Planes planes_all(uint64_t v)
 {
     return (planes_Planes){.one = planes_spread(v), .two = planes_spread(v / 2), .four = planes_spread(v / 4)};
 }
 
 /* Bit i of x is added to count i, for all 64 at once: three half adders. */
-static planes_Sum planes_add(planes_Planes p, uint64_t x)
+static inline planes_Sum planes_add(planes_Planes p, uint64_t x)
 {
     uint64_t carry = p.one & x;
     uint64_t next = p.two & carry;
@@ -591,7 +596,7 @@ static planes_Sum planes_add(planes_Planes p, uint64_t x)
  * bound for each block. */
 
 /* The first m bits of v, twice over from word `to` of d on. */
-static void bounds_double_narrow_row(uint64_t v, uint64_t m, uint64_t *restrict d, uint64_t to)
+static inline void bounds_double_narrow_row(uint64_t v, uint64_t m, uint64_t *restrict d, uint64_t to)
 {
     vectors_Pair p = vectors_double_word(vectors_front(v, m), m);
     d[to] = p.first;
@@ -599,7 +604,8 @@ static void bounds_double_narrow_row(uint64_t v, uint64_t m, uint64_t *restrict 
 }
 
 /* The m bits of a row that begins with word `at`. */
-static void bounds_row(const uint64_t *z, uint64_t at, uint64_t words, uint64_t m, uint64_t *restrict v, uint64_t v_len)
+static inline void bounds_row(const uint64_t *z, uint64_t at, uint64_t words, uint64_t m, uint64_t *restrict v,
+        uint64_t v_len)
 {
     uint64_t k = 0;
     while (k < words) {
@@ -610,7 +616,7 @@ static void bounds_row(const uint64_t *z, uint64_t at, uint64_t words, uint64_t 
 }
 
 /* The m bits of a row that begins with word `at`, twice over from word `to` of d on. */
-static void bounds_double_row(const uint64_t *z, uint64_t at, uint64_t words, uint64_t m, uint64_t *restrict v,
+static inline void bounds_double_row(const uint64_t *z, uint64_t at, uint64_t words, uint64_t m, uint64_t *restrict v,
         uint64_t v_len, uint64_t *restrict d, uint64_t to)
 {
     if (words == 1) {
@@ -623,7 +629,7 @@ static void bounds_double_row(const uint64_t *z, uint64_t at, uint64_t words, ui
 }
 
 /* Every row of the syndrome twice over. */
-static void bounds_double_rows(const uint64_t *z, layout_Shape sh, uint64_t *restrict v, uint64_t *restrict d)
+static inline void bounds_double_rows(const uint64_t *z, layout_Shape sh, uint64_t *restrict v, uint64_t *restrict d)
 {
     uint64_t words = sh.words;
     uint64_t m = sh.size;
@@ -635,7 +641,7 @@ static void bounds_double_rows(const uint64_t *z, layout_Shape sh, uint64_t *res
 }
 
 /* Writes one start more, if place `at` of h has an entry, and says how many there are then. */
-static uint64_t bounds_note(const uint16_t *h, uint64_t at, uint64_t m, uint64_t row, uint16_t *restrict starts,
+static inline uint64_t bounds_note(const uint16_t *h, uint64_t at, uint64_t m, uint64_t row, uint16_t *restrict starts,
         uint64_t n)
 {
     uint64_t s = h[at];
@@ -647,8 +653,8 @@ static uint64_t bounds_note(const uint16_t *h, uint64_t at, uint64_t m, uint64_t
 }
 
 /* The starts of block b at its two places of row r, behind n others, and how many there are then. */
-static uint64_t bounds_note_row(const uint16_t *h, layout_Shape sh, uint64_t b, uint64_t r, uint16_t *restrict starts,
-        uint64_t n)
+static inline uint64_t bounds_note_row(const uint16_t *h, layout_Shape sh, uint64_t b, uint64_t r,
+        uint16_t *restrict starts, uint64_t n)
 {
     uint64_t at = 2 * (r * sh.blocks + b);
     uint64_t next = bounds_note(h, at, sh.size, 1024 * r, starts, n);
@@ -656,7 +662,7 @@ static uint64_t bounds_note_row(const uint16_t *h, layout_Shape sh, uint64_t b, 
 }
 
 /* The starts of block b at its eight places, and how many they are. */
-static uint64_t bounds_gather(const uint16_t *h, layout_Shape sh, uint64_t b, uint16_t *restrict starts)
+static inline uint64_t bounds_gather(const uint16_t *h, layout_Shape sh, uint64_t b, uint16_t *restrict starts)
 {
     uint64_t n = 8 * b;
     uint64_t r = 0;
@@ -668,7 +674,8 @@ static uint64_t bounds_gather(const uint16_t *h, layout_Shape sh, uint64_t b, ui
 }
 
 /* The starts of every block, and how many each has. */
-static void bounds_gather_all(const uint16_t *h, layout_Shape sh, uint16_t *restrict starts, uint8_t *restrict counts)
+static inline void bounds_gather_all(const uint16_t *h, layout_Shape sh, uint16_t *restrict starts,
+        uint8_t *restrict counts)
 {
     uint64_t b = 0;
     while (b < sh.blocks) {
@@ -679,7 +686,7 @@ static void bounds_gather_all(const uint16_t *h, layout_Shape sh, uint16_t *rest
 }
 
 /* The doubled rows of the syndrome z, and the starts of every block. The bounds begin with no met check. */
-static void bounds_begin(const uint64_t *z, const uint16_t *h, layout_Shape sh, uint64_t *restrict d,
+static inline void bounds_begin(const uint64_t *z, const uint16_t *h, layout_Shape sh, uint64_t *restrict d,
         uint16_t *restrict starts, uint8_t *restrict counts)
 {
     uint64_t v[8] = {0};
@@ -689,8 +696,8 @@ static void bounds_begin(const uint64_t *z, const uint16_t *h, layout_Shape sh, 
 
 /* Of 64 bits, those of which at most so many checks are met, none or one; mostly the first checks show that there is
  * none. */
-static uint64_t bounds_few_met(const uint64_t *d, const uint16_t *starts, uint64_t first, uint64_t n, uint64_t at,
-        uint64_t met)
+static inline uint64_t bounds_few_met(const uint64_t *d, const uint16_t *starts, uint64_t first, uint64_t n,
+        uint64_t at, uint64_t met)
 {
     uint64_t found = UINT64_C(0xFFFFFFFFFFFFFFFF);
     uint64_t spare = planes_spread(met);
@@ -708,8 +715,8 @@ static uint64_t bounds_few_met(const uint64_t *d, const uint16_t *starts, uint64
 }
 
 /* Of 64 bits, those of which at least so many checks are broken: the counts begin so far below 8, and pass 7 there. */
-static uint64_t bounds_many_broken(const uint64_t *d, const uint16_t *starts, uint64_t first, uint64_t n, uint64_t at,
-        uint64_t need)
+static inline uint64_t bounds_many_broken(const uint64_t *d, const uint16_t *starts, uint64_t first, uint64_t n,
+        uint64_t at, uint64_t need)
 {
     planes_Planes counts = planes_all(8 - need);
     uint64_t over = 0;
@@ -724,8 +731,8 @@ static uint64_t bounds_many_broken(const uint64_t *d, const uint16_t *starts, ui
 }
 
 /* Of 64 bits, those of which at most so many of the n checks are met. */
-static uint64_t bounds_lightest(const uint64_t *d, const uint16_t *starts, uint64_t first, uint64_t n, uint64_t at,
-        uint64_t met)
+static inline uint64_t bounds_lightest(const uint64_t *d, const uint16_t *starts, uint64_t first, uint64_t n,
+        uint64_t at, uint64_t met)
 {
     if (met <= 1) {
         return bounds_few_met(d, starts, first, n, at, met);
@@ -737,7 +744,7 @@ static uint64_t bounds_lightest(const uint64_t *d, const uint16_t *starts, uint6
 }
 
 /* Of 64 bits from bit `at` on, how many stand ahead of bit k. */
-static uint64_t bounds_ahead(uint64_t k, uint64_t at)
+static inline uint64_t bounds_ahead(uint64_t k, uint64_t at)
 {
     if (k <= at) {
         return 0;
@@ -749,7 +756,7 @@ static uint64_t bounds_ahead(uint64_t k, uint64_t at)
 }
 
 /* Of the bits that are set in v, which begins with bit `at`, those from bit `begin` to before bit m. */
-static uint64_t bounds_between(uint64_t v, uint64_t at, uint64_t begin, uint64_t m)
+static inline uint64_t bounds_between(uint64_t v, uint64_t at, uint64_t begin, uint64_t m)
 {
     uint64_t c = vectors_front(v, bounds_ahead(m, at));
     return c ^ vectors_front(c, bounds_ahead(begin, at));
@@ -757,8 +764,8 @@ static uint64_t bounds_between(uint64_t v, uint64_t at, uint64_t begin, uint64_t
 
 /* Of the 64 bits of a block from bit `at` on: those from bit `begin` to before bit m that have at most so many of
  * their n checks met. */
-static uint64_t bounds_weigh(const uint64_t *d, const uint16_t *starts, uint64_t first, uint64_t n, uint64_t met,
-        uint64_t at, uint64_t begin, uint64_t m)
+static inline uint64_t bounds_weigh(const uint64_t *d, const uint16_t *starts, uint64_t first, uint64_t n,
+        uint64_t met, uint64_t at, uint64_t begin, uint64_t m)
 {
     uint64_t found = bounds_lightest(d, starts, first, n, at, met);
     if (found == 0) {
@@ -768,7 +775,7 @@ static uint64_t bounds_weigh(const uint64_t *d, const uint16_t *starts, uint64_t
 }
 
 /* Flips the check at p, in both places. */
-static void bounds_flip_check(uint64_t *restrict d, uint64_t p, uint64_t m)
+static inline void bounds_flip_check(uint64_t *restrict d, uint64_t p, uint64_t m)
 {
     vectors_flip_bit(d, p);
     if (p % 1024 < m) {
@@ -779,8 +786,8 @@ static void bounds_flip_check(uint64_t *restrict d, uint64_t p, uint64_t m)
 }
 
 /* Flips the checks of bit k of a block. */
-static void bounds_flip_checks(uint64_t *restrict d, const uint16_t *starts, uint64_t first, uint64_t n, uint64_t k,
-        uint64_t m)
+static inline void bounds_flip_checks(uint64_t *restrict d, const uint16_t *starts, uint64_t first, uint64_t n,
+        uint64_t k, uint64_t m)
 {
     uint64_t e = 0;
     while (e < n) {
@@ -790,7 +797,7 @@ static void bounds_flip_checks(uint64_t *restrict d, const uint16_t *starts, uin
 }
 
 /* So many fewer, or none. */
-static uint8_t bounds_fewer(uint8_t v, uint8_t by)
+static inline uint8_t bounds_fewer(uint8_t v, uint8_t by)
 {
     if (v < by) {
         return 0;
@@ -799,7 +806,7 @@ static uint8_t bounds_fewer(uint8_t v, uint8_t by)
 }
 
 /* After a flip that broke so many checks, the bits of each block may have so many met checks fewer. */
-static void bounds_raise(uint8_t *restrict met, uint8_t by)
+static inline void bounds_raise(uint8_t *restrict met, uint8_t by)
 {
     uint64_t b = 0;
     while (b < 16) {
@@ -809,8 +816,8 @@ static void bounds_raise(uint8_t *restrict met, uint8_t by)
 }
 
 /* Flips the checks of a bit and raises the bounds; the bit has as many met checks as the bound of its block says. */
-static void bounds_flip(uint64_t *restrict d, const uint16_t *starts, const uint8_t *counts, uint8_t *restrict met,
-        layout_Shape sh, uint64_t bit)
+static inline void bounds_flip(uint64_t *restrict d, const uint16_t *starts, const uint8_t *counts,
+        uint8_t *restrict met, layout_Shape sh, uint64_t bit)
 {
     uint64_t b = bit / sh.size;
     uint64_t n = counts[b];
@@ -823,7 +830,7 @@ static void bounds_flip(uint64_t *restrict d, const uint16_t *starts, const uint
 
 /* Octets into an output of the same length. */
 
-static void copying_copy(const uint8_t *octets, uint64_t octets_len, uint8_t *restrict out)
+static inline void copying_copy(const uint8_t *octets, uint64_t octets_len, uint8_t *restrict out)
 {
     uint64_t i = 0;
     while (i < octets_len) {
@@ -851,7 +858,7 @@ typedef struct offer_Offer {
 } offer_Offer;
 
 /* A telecommand code: its octets, its bits, and M. */
-static offer_Offer offer_telecommand(uint64_t word, uint64_t information, uint64_t bits, uint64_t size)
+static inline offer_Offer offer_telecommand(uint64_t word, uint64_t information, uint64_t bits, uint64_t size)
 {
     return (offer_Offer){.offered = true, .opens = true, .steps = true, .word = word, .information = information,
             .multiple = 1, .bits = bits, .unsent = 0, .fill = 0, .asked = false,
@@ -859,8 +866,8 @@ static offer_Offer offer_telecommand(uint64_t word, uint64_t information, uint64
 }
 
 /* A near-Earth code: whether every bit is sent, its octets, and what is not sent or sent besides. */
-static offer_Offer offer_near_earth(bool whole, uint64_t word, uint64_t information, uint8_t multiple, uint64_t unsent,
-        uint64_t fill)
+static inline offer_Offer offer_near_earth(bool whole, uint64_t word, uint64_t information, uint8_t multiple,
+        uint64_t unsent, uint64_t fill)
 {
     return (offer_Offer){.offered = true, .opens = !whole, .steps = whole, .word = word, .information = information,
             .multiple = multiple, .bits = 8176, .unsent = unsent, .fill = fill, .asked = true,
@@ -868,7 +875,7 @@ static offer_Offer offer_near_earth(bool whole, uint64_t word, uint64_t informat
 }
 
 /* A number that no code has: what is measured by it is refused before it is used. */
-static offer_Offer offer_none(void)
+static inline offer_Offer offer_none(void)
 {
     return (offer_Offer){.offered = false, .opens = false, .steps = false, .word = 16, .information = 8, .multiple = 1,
             .bits = 128, .unsent = 0, .fill = 0, .asked = false,
@@ -876,7 +883,7 @@ static offer_Offer offer_none(void)
 }
 
 /* What a code number fixes. */
-static offer_Offer offer_of(uint8_t code)
+static inline offer_Offer offer_of(uint8_t code)
 {
     switch (code) {
     case 1:
@@ -895,21 +902,21 @@ static offer_Offer offer_of(uint8_t code)
 }
 
 /* Whether a code is offered. */
-static bool offer_is_offered(uint8_t code)
+static inline bool offer_is_offered(uint8_t code)
 {
     offer_Offer o = offer_of(code);
     return o.offered;
 }
 
 /* The octets of a word. */
-static uint64_t offer_word_octets(uint8_t code)
+static inline uint64_t offer_word_octets(uint8_t code)
 {
     offer_Offer o = offer_of(code);
     return o.word;
 }
 
 /* The octets of a word's information. */
-static uint64_t offer_information_octets(uint8_t code)
+static inline uint64_t offer_information_octets(uint8_t code)
 {
     offer_Offer o = offer_of(code);
     return o.information;
@@ -920,7 +927,7 @@ static uint64_t offer_information_octets(uint8_t code)
 /* In how many bits a received word and another differ. */
 
 /* In how many of their 64 bits two words differ. */
-static uint64_t unlike_apart(uint64_t v, uint64_t w)
+static inline uint64_t unlike_apart(uint64_t v, uint64_t w)
 {
     if (v == w) {
         return 0;
@@ -929,7 +936,7 @@ static uint64_t unlike_apart(uint64_t v, uint64_t w)
 }
 
 /* In how many of the first 64 k bits the octets differ from what stands in y from bit u on. */
-static uint64_t unlike_apart_whole(const uint8_t *octets, const uint64_t *y, uint64_t u, uint64_t k)
+static inline uint64_t unlike_apart_whole(const uint8_t *octets, const uint64_t *y, uint64_t u, uint64_t k)
 {
     uint64_t sum = 0;
     uint64_t j = 0;
@@ -942,7 +949,8 @@ static uint64_t unlike_apart_whole(const uint8_t *octets, const uint64_t *y, uin
 
 /* In how many of the first n bits the octets differ from what stands in y from bit u on; they hold these bits, and
  * end within 64 of the last. */
-static uint64_t unlike_unlike(const uint8_t *octets, uint64_t octets_len, const uint64_t *y, uint64_t u, uint64_t n)
+static inline uint64_t unlike_unlike(const uint8_t *octets, uint64_t octets_len, const uint64_t *y, uint64_t u,
+        uint64_t n)
 {
     uint64_t k = n / 64;
     uint64_t t = n % 64;
@@ -956,7 +964,7 @@ static uint64_t unlike_unlike(const uint8_t *octets, uint64_t octets_len, const 
 }
 
 /* In how many of the first 64 k bits two vectors differ. */
-static uint64_t unlike_unlike_words(const uint64_t *x, const uint64_t *y, uint64_t k)
+static inline uint64_t unlike_unlike_words(const uint64_t *x, const uint64_t *y, uint64_t k)
 {
     uint64_t sum = 0;
     uint64_t j = 0;
@@ -975,14 +983,14 @@ static uint64_t unlike_unlike_words(const uint64_t *x, const uint64_t *y, uint64
 typedef pandoricchia_corrected endings_Corrected;
 
 /* What correct gives besides its number where it is refused by 1 to 3, and on samples also by 16. */
-static endings_Corrected endings_refused_correct(uint8_t number)
+static inline endings_Corrected endings_refused_correct(uint8_t number)
 {
     return (endings_Corrected){.number = number, .flips = 0, .first = 0, .last = 0, .unlike = 0, .lowest = 0};
 }
 
 /* In how many bits the word at the end of a run differs from the received one: no flip leaves it, and one flips one
  * bit. */
-static uint32_t endings_unlike_after(offer_Offer o, const uint8_t *word, uint64_t word_len, const uint64_t *y,
+static inline uint32_t endings_unlike_after(offer_Offer o, const uint8_t *word, uint64_t word_len, const uint64_t *y,
         uint32_t flips)
 {
     if (flips <= 1) {
@@ -1002,7 +1010,7 @@ typedef struct ownparity_Together {
 } ownparity_Together;
 
 /* All words added up, place by place. */
-static uint64_t ownparity_folded(const uint64_t *ws, uint64_t ws_len)
+static inline uint64_t ownparity_folded(const uint64_t *ws, uint64_t ws_len)
 {
     uint64_t v = 0;
     uint64_t k = 0;
@@ -1014,25 +1022,25 @@ static uint64_t ownparity_folded(const uint64_t *ws, uint64_t ws_len)
 }
 
 /* 1 if an odd number of bits are set. */
-static uint64_t ownparity_odd_word(uint64_t v)
+static inline uint64_t ownparity_odd_word(uint64_t v)
 {
     return count_ones64(v) % 2;
 }
 
 /* 1 if an odd number of bits are set. */
-static uint64_t ownparity_odd_of(const uint64_t *ws, uint64_t ws_len)
+static inline uint64_t ownparity_odd_of(const uint64_t *ws, uint64_t ws_len)
 {
     return ownparity_odd_word(ownparity_folded(ws, ws_len));
 }
 
 /* By a number that has a bit for each of the 16 blocks, set where an odd number of its bits are. */
-static ownparity_Together ownparity_odd_together(uint64_t v)
+static inline ownparity_Together ownparity_odd_together(uint64_t v)
 {
     return (ownparity_Together){.first = ownparity_odd_word(1766 & v), .second = ownparity_odd_word(3453 & v)};
 }
 
 /* The same of the m bits from bit p on. */
-static uint64_t ownparity_odd(const uint64_t *y, uint64_t p, uint64_t m)
+static inline uint64_t ownparity_odd(const uint64_t *y, uint64_t p, uint64_t m)
 {
     uint64_t v[8] = {0};
     vectors_cut(y, p, m, v, 8);
@@ -1040,7 +1048,7 @@ static uint64_t ownparity_odd(const uint64_t *y, uint64_t p, uint64_t m)
 }
 
 /* For each of the 16 blocks, whether an odd number of its bits are set. */
-static uint64_t ownparity_odd_blocks(const uint64_t *y)
+static inline uint64_t ownparity_odd_blocks(const uint64_t *y)
 {
     uint64_t v = 0;
     uint64_t j = 0;
@@ -1052,7 +1060,7 @@ static uint64_t ownparity_odd_blocks(const uint64_t *y)
 }
 
 /* Whether the parity of a word that meets every check is the encoder's. */
-static bool ownparity_own_parity(const uint64_t *y)
+static inline bool ownparity_own_parity(const uint64_t *y)
 {
     ownparity_Together odd = ownparity_odd_together(ownparity_odd_blocks(y));
     return odd.first + odd.second == 0;
@@ -1069,14 +1077,15 @@ typedef struct syndromes_Places {
 } syndromes_Places;
 
 /* The two places of block b of row r. */
-static syndromes_Places syndromes_read_places(const uint16_t *h, layout_Shape sh, uint64_t b, uint64_t r)
+static inline syndromes_Places syndromes_read_places(const uint16_t *h, layout_Shape sh, uint64_t b, uint64_t r)
 {
     uint64_t at = 2 * (r * sh.blocks + b);
     return (syndromes_Places){.first = h[at], .second = h[at + 1]};
 }
 
 /* Adds a doubled block to row r, turned by s; a number that is M or more is no shift. */
-static void syndromes_add_entry(const uint64_t *d, uint64_t s, layout_Shape sh, uint64_t *restrict acc, uint64_t r)
+static inline void syndromes_add_entry(const uint64_t *d, uint64_t s, layout_Shape sh, uint64_t *restrict acc,
+        uint64_t r)
 {
     if (s < sh.size) {
         vectors_add_turned(d, s, acc, r * sh.words, sh.words);
@@ -1084,7 +1093,7 @@ static void syndromes_add_entry(const uint64_t *d, uint64_t s, layout_Shape sh, 
 }
 
 /* Adds a doubled block to row r, turned by each of its shifts there. */
-static void syndromes_add_row(const uint64_t *d, const uint16_t *h, layout_Shape sh, uint64_t b,
+static inline void syndromes_add_row(const uint64_t *d, const uint16_t *h, layout_Shape sh, uint64_t b,
         uint64_t *restrict acc, uint64_t r)
 {
     syndromes_Places p = syndromes_read_places(h, sh, b, r);
@@ -1093,7 +1102,7 @@ static void syndromes_add_row(const uint64_t *d, const uint16_t *h, layout_Shape
 }
 
 /* Adds block b, doubled, to every row. */
-static void syndromes_add_block(const uint64_t *d, const uint16_t *h, layout_Shape sh, uint64_t b,
+static inline void syndromes_add_block(const uint64_t *d, const uint16_t *h, layout_Shape sh, uint64_t b,
         uint64_t *restrict acc)
 {
     uint64_t r = 0;
@@ -1104,7 +1113,7 @@ static void syndromes_add_block(const uint64_t *d, const uint16_t *h, layout_Sha
 }
 
 /* Clears what is past bit M of row r, where it does not fill its last word. */
-static void syndromes_trim_row(uint64_t *restrict z, layout_Shape sh, uint64_t r)
+static inline void syndromes_trim_row(uint64_t *restrict z, layout_Shape sh, uint64_t r)
 {
     uint64_t t = sh.size % 64;
     if (0 < t) {
@@ -1114,7 +1123,7 @@ static void syndromes_trim_row(uint64_t *restrict z, layout_Shape sh, uint64_t r
 }
 
 /* Clears what is past bit M of every row. */
-static void syndromes_trim_rows(uint64_t *restrict z, layout_Shape sh)
+static inline void syndromes_trim_rows(uint64_t *restrict z, layout_Shape sh)
 {
     uint64_t r = 0;
     while (r < sh.rows) {
@@ -1124,7 +1133,8 @@ static void syndromes_trim_rows(uint64_t *restrict z, layout_Shape sh)
 }
 
 /* The same for blocks that one word holds, doubled in two. */
-static void syndromes_add_narrow_entry(vectors_Pair d, uint64_t s, layout_Shape sh, uint64_t *restrict acc, uint64_t r)
+static inline void syndromes_add_narrow_entry(vectors_Pair d, uint64_t s, layout_Shape sh, uint64_t *restrict acc,
+        uint64_t r)
 {
     if (s < sh.size) {
         vectors_add_word(vectors_funnel(d.first, d.second, s), acc, r);
@@ -1132,7 +1142,7 @@ static void syndromes_add_narrow_entry(vectors_Pair d, uint64_t s, layout_Shape 
 }
 
 /* Adds it to row r, turned by each of its shifts there. */
-static void syndromes_add_narrow_row(vectors_Pair d, const uint16_t *h, layout_Shape sh, uint64_t b,
+static inline void syndromes_add_narrow_row(vectors_Pair d, const uint16_t *h, layout_Shape sh, uint64_t b,
         uint64_t *restrict acc, uint64_t r)
 {
     syndromes_Places p = syndromes_read_places(h, sh, b, r);
@@ -1141,7 +1151,7 @@ static void syndromes_add_narrow_row(vectors_Pair d, const uint16_t *h, layout_S
 }
 
 /* Adds it to every row. */
-static void syndromes_add_narrow_block(vectors_Pair d, const uint16_t *h, layout_Shape sh, uint64_t b,
+static inline void syndromes_add_narrow_block(vectors_Pair d, const uint16_t *h, layout_Shape sh, uint64_t b,
         uint64_t *restrict acc)
 {
     uint64_t r = 0;
@@ -1152,7 +1162,8 @@ static void syndromes_add_narrow_block(vectors_Pair d, const uint16_t *h, layout
 }
 
 /* Adds every block of y to the rows. */
-static void syndromes_add_narrow_blocks(const uint64_t *y, const uint16_t *h, layout_Shape sh, uint64_t *restrict acc)
+static inline void syndromes_add_narrow_blocks(const uint64_t *y, const uint16_t *h, layout_Shape sh,
+        uint64_t *restrict acc)
 {
     uint64_t b = 0;
     while (b < sh.blocks) {
@@ -1163,7 +1174,7 @@ static void syndromes_add_narrow_blocks(const uint64_t *y, const uint16_t *h, la
 }
 
 /* The m bits of y from bit p on, doubled into d; part has room for them. */
-static void syndromes_double_block(const uint64_t *y, uint64_t p, uint64_t m, uint64_t *restrict part,
+static inline void syndromes_double_block(const uint64_t *y, uint64_t p, uint64_t m, uint64_t *restrict part,
         uint64_t part_len, uint64_t *restrict d, uint64_t d_len)
 {
     vectors_cut(y, p, m, part, part_len);
@@ -1171,7 +1182,7 @@ static void syndromes_double_block(const uint64_t *y, uint64_t p, uint64_t m, ui
 }
 
 /* Adds block b of y to every row; part and d have room for a block, and for a doubled one. */
-static void syndromes_add_wide_block(const uint64_t *y, const uint16_t *h, layout_Shape sh, uint64_t b,
+static inline void syndromes_add_wide_block(const uint64_t *y, const uint16_t *h, layout_Shape sh, uint64_t b,
         uint64_t *restrict part, uint64_t part_len, uint64_t *restrict d, uint64_t d_len, uint64_t *restrict acc)
 {
     syndromes_double_block(y, b * sh.size, sh.size, part, part_len, d, d_len);
@@ -1179,7 +1190,7 @@ static void syndromes_add_wide_block(const uint64_t *y, const uint16_t *h, layou
 }
 
 /* Adds every block of y to the rows. */
-static void syndromes_add_blocks(const uint64_t *y, const uint16_t *h, layout_Shape sh, uint64_t *restrict part,
+static inline void syndromes_add_blocks(const uint64_t *y, const uint16_t *h, layout_Shape sh, uint64_t *restrict part,
         uint64_t part_len, uint64_t *restrict d, uint64_t d_len, uint64_t *restrict acc)
 {
     uint64_t b = 0;
@@ -1190,7 +1201,7 @@ static void syndromes_add_blocks(const uint64_t *y, const uint16_t *h, layout_Sh
 }
 
 /* Adds every block of y to the rows, of whatever width. */
-static void syndromes_add_all(const uint64_t *y, const uint16_t *h, layout_Shape sh, uint64_t *restrict acc)
+static inline void syndromes_add_all(const uint64_t *y, const uint16_t *h, layout_Shape sh, uint64_t *restrict acc)
 {
     if (sh.words == 1) {
         syndromes_add_narrow_blocks(y, h, sh, acc);
@@ -1203,20 +1214,20 @@ static void syndromes_add_all(const uint64_t *y, const uint16_t *h, layout_Shape
 }
 
 /* The syndrome of y, made from zeros. */
-static void syndromes_syndrome(const uint64_t *y, const uint16_t *h, layout_Shape sh, uint64_t *restrict z)
+static inline void syndromes_syndrome(const uint64_t *y, const uint16_t *h, layout_Shape sh, uint64_t *restrict z)
 {
     syndromes_add_all(y, h, sh, z);
     syndromes_trim_rows(z, sh);
 }
 
 /* How many checks are broken. */
-static uint32_t syndromes_broken(const uint64_t *z)
+static inline uint32_t syndromes_broken(const uint64_t *z)
 {
     return (uint32_t)vectors_ones(z, 16);
 }
 
 /* The lowest broken check, or the number of checks if none is broken. */
-static uint32_t syndromes_lowest(const uint64_t *z, layout_Shape sh)
+static inline uint32_t syndromes_lowest(const uint64_t *z, layout_Shape sh)
 {
     uint64_t place = vectors_first(z, 16);
     if (1024 <= place) {
@@ -1227,13 +1238,13 @@ static uint32_t syndromes_lowest(const uint64_t *z, layout_Shape sh)
 }
 
 /* Whether no check is broken. */
-static bool syndromes_is_quiet(const uint64_t *z)
+static inline bool syndromes_is_quiet(const uint64_t *z)
 {
     return !vectors_any(z, 16);
 }
 
 /* Flips the check of row r that covers bit k by the shift s; a number that is M or more is no shift. */
-static void syndromes_flip_entry(uint64_t *restrict z, uint64_t s, layout_Shape sh, uint64_t k, uint64_t r)
+static inline void syndromes_flip_entry(uint64_t *restrict z, uint64_t s, layout_Shape sh, uint64_t k, uint64_t r)
 {
     if (s < sh.size) {
         uint64_t i = k + (sh.size - s);
@@ -1245,7 +1256,7 @@ static void syndromes_flip_entry(uint64_t *restrict z, uint64_t s, layout_Shape 
 }
 
 /* Flips the checks of row r that cover bit k of block b. */
-static void syndromes_flip_row(uint64_t *restrict z, const uint16_t *h, layout_Shape sh, uint64_t b, uint64_t k,
+static inline void syndromes_flip_row(uint64_t *restrict z, const uint16_t *h, layout_Shape sh, uint64_t b, uint64_t k,
         uint64_t r)
 {
     syndromes_Places p = syndromes_read_places(h, sh, b, r);
@@ -1254,7 +1265,8 @@ static void syndromes_flip_row(uint64_t *restrict z, const uint16_t *h, layout_S
 }
 
 /* Flips the checks that cover bit k of block b. */
-static void syndromes_flip_checks(uint64_t *restrict z, const uint16_t *h, layout_Shape sh, uint64_t b, uint64_t k)
+static inline void syndromes_flip_checks(uint64_t *restrict z, const uint16_t *h, layout_Shape sh, uint64_t b,
+        uint64_t k)
 {
     uint64_t r = 0;
     while (r < sh.rows) {
@@ -1264,7 +1276,8 @@ static void syndromes_flip_checks(uint64_t *restrict z, const uint16_t *h, layou
 }
 
 /* Flips bit n of a word, and its checks with it. */
-static void syndromes_flip(uint64_t *restrict y, uint64_t *restrict z, const uint16_t *h, layout_Shape sh, uint64_t n)
+static inline void syndromes_flip(uint64_t *restrict y, uint64_t *restrict z, const uint16_t *h, layout_Shape sh,
+        uint64_t n)
 {
     vectors_flip_bit(y, n);
     syndromes_flip_checks(z, h, sh, n / sh.size, n % sh.size);
@@ -1275,7 +1288,7 @@ static void syndromes_flip(uint64_t *restrict y, uint64_t *restrict z, const uin
 /* What is made of a quiet word: whether it is one that the encoder can give. */
 
 /* Whether one of n bits from bit `at` on is set. */
-static bool judging_some_set(const uint64_t *y, uint64_t at, uint64_t n)
+static inline bool judging_some_set(const uint64_t *y, uint64_t at, uint64_t n)
 {
     uint64_t v[1] = {0};
     vectors_cut(y, at, n, v, 1);
@@ -1284,7 +1297,7 @@ static bool judging_some_set(const uint64_t *y, uint64_t at, uint64_t n)
 
 /* What is wrong with a measured word: a broken check, a bit set after the parity, or parity unlike the encoder's; 0
  * for a codeword. */
-static uint8_t judging_fault(offer_Offer o, const uint64_t *y, const uint64_t *z)
+static inline uint8_t judging_fault(offer_Offer o, const uint64_t *y, const uint64_t *z)
 {
     if (!syndromes_is_quiet(z)) {
         return 9;
@@ -1303,7 +1316,7 @@ static uint8_t judging_fault(offer_Offer o, const uint64_t *y, const uint64_t *z
 
 /* The number of a run: after a quiet end 8 for parity unlike the encoder's. No run sets an unsent bit, so 7 is never
  * given. */
-static uint8_t judging_judge(offer_Offer o, const uint64_t *y, uint8_t number)
+static inline uint8_t judging_judge(offer_Offer o, const uint64_t *y, uint8_t number)
 {
     if (number != 0) {
         return number;
@@ -1323,7 +1336,7 @@ static uint8_t judging_judge(offer_Offer o, const uint64_t *y, uint8_t number)
 
 /* The number by which a code that is not offered, an input's length or an output's length is refused; 0 if all are
  * right. */
-static uint8_t ladder_refusal(bool offered, uint64_t input, uint64_t long_, uint64_t output, uint64_t room)
+static inline uint8_t ladder_refusal(bool offered, uint64_t input, uint64_t long_, uint64_t output, uint64_t room)
 {
     if (!offered) {
         return 1;
@@ -1342,13 +1355,13 @@ static uint8_t ladder_refusal(bool offered, uint64_t input, uint64_t long_, uint
 /* Words as they are handed over: octets in, and octets out. */
 
 /* An octet, and zeros behind it. */
-static uint64_t received_leading(uint8_t octet)
+static inline uint64_t received_leading(uint8_t octet)
 {
     return (uint64_t)octet << 56;
 }
 
 /* The 64 bits from bit t of octet at on. */
-static uint64_t received_window(const uint8_t *octets, uint64_t at, uint64_t t)
+static inline uint64_t received_window(const uint8_t *octets, uint64_t at, uint64_t t)
 {
     uint64_t v = vectors_eight(octets, at);
     if (t == 0) {
@@ -1359,7 +1372,7 @@ static uint64_t received_window(const uint8_t *octets, uint64_t at, uint64_t t)
 
 /* The 511 bits from bit p on. The last word is read from one bit before its own, so that no octet past the bits is
  * read. */
-static void received_cut(const uint8_t *octets, uint64_t p, uint64_t *restrict v)
+static inline void received_cut(const uint8_t *octets, uint64_t p, uint64_t *restrict v)
 {
     uint64_t at = p / 8;
     uint64_t t = p % 8;
@@ -1373,21 +1386,22 @@ static void received_cut(const uint8_t *octets, uint64_t p, uint64_t *restrict v
 }
 
 /* The first 511 bits, cut short by the unsent ones. */
-static void received_cut_short(const uint8_t *octets, uint64_t unsent, uint64_t *restrict v, uint64_t v_len)
+static inline void received_cut_short(const uint8_t *octets, uint64_t unsent, uint64_t *restrict v, uint64_t v_len)
 {
     received_cut(octets, 0, v);
     vectors_trim(v, v_len, 511 - unsent);
 }
 
 /* The first 511 bits, the unsent ones in front as zeros. */
-static void received_cut_first(const uint8_t *octets, uint64_t unsent, uint64_t *restrict v, uint64_t v_len)
+static inline void received_cut_first(const uint8_t *octets, uint64_t unsent, uint64_t *restrict v, uint64_t v_len)
 {
     received_cut_short(octets, unsent, v, v_len);
     vectors_lift(v, v_len, unsent);
 }
 
 /* Block b of a near-Earth word, from octets that reach as far, with the unsent bits in front as zeros. */
-static void received_cut_block(const uint8_t *octets, uint64_t unsent, uint64_t b, uint64_t *restrict v, uint64_t v_len)
+static inline void received_cut_block(const uint8_t *octets, uint64_t unsent, uint64_t b, uint64_t *restrict v,
+        uint64_t v_len)
 {
     if (b == 0) {
         received_cut_first(octets, unsent, v, v_len);
@@ -1398,7 +1412,7 @@ static void received_cut_block(const uint8_t *octets, uint64_t unsent, uint64_t 
 
 /* The bits that the checks are over, from octets that are handed in, into a vector of zeros; the unsent ones stand
  * in front as zeros. */
-static void received_take(const uint8_t *octets, uint64_t octets_len, uint64_t unsent, uint64_t *restrict y,
+static inline void received_take(const uint8_t *octets, uint64_t octets_len, uint64_t unsent, uint64_t *restrict y,
         uint64_t y_len)
 {
     if (0 < unsent) {
@@ -1410,7 +1424,7 @@ static void received_take(const uint8_t *octets, uint64_t octets_len, uint64_t u
 
 /* The octets of a word as it is sent: the unsent bits are left out, and zero bits follow the last of its bits, in
  * one word with it. Where none follow, all are sent. */
-static void received_write(uint64_t *restrict y, uint64_t unsent, uint64_t bits, uint8_t *restrict out,
+static inline void received_write(uint64_t *restrict y, uint64_t unsent, uint64_t bits, uint8_t *restrict out,
         uint64_t out_len)
 {
     if (bits < 8 * out_len + unsent) {
@@ -1458,7 +1472,7 @@ static const uint16_t tables_PARITY64[64] = {
 };
 
 /* The blocks of a row, one place after another from place at on. */
-static void tables_flatten_row(const uint16_t *nested, uint64_t nested_len, uint16_t *restrict h, uint64_t at)
+static inline void tables_flatten_row(const uint16_t *nested, uint64_t nested_len, uint16_t *restrict h, uint64_t at)
 {
     uint64_t b = 0;
     while (b < nested_len) {
@@ -1469,7 +1483,7 @@ static void tables_flatten_row(const uint16_t *nested, uint64_t nested_len, uint
 }
 
 /* Two rows of 16 blocks, one place after another. */
-static void tables_flatten16(const uint16_t *nested, uint16_t *restrict h)
+static inline void tables_flatten16(const uint16_t *nested, uint16_t *restrict h)
 {
     uint64_t r = 0;
     while (r < 2) {
@@ -1478,13 +1492,13 @@ static void tables_flatten16(const uint16_t *nested, uint16_t *restrict h)
     }
 }
 
-static void tables_lend511(uint16_t *restrict h)
+static inline void tables_lend511(uint16_t *restrict h)
 {
     tables_flatten16(tables_PARITY511, h);
 }
 
 /* Four rows of eight blocks, one place after another. */
-static void tables_flatten8(const uint16_t *nested, uint16_t *restrict h)
+static inline void tables_flatten8(const uint16_t *nested, uint16_t *restrict h)
 {
     uint64_t r = 0;
     while (r < 4) {
@@ -1494,23 +1508,23 @@ static void tables_flatten8(const uint16_t *nested, uint16_t *restrict h)
 }
 
 /* The places of each table, laid flat. */
-static void tables_lend16(uint16_t *restrict h)
+static inline void tables_lend16(uint16_t *restrict h)
 {
     tables_flatten8(tables_PARITY16, h);
 }
 
-static void tables_lend32(uint16_t *restrict h)
+static inline void tables_lend32(uint16_t *restrict h)
 {
     tables_flatten8(tables_PARITY32, h);
 }
 
-static void tables_lend64(uint16_t *restrict h)
+static inline void tables_lend64(uint16_t *restrict h)
 {
     tables_flatten8(tables_PARITY64, h);
 }
 
 /* The same where one word holds a row. `lend` has the one caller that its speed rests on, so it does not call this. */
-static layout_Shape tables_lend_narrow(uint64_t size, uint16_t *restrict h)
+static inline layout_Shape tables_lend_narrow(uint64_t size, uint16_t *restrict h)
 {
     if (size == 16) {
         tables_lend16(h);
@@ -1526,7 +1540,7 @@ static layout_Shape tables_lend_narrow(uint64_t size, uint16_t *restrict h)
 
 /* The parity table whose blocks have this size, lent: its places into h, and its shape, in numbers that a compiler
  * sees. */
-static layout_Shape tables_lend(uint64_t size, uint16_t *restrict h)
+static inline layout_Shape tables_lend(uint64_t size, uint16_t *restrict h)
 {
     if (size == 16) {
         tables_lend16(h);
@@ -1550,7 +1564,7 @@ static layout_Shape tables_lend(uint64_t size, uint16_t *restrict h)
 
 /* The parity table of blocks of this size into h, its shape, and the syndrome of the bits that y holds into z, which
  * is handed over as zeros. */
-static layout_Shape measured_checks(uint64_t size, const uint64_t *y, uint16_t *restrict h, uint64_t *restrict z)
+static inline layout_Shape measured_checks(uint64_t size, const uint64_t *y, uint16_t *restrict h, uint64_t *restrict z)
 {
     layout_Shape sh = tables_lend(size, h);
     syndromes_syndrome(y, h, sh, z);
@@ -1559,7 +1573,7 @@ static layout_Shape measured_checks(uint64_t size, const uint64_t *y, uint16_t *
 
 /* What is measured, by the two numbers of a code's record that it takes: the record itself would be written out for
  * each call. */
-static layout_Shape measured_measure_by(uint64_t unsent, uint64_t size, const uint8_t *word, uint64_t word_len,
+static inline layout_Shape measured_measure_by(uint64_t unsent, uint64_t size, const uint8_t *word, uint64_t word_len,
         uint16_t *restrict h, uint64_t *restrict y, uint64_t *restrict z)
 {
     received_take(word, word_len, unsent, y, 130);
@@ -1568,8 +1582,8 @@ static layout_Shape measured_measure_by(uint64_t unsent, uint64_t size, const ui
 
 /* The parity table into h, its shape, the word's bits into y, and its syndrome into z; y and z are handed over as
  * zeros. */
-static layout_Shape measured_measure(offer_Offer o, const uint8_t *word, uint64_t word_len, uint16_t *restrict h,
-        uint64_t *restrict y, uint64_t *restrict z)
+static inline layout_Shape measured_measure(offer_Offer o, const uint8_t *word, uint64_t word_len,
+        uint16_t *restrict h, uint64_t *restrict y, uint64_t *restrict z)
 {
     layout_Shape of = o.shape;
     return measured_measure_by(o.unsent, of.size, word, word_len, h, y, z);
@@ -1587,13 +1601,13 @@ typedef struct choice_Best {
 } choice_Best;
 
 /* The bound of block b. */
-static uint8_t choice_bound_of(const uint8_t *counts, const uint8_t *met, uint64_t b)
+static inline uint8_t choice_bound_of(const uint8_t *counts, const uint8_t *met, uint64_t b)
 {
     return (uint8_t)(8 + counts[b] - 2 * met[b]);
 }
 
 /* The greater of two. */
-static uint8_t choice_higher(uint8_t a, uint8_t b)
+static inline uint8_t choice_higher(uint8_t a, uint8_t b)
 {
     if (a < b) {
         return b;
@@ -1602,7 +1616,7 @@ static uint8_t choice_higher(uint8_t a, uint8_t b)
 }
 
 /* The greatest bound. */
-static uint8_t choice_greatest(const uint8_t *counts, const uint8_t *met, uint64_t blocks)
+static inline uint8_t choice_greatest(const uint8_t *counts, const uint8_t *met, uint64_t blocks)
 {
     uint8_t top = 0;
     uint64_t b = 0;
@@ -1614,7 +1628,7 @@ static uint8_t choice_greatest(const uint8_t *counts, const uint8_t *met, uint64
 }
 
 /* The first bit of block b that counts, where bits from bit `from` on do, which is one of block 0. */
-static uint64_t choice_begin_in(uint64_t b, uint64_t from)
+static inline uint64_t choice_begin_in(uint64_t b, uint64_t from)
 {
     if (b == 0) {
         return from;
@@ -1623,8 +1637,8 @@ static uint64_t choice_begin_in(uint64_t b, uint64_t from)
 }
 
 /* The first bit of block b from bit `begin` on that has at most so many of its n checks met; M if there is none. */
-static uint64_t choice_first_in_block(const uint64_t *d, const uint16_t *starts, uint64_t b, uint64_t n, uint64_t met,
-        uint64_t begin, layout_Shape sh)
+static inline uint64_t choice_first_in_block(const uint64_t *d, const uint16_t *starts, uint64_t b, uint64_t n,
+        uint64_t met, uint64_t begin, layout_Shape sh)
 {
     uint64_t k = 0;
     while (k < sh.words) {
@@ -1638,8 +1652,8 @@ static uint64_t choice_first_in_block(const uint64_t *d, const uint16_t *starts,
 }
 
 /* The same: a search for bits without a met check is the most frequent one, and a loop of its own for the compiler. */
-static uint64_t choice_first_light(const uint64_t *d, const uint16_t *starts, uint64_t b, uint64_t n, uint64_t met,
-        uint64_t begin, layout_Shape sh)
+static inline uint64_t choice_first_light(const uint64_t *d, const uint16_t *starts, uint64_t b, uint64_t n,
+        uint64_t met, uint64_t begin, layout_Shape sh)
 {
     if (met == 0) {
         return choice_first_in_block(d, starts, b, n, 0, begin, sh);
@@ -1649,8 +1663,8 @@ static uint64_t choice_first_light(const uint64_t *d, const uint16_t *starts, ui
 
 /* The first bit of block b that counts and has at most as many of its checks met as the block's bound says; M if
  * there is none. */
-static uint64_t choice_first_met(const uint64_t *d, const uint16_t *starts, const uint8_t *counts, const uint8_t *met,
-        layout_Shape sh, uint64_t from, uint64_t b)
+static inline uint64_t choice_first_met(const uint64_t *d, const uint16_t *starts, const uint8_t *counts,
+        const uint8_t *met, layout_Shape sh, uint64_t from, uint64_t b)
 {
     uint64_t n = counts[b];
     return choice_first_light(d, starts, b, n, met[b], choice_begin_in(b, from), sh);
@@ -1658,8 +1672,8 @@ static uint64_t choice_first_met(const uint64_t *d, const uint16_t *starts, cons
 
 /* The first bit of block b of score `top`, where its bound is not greater; M if there is none. If the bound was
  * `top`, it goes down then. */
-static uint64_t choice_look(const uint64_t *d, const uint16_t *starts, const uint8_t *counts, uint8_t *restrict met,
-        layout_Shape sh, uint64_t from, uint64_t b, uint8_t top)
+static inline uint64_t choice_look(const uint64_t *d, const uint16_t *starts, const uint8_t *counts,
+        uint8_t *restrict met, layout_Shape sh, uint64_t from, uint64_t b, uint8_t top)
 {
     if (choice_bound_of(counts, met, b) != top) {
         return sh.size;
@@ -1673,7 +1687,7 @@ static uint64_t choice_look(const uint64_t *d, const uint16_t *starts, const uin
 }
 
 /* The first bit of score `top` from bit `from` on, where no bound is greater; the number of bits if there is none. */
-static uint64_t choice_first_at(const uint64_t *d, const uint16_t *starts, const uint8_t *counts,
+static inline uint64_t choice_first_at(const uint64_t *d, const uint16_t *starts, const uint8_t *counts,
         uint8_t *restrict met, layout_Shape sh, uint64_t from, uint8_t top)
 {
     uint64_t b = 0;
@@ -1688,7 +1702,7 @@ static uint64_t choice_first_at(const uint64_t *d, const uint16_t *starts, const
 }
 
 /* The bit of the greatest score from bit `from` on; of several, the lowest number. */
-static choice_Best choice_choose(const uint64_t *d, const uint16_t *starts, const uint8_t *counts,
+static inline choice_Best choice_choose(const uint64_t *d, const uint16_t *starts, const uint8_t *counts,
         uint8_t *restrict met, layout_Shape sh, uint64_t from)
 {
     uint64_t end = sh.blocks * sh.size;
@@ -1717,13 +1731,13 @@ typedef struct sizes_Wide {
 } sizes_Wide;
 
 /* The first bit of v that is set. */
-static uint64_t sizes_first_set(uint64_t v)
+static inline uint64_t sizes_first_set(uint64_t v)
 {
     return leading_zeros64(v);
 }
 
 /* A sample's magnitude. */
-static float sizes_magnitude(float s)
+static inline float sizes_magnitude(float s)
 {
     if (s < 0.0f) {
         return -s;
@@ -1732,7 +1746,7 @@ static float sizes_magnitude(float s)
 }
 
 /* Of two bits, the later one only if its sample is smaller. */
-static uint64_t sizes_smaller(const float *samples, uint64_t earlier, uint64_t later)
+static inline uint64_t sizes_smaller(const float *samples, uint64_t earlier, uint64_t later)
 {
     if (sizes_magnitude(samples[later]) < sizes_magnitude(samples[earlier])) {
         return later;
@@ -1741,13 +1755,13 @@ static uint64_t sizes_smaller(const float *samples, uint64_t earlier, uint64_t l
 }
 
 /* v with bit n flipped. */
-static uint64_t sizes_with_flipped(uint64_t v, uint64_t n)
+static inline uint64_t sizes_with_flipped(uint64_t v, uint64_t n)
 {
     return v ^ (UINT64_C(1) << (63 - n));
 }
 
 /* The smallest of a bit and of the bits that are set in mask, which begins with bit `first`. */
-static uint64_t sizes_smallest_of(const float *samples, uint64_t mask, uint64_t first, uint64_t bit)
+static inline uint64_t sizes_smallest_of(const float *samples, uint64_t mask, uint64_t first, uint64_t bit)
 {
     uint64_t left = mask;
     uint64_t best = bit;
@@ -1760,7 +1774,7 @@ static uint64_t sizes_smallest_of(const float *samples, uint64_t mask, uint64_t 
 }
 
 /* The less of 32 and n. */
-static uint64_t sizes_front(uint64_t n)
+static inline uint64_t sizes_front(uint64_t n)
 {
     if (n < 32) {
         return n;
@@ -1769,7 +1783,7 @@ static uint64_t sizes_front(uint64_t n)
 }
 
 /* The power of 2, if the sample is below 0. */
-static uint32_t sizes_mark(float s, uint64_t place)
+static inline uint32_t sizes_mark(float s, uint64_t place)
 {
     if (s < 0.0f) {
         return UINT32_C(1) << (uint32_t)place;
@@ -1778,14 +1792,14 @@ static uint32_t sizes_mark(float s, uint64_t place)
 }
 
 /* Whether a sample is finite: each comparison is false of what is not a number. */
-static bool sizes_is_finite(float s)
+static inline bool sizes_is_finite(float s)
 {
     float top = float_from_bits(0x7F800000);
     return (s < top) & (-top < s);
 }
 
 /* The bits of the n samples from sample `at` on, in front, and whether these are finite. */
-static sizes_Narrow sizes_half(const float *samples, uint64_t at, uint64_t n)
+static inline sizes_Narrow sizes_half(const float *samples, uint64_t at, uint64_t n)
 {
     uint32_t bits = 0;
     bool finite = true;
@@ -1799,7 +1813,7 @@ static sizes_Narrow sizes_half(const float *samples, uint64_t at, uint64_t n)
 }
 
 /* The same of up to 64 samples: in two halves, whose loops the compiler takes four samples at a time. */
-static sizes_Wide sizes_word(const float *samples, uint64_t at, uint64_t n)
+static inline sizes_Wide sizes_word(const float *samples, uint64_t at, uint64_t n)
 {
     uint64_t m = sizes_front(n);
     sizes_Narrow a = sizes_half(samples, at, m);
@@ -1808,7 +1822,7 @@ static sizes_Wide sizes_word(const float *samples, uint64_t at, uint64_t n)
 }
 
 /* The words that the samples fill whole. */
-static bool sizes_read_whole(const float *samples, uint64_t samples_len, uint64_t *restrict y)
+static inline bool sizes_read_whole(const float *samples, uint64_t samples_len, uint64_t *restrict y)
 {
     uint64_t whole = samples_len / 64;
     bool finite = true;
@@ -1823,7 +1837,7 @@ static bool sizes_read_whole(const float *samples, uint64_t samples_len, uint64_
 }
 
 /* The bits read from the samples, in front of a vector of zeros, and whether every sample is finite. */
-static bool sizes_read(const float *samples, uint64_t samples_len, uint64_t *restrict y)
+static inline bool sizes_read(const float *samples, uint64_t samples_len, uint64_t *restrict y)
 {
     bool finite = sizes_read_whole(samples, samples_len, y);
     uint64_t k = samples_len / 64;
@@ -1860,7 +1874,7 @@ typedef struct narrow_Peak {
 } narrow_Peak;
 
 /* The first m bits of v over and over. */
-static uint64_t narrow_repeated(uint64_t v, uint64_t m)
+static inline uint64_t narrow_repeated(uint64_t v, uint64_t m)
 {
     uint64_t all = v;
     uint64_t n = m;
@@ -1872,7 +1886,7 @@ static uint64_t narrow_repeated(uint64_t v, uint64_t m)
 }
 
 /* The rows of the syndrome z. */
-static void narrow_begin(const uint64_t *z, layout_Shape sh, uint64_t *restrict rows)
+static inline void narrow_begin(const uint64_t *z, layout_Shape sh, uint64_t *restrict rows)
 {
     uint64_t r = 0;
     while (r < 4) {
@@ -1882,7 +1896,7 @@ static void narrow_begin(const uint64_t *z, layout_Shape sh, uint64_t *restrict 
 }
 
 /* The bits of block b that are sent. */
-static uint64_t narrow_sent_in(uint64_t b, uint64_t from, uint64_t m)
+static inline uint64_t narrow_sent_in(uint64_t b, uint64_t from, uint64_t m)
 {
     uint64_t all = vectors_front(UINT64_C(0xFFFFFFFFFFFFFFFF), m);
     if (b == 0) {
@@ -1892,7 +1906,7 @@ static uint64_t narrow_sent_in(uint64_t b, uint64_t from, uint64_t m)
 }
 
 /* One check more of each bit: it is broken where x has a one. */
-static narrow_Weights narrow_with_check(narrow_Weights w, uint64_t x)
+static inline narrow_Weights narrow_with_check(narrow_Weights w, uint64_t x)
 {
     uint64_t two = (w.two & x) | w.one;
     uint64_t one = (w.one & x) | w.none;
@@ -1901,7 +1915,7 @@ static narrow_Weights narrow_with_check(narrow_Weights w, uint64_t x)
 }
 
 /* The checks of one place of the table, in this row, if it has an entry. */
-static narrow_Weights narrow_with_place(narrow_Weights w, uint64_t row, uint64_t s, uint64_t m)
+static inline narrow_Weights narrow_with_place(narrow_Weights w, uint64_t row, uint64_t s, uint64_t m)
 {
     if (s < m) {
         return narrow_with_check(w, vectors_funnel(row, row, (64 - s) % 64));
@@ -1910,14 +1924,15 @@ static narrow_Weights narrow_with_place(narrow_Weights w, uint64_t row, uint64_t
 }
 
 /* The checks of the two places of a block in this row. */
-static narrow_Weights narrow_with_row(narrow_Weights w, uint64_t row, const uint16_t *h, uint64_t at, uint64_t m)
+static inline narrow_Weights narrow_with_row(narrow_Weights w, uint64_t row, const uint16_t *h, uint64_t at, uint64_t m)
 {
     narrow_Weights v = narrow_with_place(w, row, h[at], m);
     return narrow_with_place(v, row, h[at + 1], m);
 }
 
 /* The weights of those bits of block b that are in mask. */
-static narrow_Weights narrow_weigh(const uint64_t *rows, const uint16_t *h, layout_Shape sh, uint64_t b, uint64_t mask)
+static inline narrow_Weights narrow_weigh(const uint64_t *rows, const uint16_t *h, layout_Shape sh, uint64_t b,
+        uint64_t mask)
 {
     narrow_Weights w = (narrow_Weights){.none = mask, .one = mask, .two = mask, .checks = 0};
     uint64_t r = 0;
@@ -1929,7 +1944,7 @@ static narrow_Weights narrow_weigh(const uint64_t *rows, const uint16_t *h, layo
 }
 
 /* The greatest score above 8 of the bits that were weighed, and the bits that have it. */
-static narrow_Level narrow_highest(narrow_Weights w)
+static inline narrow_Level narrow_highest(narrow_Weights w)
 {
     if (w.none != 0) {
         return (narrow_Level){.score = 8 + w.checks, .mask = w.none};
@@ -1945,7 +1960,7 @@ static narrow_Level narrow_highest(narrow_Weights w)
 
 /* For each block the greatest score above 8 of its bits, and the bits that have it; bits before bit `from` are not
  * sent. */
-static void narrow_weigh_all(const uint64_t *rows, const uint16_t *h, layout_Shape sh, uint64_t from,
+static inline void narrow_weigh_all(const uint64_t *rows, const uint16_t *h, layout_Shape sh, uint64_t from,
         uint32_t *restrict scores, uint64_t *restrict masks)
 {
     uint64_t b = 0;
@@ -1958,7 +1973,7 @@ static void narrow_weigh_all(const uint64_t *rows, const uint16_t *h, layout_Sha
 }
 
 /* A block, or a later one with this score, if that is greater. */
-static narrow_Peak narrow_better(narrow_Peak p, uint32_t score, uint64_t b)
+static inline narrow_Peak narrow_better(narrow_Peak p, uint32_t score, uint64_t b)
 {
     if (p.score < score) {
         return (narrow_Peak){.score = score, .block = b};
@@ -1967,7 +1982,7 @@ static narrow_Peak narrow_better(narrow_Peak p, uint32_t score, uint64_t b)
 }
 
 /* The greatest of the scores, and the first block that has it; 8 if none is greater. */
-static narrow_Peak narrow_greatest(const uint32_t *scores, uint64_t blocks)
+static inline narrow_Peak narrow_greatest(const uint32_t *scores, uint64_t blocks)
 {
     narrow_Peak p = (narrow_Peak){.score = 8, .block = 0};
     uint64_t b = 0;
@@ -1979,15 +1994,15 @@ static narrow_Peak narrow_greatest(const uint32_t *scores, uint64_t blocks)
 }
 
 /* The first bit of this block that is set in its mask. */
-static uint64_t narrow_first_bit(const uint64_t *masks, uint64_t block, uint64_t m)
+static inline uint64_t narrow_first_bit(const uint64_t *masks, uint64_t block, uint64_t m)
 {
     return block * m + (uint64_t)leading_zeros64(masks[block]);
 }
 
 /* The smallest of a bit and of those that are set in the mask of a block which begins with bit `first`, if it has
  * the score `top`. */
-static uint64_t narrow_peak_in(const float *samples, uint32_t score, uint64_t mask, uint32_t top, uint64_t first,
-        uint64_t bit)
+static inline uint64_t narrow_peak_in(const float *samples, uint32_t score, uint64_t mask, uint32_t top,
+        uint64_t first, uint64_t bit)
 {
     if (score != top) {
         return bit;
@@ -1996,7 +2011,7 @@ static uint64_t narrow_peak_in(const float *samples, uint32_t score, uint64_t ma
 }
 
 /* The smallest of a bit and of those that the masks have of the blocks with this score. */
-static uint64_t narrow_smallest_peak(const float *samples, const uint32_t *scores, const uint64_t *masks,
+static inline uint64_t narrow_smallest_peak(const float *samples, const uint32_t *scores, const uint64_t *masks,
         layout_Shape sh, uint32_t top, uint64_t bit)
 {
     uint64_t best = bit;
@@ -2010,7 +2025,7 @@ static uint64_t narrow_smallest_peak(const float *samples, const uint32_t *score
 
 /* The bit of the greatest score above 8 where the blocks have been weighed; of several the one with the smallest
  * sample, then the lowest number; without samples the lowest. A score of 8 says that there is none. */
-static choice_Best narrow_best_of(const float *samples, uint64_t samples_len, const uint32_t *scores,
+static inline choice_Best narrow_best_of(const float *samples, uint64_t samples_len, const uint32_t *scores,
         const uint64_t *masks, layout_Shape sh)
 {
     narrow_Peak p = narrow_greatest(scores, sh.blocks);
@@ -2025,8 +2040,8 @@ static choice_Best narrow_best_of(const float *samples, uint64_t samples_len, co
 }
 
 /* The best bit from bit `from` on, after all blocks have been weighed. */
-static choice_Best narrow_choose(const float *samples, uint64_t samples_len, const uint64_t *rows, const uint16_t *h,
-        layout_Shape sh, uint64_t from)
+static inline choice_Best narrow_choose(const float *samples, uint64_t samples_len, const uint64_t *rows,
+        const uint16_t *h, layout_Shape sh, uint64_t from)
 {
     uint32_t scores[16] = {0};
     uint64_t masks[16] = {0};
@@ -2036,7 +2051,7 @@ static choice_Best narrow_choose(const float *samples, uint64_t samples_len, con
 
 /* Flips the check of a row that covers bit k by the shift s; a number that is m or more is no shift. `each` has the
  * first bit of every m set. */
-static uint64_t narrow_flip_place(uint64_t row, uint64_t each, uint64_t s, uint64_t k, uint64_t m)
+static inline uint64_t narrow_flip_place(uint64_t row, uint64_t each, uint64_t s, uint64_t k, uint64_t m)
 {
     if (s < m) {
         return row ^ vectors_funnel(each, each, (64 + s - k) % 64);
@@ -2045,15 +2060,16 @@ static uint64_t narrow_flip_place(uint64_t row, uint64_t each, uint64_t s, uint6
 }
 
 /* Flips the checks of a row that cover bit k by the shifts of two places. */
-static uint64_t narrow_flip_row(uint64_t row, uint64_t each, const uint16_t *h, uint64_t at, uint64_t k, uint64_t m)
+static inline uint64_t narrow_flip_row(uint64_t row, uint64_t each, const uint16_t *h, uint64_t at, uint64_t k,
+        uint64_t m)
 {
     uint64_t v = narrow_flip_place(row, each, h[at], k, m);
     return narrow_flip_place(v, each, h[at + 1], k, m);
 }
 
 /* Flips the checks that cover bit k of block b, row after row. `each` has the first bit of every M set. */
-static void narrow_flip_rows(uint64_t *restrict rows, const uint16_t *h, layout_Shape sh, uint64_t each, uint64_t b,
-        uint64_t k)
+static inline void narrow_flip_rows(uint64_t *restrict rows, const uint16_t *h, layout_Shape sh, uint64_t each,
+        uint64_t b, uint64_t k)
 {
     uint64_t r = 0;
     while (r < 4) {
@@ -2063,7 +2079,8 @@ static void narrow_flip_rows(uint64_t *restrict rows, const uint16_t *h, layout_
 }
 
 /* Flips a bit of a word, and its checks with it. */
-static void narrow_flip(uint64_t *restrict y, uint64_t *restrict rows, const uint16_t *h, layout_Shape sh, uint64_t bit)
+static inline void narrow_flip(uint64_t *restrict y, uint64_t *restrict rows, const uint16_t *h, layout_Shape sh,
+        uint64_t bit)
 {
     vectors_flip_bit(y, bit);
     uint64_t each = narrow_repeated(UINT64_C(1) << 63, sh.size);
@@ -2096,15 +2113,18 @@ typedef struct runs_Next {
     } as;
 } runs_Next;
 
+/* No elements, but C asks for one. */
+static const float runs_run_table[1] = {0};
+
 /* A run that ends. */
-static runs_Ended runs_at_end(uint8_t number, uint32_t flips, uint32_t last)
+static inline runs_Ended runs_at_end(uint8_t number, uint32_t flips, uint32_t last)
 {
     return (runs_Ended){.ran = (runs_Ran){.number = number, .flips = flips}, .last = last};
 }
 
 /* The run by the sizes of the samples from the word y, whose blocks one word holds each and whose rows are kept,
  * under a limit: flips until it ends. So many checks are broken. */
-static runs_Ended runs_go_on_narrow(const float *samples, uint64_t samples_len, uint64_t *restrict y,
+static inline runs_Ended runs_go_on_narrow(const float *samples, uint64_t samples_len, uint64_t *restrict y,
         uint64_t *restrict rows, const uint16_t *h, layout_Shape sh, uint64_t from, uint16_t limit, uint32_t first)
 {
     uint32_t end = limit;
@@ -2128,8 +2148,8 @@ static runs_Ended runs_go_on_narrow(const float *samples, uint64_t samples_len, 
 
 /* The run by the sizes of the samples, where one word holds a block: as many samples as bits, or none, where all
  * bits have equal sizes. */
-static runs_Ended runs_run_narrow(const float *samples, uint64_t samples_len, uint64_t *restrict y, const uint64_t *z,
-        const uint16_t *h, layout_Shape sh, uint64_t from, uint16_t limit, uint32_t first)
+static inline runs_Ended runs_run_narrow(const float *samples, uint64_t samples_len, uint64_t *restrict y,
+        const uint64_t *z, const uint16_t *h, layout_Shape sh, uint64_t from, uint16_t limit, uint32_t first)
 {
     uint64_t rows[4] = {0};
     narrow_begin(z, sh, rows);
@@ -2138,7 +2158,7 @@ static runs_Ended runs_run_narrow(const float *samples, uint64_t samples_len, ui
 
 /* Flips a bit of a word, and its checks in what is kept of it; the bit has as many met checks as the bound of its
  * block says. */
-static void runs_flip(uint64_t *restrict y, uint64_t *restrict d, const uint16_t *starts, const uint8_t *counts,
+static inline void runs_flip(uint64_t *restrict y, uint64_t *restrict d, const uint16_t *starts, const uint8_t *counts,
         uint8_t *restrict met, layout_Shape sh, uint64_t bit)
 {
     vectors_flip_bit(y, bit);
@@ -2147,8 +2167,9 @@ static void runs_flip(uint64_t *restrict y, uint64_t *restrict d, const uint16_t
 
 /* The run from the word y, of which d, starts, counts and met are kept, under a limit: flips until it ends. So many
  * checks are broken. */
-static runs_Ended runs_go_on(uint64_t *restrict y, uint64_t *restrict d, const uint16_t *starts, const uint8_t *counts,
-        uint8_t *restrict met, const uint16_t *h, layout_Shape sh, uint64_t from, uint16_t limit, uint32_t first)
+static inline runs_Ended runs_go_on(uint64_t *restrict y, uint64_t *restrict d, const uint16_t *starts,
+        const uint8_t *counts, uint8_t *restrict met, const uint16_t *h, layout_Shape sh, uint64_t from,
+        uint16_t limit, uint32_t first)
 {
     (void)h;
     uint32_t most = limit;
@@ -2171,7 +2192,7 @@ static runs_Ended runs_go_on(uint64_t *restrict y, uint64_t *restrict d, const u
 }
 
 /* The run from the word y with the syndrome z, of which so many checks are broken, by the bounds of its blocks. */
-static runs_Ended runs_run_bounded(uint64_t *restrict y, const uint64_t *z, const uint16_t *h, layout_Shape sh,
+static inline runs_Ended runs_run_bounded(uint64_t *restrict y, const uint64_t *z, const uint16_t *h, layout_Shape sh,
         uint64_t from, uint16_t limit, uint32_t first)
 {
     uint64_t d[65] = {0};
@@ -2184,21 +2205,21 @@ static runs_Ended runs_run_bounded(uint64_t *restrict y, const uint64_t *z, cons
 
 /* The run from the word y with the syndrome z, of which so many checks are broken, under a limit: flips until it
  * ends. */
-static runs_Ended runs_run(uint64_t *restrict y, const uint64_t *z, const uint16_t *h, layout_Shape sh, uint64_t from,
-        uint16_t limit, uint32_t first)
+static inline runs_Ended runs_run(uint64_t *restrict y, const uint64_t *z, const uint16_t *h, layout_Shape sh,
+        uint64_t from, uint16_t limit, uint32_t first)
 {
     if (first == 0) {
         return runs_at_end(0, 0, 0);
     }
     if (sh.words == 1) {
-        return runs_run_narrow(NULL, 0, y, z, h, sh, from, limit, first);
+        return runs_run_narrow(runs_run_table, 0, y, z, h, sh, from, limit, first);
     }
     return runs_run_bounded(y, z, h, sh, from, limit, first);
 }
 
 /* What comes next for a word that has a broken check and the syndrome z, by the bounds of its blocks; bits before
  * bit `from` are not sent. */
-static runs_Next runs_next_bounded(const uint64_t *z, const uint16_t *h, layout_Shape sh, uint64_t from)
+static inline runs_Next runs_next_bounded(const uint64_t *z, const uint16_t *h, layout_Shape sh, uint64_t from)
 {
     uint64_t d[65] = {0};
     uint16_t starts[128] = {0};
@@ -2214,11 +2235,11 @@ static runs_Next runs_next_bounded(const uint64_t *z, const uint16_t *h, layout_
 }
 
 /* The same where one word holds a block: a bit that is to be flipped shows at once. All bits have equal sizes. */
-static runs_Next runs_next_narrow(const uint64_t *z, const uint16_t *h, layout_Shape sh, uint64_t from)
+static inline runs_Next runs_next_narrow(const uint64_t *z, const uint16_t *h, layout_Shape sh, uint64_t from)
 {
     uint64_t rows[4] = {0};
     narrow_begin(z, sh, rows);
-    choice_Best best = narrow_choose(NULL, 0, rows, h, sh, from);
+    choice_Best best = narrow_choose(runs_run_table, 0, rows, h, sh, from);
     if (8 < best.score) {
         uint8_t excess = (uint8_t)(signed8((uint8_t)best.score) - 8);
         return (runs_Next){.tag = runs_Next_Flip, .as.Flip = {.field0 = best.bit, .field1 = excess}};
@@ -2227,7 +2248,7 @@ static runs_Next runs_next_narrow(const uint64_t *z, const uint16_t *h, layout_S
 }
 
 /* What comes next for the word whose syndrome is z; bits before bit `from` are not sent. */
-static runs_Next runs_comes_next(const uint64_t *z, const uint16_t *h, layout_Shape sh, uint64_t from)
+static inline runs_Next runs_comes_next(const uint64_t *z, const uint16_t *h, layout_Shape sh, uint64_t from)
 {
     if (syndromes_is_quiet(z)) {
         return (runs_Next){.tag = runs_Next_Quiet};
@@ -2244,7 +2265,7 @@ static runs_Next runs_comes_next(const uint64_t *z, const uint16_t *h, layout_Sh
  * information. */
 
 /* Octet at, and zeros behind it; zeros alone past the last octet. */
-static uint64_t parityrows_spare(const uint8_t *octets, uint64_t octets_len, uint64_t at)
+static inline uint64_t parityrows_spare(const uint8_t *octets, uint64_t octets_len, uint64_t at)
 {
     if (at < octets_len) {
         return received_leading(octets[at]);
@@ -2253,20 +2274,21 @@ static uint64_t parityrows_spare(const uint8_t *octets, uint64_t octets_len, uin
 }
 
 /* Puts the last bits of the information, which do not fill an octet, into y, which is handed over as zeros. */
-static void parityrows_put_spare(const uint8_t *information, uint64_t information_len, uint64_t n, uint64_t *restrict y)
+static inline void parityrows_put_spare(const uint8_t *information, uint64_t information_len, uint64_t n,
+        uint64_t *restrict y)
 {
     y[0] = parityrows_spare(information, information_len, n / 8);
 }
 
 /* Adds the 64 bits of v to those of y from bit p on. */
-static void parityrows_put_word(uint64_t v, uint64_t *restrict y, uint64_t p)
+static inline void parityrows_put_word(uint64_t v, uint64_t *restrict y, uint64_t p)
 {
     uint64_t u[4] = {0, v, 0, 0};
     vectors_add_turned(u, 64 - p % 64, y, p / 64, 2);
 }
 
 /* Adds row r of z to the bits of y from bit p on. */
-static void parityrows_put_row(const uint64_t *z, layout_Shape sh, uint64_t r, uint64_t *restrict y, uint64_t p)
+static inline void parityrows_put_row(const uint64_t *z, layout_Shape sh, uint64_t r, uint64_t *restrict y, uint64_t p)
 {
     uint64_t j = 0;
     while (j < sh.words) {
@@ -2276,7 +2298,8 @@ static void parityrows_put_row(const uint64_t *z, layout_Shape sh, uint64_t r, u
 }
 
 /* Puts the rows behind the first bits of y, as parity block a the row (a + first) mod R. */
-static void parityrows_put_rows(const uint64_t *z, layout_Shape sh, uint64_t first, uint64_t *restrict y, uint64_t at)
+static inline void parityrows_put_rows(const uint64_t *z, layout_Shape sh, uint64_t first, uint64_t *restrict y,
+        uint64_t at)
 {
     uint64_t a = 0;
     while (a < sh.rows) {
@@ -2287,16 +2310,16 @@ static void parityrows_put_rows(const uint64_t *z, layout_Shape sh, uint64_t fir
 
 /* What is sent from octet n / 8 on, where n bits of the information are: the last of them, and the rows. y is handed
  * over as zeros. */
-static void parityrows_lay_tail(const uint8_t *information, uint64_t information_len, uint64_t n, const uint64_t *z,
-        layout_Shape sh, uint64_t first, uint64_t *restrict y)
+static inline void parityrows_lay_tail(const uint8_t *information, uint64_t information_len, uint64_t n,
+        const uint64_t *z, layout_Shape sh, uint64_t first, uint64_t *restrict y)
 {
     parityrows_put_spare(information, information_len, n, y);
     parityrows_put_rows(z, sh, first, y, n % 8);
 }
 
 /* Writes octets, and behind them those of y. */
-static void parityrows_write_both(const uint8_t *front, uint64_t front_len, const uint64_t *y, uint8_t *restrict word,
-        uint64_t word_len)
+static inline void parityrows_write_both(const uint8_t *front, uint64_t front_len, const uint64_t *y,
+        uint8_t *restrict word, uint64_t word_len)
 {
     uint64_t at = front_len;
     copying_copy(front, front_len, word);
@@ -2304,8 +2327,8 @@ static void parityrows_write_both(const uint8_t *front, uint64_t front_len, cons
 }
 
 /* Writes the word: the octets that n bits of the information fill, and behind them what is laid from there on. */
-static void parityrows_write(const uint8_t *information, uint64_t information_len, uint64_t n, const uint64_t *z,
-        layout_Shape sh, uint64_t first, uint8_t *restrict word, uint64_t word_len)
+static inline void parityrows_write(const uint8_t *information, uint64_t information_len, uint64_t n,
+        const uint64_t *z, layout_Shape sh, uint64_t first, uint8_t *restrict word, uint64_t word_len)
 {
     uint64_t y[18] = {0};
     parityrows_lay_tail(information, information_len, n, z, sh, first, y);
@@ -2373,7 +2396,7 @@ static const uint16_t narrowparity_narrow_steps_table_3[150] = {
 };
 
 /* Adds information block b, of the words y, to the rows, where one word holds it. */
-static void narrowparity_add_narrow_block(const uint64_t *y, const uint16_t *h, layout_Shape sh, uint64_t b,
+static inline void narrowparity_add_narrow_block(const uint64_t *y, const uint16_t *h, layout_Shape sh, uint64_t b,
         uint64_t *restrict z)
 {
     uint64_t v = vectors_front(vectors_window(y, b * sh.size), sh.size);
@@ -2381,8 +2404,8 @@ static void narrowparity_add_narrow_block(const uint64_t *y, const uint16_t *h, 
 }
 
 /* Adds the information blocks to the rows, where one word holds a block. */
-static void narrowparity_add_narrow(const uint8_t *octets, uint64_t octets_len, const uint16_t *h, layout_Shape sh,
-        uint64_t *restrict z)
+static inline void narrowparity_add_narrow(const uint8_t *octets, uint64_t octets_len, const uint16_t *h,
+        layout_Shape sh, uint64_t *restrict z)
 {
     uint64_t y[5] = {0};
     vectors_load(octets, octets_len, y, 5);
@@ -2395,7 +2418,8 @@ static void narrowparity_add_narrow(const uint8_t *octets, uint64_t octets_len, 
 
 /* The checks that the information breaks while the parity is 0, into z, which is handed over as zeros, where one
  * word holds a row. */
-static void narrowparity_lay_narrow(const uint8_t *octets, uint64_t octets_len, layout_Shape sh, uint64_t *restrict z)
+static inline void narrowparity_lay_narrow(const uint8_t *octets, uint64_t octets_len, layout_Shape sh,
+        uint64_t *restrict z)
 {
     uint16_t h[64] = {0};
     tables_lend_narrow(sh.size, h);
@@ -2404,7 +2428,7 @@ static void narrowparity_lay_narrow(const uint8_t *octets, uint64_t octets_len, 
 }
 
 /* The list of steps for M, where one word holds a row. */
-static void narrowparity_narrow_steps(uint64_t size, uint16_t *restrict result)
+static inline void narrowparity_narrow_steps(uint64_t size, uint16_t *restrict result)
 {
     if (size == 16) {
         memcpy(result, narrowparity_narrow_steps_table, 150 * sizeof(uint16_t));
@@ -2418,7 +2442,7 @@ static void narrowparity_narrow_steps(uint64_t size, uint16_t *restrict result)
 }
 
 /* The copies of a doubled row that are turned by the shifts of a step, summed; one word holds the row. */
-static uint64_t narrowparity_turns(vectors_Pair d, const uint16_t *step, uint64_t size)
+static inline uint64_t narrowparity_turns(vectors_Pair d, const uint16_t *step, uint64_t size)
 {
     uint64_t sum = 0;
     uint64_t k = 2;
@@ -2430,14 +2454,14 @@ static uint64_t narrowparity_turns(vectors_Pair d, const uint16_t *step, uint64_
 }
 
 /* A step where one word holds a row. */
-static void narrowparity_step_narrow(const uint16_t *step, layout_Shape sh, uint64_t *restrict z)
+static inline void narrowparity_step_narrow(const uint16_t *step, layout_Shape sh, uint64_t *restrict z)
 {
     vectors_Pair d = vectors_double_word(z[(uint64_t)step[1]], sh.size);
     vectors_add_word(vectors_front(narrowparity_turns(d, step, sh.size), sh.size), z, step[0]);
 }
 
 /* The steps, one after the other, where one word holds a row. */
-static void narrowparity_walk_narrow(layout_Shape sh, uint64_t *restrict z)
+static inline void narrowparity_walk_narrow(layout_Shape sh, uint64_t *restrict z)
 {
     uint16_t steps[150];
     narrowparity_narrow_steps(sh.size, steps);
@@ -2449,14 +2473,15 @@ static void narrowparity_walk_narrow(layout_Shape sh, uint64_t *restrict z)
 }
 
 /* The parity of the information of a telecommand code, row after row, into z, which is handed over as zeros. */
-static void narrowparity_solve_narrow(const uint8_t *octets, uint64_t octets_len, layout_Shape sh, uint64_t *restrict z)
+static inline void narrowparity_solve_narrow(const uint8_t *octets, uint64_t octets_len, layout_Shape sh,
+        uint64_t *restrict z)
 {
     narrowparity_lay_narrow(octets, octets_len, sh, z);
     narrowparity_walk_narrow(sh, z);
 }
 
 /* The word of a telecommand code. */
-static void narrowparity_encode(offer_Offer o, const uint8_t *information, uint64_t information_len,
+static inline void narrowparity_encode(offer_Offer o, const uint8_t *information, uint64_t information_len,
         uint8_t *restrict word, uint64_t word_len)
 {
     layout_Shape of = o.shape;
@@ -2491,7 +2516,7 @@ static const uint16_t wideparity_walk_wide_table[150] = {
 
 /* Cuts information block b straight from the octets and doubles it into d; part has room for a block. The number has
  * one bit more, set where the block's bits are odd in number. */
-static uint64_t wideparity_double_block(const uint8_t *octets, uint64_t unsent, uint64_t b, uint64_t odd,
+static inline uint64_t wideparity_double_block(const uint8_t *octets, uint64_t unsent, uint64_t b, uint64_t odd,
         uint64_t *restrict part, uint64_t *restrict d)
 {
     received_cut_block(octets, unsent, b, part, 8);
@@ -2501,7 +2526,7 @@ static uint64_t wideparity_double_block(const uint8_t *octets, uint64_t unsent, 
 }
 
 /* Adds information block b to the rows, by way of part and d. The number has one bit more, as above. */
-static uint64_t wideparity_add_wide_block(const uint8_t *octets, uint64_t unsent, uint64_t b, uint64_t odd,
+static inline uint64_t wideparity_add_wide_block(const uint8_t *octets, uint64_t unsent, uint64_t b, uint64_t odd,
         const uint16_t *h, layout_Shape sh, uint64_t *restrict part, uint64_t *restrict d, uint64_t *restrict z)
 {
     uint64_t more = wideparity_double_block(octets, unsent, b, odd, part, d);
@@ -2511,7 +2536,7 @@ static uint64_t wideparity_add_wide_block(const uint8_t *octets, uint64_t unsent
 
 /* Adds the information blocks to the rows. The number has a bit for each block, set where its bits are odd in
  * number. */
-static uint64_t wideparity_add_wide(const uint8_t *octets, uint64_t unsent, const uint16_t *h, layout_Shape sh,
+static inline uint64_t wideparity_add_wide(const uint8_t *octets, uint64_t unsent, const uint16_t *h, layout_Shape sh,
         uint64_t *restrict z)
 {
     uint64_t part[8] = {0};
@@ -2527,7 +2552,8 @@ static uint64_t wideparity_add_wide(const uint8_t *octets, uint64_t unsent, cons
 
 /* The checks that the information breaks while the parity is 0, into z, which is handed over as zeros; and the
  * number for all 16 blocks. */
-static uint64_t wideparity_lay_wide(const uint8_t *octets, uint64_t unsent, layout_Shape sh, uint64_t *restrict z)
+static inline uint64_t wideparity_lay_wide(const uint8_t *octets, uint64_t unsent, layout_Shape sh,
+        uint64_t *restrict z)
 {
     uint16_t h[64] = {0};
     tables_lend511(h);
@@ -2537,15 +2563,15 @@ static uint64_t wideparity_lay_wide(const uint8_t *octets, uint64_t unsent, layo
 }
 
 /* Doubles the row whose copies a step adds. */
-static void wideparity_double_row(const uint64_t *z, const uint16_t *step, layout_Shape sh, uint64_t *restrict d,
-        uint64_t d_len)
+static inline void wideparity_double_row(const uint64_t *z, const uint16_t *step, layout_Shape sh,
+        uint64_t *restrict d, uint64_t d_len)
 {
     uint64_t at = (uint64_t)step[1] * sh.words;
     vectors_double(z + at, sh.size, d, d_len);
 }
 
 /* Adds a doubled row to the w words of a row from word at on, turned by each of the shifts of a step. */
-static void wideparity_add_turns(const uint64_t *d, const uint16_t *step, uint64_t size, uint64_t *restrict z,
+static inline void wideparity_add_turns(const uint64_t *d, const uint16_t *step, uint64_t size, uint64_t *restrict z,
         uint64_t at, uint64_t w)
 {
     uint64_t k = 2;
@@ -2556,7 +2582,8 @@ static void wideparity_add_turns(const uint64_t *d, const uint16_t *step, uint64
 }
 
 /* A step where more words hold a row; d has room for a doubled one. */
-static void wideparity_step_wide(const uint16_t *step, layout_Shape sh, uint64_t *restrict d, uint64_t *restrict z)
+static inline void wideparity_step_wide(const uint16_t *step, layout_Shape sh, uint64_t *restrict d,
+        uint64_t *restrict z)
 {
     wideparity_double_row(z, step, sh, d, 16);
     wideparity_add_turns(d, step, sh.size, z, (uint64_t)step[0] * sh.words, sh.words);
@@ -2564,7 +2591,7 @@ static void wideparity_step_wide(const uint16_t *step, layout_Shape sh, uint64_t
 }
 
 /* The same where more words hold it, for M = 511. */
-static void wideparity_walk_wide(layout_Shape sh, uint64_t *restrict z)
+static inline void wideparity_walk_wide(layout_Shape sh, uint64_t *restrict z)
 {
     uint64_t d[16] = {0};
     uint64_t k = 0;
@@ -2575,7 +2602,7 @@ static void wideparity_walk_wide(layout_Shape sh, uint64_t *restrict z)
 }
 
 /* A word of ones for 1, and of zeros for 0. */
-static uint64_t wideparity_ones_if(uint64_t odd)
+static inline uint64_t wideparity_ones_if(uint64_t odd)
 {
     if (odd == 1) {
         return UINT64_C(0xFFFFFFFFFFFFFFFF);
@@ -2584,7 +2611,7 @@ static uint64_t wideparity_ones_if(uint64_t odd)
 }
 
 /* Adds a word of 64 equal bits to each word of row r, of 511 bits. */
-static void wideparity_invert_row(uint64_t *restrict z, uint64_t r, uint64_t v)
+static inline void wideparity_invert_row(uint64_t *restrict z, uint64_t r, uint64_t v)
 {
     uint64_t k = 8 * r;
     while (k < 8 * r + 7) {
@@ -2596,7 +2623,7 @@ static void wideparity_invert_row(uint64_t *restrict z, uint64_t r, uint64_t v)
 
 /* Inverts the rows that end with every bit the other way, by a number that has a bit for each block, set where its
  * bits are odd in number. */
-static void wideparity_invert(uint64_t odd, uint64_t *restrict z)
+static inline void wideparity_invert(uint64_t odd, uint64_t *restrict z)
 {
     ownparity_Together together = ownparity_odd_together(odd);
     wideparity_invert_row(z, 0, wideparity_ones_if(together.first));
@@ -2604,7 +2631,7 @@ static void wideparity_invert(uint64_t odd, uint64_t *restrict z)
 }
 
 /* The parity of the information of a near-Earth code, row after row, into z, which is handed over as zeros. */
-static void wideparity_solve_wide(const uint8_t *octets, uint64_t unsent, layout_Shape sh, uint64_t *restrict z)
+static inline void wideparity_solve_wide(const uint8_t *octets, uint64_t unsent, layout_Shape sh, uint64_t *restrict z)
 {
     uint64_t odd = wideparity_lay_wide(octets, unsent, sh, z);
     wideparity_walk_wide(sh, z);
@@ -2612,7 +2639,7 @@ static void wideparity_solve_wide(const uint8_t *octets, uint64_t unsent, layout
 }
 
 /* The word of a near-Earth code. The shape stands in numbers, so that a compiler sees them in the walk. */
-static void wideparity_encode(offer_Offer o, const uint8_t *information, uint64_t information_len,
+static inline void wideparity_encode(offer_Offer o, const uint8_t *information, uint64_t information_len,
         uint8_t *restrict word, uint64_t word_len)
 {
     layout_Shape sh = (layout_Shape){.size = 511, .words = 8, .blocks = 16, .rows = 2};
@@ -2626,8 +2653,8 @@ static void wideparity_encode(offer_Offer o, const uint8_t *information, uint64_
 /* The word of information: its parity is solved where one word holds a row, or where eight do. */
 
 /* The word of information of the right length whose spare bits are 0, into an output of the right length. */
-static void solver_encode(offer_Offer o, const uint8_t *information, uint64_t information_len, uint8_t *restrict word,
-        uint64_t word_len)
+static inline void solver_encode(offer_Offer o, const uint8_t *information, uint64_t information_len,
+        uint8_t *restrict word, uint64_t word_len)
 {
     layout_Shape of = o.shape;
     if (of.size == 511) {
@@ -2661,15 +2688,15 @@ typedef pandoricchia_stepped codes_Stepped;
 
 /* Whether the last octet of the information is not a multiple of what it must be: one of code 4's last six bits is
  * set. */
-static bool codes_six_set(offer_Offer o, const uint8_t *information)
+static inline bool codes_six_set(offer_Offer o, const uint8_t *information)
 {
     uint64_t last = o.information - 1;
     return information[last] % o.multiple != 0;
 }
 
 /* Information in, word out. */
-static uint8_t codes_encode(uint8_t code, const uint8_t *information, uint64_t information_len, uint8_t *restrict word,
-        uint64_t word_len)
+static inline uint8_t codes_encode(uint8_t code, const uint8_t *information, uint64_t information_len,
+        uint8_t *restrict word, uint64_t word_len)
 {
     offer_Offer o = offer_of(code);
     uint8_t number = ladder_refusal(o.offered, information_len, o.information, word_len, o.word);
@@ -2684,13 +2711,13 @@ static uint8_t codes_encode(uint8_t code, const uint8_t *information, uint64_t i
 }
 
 /* What a refused check gives besides its number. */
-static codes_Checked codes_refused_check(uint8_t number)
+static inline codes_Checked codes_refused_check(uint8_t number)
 {
     return (codes_Checked){.number = number, .broken = 0, .lowest = 0};
 }
 
 /* How many checks are broken, and the lowest of them. */
-static codes_Checked codes_check(uint8_t code, const uint8_t *word, uint64_t word_len)
+static inline codes_Checked codes_check(uint8_t code, const uint8_t *word, uint64_t word_len)
 {
     offer_Offer o = offer_of(code);
     uint8_t number = ladder_refusal(o.offered, word_len, o.word, 0, 0);
@@ -2705,7 +2732,7 @@ static codes_Checked codes_check(uint8_t code, const uint8_t *word, uint64_t wor
 }
 
 /* What is wrong with a word of the right length, and its lowest broken check. */
-static codes_Found codes_fault_of(offer_Offer o, const uint8_t *word, uint64_t word_len)
+static inline codes_Found codes_fault_of(offer_Offer o, const uint8_t *word, uint64_t word_len)
 {
     uint16_t h[64] = {0};
     uint64_t y[130] = {0};
@@ -2715,7 +2742,7 @@ static codes_Found codes_fault_of(offer_Offer o, const uint8_t *word, uint64_t w
 }
 
 /* The information octets of a codeword, lent back as a part of the word. */
-static lent_uint8_t codes_open(uint8_t code, const uint8_t *word, uint64_t word_len, uint8_t *restrict number,
+static inline lent_uint8_t codes_open(uint8_t code, const uint8_t *word, uint64_t word_len, uint8_t *restrict number,
         uint32_t *restrict lowest)
 {
     offer_Offer o = offer_of(code);
@@ -2737,7 +2764,7 @@ static lent_uint8_t codes_open(uint8_t code, const uint8_t *word, uint64_t word_
 
 /* The flipping run on a word of the right length; h, y and z are handed over as zeros, and y comes back as the word
  * at its end. */
-static codes_Course codes_run_taken(offer_Offer o, const uint8_t *word, uint64_t word_len, uint16_t limit,
+static inline codes_Course codes_run_taken(offer_Offer o, const uint8_t *word, uint64_t word_len, uint16_t limit,
         uint16_t *restrict h, uint64_t *restrict y, uint64_t *restrict z)
 {
     layout_Shape sh = measured_measure(o, word, word_len, h, y, z);
@@ -2748,7 +2775,7 @@ static codes_Course codes_run_taken(offer_Offer o, const uint8_t *word, uint64_t
 }
 
 /* The word y into an output of the right length, if its number says that it is taken. */
-static void codes_write_taken(offer_Offer o, uint8_t number, uint64_t *restrict y, uint8_t *restrict out,
+static inline void codes_write_taken(offer_Offer o, uint8_t number, uint64_t *restrict y, uint8_t *restrict out,
         uint64_t out_len)
 {
     if (number == 0) {
@@ -2757,8 +2784,8 @@ static void codes_write_taken(offer_Offer o, uint8_t number, uint64_t *restrict 
 }
 
 /* What correct gives of a run that has ended with the word y: its numbers, and the word where it is taken. */
-static endings_Corrected codes_finish(offer_Offer o, const uint8_t *word, uint64_t word_len, uint64_t *restrict y,
-        codes_Course run, uint8_t *restrict out, uint64_t out_len)
+static inline endings_Corrected codes_finish(offer_Offer o, const uint8_t *word, uint64_t word_len,
+        uint64_t *restrict y, codes_Course run, uint8_t *restrict out, uint64_t out_len)
 {
     runs_Ended ended = run.ended;
     runs_Ran ran = ended.ran;
@@ -2770,8 +2797,8 @@ static endings_Corrected codes_finish(offer_Offer o, const uint8_t *word, uint64
 }
 
 /* The flipping run on a word of the right length, into an output of the right length. */
-static endings_Corrected codes_correct_taken(offer_Offer o, const uint8_t *word, uint64_t word_len, uint16_t limit,
-        uint8_t *restrict out, uint64_t out_len)
+static inline endings_Corrected codes_correct_taken(offer_Offer o, const uint8_t *word, uint64_t word_len,
+        uint16_t limit, uint8_t *restrict out, uint64_t out_len)
 {
     uint16_t h[64] = {0};
     uint64_t y[130] = {0};
@@ -2781,7 +2808,7 @@ static endings_Corrected codes_correct_taken(offer_Offer o, const uint8_t *word,
 }
 
 /* The flipping run on a received word, under a limit. */
-static endings_Corrected codes_correct(uint8_t code, const uint8_t *word, uint64_t word_len, uint16_t limit,
+static inline endings_Corrected codes_correct(uint8_t code, const uint8_t *word, uint64_t word_len, uint16_t limit,
         uint8_t *restrict out, uint64_t out_len)
 {
     offer_Offer o = offer_of(code);
@@ -2793,14 +2820,14 @@ static endings_Corrected codes_correct(uint8_t code, const uint8_t *word, uint64
 }
 
 /* What a refused step gives besides its number. */
-static codes_Stepped codes_refused_step(uint8_t number)
+static inline codes_Stepped codes_refused_step(uint8_t number)
 {
     return (codes_Stepped){.number = number, .quiet = false, .bit = 0, .excess = 0};
 }
 
 /* What comes next for a word of the right length; h, y and z are handed over as zeros, and y comes back as the
  * word's bits. */
-static runs_Next codes_next_of(offer_Offer o, const uint8_t *word, uint64_t word_len, uint16_t *restrict h,
+static inline runs_Next codes_next_of(offer_Offer o, const uint8_t *word, uint64_t word_len, uint16_t *restrict h,
         uint64_t *restrict y, uint64_t *restrict z)
 {
     layout_Shape sh = measured_measure(o, word, word_len, h, y, z);
@@ -2808,7 +2835,7 @@ static runs_Next codes_next_of(offer_Offer o, const uint8_t *word, uint64_t word
 }
 
 /* A word with one bit flipped, into an output of the right length. */
-static void codes_write_flipped(offer_Offer o, uint64_t *restrict y, uint64_t bit, uint8_t *restrict out,
+static inline void codes_write_flipped(offer_Offer o, uint64_t *restrict y, uint64_t bit, uint8_t *restrict out,
         uint64_t out_len)
 {
     vectors_flip_bit(y, bit);
@@ -2816,7 +2843,7 @@ static void codes_write_flipped(offer_Offer o, uint64_t *restrict y, uint64_t bi
 }
 
 /* What step gives of a word y and what comes next for it. */
-static codes_Stepped codes_step_out(offer_Offer o, const uint8_t *word, uint64_t word_len, runs_Next next,
+static inline codes_Stepped codes_step_out(offer_Offer o, const uint8_t *word, uint64_t word_len, runs_Next next,
         uint64_t *restrict y, uint8_t *restrict out, uint64_t out_len)
 {
     switch (next.tag) {
@@ -2837,8 +2864,8 @@ static codes_Stepped codes_step_out(offer_Offer o, const uint8_t *word, uint64_t
 }
 
 /* One flip of the run on a word of the right length, into an output of the right length. */
-static codes_Stepped codes_step_taken(offer_Offer o, const uint8_t *word, uint64_t word_len, uint8_t *restrict out,
-        uint64_t out_len)
+static inline codes_Stepped codes_step_taken(offer_Offer o, const uint8_t *word, uint64_t word_len,
+        uint8_t *restrict out, uint64_t out_len)
 {
     uint16_t h[64] = {0};
     uint64_t y[130] = {0};
@@ -2848,7 +2875,7 @@ static codes_Stepped codes_step_taken(offer_Offer o, const uint8_t *word, uint64
 }
 
 /* One flip of the run, with the bit's number and excess; or quiet, in which case the word is copied. */
-static codes_Stepped codes_step(uint8_t code, const uint8_t *word, uint64_t word_len, uint8_t *restrict out,
+static inline codes_Stepped codes_step(uint8_t code, const uint8_t *word, uint64_t word_len, uint8_t *restrict out,
         uint64_t out_len)
 {
     offer_Offer o = offer_of(code);
@@ -2883,18 +2910,18 @@ static const uint16_t framecheck_TABLE[256] = {
     3793, 7920,
 };
 
-static uint64_t framecheck_octet(uint8_t x)
+static inline uint64_t framecheck_octet(uint8_t x)
 {
     return x;
 }
 
-static uint64_t framecheck_wide(uint16_t x)
+static inline uint64_t framecheck_wide(uint16_t x)
 {
     return x;
 }
 
 /* The frame check over octets; the table is lent. */
-static uint64_t framecheck_over(const uint8_t *octets, uint64_t octets_len, const uint16_t *t)
+static inline uint64_t framecheck_over(const uint8_t *octets, uint64_t octets_len, const uint16_t *t)
 {
     uint64_t r = 65535;
     uint64_t i = 0;
@@ -2910,7 +2937,7 @@ static uint64_t framecheck_over(const uint8_t *octets, uint64_t octets_len, cons
 /* Recordings into blocks. Each call takes any octets; what it refuses it refuses by number, and writes nothing. */
 
 /* The lesser of two numbers. */
-static uint64_t exporting_least(uint64_t a, uint64_t b)
+static inline uint64_t exporting_least(uint64_t a, uint64_t b)
 {
     if (a < b) {
         return a;
@@ -2919,34 +2946,34 @@ static uint64_t exporting_least(uint64_t a, uint64_t b)
 }
 
 /* The last octet of a number. */
-static uint8_t exporting_low(uint64_t v)
+static inline uint8_t exporting_low(uint64_t v)
 {
     return (uint8_t)(v % 256);
 }
 
 /* Two octets of a number, high octet first. */
-static void exporting_put_two(uint64_t v, uint8_t *restrict out)
+static inline void exporting_put_two(uint64_t v, uint8_t *restrict out)
 {
     out[0] = exporting_low(v / 256);
     out[1] = exporting_low(v);
 }
 
 /* Four octets of a number. */
-static void exporting_put_four(uint64_t v, uint8_t *restrict out)
+static inline void exporting_put_four(uint64_t v, uint8_t *restrict out)
 {
     exporting_put_two(v / 0x10000, out);
     exporting_put_two(v, out + 2);
 }
 
 /* The number of a block and its count. */
-static void exporting_put_head(uint64_t place, uint64_t count, uint8_t *restrict out)
+static inline void exporting_put_head(uint64_t place, uint64_t count, uint8_t *restrict out)
 {
     exporting_put_four(place, out);
     exporting_put_two(count, out + 4);
 }
 
 /* Zeros into an output. */
-static void exporting_wipe(uint8_t *restrict out, uint64_t out_len)
+static inline void exporting_wipe(uint8_t *restrict out, uint64_t out_len)
 {
     uint64_t i = 0;
     while (i < out_len) {
@@ -2956,7 +2983,7 @@ static void exporting_wipe(uint8_t *restrict out, uint64_t out_len)
 }
 
 /* The used octets, and zeros after them. */
-static void exporting_put_data(const uint8_t *used, uint64_t used_len, uint8_t *restrict out, uint64_t out_len)
+static inline void exporting_put_data(const uint8_t *used, uint64_t used_len, uint8_t *restrict out, uint64_t out_len)
 {
     uint64_t n = used_len;
     copying_copy(used, used_len, out);
@@ -2964,7 +2991,7 @@ static void exporting_put_data(const uint8_t *used, uint64_t used_len, uint8_t *
 }
 
 /* What the check is made over: head and data. */
-static void exporting_put_front(uint64_t place, const uint8_t *used, uint64_t used_len, uint8_t *restrict out,
+static inline void exporting_put_front(uint64_t place, const uint8_t *used, uint64_t used_len, uint8_t *restrict out,
         uint64_t out_len)
 {
     exporting_put_head(place, used_len, out);
@@ -2972,14 +2999,14 @@ static void exporting_put_front(uint64_t place, const uint8_t *used, uint64_t us
 }
 
 /* The check behind the 510 octets that it is made over. */
-static void exporting_put_check(uint8_t *restrict out, const uint16_t *t)
+static inline void exporting_put_check(uint8_t *restrict out, const uint16_t *t)
 {
     uint64_t check = framecheck_over(out, 510, t);
     exporting_put_two(check, out + 510);
 }
 
 /* One block. */
-static void exporting_put_block(uint64_t place, const uint8_t *used, uint64_t used_len, uint8_t *restrict out,
+static inline void exporting_put_block(uint64_t place, const uint8_t *used, uint64_t used_len, uint8_t *restrict out,
         const uint16_t *t)
 {
     exporting_put_front(place, used, used_len, out, 510);
@@ -2987,7 +3014,7 @@ static void exporting_put_block(uint64_t place, const uint8_t *used, uint64_t us
 }
 
 /* As many blocks as the output holds. */
-static void exporting_put_blocks(const uint8_t *octets, uint64_t octets_len, uint64_t n, uint8_t *restrict out,
+static inline void exporting_put_blocks(const uint8_t *octets, uint64_t octets_len, uint64_t n, uint8_t *restrict out,
         const uint16_t *t)
 {
     uint64_t k = 0;
@@ -3001,7 +3028,7 @@ static void exporting_put_blocks(const uint8_t *octets, uint64_t octets_len, uin
 }
 
 /* The blocks of a recording: 20 for more than 64,512 octets, 3 if the output is not as long as needed. */
-static uint8_t exporting_export_blocks(const uint8_t *octets, uint64_t octets_len, uint8_t *restrict out,
+static inline uint8_t exporting_export_blocks(const uint8_t *octets, uint64_t octets_len, uint8_t *restrict out,
         uint64_t out_len)
 {
     if (64512 < octets_len) {
@@ -3016,7 +3043,7 @@ static uint8_t exporting_export_blocks(const uint8_t *octets, uint64_t octets_le
 }
 
 /* The room that export needs for so many octets, 0 where there is none. */
-static uint64_t exporting_exported_octets(uint64_t long_)
+static inline uint64_t exporting_exported_octets(uint64_t long_)
 {
     if (64512 < long_) {
         return 0;
@@ -3031,36 +3058,36 @@ static uint64_t exporting_exported_octets(uint64_t long_)
 typedef pandoricchia_imported importing_Imported;
 
 /* Whether so many octets are whole blocks, at most 128 of them. */
-static bool importing_is_whole(uint64_t long_)
+static inline bool importing_is_whole(uint64_t long_)
 {
     return long_ % 512 == 0 && long_ / 512 <= 128;
 }
 
 /* The number that two octets write, high octet first. */
-static uint64_t importing_pair(uint8_t high, uint8_t last)
+static inline uint64_t importing_pair(uint8_t high, uint8_t last)
 {
     return 256 * (uint64_t)high + (uint64_t)last;
 }
 
 /* Whether the check of a block is right. */
-static bool importing_is_sound(const uint8_t *block, const uint16_t *t)
+static inline bool importing_is_sound(const uint8_t *block, const uint16_t *t)
 {
     return framecheck_over(block, 510, t) == importing_pair(block[510], block[511]);
 }
 
 /* The number that a block says of itself. */
-static uint64_t importing_number(const uint8_t *block)
+static inline uint64_t importing_number(const uint8_t *block)
 {
     return 0x10000 * importing_pair(block[0], block[1]) + importing_pair(block[2], block[3]);
 }
 
 /* How many octets of a block are used. */
-static uint64_t importing_used(const uint8_t *block)
+static inline uint64_t importing_used(const uint8_t *block)
 {
     return importing_pair(block[4], block[5]);
 }
 
-static bool importing_count_right(bool last, uint64_t used)
+static inline bool importing_count_right(bool last, uint64_t used)
 {
     if (last) {
         return 1 <= used && used <= 504;
@@ -3069,7 +3096,7 @@ static bool importing_count_right(bool last, uint64_t used)
 }
 
 /* Whether all of the octets are zeros. */
-static bool importing_clear(const uint8_t *octets, uint64_t octets_len)
+static inline bool importing_clear(const uint8_t *octets, uint64_t octets_len)
 {
     uint64_t i = 0;
     while (i < octets_len) {
@@ -3082,14 +3109,14 @@ static bool importing_clear(const uint8_t *octets, uint64_t octets_len)
 }
 
 /* Whether zeros stand after the used octets. */
-static bool importing_is_filled(const uint8_t *block, uint64_t used)
+static inline bool importing_is_filled(const uint8_t *block, uint64_t used)
 {
     uint64_t from = 6 + used;
     return importing_clear(block + from, 510 - from);
 }
 
 /* The fault of a block at a place, 0 for none: 21 check, 22 number, 23 count or filling. */
-static uint8_t importing_fault(uint64_t place, bool last, const uint8_t *block, const uint16_t *t)
+static inline uint8_t importing_fault(uint64_t place, bool last, const uint8_t *block, const uint16_t *t)
 {
     if (!importing_is_sound(block, t)) {
         return 21;
@@ -3108,7 +3135,7 @@ static uint8_t importing_fault(uint64_t place, bool last, const uint8_t *block, 
 }
 
 /* The fault of the lowest block at fault, with its place. */
-static importing_Imported importing_first_fault(const uint8_t *blocks, uint64_t n, const uint16_t *t)
+static inline importing_Imported importing_first_fault(const uint8_t *blocks, uint64_t n, const uint16_t *t)
 {
     uint64_t k = 0;
     while (k < n) {
@@ -3124,7 +3151,7 @@ static importing_Imported importing_first_fault(const uint8_t *blocks, uint64_t 
 
 /* What is at fault with some octets, 0 for nothing: 20 for a length not of whole blocks or too many, then the lowest
  * block at fault. */
-static importing_Imported importing_found(const uint8_t *blocks, uint64_t blocks_len)
+static inline importing_Imported importing_found(const uint8_t *blocks, uint64_t blocks_len)
 {
     if (!importing_is_whole(blocks_len)) {
         return (importing_Imported){.number = 20, .block = 0};
@@ -3133,7 +3160,7 @@ static importing_Imported importing_found(const uint8_t *blocks, uint64_t blocks
 }
 
 /* How many octets are used in n blocks, all but the last of them full. */
-static uint64_t importing_room(const uint8_t *blocks, uint64_t n)
+static inline uint64_t importing_room(const uint8_t *blocks, uint64_t n)
 {
     if (n == 0) {
         return 0;
@@ -3144,7 +3171,7 @@ static uint64_t importing_room(const uint8_t *blocks, uint64_t n)
 }
 
 /* The used octets of n blocks, one block after another. */
-static void importing_take_data(const uint8_t *blocks, uint64_t n, uint8_t *restrict out)
+static inline void importing_take_data(const uint8_t *blocks, uint64_t n, uint8_t *restrict out)
 {
     uint64_t end = 0;
     uint64_t k = 0;
@@ -3162,8 +3189,8 @@ static void importing_take_data(const uint8_t *blocks, uint64_t n, uint8_t *rest
 
 /* The octets of a recording in blocks: 20 for a length not of whole blocks or too many, 21 to 23 for the lowest
  * block at fault, 3 if the output is not as long as needed. */
-static importing_Imported importing_import_blocks(const uint8_t *blocks, uint64_t blocks_len, uint8_t *restrict out,
-        uint64_t out_len)
+static inline importing_Imported importing_import_blocks(const uint8_t *blocks, uint64_t blocks_len,
+        uint8_t *restrict out, uint64_t out_len)
 {
     importing_Imported refused = importing_found(blocks, blocks_len);
     if (refused.number != 0) {
@@ -3178,7 +3205,7 @@ static importing_Imported importing_import_blocks(const uint8_t *blocks, uint64_
 }
 
 /* The room that import needs, 0 where there is none. */
-static uint64_t importing_imported_octets(const uint8_t *blocks, uint64_t blocks_len)
+static inline uint64_t importing_imported_octets(const uint8_t *blocks, uint64_t blocks_len)
 {
     importing_Imported refused = importing_found(blocks, blocks_len);
     if (refused.number != 0) {
@@ -3210,7 +3237,7 @@ typedef struct listing_Listing {
 } listing_Listing;
 
 /* What a refused list gives besides its number. */
-static listing_Listing listing_refused(uint8_t number)
+static inline listing_Listing listing_refused(uint8_t number)
 {
     return (listing_Listing){.goes = false, .place = 0,
             .record = (listing_FlipRecord){.bit = 0, .excess = 0, .left = 0},
@@ -3219,7 +3246,7 @@ static listing_Listing listing_refused(uint8_t number)
 }
 
 /* The list before the first flip, of a word of which so many checks are broken, and this the lowest. */
-static listing_Listing listing_begun(offer_Offer o, uint16_t limit, uint32_t first, uint32_t lowest)
+static inline listing_Listing listing_begun(offer_Offer o, uint16_t limit, uint32_t first, uint32_t lowest)
 {
     return (listing_Listing){.goes = false, .place = 0,
             .record = (listing_FlipRecord){.bit = 0, .excess = 0, .left = first},
@@ -3228,8 +3255,8 @@ static listing_Listing listing_begun(offer_Offer o, uint16_t limit, uint32_t fir
 }
 
 /* The list of a word of the right length before the first flip; h, y and z are handed over as zeros. */
-static listing_Listing listing_measured_list(offer_Offer o, const uint8_t *word, uint64_t word_len, uint16_t limit,
-        uint16_t *restrict h, uint64_t *restrict y, uint64_t *restrict z)
+static inline listing_Listing listing_measured_list(offer_Offer o, const uint8_t *word, uint64_t word_len,
+        uint16_t limit, uint16_t *restrict h, uint64_t *restrict y, uint64_t *restrict z)
 {
     layout_Shape sh = measured_measure(o, word, word_len, h, y, z);
     uint32_t first = syndromes_broken(z);
@@ -3238,7 +3265,7 @@ static listing_Listing listing_measured_list(offer_Offer o, const uint8_t *word,
 }
 
 /* No run has more flips than checks are broken at its start; for the near-Earth codes than half as many. */
-static uint32_t listing_most_flips(offer_Offer o, uint32_t first)
+static inline uint32_t listing_most_flips(offer_Offer o, uint32_t first)
 {
     if (o.asked) {
         return first / 2;
@@ -3247,7 +3274,7 @@ static uint32_t listing_most_flips(offer_Offer o, uint32_t first)
 }
 
 /* How many flips the run on a word has. */
-static uint64_t listing_count_flips(offer_Offer o, const uint8_t *word, uint64_t word_len, uint16_t limit)
+static inline uint64_t listing_count_flips(offer_Offer o, const uint8_t *word, uint64_t word_len, uint16_t limit)
 {
     uint16_t h[64] = {0};
     uint64_t y[130] = {0};
@@ -3260,8 +3287,8 @@ static uint64_t listing_count_flips(offer_Offer o, const uint8_t *word, uint64_t
 
 /* Whether a table of so many places serves the run on a word: by the bounds where they tell, else the flips are
  * counted. */
-static bool listing_serves(offer_Offer o, const uint8_t *word, uint64_t word_len, uint16_t limit, uint32_t first,
-        uint64_t room)
+static inline bool listing_serves(offer_Offer o, const uint8_t *word, uint64_t word_len, uint16_t limit,
+        uint32_t first, uint64_t room)
 {
     if ((uint64_t)limit <= room) {
         return true;
@@ -3273,7 +3300,7 @@ static bool listing_serves(offer_Offer o, const uint8_t *word, uint64_t word_len
 }
 
 /* What comes next for the word whose syndrome is z. */
-static runs_Next listing_coming(const listing_Listing *l, const uint16_t *h, const uint64_t *z)
+static inline runs_Next listing_coming(const listing_Listing *l, const uint16_t *h, const uint64_t *z)
 {
     offer_Offer o = l->offer;
     layout_Shape sh = o.shape;
@@ -3281,8 +3308,8 @@ static runs_Next listing_coming(const listing_Listing *l, const uint16_t *h, con
 }
 
 /* The list at the end of the run: its number, and bit and excess of the reason. */
-static listing_Listing listing_ended(const listing_Listing *l, uint64_t flips, const uint8_t *word, uint64_t word_len,
-        const uint64_t *y, uint8_t number, uint32_t bit, uint8_t excess)
+static inline listing_Listing listing_ended(const listing_Listing *l, uint64_t flips, const uint8_t *word,
+        uint64_t word_len, const uint64_t *y, uint8_t number, uint32_t bit, uint8_t excess)
 {
     offer_Offer o = l->offer;
     listing_Listed begun = l->answer;
@@ -3297,7 +3324,7 @@ static listing_Listing listing_ended(const listing_Listing *l, uint64_t flips, c
 }
 
 /* The list after one more flip, with its record. */
-static listing_Listing listing_went(const listing_Listing *l, uint64_t flips, uint32_t bit, uint8_t excess,
+static inline listing_Listing listing_went(const listing_Listing *l, uint64_t flips, uint32_t bit, uint8_t excess,
         uint32_t left)
 {
     offer_Offer o = l->offer;
@@ -3308,7 +3335,7 @@ static listing_Listing listing_went(const listing_Listing *l, uint64_t flips, ui
 }
 
 /* The list after one flip more, or at the limit. */
-static listing_Listing listing_flip_on(const listing_Listing *l, uint64_t flips, const uint8_t *word,
+static inline listing_Listing listing_flip_on(const listing_Listing *l, uint64_t flips, const uint8_t *word,
         uint64_t word_len, uint64_t bit, uint8_t excess, const uint16_t *h, uint64_t *restrict y, uint64_t *restrict z)
 {
     if ((uint64_t)l->limit <= flips) {
@@ -3322,8 +3349,8 @@ static listing_Listing listing_flip_on(const listing_Listing *l, uint64_t flips,
 }
 
 /* What comes after so many flips: one more, or the end. */
-static listing_Listing listing_pass(const listing_Listing *l, uint64_t flips, const uint8_t *word, uint64_t word_len,
-        uint16_t *restrict h, uint64_t *restrict y, uint64_t *restrict z)
+static inline listing_Listing listing_pass(const listing_Listing *l, uint64_t flips, const uint8_t *word,
+        uint64_t word_len, uint16_t *restrict h, uint64_t *restrict y, uint64_t *restrict z)
 {
     runs_Next next = listing_coming(l, h, z);
     switch (next.tag) {
@@ -3344,8 +3371,8 @@ static listing_Listing listing_pass(const listing_Listing *l, uint64_t flips, co
 }
 
 /* The list of the run on a word of the right length. */
-static listing_Listing listing_begin_taken(offer_Offer o, const uint8_t *word, uint64_t word_len, uint16_t limit,
-        uint64_t room, uint16_t *restrict h, uint64_t *restrict y, uint64_t *restrict z)
+static inline listing_Listing listing_begin_taken(offer_Offer o, const uint8_t *word, uint64_t word_len,
+        uint16_t limit, uint64_t room, uint16_t *restrict h, uint64_t *restrict y, uint64_t *restrict z)
 {
     listing_Listing l = listing_measured_list(o, word, word_len, limit, h, y, z);
     listing_Listed answer = l.answer;
@@ -3357,7 +3384,7 @@ static listing_Listing listing_begin_taken(offer_Offer o, const uint8_t *word, u
 
 /* The list of the run on a received word, under a limit, for a table of so many places; h, y and z are handed over
  * as zeros. */
-static listing_Listing listing_begin(uint8_t code, const uint8_t *word, uint64_t word_len, uint16_t limit,
+static inline listing_Listing listing_begin(uint8_t code, const uint8_t *word, uint64_t word_len, uint16_t limit,
         uint64_t room, uint16_t *restrict h, uint64_t *restrict y, uint64_t *restrict z)
 {
     offer_Offer o = offer_of(code);
@@ -3369,7 +3396,7 @@ static listing_Listing listing_begin(uint8_t code, const uint8_t *word, uint64_t
 }
 
 /* The next record of the list, or its end. */
-static listing_Listing listing_next(const listing_Listing *l, const uint8_t *word, uint64_t word_len,
+static inline listing_Listing listing_next(const listing_Listing *l, const uint8_t *word, uint64_t word_len,
         uint16_t *restrict h, uint64_t *restrict y, uint64_t *restrict z)
 {
     return listing_pass(l, l->place + 1, word, word_len, h, y, z);
@@ -3381,7 +3408,7 @@ static listing_Listing listing_next(const listing_Listing *l, const uint8_t *wor
  * them. */
 
 /* The list of the run on a received word, under a limit, into the caller's table. */
-static listing_Listed lists_list(uint8_t code, const uint8_t *word, uint64_t word_len, uint16_t limit,
+static inline listing_Listed lists_list(uint8_t code, const uint8_t *word, uint64_t word_len, uint16_t limit,
         listing_FlipRecord *restrict table, uint64_t table_len)
 {
     uint16_t h[64] = {0};
@@ -3458,18 +3485,17 @@ static const uint64_t nearest_COLUMNS[128] = {
 };
 
 /* What a refused call gives besides its number. */
-static nearest_Reached nearest_refused_by(uint8_t number)
+static inline nearest_Reached nearest_refused_by(uint8_t number)
 {
-    uint32_t t[3] = {0};
     nearest_Reached result;
     result.number = number;
     result.least = 0;
-    memcpy(result.bits, t, 3 * sizeof(uint32_t));
+    memset(result.bits, 0, 3 * sizeof(uint32_t));
     return result;
 }
 
 /* The broken checks of a word. */
-static uint64_t nearest_syndrome(const uint64_t *columns, const uint64_t *y)
+static inline uint64_t nearest_syndrome(const uint64_t *columns, const uint64_t *y)
 {
     uint64_t z = 0;
     uint64_t n = 0;
@@ -3484,7 +3510,7 @@ static uint64_t nearest_syndrome(const uint64_t *columns, const uint64_t *y)
 
 /* The lowest bit from a bit on that is covered by just these checks; 128 if none is. Most of a search's time goes
  * here. */
-static uint64_t nearest_only(const uint64_t *columns, uint64_t z, uint64_t from)
+static inline uint64_t nearest_only(const uint64_t *columns, uint64_t z, uint64_t from)
 {
     uint64_t n = from;
     while (n < 128) {
@@ -3497,26 +3523,24 @@ static uint64_t nearest_only(const uint64_t *columns, uint64_t z, uint64_t from)
 }
 
 /* No list. */
-static nearest_Listed nearest_no_list(void)
+static inline nearest_Listed nearest_no_list(void)
 {
-    uint32_t t[3] = {0};
     nearest_Listed result;
     result.found = false;
     result.count = 0;
-    memcpy(result.bits, t, 3 * sizeof(uint32_t));
+    memset(result.bits, 0, 3 * sizeof(uint32_t));
     return result;
 }
 
 /* The first list of so many bits from a bit on that, flipped, leave no check broken: by choosing a bit, and
  * searching behind it with one flip fewer left. */
-static nearest_Listed nearest_search(const uint64_t *columns, uint64_t z, uint64_t from, uint8_t left)
+static inline nearest_Listed nearest_search(const uint64_t *columns, uint64_t z, uint64_t from, uint8_t left)
 {
     if (left == 0) {
-        uint32_t t[3] = {0};
         nearest_Listed result;
         result.found = z == 0;
         result.count = 0;
-        memcpy(result.bits, t, 3 * sizeof(uint32_t));
+        memset(result.bits, 0, 3 * sizeof(uint32_t));
         return result;
     }
     if (left == 1) {
@@ -3524,11 +3548,12 @@ static nearest_Listed nearest_search(const uint64_t *columns, uint64_t z, uint64
         if (n == 128) {
             return nearest_no_list();
         }
-        uint32_t t2[3] = {(uint32_t)n, 0, 0};
         nearest_Listed result2;
         result2.found = true;
         result2.count = 1;
-        memcpy(result2.bits, t2, 3 * sizeof(uint32_t));
+        result2.bits[0] = (uint32_t)n;
+        result2.bits[1] = 0;
+        result2.bits[2] = 0;
         return result2;
     }
     uint64_t n2 = from;
@@ -3537,11 +3562,12 @@ static nearest_Listed nearest_search(const uint64_t *columns, uint64_t z, uint64
         if (r.found) {
             uint32_t b[3];
             memcpy(b, r.bits, 3 * sizeof(uint32_t));
-            uint32_t t3[3] = {(uint32_t)n2, b[0], b[1]};
             nearest_Listed result3;
             result3.found = true;
             result3.count = left;
-            memcpy(result3.bits, t3, 3 * sizeof(uint32_t));
+            result3.bits[0] = (uint32_t)n2;
+            result3.bits[1] = b[0];
+            result3.bits[2] = b[1];
             return result3;
         }
         n2 += 1;
@@ -3550,7 +3576,7 @@ static nearest_Listed nearest_search(const uint64_t *columns, uint64_t z, uint64
 }
 
 /* Lists of no bits, then of one more each time, up to the reach. */
-static nearest_Listed nearest_fewest_of(const uint64_t *columns, uint64_t z, uint8_t reach)
+static inline nearest_Listed nearest_fewest_of(const uint64_t *columns, uint64_t z, uint8_t reach)
 {
     if (reach == 0) {
         return nearest_search(columns, z, 0, 0);
@@ -3563,14 +3589,14 @@ static nearest_Listed nearest_fewest_of(const uint64_t *columns, uint64_t z, uin
 }
 
 /* The list for a word. The columns are lent as a copy, since a constant is made anew wherever it is read. */
-static nearest_Listed nearest_list_for(const uint64_t *y, uint8_t reach)
+static inline nearest_Listed nearest_list_for(const uint64_t *y, uint8_t reach)
 {
     uint64_t z = nearest_syndrome(nearest_COLUMNS, y);
     return nearest_fewest_of(nearest_COLUMNS, z, reach);
 }
 
 /* Flips the bits of a list. */
-static void nearest_flip_listed(uint64_t *restrict y, const nearest_Listed *l)
+static inline void nearest_flip_listed(uint64_t *restrict y, const nearest_Listed *l)
 {
     uint32_t bits[3];
     memcpy(bits, l->bits, 3 * sizeof(uint32_t));
@@ -3582,14 +3608,16 @@ static void nearest_flip_listed(uint64_t *restrict y, const nearest_Listed *l)
 }
 
 /* The word with the bits of its list flipped, handed out. */
-static void nearest_hand_out(uint64_t *restrict y, const nearest_Listed *l, uint8_t *restrict out, uint64_t out_len)
+static inline void nearest_hand_out(uint64_t *restrict y, const nearest_Listed *l, uint8_t *restrict out,
+        uint64_t out_len)
 {
     nearest_flip_listed(y, l);
     vectors_store(y, 0, out, out_len);
 }
 
 /* A word, an output of the right length, and a reach that is offered. */
-static nearest_Reached nearest_mended(uint64_t *restrict y, uint8_t reach, uint8_t *restrict out, uint64_t out_len)
+static inline nearest_Reached nearest_mended(uint64_t *restrict y, uint8_t reach, uint8_t *restrict out,
+        uint64_t out_len)
 {
     nearest_Listed l = nearest_list_for(y, reach);
     if (!l.found) {
@@ -3606,8 +3634,8 @@ static nearest_Reached nearest_mended(uint64_t *restrict y, uint8_t reach, uint8
 }
 
 /* The same of a word's octets. */
-static nearest_Reached nearest_searched(const uint8_t *word, uint64_t word_len, uint8_t reach, uint8_t *restrict out,
-        uint64_t out_len)
+static inline nearest_Reached nearest_searched(const uint8_t *word, uint64_t word_len, uint8_t reach,
+        uint8_t *restrict out, uint64_t out_len)
 {
     uint64_t y[3] = {0};
     vectors_load(word, word_len, y, 3);
@@ -3616,8 +3644,8 @@ static nearest_Reached nearest_searched(const uint8_t *word, uint64_t word_len, 
 
 /* The fewest flips up to a reach that give a codeword, the first such list of bits in increasing order, and the
  * mended word. */
-static nearest_Reached nearest_nearest(const uint8_t *word, uint64_t word_len, uint8_t reach, uint8_t *restrict out,
-        uint64_t out_len)
+static inline nearest_Reached nearest_nearest(const uint8_t *word, uint64_t word_len, uint8_t reach,
+        uint8_t *restrict out, uint64_t out_len)
 {
     if (word_len != 16) {
         return nearest_refused_by(2);
@@ -3637,7 +3665,7 @@ static nearest_Reached nearest_nearest(const uint8_t *word, uint64_t word_len, u
  * one. */
 
 /* What the shift s adds to the checks of a row, where one word holds the block of m bits; d is the block twice over. */
-static uint64_t quicknarrow_narrow_entry(vectors_Pair d, uint64_t m, uint64_t s)
+static inline uint64_t quicknarrow_narrow_entry(vectors_Pair d, uint64_t m, uint64_t s)
 {
     if (s < m) {
         return vectors_funnel(d.first, d.second, s);
@@ -3646,7 +3674,8 @@ static uint64_t quicknarrow_narrow_entry(vectors_Pair d, uint64_t m, uint64_t s)
 }
 
 /* What block b adds to the checks of row r. */
-static uint64_t quicknarrow_narrow_block(const uint64_t *y, const uint16_t *h, layout_Shape sh, uint64_t b, uint64_t r)
+static inline uint64_t quicknarrow_narrow_block(const uint64_t *y, const uint16_t *h, layout_Shape sh, uint64_t b,
+        uint64_t r)
 {
     uint64_t block = vectors_front(vectors_window(y, b * sh.size), sh.size);
     vectors_Pair d = vectors_double_word(block, sh.size);
@@ -3655,7 +3684,7 @@ static uint64_t quicknarrow_narrow_block(const uint64_t *y, const uint16_t *h, l
 }
 
 /* The checks of row r. */
-static uint64_t quicknarrow_narrow_group(const uint64_t *y, const uint16_t *h, layout_Shape sh, uint64_t r)
+static inline uint64_t quicknarrow_narrow_group(const uint64_t *y, const uint16_t *h, layout_Shape sh, uint64_t r)
 {
     uint64_t v = 0;
     uint64_t b = 0;
@@ -3667,7 +3696,7 @@ static uint64_t quicknarrow_narrow_group(const uint64_t *y, const uint16_t *h, l
 }
 
 /* The lowest broken check, row after row. */
-static uint32_t quicknarrow_rows_lowest(const uint64_t *y, const uint16_t *h, layout_Shape sh)
+static inline uint32_t quicknarrow_rows_lowest(const uint64_t *y, const uint16_t *h, layout_Shape sh)
 {
     uint64_t r = 0;
     while (r < sh.rows) {
@@ -3681,7 +3710,7 @@ static uint32_t quicknarrow_rows_lowest(const uint64_t *y, const uint16_t *h, la
 }
 
 /* The lowest broken check where one word holds a row. */
-static uint32_t quicknarrow_lowest(offer_Offer o, const uint8_t *word, uint64_t word_len)
+static inline uint32_t quicknarrow_lowest(offer_Offer o, const uint8_t *word, uint64_t word_len)
 {
     layout_Shape of = o.shape;
     uint16_t h[64] = {0};
@@ -3697,14 +3726,14 @@ static uint32_t quicknarrow_lowest(offer_Offer o, const uint8_t *word, uint64_t 
  * broken one. */
 
 /* The 64 bits of the octets from bit p on, of nine octets. */
-static uint64_t quickwide_octets_from(const uint8_t *octets, uint64_t p)
+static inline uint64_t quickwide_octets_from(const uint8_t *octets, uint64_t p)
 {
     uint64_t at = p / 8;
     return vectors_funnel(vectors_eight(octets, at), (uint64_t)octets[at + 8] << 56, p % 8);
 }
 
 /* The same of the word that the checks are over, of which the first u bits are not sent. */
-static uint64_t quickwide_lifted_from(const uint8_t *octets, uint64_t u, uint64_t p)
+static inline uint64_t quickwide_lifted_from(const uint8_t *octets, uint64_t u, uint64_t p)
 {
     if (p < u) {
         return vectors_eight(octets, 0) >> (u - p);
@@ -3713,7 +3742,7 @@ static uint64_t quickwide_lifted_from(const uint8_t *octets, uint64_t u, uint64_
 }
 
 /* The same where the last of them may be the last of all. */
-static uint64_t quickwide_octets_to(const uint8_t *octets, uint64_t p)
+static inline uint64_t quickwide_octets_to(const uint8_t *octets, uint64_t p)
 {
     if (p % 8 == 0) {
         return vectors_eight(octets, p / 8);
@@ -3723,7 +3752,7 @@ static uint64_t quickwide_octets_to(const uint8_t *octets, uint64_t p)
 
 /* What the shift s adds to the first 64 checks of a row, where the block has the m bits from bit p on. Its last 64
  * bits and its first ones are read where it goes round. */
-static uint64_t quickwide_wide_entry(const uint8_t *octets, uint64_t u, uint64_t p, uint64_t m, uint64_t s)
+static inline uint64_t quickwide_wide_entry(const uint8_t *octets, uint64_t u, uint64_t p, uint64_t m, uint64_t s)
 {
     uint64_t end = m - 64;
     if (s < end) {
@@ -3736,7 +3765,7 @@ static uint64_t quickwide_wide_entry(const uint8_t *octets, uint64_t u, uint64_t
 }
 
 /* The first 64 checks of row 0. */
-static uint64_t quickwide_first_group(const uint8_t *octets, uint64_t u, const uint16_t *h, layout_Shape sh)
+static inline uint64_t quickwide_first_group(const uint8_t *octets, uint64_t u, const uint16_t *h, layout_Shape sh)
 {
     uint64_t v = 0;
     uint64_t k = 0;
@@ -3748,7 +3777,8 @@ static uint64_t quickwide_first_group(const uint8_t *octets, uint64_t u, const u
 }
 
 /* The block of the m bits from bit p on, twice over. */
-static void quickwide_double_block(const uint64_t *y, uint64_t p, uint64_t m, uint64_t *restrict d, uint64_t d_len)
+static inline void quickwide_double_block(const uint64_t *y, uint64_t p, uint64_t m, uint64_t *restrict d,
+        uint64_t d_len)
 {
     uint64_t block[8] = {0};
     vectors_cut(y, p, m, block, 8);
@@ -3756,7 +3786,7 @@ static void quickwide_double_block(const uint64_t *y, uint64_t p, uint64_t m, ui
 }
 
 /* Every block twice over, each in 16 words. */
-static void quickwide_double_blocks(const uint64_t *y, layout_Shape sh, uint64_t *restrict d)
+static inline void quickwide_double_blocks(const uint64_t *y, layout_Shape sh, uint64_t *restrict d)
 {
     uint64_t b = 0;
     while (b < sh.blocks) {
@@ -3769,7 +3799,7 @@ static void quickwide_double_blocks(const uint64_t *y, layout_Shape sh, uint64_t
 
 /* Where each place of row r begins in the doubled blocks. It is worked out once, so that a group costs no more than
  * its windows. */
-static void quickwide_begin_row(const uint16_t *h, layout_Shape sh, uint64_t r, uint64_t *restrict begins)
+static inline void quickwide_begin_row(const uint16_t *h, layout_Shape sh, uint64_t r, uint64_t *restrict begins)
 {
     uint64_t k = 0;
     while (k < 2 * sh.blocks) {
@@ -3779,7 +3809,7 @@ static void quickwide_begin_row(const uint16_t *h, layout_Shape sh, uint64_t r, 
 }
 
 /* The first 64 checks: the sum of the 64 bits from each beginning on. */
-static uint64_t quickwide_wide_group(const uint64_t *d, const uint64_t *begins, uint64_t begins_len)
+static inline uint64_t quickwide_wide_group(const uint64_t *d, const uint64_t *begins, uint64_t begins_len)
 {
     uint64_t v = 0;
     uint64_t k = 0;
@@ -3791,7 +3821,8 @@ static uint64_t quickwide_wide_group(const uint64_t *d, const uint64_t *begins, 
 }
 
 /* The lowest broken one of m checks, group after group, or m if none is broken. */
-static uint64_t quickwide_groups_lowest(const uint64_t *d, const uint64_t *begins, uint64_t begins_len, uint64_t m)
+static inline uint64_t quickwide_groups_lowest(const uint64_t *d, const uint64_t *begins, uint64_t begins_len,
+        uint64_t m)
 {
     uint64_t g = 0;
     while (64 * g < m) {
@@ -3809,7 +3840,7 @@ static uint64_t quickwide_groups_lowest(const uint64_t *d, const uint64_t *begin
 }
 
 /* The lowest broken check of row r, counted from the row's first, or M if none is broken. */
-static uint64_t quickwide_wide_row_lowest(const uint64_t *d, const uint16_t *h, layout_Shape sh, uint64_t r)
+static inline uint64_t quickwide_wide_row_lowest(const uint64_t *d, const uint16_t *h, layout_Shape sh, uint64_t r)
 {
     uint64_t begins[32] = {0};
     quickwide_begin_row(h, sh, r, begins);
@@ -3817,7 +3848,7 @@ static uint64_t quickwide_wide_row_lowest(const uint64_t *d, const uint16_t *h, 
 }
 
 /* The lowest broken check, row after row. */
-static uint32_t quickwide_wide_rows_lowest(const uint64_t *d, const uint16_t *h, layout_Shape sh)
+static inline uint32_t quickwide_wide_rows_lowest(const uint64_t *d, const uint16_t *h, layout_Shape sh)
 {
     uint64_t row = 0;
     while (row < sh.rows) {
@@ -3831,8 +3862,8 @@ static uint32_t quickwide_wide_rows_lowest(const uint64_t *d, const uint16_t *h,
 }
 
 /* The lowest broken check of a word that is laid out whole. */
-static uint32_t quickwide_whole_lowest(const uint8_t *octets, uint64_t octets_len, uint64_t u, const uint16_t *h,
-        layout_Shape sh)
+static inline uint32_t quickwide_whole_lowest(const uint8_t *octets, uint64_t octets_len, uint64_t u,
+        const uint16_t *h, layout_Shape sh)
 {
     uint64_t y[130] = {0};
     received_take(octets, octets_len, u, y, 130);
@@ -3844,7 +3875,7 @@ static uint32_t quickwide_whole_lowest(const uint8_t *octets, uint64_t octets_le
 /* The lowest broken check where a row is wider than a group. The first group comes straight from the octets; if it
  * is met, the word is laid out, and group comes after group, from the first on: to begin with the second would cost
  * more instructions, not fewer. */
-static uint32_t quickwide_lowest(offer_Offer o, const uint8_t *word, uint64_t word_len)
+static inline uint32_t quickwide_lowest(offer_Offer o, const uint8_t *word, uint64_t word_len)
 {
     uint16_t h[64] = {0};
     tables_lend511(h);
@@ -3864,13 +3895,13 @@ static uint32_t quickwide_lowest(offer_Offer o, const uint8_t *word, uint64_t wo
 typedef pandoricchia_answered quick_Answered;
 
 /* What a refused call gives besides its number. */
-static quick_Answered quick_refused(uint8_t number)
+static inline quick_Answered quick_refused(uint8_t number)
 {
     return (quick_Answered){.number = number, .yes = false, .evaluated = 0};
 }
 
 /* The lowest broken check, or the number of checks if none is broken. */
-static uint32_t quick_lowest_broken(offer_Offer o, const uint8_t *word, uint64_t word_len)
+static inline uint32_t quick_lowest_broken(offer_Offer o, const uint8_t *word, uint64_t word_len)
 {
     layout_Shape sh = o.shape;
     if (sh.size == 511) {
@@ -3880,7 +3911,7 @@ static uint32_t quick_lowest_broken(offer_Offer o, const uint8_t *word, uint64_t
 }
 
 /* The answer by the lowest broken check: that many checks were evaluated, and it; or all of them. */
-static quick_Answered quick_answer(uint32_t lowest, uint32_t all)
+static inline quick_Answered quick_answer(uint32_t lowest, uint32_t all)
 {
     if (lowest == all) {
         return (quick_Answered){.number = 0, .yes = true, .evaluated = all};
@@ -3889,7 +3920,7 @@ static quick_Answered quick_answer(uint32_t lowest, uint32_t all)
 }
 
 /* Whether every check is met, and how many were evaluated. */
-static quick_Answered quick_quick(uint8_t code, const uint8_t *word, uint64_t word_len)
+static inline quick_Answered quick_quick(uint8_t code, const uint8_t *word, uint64_t word_len)
 {
     offer_Offer o = offer_of(code);
     uint8_t number = ladder_refusal(o.offered, word_len, o.word, 0, 0);
@@ -3924,14 +3955,16 @@ static const uint8_t randomiser_TELECOMMAND[319] = {
 };
 
 /* Eight octets of a sequence from `from` on, added to as many octets as one 64-bit word. */
-static void randomiser_add_word(uint8_t *restrict octets, uint64_t octets_len, const uint8_t *sequence, uint64_t from)
+static inline void randomiser_add_word(uint8_t *restrict octets, uint64_t octets_len, const uint8_t *sequence,
+        uint64_t from)
 {
     uint64_t words[2] = {vectors_eight(octets, 0) ^ vectors_eight(sequence, from), 0};
     vectors_store(words, 0, octets, octets_len);
 }
 
 /* The same for octets that are whole words, one after another. */
-static void randomiser_add_words(uint8_t *restrict octets, uint64_t octets_len, const uint8_t *sequence, uint64_t from)
+static inline void randomiser_add_words(uint8_t *restrict octets, uint64_t octets_len, const uint8_t *sequence,
+        uint64_t from)
 {
     uint64_t at = 0;
     while (at < octets_len) {
@@ -3942,7 +3975,8 @@ static void randomiser_add_words(uint8_t *restrict octets, uint64_t octets_len, 
 }
 
 /* The same octet by octet. */
-static void randomiser_add_octets(uint8_t *restrict octets, uint64_t octets_len, const uint8_t *sequence, uint64_t from)
+static inline void randomiser_add_octets(uint8_t *restrict octets, uint64_t octets_len, const uint8_t *sequence,
+        uint64_t from)
 {
     uint64_t i = 0;
     while (i < octets_len) {
@@ -3953,7 +3987,7 @@ static void randomiser_add_octets(uint8_t *restrict octets, uint64_t octets_len,
 
 /* The octets of a sequence from `from` on, added to as many octets: by words, and the last ones, fewer than eight,
  * by octets. */
-static void randomiser_add(uint8_t *restrict octets, uint64_t octets_len, const uint8_t *sequence, uint64_t from)
+static inline void randomiser_add(uint8_t *restrict octets, uint64_t octets_len, const uint8_t *sequence, uint64_t from)
 {
     uint64_t whole = octets_len / 8 * 8;
     randomiser_add_words(octets, whole, sequence, from);
@@ -3961,7 +3995,7 @@ static void randomiser_add(uint8_t *restrict octets, uint64_t octets_len, const 
 }
 
 /* Randomises up to 64 octets in place, or takes it off again; `used` octets of the sequence were used before. */
-static void randomiser_randomise(uint8_t *restrict octets, uint64_t octets_len, uint64_t used)
+static inline void randomiser_randomise(uint8_t *restrict octets, uint64_t octets_len, uint64_t used)
 {
     uint64_t from = used % 255;
     randomiser_add(octets, octets_len, randomiser_TELECOMMAND, from);
@@ -3990,7 +4024,7 @@ static const uint8_t unitoffers_TAIL[16] = {
 };
 
 /* Units are of codes 1 and 3. Another number has code 3's octets, and is refused before they are used. */
-static unitoffers_UnitOffer unitoffers_unit_of(uint8_t code)
+static inline unitoffers_UnitOffer unitoffers_unit_of(uint8_t code)
 {
     switch (code) {
     case 1:
@@ -4002,25 +4036,25 @@ static unitoffers_UnitOffer unitoffers_unit_of(uint8_t code)
     }
 }
 
-static bool unitoffers_is_unit_code(uint8_t code)
+static inline bool unitoffers_is_unit_code(uint8_t code)
 {
     unitoffers_UnitOffer u = unitoffers_unit_of(code);
     return u.offered;
 }
 
-static uint64_t unitoffers_tail_octets(uint8_t code)
+static inline uint64_t unitoffers_tail_octets(uint8_t code)
 {
     unitoffers_UnitOffer u = unitoffers_unit_of(code);
     return u.tail;
 }
 
-static uint64_t unitoffers_word_octets(uint8_t code)
+static inline uint64_t unitoffers_word_octets(uint8_t code)
 {
     unitoffers_UnitOffer u = unitoffers_unit_of(code);
     return u.word;
 }
 
-static uint64_t unitoffers_information_octets(uint8_t code)
+static inline uint64_t unitoffers_information_octets(uint8_t code)
 {
     unitoffers_UnitOffer u = unitoffers_unit_of(code);
     return u.information;
@@ -4038,7 +4072,7 @@ typedef pandoricchia_reading readings_Reading;
 typedef pandoricchia_handed readings_Handed;
 
 /* Whether two slices hold the same octets. */
-static bool readings_same(const uint8_t *a, uint64_t a_len, const uint8_t *b, uint64_t b_len)
+static inline bool readings_same(const uint8_t *a, uint64_t a_len, const uint8_t *b, uint64_t b_len)
 {
     if (a_len != b_len) {
         return false;
@@ -4053,7 +4087,7 @@ static bool readings_same(const uint8_t *a, uint64_t a_len, const uint8_t *b, ui
     return true;
 }
 
-static bool readings_is_started(const uint8_t *unit, uint64_t unit_len)
+static inline bool readings_is_started(const uint8_t *unit, uint64_t unit_len)
 {
     if (unit_len < 8) {
         return false;
@@ -4062,7 +4096,7 @@ static bool readings_is_started(const uint8_t *unit, uint64_t unit_len)
 }
 
 /* The octets between the start and the tail of a unit of so many octets. */
-static uint64_t readings_between(uint8_t code, uint64_t long_)
+static inline uint64_t readings_between(uint8_t code, uint64_t long_)
 {
     uint64_t ends = 8 + unitoffers_tail_octets(code);
     if (long_ < ends) {
@@ -4071,7 +4105,7 @@ static uint64_t readings_between(uint8_t code, uint64_t long_)
     return long_ - ends;
 }
 
-static bool readings_is_tail(uint8_t code, const uint8_t *end, uint64_t end_len)
+static inline bool readings_is_tail(uint8_t code, const uint8_t *end, uint64_t end_len)
 {
     if (unitoffers_tail_octets(code) != 0) {
         return readings_same(end, end_len, unitoffers_TAIL, 16);
@@ -4080,7 +4114,7 @@ static bool readings_is_tail(uint8_t code, const uint8_t *end, uint64_t end_len)
 }
 
 /* Whether what follows the start is one or more whole codeblocks and the tail. */
-static bool readings_is_shaped(uint8_t code, const uint8_t *unit, uint64_t unit_len)
+static inline bool readings_is_shaped(uint8_t code, const uint8_t *unit, uint64_t unit_len)
 {
     uint64_t word = unitoffers_word_octets(code);
     uint64_t rest = readings_between(code, unit_len);
@@ -4095,7 +4129,7 @@ static bool readings_is_shaped(uint8_t code, const uint8_t *unit, uint64_t unit_
 }
 
 /* The number of a reader over a unit. */
-static uint8_t readings_reader_number(uint8_t code, const uint8_t *unit, uint64_t unit_len)
+static inline uint8_t readings_reader_number(uint8_t code, const uint8_t *unit, uint64_t unit_len)
 {
     if (!unitoffers_is_unit_code(code)) {
         return 1;
@@ -4110,37 +4144,38 @@ static uint8_t readings_reader_number(uint8_t code, const uint8_t *unit, uint64_
 }
 
 /* Correct's numbers where there was no run. */
-static endings_Corrected readings_numbered(uint8_t number)
+static inline endings_Corrected readings_numbered(uint8_t number)
 {
     return endings_refused_correct(number);
 }
 
 /* A reader over a unit: its number is that of `kept`. */
-static readings_Reading readings_reader(uint8_t code, const uint8_t *unit, uint64_t unit_len, uint16_t limit)
+static inline readings_Reading readings_reader(uint8_t code, const uint8_t *unit, uint64_t unit_len, uint16_t limit)
 {
     endings_Corrected kept = readings_numbered(readings_reader_number(code, unit, unit_len));
     return (readings_Reading){.kept = kept, .code = code, .limit = limit, .place = 0};
 }
 
 /* An answer that leaves the reading as it is. */
-static readings_Handed readings_handed_again(readings_Reading state, endings_Corrected answer, bool none)
+static inline readings_Handed readings_handed_again(readings_Reading state, endings_Corrected answer, bool none)
 {
     return (readings_Handed){.corrected = answer, .none = none, .next = state};
 }
 
 /* The whole codeblocks that they hold. */
-static uint64_t readings_blocks_in(uint8_t code, uint64_t long_)
+static inline uint64_t readings_blocks_in(uint8_t code, uint64_t long_)
 {
     return readings_between(code, long_) / unitoffers_word_octets(code);
 }
 
-static void readings_word_buffer(uint8_t *restrict result)
+static inline void readings_word_buffer(uint8_t *restrict result)
 {
     memset(result, 0, 64);
 }
 
 /* Codeblock k of a unit, derandomised. */
-static void readings_receive(uint8_t code, const uint8_t *unit, uint64_t k, uint8_t *restrict word, uint64_t word_len)
+static inline void readings_receive(uint8_t code, const uint8_t *unit, uint64_t k, uint8_t *restrict word,
+        uint64_t word_len)
 {
     (void)code;
     uint64_t size = word_len;
@@ -4152,7 +4187,7 @@ static void readings_receive(uint8_t code, const uint8_t *unit, uint64_t k, uint
 }
 
 /* The information of a word that is taken; of a refused one nothing. */
-static void readings_hand_out(uint8_t number, const uint8_t *information, uint64_t information_len,
+static inline void readings_hand_out(uint8_t number, const uint8_t *information, uint64_t information_len,
         uint8_t *restrict out)
 {
     if (number == 0) {
@@ -4161,8 +4196,8 @@ static void readings_hand_out(uint8_t number, const uint8_t *information, uint64
 }
 
 /* A codeblock corrected, and its information handed out. */
-static endings_Corrected readings_correct_part(uint8_t code, const uint8_t *word, uint64_t word_len, uint16_t limit,
-        uint8_t *restrict out, uint64_t out_len)
+static inline endings_Corrected readings_correct_part(uint8_t code, const uint8_t *word, uint64_t word_len,
+        uint16_t limit, uint8_t *restrict out, uint64_t out_len)
 {
     uint64_t size = word_len;
     uint8_t mended[64];
@@ -4174,7 +4209,7 @@ static endings_Corrected readings_correct_part(uint8_t code, const uint8_t *word
 }
 
 /* Codeblock k of a unit. */
-static endings_Corrected readings_read_block(uint8_t code, const uint8_t *unit, uint64_t k, uint16_t limit,
+static inline endings_Corrected readings_read_block(uint8_t code, const uint8_t *unit, uint64_t k, uint16_t limit,
         uint8_t *restrict out, uint64_t out_len)
 {
     uint64_t size = unitoffers_word_octets(code);
@@ -4185,7 +4220,7 @@ static endings_Corrected readings_read_block(uint8_t code, const uint8_t *unit, 
 }
 
 /* A refused codeblock's, which ends it. */
-static readings_Handed readings_handed_last(readings_Reading state, endings_Corrected answer)
+static inline readings_Handed readings_handed_last(readings_Reading state, endings_Corrected answer)
 {
     readings_Reading next = (readings_Reading){.kept = answer, .code = state.code, .limit = state.limit,
             .place = state.place};
@@ -4193,7 +4228,7 @@ static readings_Handed readings_handed_last(readings_Reading state, endings_Corr
 }
 
 /* A codeblock's that is handed out: the reading moves on. */
-static readings_Handed readings_handed_on(readings_Reading state, endings_Corrected answer)
+static inline readings_Handed readings_handed_on(readings_Reading state, endings_Corrected answer)
 {
     endings_Corrected kept = state.kept;
     readings_Reading next = (readings_Reading){.kept = kept, .code = state.code, .limit = state.limit,
@@ -4202,7 +4237,7 @@ static readings_Handed readings_handed_on(readings_Reading state, endings_Correc
 }
 
 /* The next codeblock. */
-static readings_Handed readings_read_next(readings_Reading state, const uint8_t *unit, uint8_t *restrict out,
+static inline readings_Handed readings_read_next(readings_Reading state, const uint8_t *unit, uint8_t *restrict out,
         uint64_t out_len)
 {
     endings_Corrected r = readings_read_block(state.code, unit, state.place, state.limit, out, out_len);
@@ -4213,7 +4248,7 @@ static readings_Handed readings_read_next(readings_Reading state, const uint8_t 
 }
 
 /* The answer that ended the reading, that there is none, or the next codeblock. */
-static readings_Handed readings_read_on(readings_Reading state, const uint8_t *unit, uint64_t unit_len,
+static inline readings_Handed readings_read_on(readings_Reading state, const uint8_t *unit, uint64_t unit_len,
         uint8_t *restrict out, uint64_t out_len)
 {
     if (state.kept.number != 0) {
@@ -4228,7 +4263,7 @@ static readings_Handed readings_read_on(readings_Reading state, const uint8_t *u
 }
 
 /* Asks a reading of a unit for the next codeblock's information octets. */
-static readings_Handed readings_read(readings_Reading state, const uint8_t *unit, uint64_t unit_len,
+static inline readings_Handed readings_read(readings_Reading state, const uint8_t *unit, uint64_t unit_len,
         uint8_t *restrict out, uint64_t out_len)
 {
     uint8_t code = state.code;
@@ -4254,7 +4289,7 @@ typedef struct raising_Low {
 } raising_Low;
 
 /* Of two bits the smaller; of equals the lower number. */
-static uint64_t raising_lesser(const float *samples, uint64_t a, uint64_t b)
+static inline uint64_t raising_lesser(const float *samples, uint64_t a, uint64_t b)
 {
     if (a < b) {
         return sizes_smaller(samples, a, b);
@@ -4263,7 +4298,7 @@ static uint64_t raising_lesser(const float *samples, uint64_t a, uint64_t b)
 }
 
 /* 1 for a bit that is set. */
-static uint8_t raising_one(bool b)
+static inline uint8_t raising_one(bool b)
 {
     if (b) {
         return 1;
@@ -4272,7 +4307,7 @@ static uint8_t raising_one(bool b)
 }
 
 /* How many of the n checks of bit k of a block are broken. */
-static uint8_t raising_broken_of(const uint64_t *d, const uint16_t *starts, uint64_t from, uint8_t n, uint64_t k)
+static inline uint8_t raising_broken_of(const uint64_t *d, const uint16_t *starts, uint64_t from, uint8_t n, uint64_t k)
 {
     uint64_t end = n;
     uint8_t broken = 0;
@@ -4285,7 +4320,7 @@ static uint8_t raising_broken_of(const uint64_t *d, const uint16_t *starts, uint
 }
 
 /* The first place of the check at p. */
-static uint64_t raising_nearer(uint64_t p, uint64_t m)
+static inline uint64_t raising_nearer(uint64_t p, uint64_t m)
 {
     if (p % 1024 < m) {
         return p;
@@ -4295,7 +4330,7 @@ static uint64_t raising_nearer(uint64_t p, uint64_t m)
 
 /* The bit of a block that the check at p covers by the start s, where the check stands M places on once more; M or
  * more if there is none. */
-static uint64_t raising_bit_at(uint64_t p, uint64_t s, uint64_t m)
+static inline uint64_t raising_bit_at(uint64_t p, uint64_t s, uint64_t m)
 {
     if (s <= p) {
         return p - s;
@@ -4309,8 +4344,8 @@ static uint64_t raising_bit_at(uint64_t p, uint64_t s, uint64_t m)
 /* What is known of a block, by the number of checks that every bit has met and the smallest bit, when bit k of it is
  * seen too, of whose n checks so many are broken. It is made of numbers: a record that came in whole would be copied
  * whole. */
-static raising_Low raising_meet(const float *samples, uint64_t samples_len, uint8_t n, uint8_t broken, uint64_t first,
-        uint64_t k, uint8_t met, uint64_t known)
+static inline raising_Low raising_meet(const float *samples, uint64_t samples_len, uint8_t n, uint8_t broken,
+        uint64_t first, uint64_t k, uint8_t met, uint64_t known)
 {
     if (n < broken + met) {
         return (raising_Low){.met = (uint8_t)(n - broken), .bit = first + k};
@@ -4325,8 +4360,8 @@ static raising_Low raising_meet(const float *samples, uint64_t samples_len, uint
 }
 
 /* What is known of a block when bit k is seen too, if it is one of its m bits. */
-static raising_Low raising_look(const float *samples, uint64_t samples_len, const uint64_t *d, const uint16_t *starts,
-        uint64_t from, uint8_t n, uint64_t m, uint64_t first, uint64_t k, raising_Low low)
+static inline raising_Low raising_look(const float *samples, uint64_t samples_len, const uint64_t *d,
+        const uint16_t *starts, uint64_t from, uint8_t n, uint64_t m, uint64_t first, uint64_t k, raising_Low low)
 {
     if (m <= k) {
         return low;
@@ -4335,7 +4370,7 @@ static raising_Low raising_look(const float *samples, uint64_t samples_len, cons
 }
 
 /* What is known of a block when the bits that the check at p covers are seen too. */
-static raising_Low raising_raise_in(const float *samples, uint64_t samples_len, const uint64_t *d,
+static inline raising_Low raising_raise_in(const float *samples, uint64_t samples_len, const uint64_t *d,
         const uint16_t *starts, uint64_t from, uint8_t n, uint64_t m, uint64_t first, uint64_t p, raising_Low low)
 {
     uint64_t end = n;
@@ -4350,8 +4385,9 @@ static raising_Low raising_raise_in(const float *samples, uint64_t samples_len, 
 }
 
 /* What is known of block b when the bits that the check at p covers are seen too; what is known of the others stays. */
-static void raising_raise_block(const float *samples, uint64_t samples_len, const uint64_t *d, const uint16_t *starts,
-        const uint8_t *counts, uint8_t *restrict met, uint64_t *restrict kept, layout_Shape sh, uint64_t p, uint64_t b)
+static inline void raising_raise_block(const float *samples, uint64_t samples_len, const uint64_t *d,
+        const uint16_t *starts, const uint8_t *counts, uint8_t *restrict met, uint64_t *restrict kept, layout_Shape sh,
+        uint64_t p, uint64_t b)
 {
     raising_Low was = (raising_Low){.met = met[b], .bit = kept[b]};
     raising_Low low = raising_raise_in(samples, samples_len, d, starts, 8 * b, counts[b], sh.size, b * sh.size, p, was);
@@ -4360,8 +4396,9 @@ static void raising_raise_block(const float *samples, uint64_t samples_len, cons
 }
 
 /* What is known of every block when the bits that the check at p covers are seen too. */
-static void raising_raise_all(const float *samples, uint64_t samples_len, const uint64_t *d, const uint16_t *starts,
-        const uint8_t *counts, uint8_t *restrict met, uint64_t *restrict kept, layout_Shape sh, uint64_t p)
+static inline void raising_raise_all(const float *samples, uint64_t samples_len, const uint64_t *d,
+        const uint16_t *starts, const uint8_t *counts, uint8_t *restrict met, uint64_t *restrict kept, layout_Shape sh,
+        uint64_t p)
 {
     uint64_t b = 0;
     while (b < sh.blocks) {
@@ -4371,8 +4408,9 @@ static void raising_raise_all(const float *samples, uint64_t samples_len, const 
 }
 
 /* The same, if the check at p is broken. */
-static void raising_raise_check(const float *samples, uint64_t samples_len, const uint64_t *d, const uint16_t *starts,
-        const uint8_t *counts, uint8_t *restrict met, uint64_t *restrict kept, layout_Shape sh, uint64_t p)
+static inline void raising_raise_check(const float *samples, uint64_t samples_len, const uint64_t *d,
+        const uint16_t *starts, const uint8_t *counts, uint8_t *restrict met, uint64_t *restrict kept, layout_Shape sh,
+        uint64_t p)
 {
     if (!vectors_is_set(d, p)) {
         return;
@@ -4382,7 +4420,7 @@ static void raising_raise_check(const float *samples, uint64_t samples_len, cons
 
 /* What is known of every block when the bits are seen too that a broken check of bit k covers; the starts of its
  * block begin with start `from`. */
-static void raising_raise(const float *samples, uint64_t samples_len, const uint64_t *d, const uint16_t *starts,
+static inline void raising_raise(const float *samples, uint64_t samples_len, const uint64_t *d, const uint16_t *starts,
         const uint8_t *counts, uint8_t *restrict met, uint64_t *restrict kept, layout_Shape sh, uint64_t from,
         uint64_t n, uint64_t k)
 {
@@ -4395,8 +4433,9 @@ static void raising_raise(const float *samples, uint64_t samples_len, const uint
 
 /* Flips the checks of a bit. Only the bits that a check covers which is broken then have fewer checks met than
  * before: these are seen anew. */
-static void raising_flip(const float *samples, uint64_t samples_len, uint64_t *restrict d, const uint16_t *starts,
-        const uint8_t *counts, uint8_t *restrict met, uint64_t *restrict kept, layout_Shape sh, uint64_t bit)
+static inline void raising_flip(const float *samples, uint64_t samples_len, uint64_t *restrict d,
+        const uint16_t *starts, const uint8_t *counts, uint8_t *restrict met, uint64_t *restrict kept, layout_Shape sh,
+        uint64_t bit)
 {
     uint64_t b = bit / sh.size;
     uint64_t k = bit % sh.size;
@@ -4411,7 +4450,7 @@ static void raising_flip(const float *samples, uint64_t samples_len, uint64_t *r
  * bit at that bound. */
 
 /* The smaller of two bits of which the first may be none. */
-static uint64_t smallest_lead(const float *samples, uint64_t samples_len, uint64_t best, uint64_t bit)
+static inline uint64_t smallest_lead(const float *samples, uint64_t samples_len, uint64_t best, uint64_t bit)
 {
     if (best < samples_len) {
         return raising_lesser(samples, best, bit);
@@ -4421,8 +4460,8 @@ static uint64_t smallest_lead(const float *samples, uint64_t samples_len, uint64
 
 /* The smallest of the bits up to block b, from the one before it and the one that is known of the block; the number
  * of samples if the block is to be weighed for it. */
-static uint64_t smallest_still(const float *samples, uint64_t samples_len, const uint64_t *d, const uint16_t *starts,
-        uint64_t from, uint8_t n, uint8_t met, uint64_t m, uint64_t bit, uint64_t best)
+static inline uint64_t smallest_still(const float *samples, uint64_t samples_len, const uint64_t *d,
+        const uint16_t *starts, uint64_t from, uint8_t n, uint8_t met, uint64_t m, uint64_t bit, uint64_t best)
 {
     uint64_t end = samples_len;
     if (end <= bit) {
@@ -4440,7 +4479,7 @@ static uint64_t smallest_still(const float *samples, uint64_t samples_len, const
 
 /* Of 64 bits, those that have none of four checks met: the first bit's stand at a, b, c and e. Mostly two of them
  * show that there is none. */
-static uint64_t smallest_none_met(const uint64_t *d, uint64_t a, uint64_t b, uint64_t c, uint64_t e)
+static inline uint64_t smallest_none_met(const uint64_t *d, uint64_t a, uint64_t b, uint64_t c, uint64_t e)
 {
     uint64_t x = vectors_window(d, a);
     if (x == 0) {
@@ -4454,7 +4493,7 @@ static uint64_t smallest_none_met(const uint64_t *d, uint64_t a, uint64_t b, uin
 }
 
 /* Of 64 bits from bit `at` on, how many stand before bit m. */
-static uint64_t smallest_left(uint64_t m, uint64_t at)
+static inline uint64_t smallest_left(uint64_t m, uint64_t at)
 {
     if (m - at < 64) {
         return m - at;
@@ -4463,7 +4502,8 @@ static uint64_t smallest_left(uint64_t m, uint64_t at)
 }
 
 /* The smallest of a bit, if it is one, and of the bits that are set in mask, which begins with bit `first`. */
-static uint64_t smallest_among(const float *samples, uint64_t samples_len, uint64_t mask, uint64_t first, uint64_t bit)
+static inline uint64_t smallest_among(const float *samples, uint64_t samples_len, uint64_t mask, uint64_t first,
+        uint64_t bit)
 {
     if (mask == 0) {
         return bit;
@@ -4475,7 +4515,7 @@ static uint64_t smallest_among(const float *samples, uint64_t samples_len, uint6
 }
 
 /* The smallest bit of a block that has none of its four checks met; if there is none, the number of samples. */
-static uint64_t smallest_smallest_none(const float *samples, uint64_t samples_len, const uint64_t *d,
+static inline uint64_t smallest_smallest_none(const float *samples, uint64_t samples_len, const uint64_t *d,
         const uint16_t *starts, uint64_t from, uint64_t m, uint64_t first)
 {
     uint64_t s0 = starts[from];
@@ -4495,7 +4535,7 @@ static uint64_t smallest_smallest_none(const float *samples, uint64_t samples_le
 }
 
 /* The smallest bit of a block that has at most so many of its n checks met; if there is none, the number of samples. */
-static uint64_t smallest_smallest_in(const float *samples, uint64_t samples_len, const uint64_t *d,
+static inline uint64_t smallest_smallest_in(const float *samples, uint64_t samples_len, const uint64_t *d,
         const uint16_t *starts, uint64_t from, uint64_t n, uint64_t met, uint64_t m, uint64_t first)
 {
     uint64_t best = samples_len;
@@ -4509,7 +4549,7 @@ static uint64_t smallest_smallest_in(const float *samples, uint64_t samples_len,
 }
 
 /* The same as smallest_in; if it is for bits with none of four checks met, by the quicker way. */
-static uint64_t smallest_smallest_light(const float *samples, uint64_t samples_len, const uint64_t *d,
+static inline uint64_t smallest_smallest_light(const float *samples, uint64_t samples_len, const uint64_t *d,
         const uint16_t *starts, uint64_t from, uint64_t n, uint64_t met, uint64_t m, uint64_t first)
 {
     if (met == 0 && n == 4) {
@@ -4520,9 +4560,9 @@ static uint64_t smallest_smallest_light(const float *samples, uint64_t samples_l
 
 /* The smallest of a bit and of those of block b that have no more checks met than is kept of it. If there is none of
  * these, one more is met. */
-static uint64_t smallest_weigh(const float *samples, uint64_t samples_len, const uint64_t *d, const uint16_t *starts,
-        const uint8_t *counts, uint8_t *restrict met, uint64_t *restrict kept, layout_Shape sh, uint64_t b,
-        uint64_t best)
+static inline uint64_t smallest_weigh(const float *samples, uint64_t samples_len, const uint64_t *d,
+        const uint16_t *starts, const uint8_t *counts, uint8_t *restrict met, uint64_t *restrict kept, layout_Shape sh,
+        uint64_t b, uint64_t best)
 {
     uint64_t end = samples_len;
     uint64_t n = counts[b];
@@ -4536,7 +4576,7 @@ static uint64_t smallest_weigh(const float *samples, uint64_t samples_len, const
 }
 
 /* The same, by the bit that is known of the block; the block is weighed only if that does not tell. */
-static uint64_t smallest_at_bound(const float *samples, uint64_t samples_len, const uint64_t *d,
+static inline uint64_t smallest_at_bound(const float *samples, uint64_t samples_len, const uint64_t *d,
         const uint16_t *starts, const uint8_t *counts, uint8_t *restrict met, uint64_t *restrict kept, layout_Shape sh,
         uint64_t b, uint64_t best)
 {
@@ -4549,9 +4589,9 @@ static uint64_t smallest_at_bound(const float *samples, uint64_t samples_len, co
 
 /* The smallest of a bit and of those of block b that have the score `top`, where no bit of the block has a greater
  * one. */
-static uint64_t smallest_settle(const float *samples, uint64_t samples_len, const uint64_t *d, const uint16_t *starts,
-        const uint8_t *counts, uint8_t *restrict met, uint64_t *restrict kept, layout_Shape sh, uint64_t b,
-        uint8_t top, uint64_t best)
+static inline uint64_t smallest_settle(const float *samples, uint64_t samples_len, const uint64_t *d,
+        const uint16_t *starts, const uint8_t *counts, uint8_t *restrict met, uint64_t *restrict kept, layout_Shape sh,
+        uint64_t b, uint8_t top, uint64_t best)
 {
     if (choice_bound_of(counts, met, b) != top) {
         return best;
@@ -4560,7 +4600,7 @@ static uint64_t smallest_settle(const float *samples, uint64_t samples_len, cons
 }
 
 /* The smallest bit of score `top`, where no bit has a greater one; if there is none, the number of samples. */
-static uint64_t smallest_smallest_at(const float *samples, uint64_t samples_len, const uint64_t *d,
+static inline uint64_t smallest_smallest_at(const float *samples, uint64_t samples_len, const uint64_t *d,
         const uint16_t *starts, const uint8_t *counts, uint8_t *restrict met, uint64_t *restrict kept, layout_Shape sh,
         uint8_t top)
 {
@@ -4574,7 +4614,7 @@ static uint64_t smallest_smallest_at(const float *samples, uint64_t samples_len,
 }
 
 /* The smallest bit of the greatest score: the bounds go down until one is found. */
-static choice_Best smallest_choose(const float *samples, uint64_t samples_len, const uint64_t *d,
+static inline choice_Best smallest_choose(const float *samples, uint64_t samples_len, const uint64_t *d,
         const uint16_t *starts, const uint8_t *counts, uint8_t *restrict met, uint64_t *restrict kept, layout_Shape sh)
 {
     for (;;) {
@@ -4614,13 +4654,13 @@ typedef struct sizing_Passed {
 } sizing_Passed;
 
 /* A run that ends. */
-static sizing_Ended sizing_at_end(uint8_t number, uint32_t flips, uint32_t last, uint32_t unlike)
+static inline sizing_Ended sizing_at_end(uint8_t number, uint32_t flips, uint32_t last, uint32_t unlike)
 {
     return (sizing_Ended){.ran = (runs_Ran){.number = number, .flips = flips}, .last = last, .unlike = unlike};
 }
 
 /* The first words of y. */
-static void sizing_keep(const uint64_t *y, uint64_t *restrict x)
+static inline void sizing_keep(const uint64_t *y, uint64_t *restrict x)
 {
     uint64_t j = 0;
     while (j < 16) {
@@ -4630,7 +4670,7 @@ static void sizing_keep(const uint64_t *y, uint64_t *restrict x)
 }
 
 /* The run of `runs` that ended so, and in how many bits the words y at its end differ from x, as they were read. */
-static sizing_Ended sizing_ended_narrow(const float *samples, uint64_t samples_len, const uint64_t *x,
+static inline sizing_Ended sizing_ended_narrow(const float *samples, uint64_t samples_len, const uint64_t *x,
         const uint64_t *y, runs_Ended end)
 {
     (void)samples;
@@ -4640,7 +4680,7 @@ static sizing_Ended sizing_ended_narrow(const float *samples, uint64_t samples_l
 }
 
 /* The same where one word holds a block: the run of `runs`, and the words as they were read beside those at its end. */
-static sizing_Ended sizing_run_narrow(const float *samples, uint64_t samples_len, uint64_t *restrict y,
+static inline sizing_Ended sizing_run_narrow(const float *samples, uint64_t samples_len, uint64_t *restrict y,
         const uint64_t *z, const uint16_t *h, layout_Shape sh, uint16_t limit, uint32_t first)
 {
     uint64_t x[16] = {0};
@@ -4651,7 +4691,7 @@ static sizing_Ended sizing_run_narrow(const float *samples, uint64_t samples_len
 
 /* What comes next for a word of which d, starts, counts, met and kept are kept, and that has a broken check: the bit
  * that is flipped; or the run ends, with 5 if it is stuck, or with 6 if it has flipped as many as the limit allows. */
-static sizing_Chosen sizing_comes_next(const float *samples, uint64_t samples_len, const uint64_t *d,
+static inline sizing_Chosen sizing_comes_next(const float *samples, uint64_t samples_len, const uint64_t *d,
         const uint16_t *starts, const uint8_t *counts, uint8_t *restrict met, uint64_t *restrict kept, layout_Shape sh,
         uint16_t limit, uint32_t flips)
 {
@@ -4666,7 +4706,7 @@ static sizing_Chosen sizing_comes_next(const float *samples, uint64_t samples_le
 }
 
 /* In how many bits the word y differs from the one that was read, once bit `bit` is flipped; before that in so many. */
-static uint32_t sizing_counted(const float *samples, const uint64_t *y, uint64_t bit, uint32_t unlike)
+static inline uint32_t sizing_counted(const float *samples, const uint64_t *y, uint64_t bit, uint32_t unlike)
 {
     if ((samples[bit] < 0.0f) == vectors_is_set(y, bit)) {
         return unlike + 1;
@@ -4678,7 +4718,7 @@ static uint32_t sizing_counted(const float *samples, const uint64_t *y, uint64_t
 }
 
 /* Flips a bit of the word y, and says in how many bits y differs from what was read then; before that in so many. */
-static uint32_t sizing_flip_counted(const float *samples, uint64_t *restrict y, uint64_t bit, uint32_t unlike)
+static inline uint32_t sizing_flip_counted(const float *samples, uint64_t *restrict y, uint64_t bit, uint32_t unlike)
 {
     uint32_t r = sizing_counted(samples, y, bit, unlike);
     vectors_flip_bit(y, bit);
@@ -4686,7 +4726,7 @@ static uint32_t sizing_flip_counted(const float *samples, uint64_t *restrict y, 
 }
 
 /* Flips a bit in y, and in what is kept if a check is broken then: so many fewer than before are. */
-static sizing_Passed sizing_pass(const float *samples, uint64_t samples_len, uint64_t *restrict y,
+static inline sizing_Passed sizing_pass(const float *samples, uint64_t samples_len, uint64_t *restrict y,
         uint64_t *restrict d, const uint16_t *starts, const uint8_t *counts, uint8_t *restrict met,
         uint64_t *restrict kept, layout_Shape sh, uint64_t bit, uint32_t fewer, uint32_t was, uint32_t unlike)
 {
@@ -4699,7 +4739,7 @@ static sizing_Passed sizing_pass(const float *samples, uint64_t samples_len, uin
 }
 
 /* A pass of the run, for a word y with so many broken checks, one or more: a bit is flipped, or the run ends. */
-static sizing_Passed sizing_go_once(const float *samples, uint64_t samples_len, uint64_t *restrict y,
+static inline sizing_Passed sizing_go_once(const float *samples, uint64_t samples_len, uint64_t *restrict y,
         uint64_t *restrict d, const uint16_t *starts, const uint8_t *counts, uint8_t *restrict met,
         uint64_t *restrict kept, const uint16_t *h, layout_Shape sh, uint16_t limit, uint32_t flips,
         uint32_t left, uint32_t unlike)
@@ -4714,7 +4754,7 @@ static sizing_Passed sizing_go_once(const float *samples, uint64_t samples_len, 
 
 /* The run from the word y that was read, of which d, starts, counts, met and kept are kept, under a limit: flips
  * until it ends. So many checks are broken. */
-static sizing_Ended sizing_go_on(const float *samples, uint64_t samples_len, uint64_t *restrict y,
+static inline sizing_Ended sizing_go_on(const float *samples, uint64_t samples_len, uint64_t *restrict y,
         uint64_t *restrict d, const uint16_t *starts, const uint8_t *counts, uint8_t *restrict met,
         uint64_t *restrict kept, const uint16_t *h, layout_Shape sh, uint16_t limit, uint32_t first)
 {
@@ -4736,7 +4776,7 @@ static sizing_Ended sizing_go_on(const float *samples, uint64_t samples_len, uin
 
 /* The run from the word y that was read, with the syndrome z, of which d, starts and counts are kept. No bit is
  * known yet, and no met check is counted on. */
-static sizing_Ended sizing_run_begun(const float *samples, uint64_t samples_len, uint64_t *restrict y,
+static inline sizing_Ended sizing_run_begun(const float *samples, uint64_t samples_len, uint64_t *restrict y,
         const uint64_t *z, uint64_t *restrict d, const uint16_t *starts, const uint8_t *counts, const uint16_t *h,
         layout_Shape sh, uint16_t limit, uint32_t first)
 {
@@ -4750,7 +4790,7 @@ static sizing_Ended sizing_run_begun(const float *samples, uint64_t samples_len,
 }
 
 /* The same from the start: the rows are doubled, and the starts of every block gathered. */
-static sizing_Ended sizing_run_gathered(const float *samples, uint64_t samples_len, uint64_t *restrict y,
+static inline sizing_Ended sizing_run_gathered(const float *samples, uint64_t samples_len, uint64_t *restrict y,
         const uint64_t *z, uint64_t *restrict d, const uint16_t *h, layout_Shape sh, uint16_t limit, uint32_t first)
 {
     uint16_t starts[128] = {0};
@@ -4761,7 +4801,7 @@ static sizing_Ended sizing_run_gathered(const float *samples, uint64_t samples_l
 
 /* The run from the word y that was read, with the syndrome z, of which so many checks are broken, by the bounds of
  * its blocks. */
-static sizing_Ended sizing_run_bounded(const float *samples, uint64_t samples_len, uint64_t *restrict y,
+static inline sizing_Ended sizing_run_bounded(const float *samples, uint64_t samples_len, uint64_t *restrict y,
         const uint64_t *z, const uint16_t *h, layout_Shape sh, uint16_t limit, uint32_t first)
 {
     uint64_t d[65] = {0};
@@ -4770,8 +4810,8 @@ static sizing_Ended sizing_run_bounded(const float *samples, uint64_t samples_le
 
 /* The run from the word y that was read, with the syndrome z, of which so many checks are broken, under a limit:
  * flips until it ends. */
-static sizing_Ended sizing_run(const float *samples, uint64_t samples_len, uint64_t *restrict y, const uint64_t *z,
-        const uint16_t *h, layout_Shape sh, uint16_t limit, uint32_t first)
+static inline sizing_Ended sizing_run(const float *samples, uint64_t samples_len, uint64_t *restrict y,
+        const uint64_t *z, const uint16_t *h, layout_Shape sh, uint16_t limit, uint32_t first)
 {
     if (first == 0) {
         return sizing_at_end(0, 0, 0, 0);
@@ -4795,7 +4835,7 @@ typedef struct samples_Begun {
 
 /* The parity table of blocks of this size into h, and the syndrome of the bits that y holds into z, which is handed
  * over as zeros. */
-static samples_Begun samples_begin(uint64_t size, const uint64_t *y, uint16_t *restrict h, uint64_t *restrict z)
+static inline samples_Begun samples_begin(uint64_t size, const uint64_t *y, uint16_t *restrict h, uint64_t *restrict z)
 {
     layout_Shape sh = measured_checks(size, y, h, z);
     return (samples_Begun){.shape = sh, .first = syndromes_broken(z), .lowest = syndromes_lowest(z, sh)};
@@ -4803,8 +4843,9 @@ static samples_Begun samples_begin(uint64_t size, const uint64_t *y, uint16_t *r
 
 /* The run on the bits y, whose syndrome is z, and its judgement; y is the word at its end. So many checks are
  * broken, and so is the lowest. */
-static endings_Corrected samples_run_judged(offer_Offer o, const float *samples, uint64_t samples_len, uint16_t limit,
-        uint64_t *restrict y, const uint64_t *z, const uint16_t *h, layout_Shape sh, uint32_t first, uint32_t lowest)
+static inline endings_Corrected samples_run_judged(offer_Offer o, const float *samples, uint64_t samples_len,
+        uint16_t limit, uint64_t *restrict y, const uint64_t *z, const uint16_t *h, layout_Shape sh, uint32_t first,
+        uint32_t lowest)
 {
     sizing_Ended end = sizing_run(samples, samples_len, y, z, h, sh, limit, first);
     runs_Ran ran = end.ran;
@@ -4813,8 +4854,8 @@ static endings_Corrected samples_run_judged(offer_Offer o, const float *samples,
 }
 
 /* The same from the start, with room for the table and the syndrome, which is handed over as zeros. */
-static endings_Corrected samples_run_within(offer_Offer o, const float *samples, uint64_t samples_len, uint16_t limit,
-        uint64_t *restrict y, uint16_t *restrict h, uint64_t *restrict z)
+static inline endings_Corrected samples_run_within(offer_Offer o, const float *samples, uint64_t samples_len,
+        uint16_t limit, uint64_t *restrict y, uint16_t *restrict h, uint64_t *restrict z)
 {
     layout_Shape of = o.shape;
     samples_Begun begun = samples_begin(of.size, y, h, z);
@@ -4824,8 +4865,8 @@ static endings_Corrected samples_run_within(offer_Offer o, const float *samples,
 
 /* The run on the bits y that were read from as many samples as the code has bits, and its judgement; y is the word
  * at its end. */
-static endings_Corrected samples_run_read(offer_Offer o, const float *samples, uint64_t samples_len, uint16_t limit,
-        uint64_t *restrict y)
+static inline endings_Corrected samples_run_read(offer_Offer o, const float *samples, uint64_t samples_len,
+        uint16_t limit, uint64_t *restrict y)
 {
     uint16_t h[64] = {0};
     uint64_t z[16] = {0};
@@ -4833,7 +4874,7 @@ static endings_Corrected samples_run_read(offer_Offer o, const float *samples, u
 }
 
 /* The same, into an output of the right length if the run is not refused. */
-static endings_Corrected samples_correct_read(offer_Offer o, const float *samples, uint64_t samples_len,
+static inline endings_Corrected samples_correct_read(offer_Offer o, const float *samples, uint64_t samples_len,
         uint16_t limit, uint64_t *restrict y, uint8_t *restrict out, uint64_t out_len)
 {
     endings_Corrected r = samples_run_read(o, samples, samples_len, limit, y);
@@ -4845,7 +4886,7 @@ static endings_Corrected samples_correct_read(offer_Offer o, const float *sample
 
 /* The run on samples, as many as the code has bits, into an output of the right length; 16 if one of them is not
  * finite. */
-static endings_Corrected samples_correct_taken(offer_Offer o, const float *samples, uint64_t samples_len,
+static inline endings_Corrected samples_correct_taken(offer_Offer o, const float *samples, uint64_t samples_len,
         uint16_t limit, uint8_t *restrict out, uint64_t out_len)
 {
     uint64_t y[130] = {0};
@@ -4856,7 +4897,7 @@ static endings_Corrected samples_correct_taken(offer_Offer o, const float *sampl
 }
 
 /* The run on samples, one for each bit, under a limit. */
-static endings_Corrected samples_correct_samples(uint8_t code, const float *samples, uint64_t samples_len,
+static inline endings_Corrected samples_correct_samples(uint8_t code, const float *samples, uint64_t samples_len,
         uint16_t limit, uint8_t *restrict out, uint64_t out_len)
 {
     offer_Offer o = offer_of(code);
@@ -4897,18 +4938,18 @@ static const uint8_t telemetry_SEQUENCE[255] = {
 };
 
 /* Whether an edition has the second sequence. */
-static bool telemetry_is_newer(uint8_t edition)
+static inline bool telemetry_is_newer(uint8_t edition)
 {
     return edition == 4 || edition == 5;
 }
 
-static void telemetry_buffer(uint8_t *restrict result)
+static inline void telemetry_buffer(uint8_t *restrict result)
 {
     memset(result, 0, 1020);
 }
 
 /* The first octets of the second sequence, laid into longer ones. */
-static void telemetry_lay(uint8_t *restrict octets, const uint8_t *start, uint64_t start_len)
+static inline void telemetry_lay(uint8_t *restrict octets, const uint8_t *start, uint64_t start_len)
 {
     uint64_t i = 0;
     while (i < start_len) {
@@ -4918,7 +4959,7 @@ static void telemetry_lay(uint8_t *restrict octets, const uint8_t *start, uint64
 }
 
 /* The others, each from two before it. */
-static void telemetry_extend(uint8_t *restrict octets, uint64_t octets_len)
+static inline void telemetry_extend(uint8_t *restrict octets, uint64_t octets_len)
 {
     uint64_t i = 136;
     while (i < octets_len) {
@@ -4928,14 +4969,14 @@ static void telemetry_extend(uint8_t *restrict octets, uint64_t octets_len)
 }
 
 /* As many octets of the second sequence. */
-static void telemetry_lay_second(uint8_t *restrict octets, uint64_t octets_len)
+static inline void telemetry_lay_second(uint8_t *restrict octets, uint64_t octets_len)
 {
     telemetry_lay(octets, telemetry_START, 136);
     telemetry_extend(octets, octets_len);
 }
 
 /* The second sequence, added to a word of 1020 octets in place. */
-static void telemetry_add_second(uint8_t *restrict word, uint64_t word_len)
+static inline void telemetry_add_second(uint8_t *restrict word, uint64_t word_len)
 {
     uint8_t sequence[1020];
     telemetry_buffer(sequence);
@@ -4944,7 +4985,7 @@ static void telemetry_add_second(uint8_t *restrict word, uint64_t word_len)
 }
 
 /* The first sequence, added to a word of 1020 octets in place. */
-static void telemetry_add_first(uint8_t *restrict word)
+static inline void telemetry_add_first(uint8_t *restrict word)
 {
     uint64_t at = 0;
     while (at < 1020) {
@@ -4955,7 +4996,7 @@ static void telemetry_add_first(uint8_t *restrict word)
 }
 
 /* Randomises a word of 1020 octets in place as an edition has it, or takes it off again. */
-static void telemetry_randomise_word(uint8_t edition, uint8_t *restrict word, uint64_t word_len)
+static inline void telemetry_randomise_word(uint8_t edition, uint8_t *restrict word, uint64_t word_len)
 {
     if (telemetry_is_newer(edition)) {
         telemetry_add_second(word, word_len);
@@ -4984,47 +5025,43 @@ typedef struct taker_Searched {
 /* A call's answer: the moved taker, the octets taken, whether a word is complete, correct's numbers and the word. */
 typedef pandoricchia_taken taker_Taken;
 
-static void taker_zeros(uint8_t *restrict result)
+static inline void taker_zeros(uint8_t *restrict result)
 {
     memset(result, 0, 1020);
 }
 
-static taker_Taker taker_fresh(uint8_t edition, uint16_t limit)
+static inline taker_Taker taker_fresh(uint8_t edition, uint16_t limit)
 {
-    uint8_t octets[1020];
-    taker_zeros(octets);
     taker_Taker result;
     result.place = 0;
     result.edition = edition;
     result.limit = limit;
-    memcpy(result.octets, octets, 1020);
+    taker_zeros(result.octets);
     return result;
 }
 
 /* A taker at the start of a stream, under a limit, for the old sequence. */
-static taker_Taker taker_Taker_new(uint16_t limit)
+static inline taker_Taker taker_Taker_new(uint16_t limit)
 {
     return taker_fresh(0, limit);
 }
 
 /* The same for an edition: 0 where none is stated, or 1 to 5. */
-static taker_Made taker_Taker_told(uint8_t edition, uint16_t limit)
+static inline taker_Made taker_Taker_told(uint8_t edition, uint16_t limit)
 {
     if (5 < edition) {
-        taker_Taker old = taker_fresh(0, limit);
         taker_Made result;
         result.number = 19;
-        result.taker = old;
+        result.taker = taker_fresh(0, limit);
         return result;
     }
-    taker_Taker taker = taker_fresh(edition, limit);
     taker_Made result2;
     result2.number = 0;
-    result2.taker = taker;
+    result2.taker = taker_fresh(edition, limit);
     return result2;
 }
 
-static uint64_t taker_read_place(uint64_t place)
+static inline uint64_t taker_read_place(uint64_t place)
 {
     if (place < 1024) {
         return place;
@@ -5033,7 +5070,7 @@ static uint64_t taker_read_place(uint64_t place)
 }
 
 /* The next place from `from` on where the marker's first octet stands, or the end of the part. */
-static uint64_t taker_skip(const uint8_t *part, uint64_t part_len, uint64_t from)
+static inline uint64_t taker_skip(const uint8_t *part, uint64_t part_len, uint64_t from)
 {
     uint64_t i = from;
     while (i < part_len) {
@@ -5046,7 +5083,7 @@ static uint64_t taker_skip(const uint8_t *part, uint64_t part_len, uint64_t from
 }
 
 /* The same where nothing is matched; else the next octet counts, whatever it is. */
-static uint64_t taker_jump(uint64_t m, const uint8_t *part, uint64_t part_len, uint64_t from)
+static inline uint64_t taker_jump(uint64_t m, const uint8_t *part, uint64_t part_len, uint64_t from)
 {
     if (m == 0) {
         return taker_skip(part, part_len, from);
@@ -5055,7 +5092,7 @@ static uint64_t taker_jump(uint64_t m, const uint8_t *part, uint64_t part_len, u
 }
 
 /* The octets of the marker matched after one octet more. Only the marker's first octet begins one. */
-static uint64_t taker_matched(uint64_t m, uint8_t octet)
+static inline uint64_t taker_matched(uint64_t m, uint8_t octet)
 {
     if (octet == 26) {
         return 1;
@@ -5083,7 +5120,7 @@ static uint64_t taker_matched(uint64_t m, uint8_t octet)
 
 /* Searches a part until the marker is whole or the part is used up. A taker that holds octets of a word searches
  * nothing. */
-static taker_Searched taker_search(uint64_t place, const uint8_t *part, uint64_t part_len)
+static inline taker_Searched taker_search(uint64_t place, const uint8_t *part, uint64_t part_len)
 {
     if (3 < place) {
         return (taker_Searched){.place = place, .at = 0};
@@ -5101,32 +5138,29 @@ static taker_Searched taker_search(uint64_t place, const uint8_t *part, uint64_t
 }
 
 /* Correct's numbers where no word is complete. */
-static endings_Corrected taker_none(void)
+static inline endings_Corrected taker_none(void)
 {
     return endings_refused_correct(0);
 }
 
-static taker_Taken taker_waiting(uint64_t taken, uint64_t place, uint8_t edition, uint16_t limit, const uint8_t *octets)
+static inline taker_Taken taker_waiting(uint64_t taken, uint64_t place, uint8_t edition, uint16_t limit,
+        const uint8_t *octets)
 {
-    taker_Taker next;
-    next.place = (size_t)place;
-    next.edition = edition;
-    next.limit = limit;
-    memcpy(next.octets, octets, 1020);
-    uint8_t word[1020];
-    taker_zeros(word);
     endings_Corrected corrected = taker_none();
     taker_Taken result;
-    result.next = next;
+    result.next.place = (size_t)place;
+    result.next.edition = edition;
+    result.next.limit = limit;
+    memcpy(result.next.octets, octets, 1020);
     result.taken = (size_t)taken;
     result.complete = false;
     result.corrected = corrected;
-    memcpy(result.word, word, 1020);
+    taker_zeros(result.word);
     return result;
 }
 
 /* Octets of a part into their places behind those held. */
-static void taker_hold(uint8_t *restrict octets, uint64_t held, const uint8_t *part, uint64_t part_len)
+static inline void taker_hold(uint8_t *restrict octets, uint64_t held, const uint8_t *part, uint64_t part_len)
 {
     uint64_t i = 0;
     while (i < part_len) {
@@ -5136,7 +5170,7 @@ static void taker_hold(uint8_t *restrict octets, uint64_t held, const uint8_t *p
 }
 
 /* A whole word: derandomised, corrected and handed out. */
-static taker_Taken taker_completed(uint64_t taken, uint8_t edition, uint16_t limit, const uint8_t *octets)
+static inline taker_Taken taker_completed(uint64_t taken, uint8_t edition, uint16_t limit, const uint8_t *octets)
 {
     uint8_t received[1020];
     memcpy(received, octets, 1020);
@@ -5144,13 +5178,11 @@ static taker_Taken taker_completed(uint64_t taken, uint8_t edition, uint16_t lim
     uint8_t mended[1020];
     taker_zeros(mended);
     endings_Corrected corrected = codes_correct(5, received, 1020, limit, mended, 1020);
-    taker_Taker next;
-    next.place = 0;
-    next.edition = edition;
-    next.limit = limit;
-    memcpy(next.octets, octets, 1020);
     taker_Taken result;
-    result.next = next;
+    result.next.place = 0;
+    result.next.edition = edition;
+    result.next.limit = limit;
+    memcpy(result.next.octets, octets, 1020);
     result.taken = (size_t)taken;
     result.complete = true;
     result.corrected = corrected;
@@ -5159,7 +5191,7 @@ static taker_Taken taker_completed(uint64_t taken, uint8_t edition, uint16_t lim
 }
 
 /* Goes on with a part of the stream until a word is complete or the part is used up. */
-static taker_Taken taker_Taker_take(const taker_Taker *self, const uint8_t *part, uint64_t part_len)
+static inline taker_Taken taker_Taker_take(const taker_Taker *self, const uint8_t *part, uint64_t part_len)
 {
     uint8_t edition = self->edition;
     uint16_t limit = self->limit;
@@ -5192,7 +5224,7 @@ static const uint8_t units_write_last_table[32] = {
 };
 
 /* The octets of a unit, 0 where there is none. */
-static uint64_t units_unit_octets(uint8_t code, uint64_t long_)
+static inline uint64_t units_unit_octets(uint8_t code, uint64_t long_)
 {
     unitoffers_UnitOffer u = unitoffers_unit_of(code);
     if (!u.offered) {
@@ -5210,7 +5242,7 @@ static uint64_t units_unit_octets(uint8_t code, uint64_t long_)
 }
 
 /* The number of a writing: of so much information, into so much room. */
-static uint8_t units_write_number(uint8_t code, uint64_t long_, uint64_t room)
+static inline uint8_t units_write_number(uint8_t code, uint64_t long_, uint64_t room)
 {
     if (!unitoffers_is_unit_code(code)) {
         return 1;
@@ -5228,13 +5260,13 @@ static uint8_t units_write_number(uint8_t code, uint64_t long_, uint64_t room)
     return 0;
 }
 
-static void units_write_start(uint8_t *restrict out)
+static inline void units_write_start(uint8_t *restrict out)
 {
     copying_copy(unitoffers_START, 8, out);
 }
 
 /* A whole part of the information as a codeblock, randomised; `used` octets of codeblocks came before. */
-static void units_write_part(uint8_t code, const uint8_t *part, uint64_t part_len, uint64_t used,
+static inline void units_write_part(uint8_t code, const uint8_t *part, uint64_t part_len, uint64_t used,
         uint8_t *restrict out, uint64_t out_len)
 {
     codes_encode(code, part, part_len, out, out_len);
@@ -5242,7 +5274,7 @@ static void units_write_part(uint8_t code, const uint8_t *part, uint64_t part_le
 }
 
 /* The last part of the information, with its fill: `size` octets together. */
-static void units_write_last(uint8_t code, const uint8_t *rest, uint64_t rest_len, uint64_t size, uint64_t used,
+static inline void units_write_last(uint8_t code, const uint8_t *rest, uint64_t rest_len, uint64_t size, uint64_t used,
         uint8_t *restrict out, uint64_t out_len)
 {
     uint8_t part[32];
@@ -5252,7 +5284,7 @@ static void units_write_last(uint8_t code, const uint8_t *rest, uint64_t rest_le
 }
 
 /* Codeblock k. */
-static void units_write_block(uint8_t code, const uint8_t *information, uint64_t information_len, uint64_t k,
+static inline void units_write_block(uint8_t code, const uint8_t *information, uint64_t information_len, uint64_t k,
         uint64_t used, uint8_t *restrict out, uint64_t out_len)
 {
     uint64_t size = unitoffers_information_octets(code);
@@ -5267,7 +5299,7 @@ static void units_write_block(uint8_t code, const uint8_t *information, uint64_t
 }
 
 /* All codeblocks, into an output that they fill. */
-static void units_write_blocks(uint8_t code, const uint8_t *information, uint64_t information_len,
+static inline void units_write_blocks(uint8_t code, const uint8_t *information, uint64_t information_len,
         uint8_t *restrict out, uint64_t out_len)
 {
     uint64_t word = unitoffers_word_octets(code);
@@ -5282,14 +5314,14 @@ static void units_write_blocks(uint8_t code, const uint8_t *information, uint64_
 }
 
 /* The start and all codeblocks, into an output that they fill. */
-static void units_write_front(uint8_t code, const uint8_t *information, uint64_t information_len,
+static inline void units_write_front(uint8_t code, const uint8_t *information, uint64_t information_len,
         uint8_t *restrict out, uint64_t out_len)
 {
     units_write_start(out);
     units_write_blocks(code, information, information_len, out + 8, out_len - 8);
 }
 
-static void units_write_tail(uint8_t code, uint8_t *restrict out)
+static inline void units_write_tail(uint8_t code, uint8_t *restrict out)
 {
     if (unitoffers_tail_octets(code) != 0) {
         copying_copy(unitoffers_TAIL, 16, out);
@@ -5297,7 +5329,7 @@ static void units_write_tail(uint8_t code, uint8_t *restrict out)
 }
 
 /* The tail behind them. */
-static void units_write_taken(uint8_t code, const uint8_t *information, uint64_t information_len,
+static inline void units_write_taken(uint8_t code, const uint8_t *information, uint64_t information_len,
         uint8_t *restrict out, uint64_t out_len)
 {
     uint64_t room = out_len - unitoffers_tail_octets(code);
@@ -5306,7 +5338,7 @@ static void units_write_taken(uint8_t code, const uint8_t *information, uint64_t
 }
 
 /* A unit of the information. */
-static uint8_t units_write_unit(uint8_t code, const uint8_t *information, uint64_t information_len,
+static inline uint8_t units_write_unit(uint8_t code, const uint8_t *information, uint64_t information_len,
         uint8_t *restrict out, uint64_t out_len)
 {
     uint8_t number = units_write_number(code, information_len, out_len);
@@ -5345,21 +5377,37 @@ size_t pandoricchia_information_octets(uint8_t code)
 uint8_t pandoricchia_encode(uint8_t code, const uint8_t *information, size_t information_len, uint8_t *restrict word,
         size_t word_len)
 {
+    if (information_len == 0) {
+        information = no_uint8_t;
+    }
+    uint8_t nothing[1] = {0};
+    if (word_len == 0) {
+        word = nothing;
+    }
     return codes_encode(code, information, information_len, word, word_len);
 }
 
 pandoricchia_checked pandoricchia_check(uint8_t code, const uint8_t *word, size_t word_len)
 {
+    if (word_len == 0) {
+        word = no_uint8_t;
+    }
     return codes_check(code, word, word_len);
 }
 
 pandoricchia_answered pandoricchia_quick(uint8_t code, const uint8_t *word, size_t word_len)
 {
+    if (word_len == 0) {
+        word = no_uint8_t;
+    }
     return quick_quick(code, word, word_len);
 }
 
 pandoricchia_opened pandoricchia_open(uint8_t code, const uint8_t *word, size_t word_len)
 {
+    if (word_len == 0) {
+        word = no_uint8_t;
+    }
     uint8_t number = 0;
     uint32_t lowest = 0;
     lent_uint8_t part = codes_open(code, word, word_len, &number, &lowest);
@@ -5369,6 +5417,13 @@ pandoricchia_opened pandoricchia_open(uint8_t code, const uint8_t *word, size_t 
 pandoricchia_corrected pandoricchia_correct(uint8_t code, const uint8_t *word, size_t word_len, uint16_t limit,
         uint8_t *restrict out, size_t out_len)
 {
+    if (word_len == 0) {
+        word = no_uint8_t;
+    }
+    uint8_t nothing[1] = {0};
+    if (out_len == 0) {
+        out = nothing;
+    }
     return codes_correct(code, word, word_len, limit, out, out_len);
 }
 
@@ -5376,6 +5431,13 @@ pandoricchia_corrected pandoricchia_correct(uint8_t code, const uint8_t *word, s
 pandoricchia_corrected pandoricchia_correct_samples(uint8_t code, const float *samples, size_t samples_len,
         uint16_t limit, uint8_t *restrict out, size_t out_len)
 {
+    if (samples_len == 0) {
+        samples = no_float;
+    }
+    uint8_t nothing[1] = {0};
+    if (out_len == 0) {
+        out = nothing;
+    }
     return samples_correct_samples(code, samples, samples_len, limit, out, out_len);
 }
 
@@ -5383,18 +5445,39 @@ pandoricchia_corrected pandoricchia_correct_samples(uint8_t code, const float *s
 pandoricchia_listed pandoricchia_list(uint8_t code, const uint8_t *word, size_t word_len, uint16_t limit,
         pandoricchia_fliprecord *restrict table, size_t table_len)
 {
+    if (word_len == 0) {
+        word = no_uint8_t;
+    }
+    listing_FlipRecord nothing[1] = {{0}};
+    if (table_len == 0) {
+        table = nothing;
+    }
     return lists_list(code, word, word_len, limit, table, table_len);
 }
 
 pandoricchia_stepped pandoricchia_step(uint8_t code, const uint8_t *word, size_t word_len, uint8_t *restrict out,
         size_t out_len)
 {
+    if (word_len == 0) {
+        word = no_uint8_t;
+    }
+    uint8_t nothing[1] = {0};
+    if (out_len == 0) {
+        out = nothing;
+    }
     return codes_step(code, word, word_len, out, out_len);
 }
 
 pandoricchia_reached pandoricchia_nearest(const uint8_t *word, size_t word_len, uint8_t reach, uint8_t *restrict out,
         size_t out_len)
 {
+    if (word_len == 0) {
+        word = no_uint8_t;
+    }
+    uint8_t nothing[1] = {0};
+    if (out_len == 0) {
+        out = nothing;
+    }
     return nearest_nearest(word, word_len, reach, out, out_len);
 }
 
@@ -5406,18 +5489,35 @@ size_t pandoricchia_unit_octets(uint8_t code, size_t information_len)
 uint8_t pandoricchia_write_unit(uint8_t code, const uint8_t *information, size_t information_len,
         uint8_t *restrict out, size_t out_len)
 {
+    if (information_len == 0) {
+        information = no_uint8_t;
+    }
+    uint8_t nothing[1] = {0};
+    if (out_len == 0) {
+        out = nothing;
+    }
     return units_write_unit(code, information, information_len, out, out_len);
 }
 
 /* The reader's state is the caller's, by value: a struct that holds the unit's slice has no form in C. */
 pandoricchia_reading pandoricchia_reader(uint8_t code, const uint8_t *unit, size_t unit_len, uint16_t limit)
 {
+    if (unit_len == 0) {
+        unit = no_uint8_t;
+    }
     return readings_reader(code, unit, unit_len, limit);
 }
 
 pandoricchia_handed pandoricchia_read(pandoricchia_reading state, const uint8_t *unit, size_t unit_len,
         uint8_t *restrict out, size_t out_len)
 {
+    if (unit_len == 0) {
+        unit = no_uint8_t;
+    }
+    uint8_t nothing[1] = {0};
+    if (out_len == 0) {
+        out = nothing;
+    }
     return readings_read(state, unit, unit_len, out, out_len);
 }
 
@@ -5433,34 +5533,68 @@ pandoricchia_made pandoricchia_taker_for(uint8_t edition, uint16_t limit)
 
 pandoricchia_taken pandoricchia_take(pandoricchia_taking state, const uint8_t *part, size_t part_len)
 {
+    if (part_len == 0) {
+        part = no_uint8_t;
+    }
     return taker_Taker_take(&state, part, part_len);
 }
 
 uint8_t pandoricchia_bch_encode(const uint8_t *information, size_t information_len, uint8_t *restrict word,
         size_t word_len)
 {
+    if (information_len == 0) {
+        information = no_uint8_t;
+    }
+    uint8_t nothing[1] = {0};
+    if (word_len == 0) {
+        word = nothing;
+    }
     return bch_bch_encode(information, information_len, word, word_len);
 }
 
 pandoricchia_mended pandoricchia_bch_check(bool detect_only, const uint8_t *word, size_t word_len,
         uint8_t *restrict out, size_t out_len)
 {
+    if (word_len == 0) {
+        word = no_uint8_t;
+    }
+    uint8_t nothing[1] = {0};
+    if (out_len == 0) {
+        out = nothing;
+    }
     return bch_bch_check(detect_only, word, word_len, out, out_len);
 }
 
 pandoricchia_imported pandoricchia_import_blocks(const uint8_t *blocks, size_t blocks_len, uint8_t *restrict out,
         size_t out_len)
 {
+    if (blocks_len == 0) {
+        blocks = no_uint8_t;
+    }
+    uint8_t nothing[1] = {0};
+    if (out_len == 0) {
+        out = nothing;
+    }
     return importing_import_blocks(blocks, blocks_len, out, out_len);
 }
 
 size_t pandoricchia_imported_octets(const uint8_t *blocks, size_t blocks_len)
 {
+    if (blocks_len == 0) {
+        blocks = no_uint8_t;
+    }
     return narrowed(importing_imported_octets(blocks, blocks_len));
 }
 
 uint8_t pandoricchia_export_blocks(const uint8_t *octets, size_t octets_len, uint8_t *restrict out, size_t out_len)
 {
+    if (octets_len == 0) {
+        octets = no_uint8_t;
+    }
+    uint8_t nothing[1] = {0};
+    if (out_len == 0) {
+        out = nothing;
+    }
     return exporting_export_blocks(octets, octets_len, out, out_len);
 }
 
