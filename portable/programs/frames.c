@@ -363,7 +363,7 @@ static inline uint64_t std_num_wrapping_sub_u64(uint64_t a, uint64_t b)
 /* Where the program stands after a call of the taker: the octets that the call took, whether it goes on, the words
  * and octets so far. */
 typedef struct frames_Standing {
-    taker_Taker taker;
+    telemetry_taker_Taker taker;
     uint64_t taken;
     bool more;
     uint64_t words;
@@ -469,7 +469,7 @@ static inline void frames_put(uint64_t n)
 }
 
 /* The line of a word: whether it is written. */
-static inline bool frames_line(uint64_t index, uint64_t offset, endings_Corrected r)
+static inline bool frames_line(uint64_t index, uint64_t offset, flipping_endings_Corrected r)
 {
     io_number_print_decimal(1, index);
     frames_put(offset);
@@ -485,10 +485,10 @@ static inline bool frames_line(uint64_t index, uint64_t offset, endings_Correcte
 /* One call of the taker. A complete word has its line; its first octet lies 1020 before the octets taken so far. */
 static inline frames_Standing frames_take(const frames_Standing *s, const uint8_t *part, uint64_t part_len)
 {
-    taker_Taker taker = s->taker;
-    taker_Taken r = taker_Taker_take(&taker, part, part_len);
-    taker_Taker next = r.next;
-    endings_Corrected corrected = r.corrected;
+    telemetry_taker_Taker taker = s->taker;
+    telemetry_taker_Taken r = telemetry_taker_Taker_take(&taker, part, part_len);
+    telemetry_taker_Taker next = r.next;
+    flipping_endings_Corrected corrected = r.corrected;
     uint64_t octets = std_num_wrapping_add_u64(s->octets, r.taken);
     if (!r.complete) {
         frames_Standing result;
@@ -529,7 +529,7 @@ static inline frames_Standing frames_go_on(const frames_Standing *s, uint8_t *re
 {
     uint64_t n = frames_read(part, part_len);
     if (n == 0) {
-        taker_Taker taker = s->taker;
+        telemetry_taker_Taker taker = s->taker;
         frames_Standing result;
         result.taker = taker;
         result.taken = 0;
@@ -542,7 +542,7 @@ static inline frames_Standing frames_go_on(const frames_Standing *s, uint8_t *re
 }
 
 /* Part after part. */
-static inline void frames_stream(const taker_Taker *taker, uint8_t *restrict part, uint64_t part_len)
+static inline void frames_stream(const telemetry_taker_Taker *taker, uint8_t *restrict part, uint64_t part_len)
 {
     frames_Standing s;
     s.taker = *taker;
@@ -569,7 +569,7 @@ static inline void frames_main(void)
         return;
     }
     uint8_t t = frames_edition();
-    taker_Made made = taker_Taker_told(t, frames_limit_of(head[0], head[1]));
+    telemetry_taker_Made made = telemetry_taker_Taker_told(t, frames_limit_of(head[0], head[1]));
     if (made.number != 0) {
         io_write_all(2, frames_main_table, 37);
         return;
@@ -579,7 +579,7 @@ static inline void frames_main(void)
     }
     uint8_t part[65536];
     io_large_buffer(part);
-    taker_Taker taker = made.taker;
+    telemetry_taker_Taker taker = made.taker;
     frames_stream(&taker, part, 0x10000);
 }
 

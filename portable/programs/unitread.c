@@ -260,6 +260,17 @@ static inline void os_fail(const uint8_t *what, uint64_t what_len)
     io_write_all(2, os_fail_table_2, 1);
 }
 
+/* ---- units ------------------------------------------------------------------------------------------ */
+
+/* Telecommand transmission units of codes 1 and 3, written, and their lengths. */
+
+/* The octets that a codeblock hands out, for any number: code 3's where no unit is of the code. */
+static inline uint64_t units_unitoffers_room(uint8_t code)
+{
+    units_unitoffers_UnitOffer u = units_unitoffers_unit_of(code);
+    return u.information;
+}
+
 /* ---- unitread --------------------------------------------------------------------------------------- */
 
 /* Reads a telecommand transmission unit: one octet code, two octets limit, then the unit. Prints a line for each
@@ -332,7 +343,7 @@ static inline void unitread_put(uint64_t n)
 }
 
 /* Index and correct's numbers. */
-static inline void unitread_put_numbers(uint64_t index, endings_Corrected r)
+static inline void unitread_put_numbers(uint64_t index, flipping_endings_Corrected r)
 {
     io_number_print_decimal(1, index);
     unitread_put(r.number);
@@ -371,7 +382,7 @@ static inline bool unitread_put_octets(const uint8_t *octets, uint64_t octets_le
 }
 
 /* The line of an asking's answer: whether it is written, and there may be more. */
-static inline bool unitread_line(uint64_t index, endings_Corrected r, const uint8_t *out, uint64_t out_len)
+static inline bool unitread_line(uint64_t index, flipping_endings_Corrected r, const uint8_t *out, uint64_t out_len)
 {
     unitread_put_numbers(index, r);
     if (r.number != 0) {
@@ -391,17 +402,17 @@ static inline void unitread_out_buffer(uint8_t *restrict result)
 }
 
 /* One codeblock after another; no unit that is held has more than 8,192. */
-static inline void unitread_lines(readings_Reading first, const uint8_t *unit, uint64_t unit_len,
+static inline void unitread_lines(units_readings_Reading first, const uint8_t *unit, uint64_t unit_len,
         uint8_t *restrict out, uint64_t out_len)
 {
-    readings_Reading state = first;
+    units_readings_Reading state = first;
     uint64_t index = 0;
     while (index < 8192) {
-        readings_Handed handed = readings_read(state, unit, unit_len, out, out_len);
+        units_readings_Handed handed = units_readings_read(state, unit, unit_len, out, out_len);
         if (handed.none) {
             return;
         }
-        endings_Corrected r = handed.corrected;
+        flipping_endings_Corrected r = handed.corrected;
         if (!unitread_line(index, r, out, out_len)) {
             return;
         }
@@ -421,19 +432,16 @@ static inline void unitread_main(void)
     if (!unitread_ended()) {
         return;
     }
-    readings_Reading state = readings_reader(head[0], unit, n, unitread_limit_of(head[1], head[2]));
-    endings_Corrected kept = state.kept;
+    units_readings_Reading state = units_readings_reader(head[0], unit, n, unitread_limit_of(head[1], head[2]));
+    flipping_endings_Corrected kept = state.kept;
     if (kept.number != 0) {
         unitread_line(0, kept, unitread_main_table_2, 0);
         return;
     }
     uint8_t out[32];
     unitread_out_buffer(out);
-    if (head[0] == 1) {
-        unitread_lines(state, unit, n, out, 8);
-    } else {
-        unitread_lines(state, unit, n, out, 32);
-    }
+    uint64_t size = units_unitoffers_room(head[0]);
+    unitread_lines(state, unit, n, out, size);
 }
 
 int main(void)

@@ -203,14 +203,14 @@ static inline bool io_number_print_decimal(uint32_t fd, uint64_t n)
     return io_write_all(fd, text, k);
 }
 
-/* ---- lines ------------------------------------------------------------------------------------------ */
+/* ---- log -------------------------------------------------------------------------------------------- */
 
-/* The log of a recording, in parts: what its head gives, and what each block of words adds. */
+/* The log: a line of it, and the log of a recording. */
 
 /* The octets of a word. */
-static inline uint64_t lines_word_octets(uint8_t code)
+static inline uint64_t log_lines_word_octets(uint8_t code)
 {
-    return offer_word_octets(code);
+    return catalogue_offer_word_octets(code);
 }
 
 /* ---- os --------------------------------------------------------------------------------------------- */
@@ -344,7 +344,7 @@ static inline void why_put_signed(uint8_t n)
     }
 }
 
-static inline bool why_put_flip(listing_FlipRecord r)
+static inline bool why_put_flip(lists_listing_FlipRecord r)
 {
     io_write_all(1, why_put_flip_table, 6);
     why_put(r.bit);
@@ -354,24 +354,24 @@ static inline bool why_put_flip(listing_FlipRecord r)
 }
 
 /* The list of a word, to its end; where the flips are shown, to one that could not be written. */
-static inline listing_Listing why_follow(uint8_t code, uint16_t limit, const uint8_t *word, uint64_t word_len,
+static inline lists_listing_Listing why_follow(uint8_t code, uint16_t limit, const uint8_t *word, uint64_t word_len,
         bool shown)
 {
     uint16_t h[64] = {0};
     uint64_t y[130] = {0};
     uint64_t z[16] = {0};
-    listing_Listing l = listing_begin(code, word, word_len, limit, 511, h, y, z);
+    lists_listing_Listing l = lists_listing_begin(code, word, word_len, limit, 511, h, y, z);
     while (l.goes) {
         if (shown && !why_put_flip(l.record)) {
             return l;
         }
-        l = listing_next(&l, word, word_len, h, y, z);
+        l = lists_listing_next(&l, word, word_len, h, y, z);
     }
     return l;
 }
 
 /* A word's line, as the bench logs it. */
-static inline bool why_put_line(uint64_t index, listing_Listed a)
+static inline bool why_put_line(uint64_t index, lists_listing_Listed a)
 {
     io_number_print_decimal(1, index);
     why_put(a.number);
@@ -383,7 +383,7 @@ static inline bool why_put_line(uint64_t index, listing_Listed a)
 }
 
 /* The greatest excess and the lowest bit that has it, where no bit has one above 0. */
-static inline bool why_put_reason(listing_Listed a)
+static inline bool why_put_reason(lists_listing_Listed a)
 {
     if (a.number != 5) {
         return true;
@@ -420,7 +420,7 @@ static inline bool why_put_reached(const nearest_Reached *r)
 
 /* For a word whose run stuck or came to its limit: the nearest codeword within three flips, or that there is none.
  * Words of another length than code 1's are refused by 2, and nothing is said of them. */
-static inline bool why_put_nearest(const uint8_t *word, uint64_t word_len, listing_Listed a)
+static inline bool why_put_nearest(const uint8_t *word, uint64_t word_len, lists_listing_Listed a)
 {
     if (a.number < 5 || 6 < a.number) {
         return true;
@@ -441,12 +441,12 @@ static inline bool why_put_nearest(const uint8_t *word, uint64_t word_len, listi
  * twice. */
 static inline bool why_explain(uint64_t index, uint8_t code, uint16_t limit, const uint8_t *word, uint64_t word_len)
 {
-    listing_Listing l = why_follow(code, limit, word, word_len, false);
-    listing_Listed a = l.answer;
+    lists_listing_Listing l = why_follow(code, limit, word, word_len, false);
+    lists_listing_Listed a = l.answer;
     if (!why_put_line(index, a)) {
         return false;
     }
-    listing_Listing shown = why_follow(code, limit, word, word_len, true);
+    lists_listing_Listing shown = why_follow(code, limit, word, word_len, true);
     bool t = !shown.goes && why_put_reason(a);
     return t && why_put_nearest(word, word_len, a);
 }
@@ -496,14 +496,14 @@ static inline void why_main(void)
     }
     uint8_t head[3] = {0};
     uint64_t n = io_read_full(0, head, 3);
-    if (n < 3 || !offer_is_offered(head[0])) {
+    if (n < 3 || !catalogue_offer_is_offered(head[0])) {
         why_explain(0, 0, 0, why_main_table_2, 0);
         why_ended();
         return;
     }
     uint8_t word[1022];
     why_word_buffer(word);
-    uint64_t size = lines_word_octets(head[0]);
+    uint64_t size = log_lines_word_octets(head[0]);
     why_words(head[0], why_limit_of(head[1], head[2]), word, size);
     why_ended();
 }
