@@ -15,7 +15,7 @@ class Header:
             self.records[name] = [self.field(name, line) for line in body.split(";") if line.strip()]
         text = re.sub(r"static inline.*?\n\}\n", "", text, flags=re.S)
         for result, name, params in re.findall(r"^(\w+) (pandoricchia_\w+)\(([^()]*)\);", text, re.M):
-            self.functions[name] = (result, [self.param(name, p) for p in params.split(",")])
+            self.functions[name] = (result, [self.param(name, p) for p in params.split(",") if params.strip() != "void"])
 
     def field(self, record, line):
         match = re.fullmatch(r"(\w+) (\w+)(?:\[(\d+)\])?", line.strip())
