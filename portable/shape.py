@@ -5,8 +5,8 @@ reads. What the machine computes once is computed once, and what it does not com
 """
 import copy
 
-from mir import (AddrOf, Aggregate, Assign, Block, Call, Const, Deref, Exit, Field, FloatConst, If, Loop, Nothing, Op1, Op2, Repeat, Return,
-                 Switch, Truth, Use, Variant, BOOL, UNIT)
+from mir import (AddrOf, Aggregate, Assign, Block, Call, Const, Deref, Exit, Field, FloatConst, If, Loop, Op1, Op2, Repeat, Return,
+                 Switch, Use, Variant, BOOL, UNIT)
 
 
 class Var:

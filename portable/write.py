@@ -890,6 +890,8 @@ class Routine:
         variant = w.variant_names(name)[tag]
         text = ".tag = %s_%s" % (c_name(name), variant)
         if parts[tag]:
+            if any(ty[0] == "array" or w.has_array(ty) and not isinstance(item, (Use, Field, Deref)) for item, ty in zip(e.items[1:], parts[tag])):
+                raise Refused("an enum with an array inside")
             inside = [".field%d = %s" % (i, self.as_type(item, ty).text) for i, (item, ty) in enumerate(zip(e.items[1:], parts[tag]))]
             text += ", .as.%s = {%s}" % (variant, ", ".join(inside))
         return Value("(%s){%s}" % (c_name(name), text), POSTFIX, "named")
@@ -901,7 +903,6 @@ class Routine:
             self.out.append(part)
 
     def write(self):
-        w = self.writer
         self.out = []
         self.place_declarations(self.body, set(self.params))
         for var in self.params:
@@ -1129,7 +1130,7 @@ class Routine:
             return
         made = self.place(place) if not (isinstance(place, Use) and place.ty[0] in ("ref", "ptr")) else Value(place.var.name, POSTFIX, "ptr")
         if place.ty[0] == "array":
-            self.fill(made.at(POSTFIX), value)
+            self.fill(made.at(POSTFIX), value, place)
         elif isinstance(value, Aggregate) and w.has_array(value.ty):
             if any(use.var is base_of(place).var for use in uses_of(value)) if isinstance(base_of(place), Use) else True:
                 raise Refused("a struct with an array inside is made of itself")
@@ -1154,8 +1155,8 @@ class Routine:
             self.line(head + ";")
             self.fill(var.name, value)
 
-    def fill(self, into, value):
-        """The elements of an array."""
+    def fill(self, into, value, place=None):
+        """The elements of an array. What a call makes goes through a copy if the call could see the place that it is for."""
         w = self.writer
         base, n = base_type(value.ty)
         if n == 0:
@@ -1163,7 +1164,7 @@ class Routine:
             return
         octets = "%d * sizeof(%s)" % (n, w.scalar(base)) if w.reader.size(base) > 1 else "%d" % n
         if isinstance(value, Call):
-            if any(isinstance(e, (Use, Field, Deref)) and e.ty[0] == "array" and self.place(e).text == into for e in within(value)):
+            if place is not None and self.seen_by(place, value):
                 name = self.fresh("t")
                 self.line(w.declared(value.ty, name) + ";")
                 self.line(self.call(value, name).text + ";")
@@ -1184,6 +1185,12 @@ class Routine:
             self.line("memcpy(%s, %s, %s);" % (into, self.place(value).text, octets))
         else:
             raise Refused("an array that is made in a way not known")
+
+    def seen_by(self, place, call):
+        base = base_of(place)
+        if isinstance(base, Use):
+            return any(use.var is base.var for use in uses_of(call))
+        return any(self.writer.effects.points(arg.ty) for arg in call.args)
 
     def fill_struct(self, into, value):
         w = self.writer
