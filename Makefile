@@ -1,11 +1,12 @@
 # `make run` proves and builds the bench program and runs it on a sample (SAMPLE=.. for another recording). `make test`
 # is the gate. `make lib` writes the archive and the shared library in target/staticlib. `make compare N=..` compares the
-# library with the judge on N inputs of each call under each telecommand code, and N / 10 of each near-Earth one; SEED=..
-# repeats a campaign. `make bench` counts the instructions of each call. `make alist` writes the parity matrices of codes 1
-# to 4 in target/alist, in a format that other programs read; `make peers` asks such programs about the library's words.
-# `make install PREFIX=.. DESTDIR=..` installs header, Rust module, libraries, pkg-config file, programs, the Python package
-# and its command with a man page and what shells complete, README and the examples, building what is missing; `make uninstall`
-# removes just those. `make man` makes the man page and what shells complete again.
+# library with the judge on N inputs of each call under each telecommand code, N / 10 of each near-Earth one, and as many of
+# the others as outside/comparisons says; SEED=.. repeats a campaign. `make bench` counts the instructions of each call.
+# `make alist` writes the parity matrices of codes 1 to 4 in target/alist, in a format that other programs read; `make peers`
+# asks such programs about the library's words. `make install PREFIX=.. DESTDIR=..` installs header, Rust module, libraries,
+# pkg-config file, programs, the Python package and its command with a man page and what shells complete, README and the
+# examples, building what is missing; `make uninstall` removes just those. `make man` makes the man page and what shells
+# complete again.
 #
 # The C file, portable/pandoricchia.c, is the same code for any machine. `make matrix N=..` compares it under every compiler and
 # machine that is here, `make campaign N=..` asks the archive and it the same, `make speed` says how fast it is on this machine,

@@ -16,8 +16,8 @@
  * A pointer whose length is 0 may be NULL: nothing is read or written through it. Octets may lie at any address; samples and flip
  * records must be aligned for their type.
  * The library keeps no state and allocates nothing: calls may run in any threads at once, each on its own output.
- * A call takes less than PANDORICCHIA_STACK_OCTETS of stack, list less than PANDORICCHIA_LIST_STACK_OCTETS, take less than
- * PANDORICCHIA_TAKE_STACK_OCTETS. The archive asks for memcpy and memset, and nothing else.
+ * A call takes at most PANDORICCHIA_STACK_OCTETS of stack, most of them far less: each has a number of its own below. What is handed over
+ * by value is counted in it, the room for the result is not. The archive asks for memcpy and memset, and nothing else.
  */
 #ifndef PANDORICCHIA_H
 #define PANDORICCHIA_H
@@ -51,29 +51,60 @@ extern "C" {
 #define PANDORICCHIA_MOST_WORD_OCTETS 1022
 #define PANDORICCHIA_MOST_INFORMATION_OCTETS 895
 
-/* Measured by outside/boundary.c, not proved: take takes some 7,100 octets, list 5,100, quick 3,800, correct and correct_samples
- * 3,000, step 2,800, encode 2,200, check and open 2,100. */
-#define PANDORICCHIA_STACK_OCTETS 8192
-#define PANDORICCHIA_LIST_STACK_OCTETS 8192
-#define PANDORICCHIA_TAKE_STACK_OCTETS 16384
+/* Octets of stack that each call takes at most, and the most of them. Measured by outside/boundary.c, which paints the stack for each call
+ * and code, on words that are quiet, that flip and that are refused: of the archive, and of the C file by gcc and by clang at -O2 and -O3,
+ * with room to spare for other machines; not proved. Without optimising the C file may take more. */
+#define PANDORICCHIA_VERSION_STACK_OCTETS 200
+#define PANDORICCHIA_WORD_OCTETS_STACK_OCTETS 200
+#define PANDORICCHIA_INFORMATION_OCTETS_STACK_OCTETS 200
+#define PANDORICCHIA_ENCODE_STACK_OCTETS 1600
+#define PANDORICCHIA_CHECK_STACK_OCTETS 2000
+#define PANDORICCHIA_QUICK_STACK_OCTETS 4600
+#define PANDORICCHIA_OPEN_STACK_OCTETS 2200
+#define PANDORICCHIA_CORRECT_STACK_OCTETS 3900
+#define PANDORICCHIA_CORRECT_SAMPLES_STACK_OCTETS 3900
+#define PANDORICCHIA_LIST_STACK_OCTETS 6200
+#define PANDORICCHIA_STEP_STACK_OCTETS 3800
+#define PANDORICCHIA_NEAREST_STACK_OCTETS 1600
+#define PANDORICCHIA_UNIT_OCTETS_STACK_OCTETS 200
+#define PANDORICCHIA_WRITE_UNIT_STACK_OCTETS 1800
+#define PANDORICCHIA_READER_STACK_OCTETS 200
+#define PANDORICCHIA_READ_STACK_OCTETS 4200
+#define PANDORICCHIA_TAKER_STACK_OCTETS 1300
+#define PANDORICCHIA_TAKER_FOR_STACK_OCTETS 2600
+#define PANDORICCHIA_TAKE_STACK_OCTETS 16100
+#define PANDORICCHIA_BCH_ENCODE_STACK_OCTETS 200
+#define PANDORICCHIA_BCH_CHECK_STACK_OCTETS 200
+#define PANDORICCHIA_IMPORT_BLOCKS_STACK_OCTETS 700
+#define PANDORICCHIA_IMPORTED_OCTETS_STACK_OCTETS 700
+#define PANDORICCHIA_EXPORT_BLOCKS_STACK_OCTETS 700
+#define PANDORICCHIA_EXPORTED_OCTETS_STACK_OCTETS 200
+#define PANDORICCHIA_STACK_OCTETS 16100
 
-/* The number that each call returns. The lowest that applies is given, except that 5 to 8 come in the order of the run, 16 before
- * them, and 18 before 17. A call that returns any other number than PANDORICCHIA_DONE is refused and has written nothing, but for list,
- * which writes its records with 5 to 8 too. */
+/* The number that a call returns, by which calls, and what it says. The lowest that applies is given, except that 5 to 8 come in the
+ * order of the run, 16 before them; list's 10 stands in place of any of 0 and 5 to 8; 18 comes before 17; import's and export's 20 to 23
+ * come before 3, 21 to 23 block by block. A call that returns any other number than PANDORICCHIA_DONE is refused and has written nothing,
+ * but for list, which writes its records with 5 to 8 too. */
 enum pandoricchia_number {
-    PANDORICCHIA_DONE = 0,           /* done; the output, if there is one, is written whole */
-    PANDORICCHIA_CODE = 1,           /* the code is not offered by this call */
-    PANDORICCHIA_INPUT_LENGTH = 2,   /* the input's length differs from the table above */
-    PANDORICCHIA_OUTPUT_LENGTH = 3,  /* encode, correct, correct_samples, step, nearest: the output's length differs */
+    PANDORICCHIA_DONE = 0,           /* all but version, word_octets, information_octets, unit_octets, imported_octets, exported_octets and
+                                      * taker, which have no number: done; the output, if there is one, is written whole */
+    PANDORICCHIA_CODE = 1,           /* encode, check, quick, open, correct, correct_samples, list, step, write_unit, reader, read: the
+                                      * code is not offered by this call */
+    PANDORICCHIA_INPUT_LENGTH = 2,   /* encode, check, quick, open, correct, correct_samples, list, step, nearest, bch_encode, bch_check;
+                                      * write_unit without information: the input's length is not what the call takes */
+    PANDORICCHIA_OUTPUT_LENGTH = 3,  /* encode, correct, correct_samples, step, nearest, write_unit, read, bch_encode, bch_check,
+                                      * import_blocks, export_blocks: the output's length is not what the call needs */
     PANDORICCHIA_LAST_SIX = 4,       /* encode, code 4: one of the six last bits is set */
-    PANDORICCHIA_STUCK = 5,          /* correct, correct_samples, list, step: checks are broken, and no bit has an excess above 0 */
-    PANDORICCHIA_LIMIT = 6,          /* correct, correct_samples, list: the limit is reached */
+    PANDORICCHIA_STUCK = 5,          /* correct, correct_samples, list, step, read, take: checks are broken, and no bit has an excess
+                                      * above 0 */
+    PANDORICCHIA_LIMIT = 6,          /* correct, correct_samples, list, read, take: the limit is reached */
     PANDORICCHIA_UNSENT = 7,         /* never given: no run sets a bit that is not sent */
-    PANDORICCHIA_PARITY = 8,         /* correct, correct_samples, list, codes 4 and 5: quiet, but the parity is not the encoder's */
+    PANDORICCHIA_PARITY = 8,         /* correct and list, codes 4 and 5; correct_samples, code 4; take: quiet, but the parity is not the
+                                      * encoder's */
     PANDORICCHIA_BROKEN = 9,         /* open: a check is broken */
     PANDORICCHIA_PLACES = 10,        /* list: the run has more flips than the table has places */
-    PANDORICCHIA_NO_START = 11,      /* reader: the whole start sequence is not there */
-    PANDORICCHIA_NO_TAIL = 12,       /* reader: what follows is not one or more whole codeblocks and the tail */
+    PANDORICCHIA_NO_START = 11,      /* reader; read of such a reading: the whole start sequence is not there */
+    PANDORICCHIA_NO_TAIL = 12,       /* reader; read of such a reading: what follows is not one or more whole codeblocks and the tail */
     PANDORICCHIA_NO_BCH_WORD = 13,   /* bch_check: no codeword differs in at most one bit; detect-only: the word is none */
     PANDORICCHIA_LAST_TWO = 14,      /* open, code 5: no check is broken, but one of the last two bits is set */
     PANDORICCHIA_OTHER_PARITY = 15,  /* open, code 5: neither, but the parity is not the encoder's */
@@ -81,7 +112,7 @@ enum pandoricchia_number {
     PANDORICCHIA_NONE_NEAR = 17,     /* nearest: no codeword lies within the reach */
     PANDORICCHIA_REACH = 18,         /* nearest: the reach is above 3 */
     PANDORICCHIA_EDITION = 19,       /* taker_for: the edition is not known */
-    PANDORICCHIA_TOO_LONG = 20,      /* import_blocks: not whole blocks or more than 128; export_blocks: more than 64,512 octets */
+    PANDORICCHIA_TOO_LONG = 20,      /* import_blocks; export_blocks: not whole blocks or more than 128; more than 64,512 octets */
     PANDORICCHIA_BLOCK_CHECK = 21,   /* import_blocks: a block's frame check */
     PANDORICCHIA_BLOCK_NUMBER = 22,  /* import_blocks: a block's number */
     PANDORICCHIA_BLOCK_COUNT = 23    /* import_blocks: a block's count or filling */
@@ -185,7 +216,7 @@ typedef struct pandoricchia_opened {
 pandoricchia_opened pandoricchia_open(uint8_t code, const uint8_t *word, size_t word_len);
 
 typedef struct pandoricchia_corrected {
-    uint8_t number;   /* 0 to 3, 5 to 8 or 16 */
+    uint8_t number;   /* correct: 0 to 3, 5, 6 or 8; correct_samples: 16 too */
     uint32_t flips;   /* how many flips the run made: never more than the limit, nor than first */
     uint32_t first;   /* broken checks of the word as received */
     uint32_t last;    /* broken checks at the end of the run */
@@ -205,8 +236,9 @@ pandoricchia_corrected pandoricchia_correct(uint8_t code, const uint8_t *word, s
 /* Correct by sample sizes, codes 1 to 4: a sample for each bit, 128, 256, 512 or 8176 of them, which samples_len counts. A bit is 1
  * if its sample is below 0, so both zeros read as 0. Correct's run on the bits read, but of several bits of greatest excess the one
  * whose sample has the smallest magnitude is flipped, and of those the lowest. Samples are compared and no more: with equal
- * magnitudes it is correct. The numbers are correct's: unlike counts against the bits read, lowest is of those. Refusals 1 to 3
- * and 16, in this order, return all other values as 0. */
+ * magnitudes it is correct. They are read by their bit patterns, a float being IEEE 754's of 32 bits: no mode of floating point, as
+ * subnormals taken as 0, changes an answer. The numbers are correct's: unlike counts against the bits read, lowest is of those.
+ * Refusals 1 to 3 and 16, in this order, return all other values as 0. */
 pandoricchia_corrected pandoricchia_correct_samples(uint8_t code, const float *samples, size_t samples_len, uint16_t limit,
                                                     uint8_t *out, size_t out_len);
 
@@ -217,7 +249,7 @@ typedef struct pandoricchia_fliprecord {
 } pandoricchia_fliprecord;
 
 typedef struct pandoricchia_listed {
-    uint8_t number;  /* 0 to 2, 5 to 8 or 10 */
+    uint8_t number;  /* 0 to 2, 5, 6, 8 or 10 */
     uint32_t flips;  /* from here to lowest as correct gives them */
     uint32_t first;
     uint32_t last;

@@ -1,6 +1,7 @@
 //! Pandoricchia from Rust: encoding, checking, opening and correcting words of five CCSDS LDPC codes. What the codes, the
 //! lengths and the numbers are stands in `pandoricchia.h`. Every call answers for every code number and every length; one
-//! that returns any other number than `DONE` has written nothing. Nothing is kept between calls, so threads may call at once.
+//! that returns any other number than `DONE` has written nothing, but for `list`, which writes its records with 5 to 8 too.
+//! Nothing is kept between calls, so threads may call at once.
 //!
 //!     #[path = "include/pandoricchia.rs"]
 //!     mod pandoricchia;
@@ -295,7 +296,8 @@ pub fn correct(code: u8, word: &[u8], limit: u16, out: &mut [u8]) -> Corrected {
 }
 
 /// Correct's run on the bits of the samples, a sample for each bit, which is 1 if it is below 0: of several bits of greatest
-/// excess the one whose sample has the smallest magnitude is flipped, and of those the lowest. Codes 1 to 4.
+/// excess the one whose sample has the smallest magnitude is flipped, and of those the lowest. Codes 1 to 4. Samples are read by their
+/// bit patterns: no mode of floating point changes an answer.
 #[must_use]
 pub fn correct_samples(code: u8, samples: &[f32], limit: u16, out: &mut [u8]) -> Corrected {
     unsafe { pandoricchia_correct_samples(code, samples.as_ptr(), samples.len(), limit, out.as_mut_ptr(), out.len()) }

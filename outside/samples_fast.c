@@ -5,13 +5,24 @@
 
 #include "fast.c"
 
-#include <float.h>
-
 enum { UNKNOWN = 8176 };
 
-LEAF float size_of(float x)
+/* A sample is read and compared by its bit pattern. */
+LEAF uint32_t pattern(float x)
 {
-    return x < 0 ? -x : x;
+    uint32_t p;
+    memcpy(&p, &x, sizeof p);
+    return p;
+}
+
+LEAF uint32_t size_of(float x)
+{
+    return pattern(x) & 0x7FFFFFFF;
+}
+
+LEAF bool is_one(float x)
+{
+    return pattern(x) > 0x80000000;
 }
 
 LEAF unsigned smaller(const float *samples, unsigned earlier, unsigned later)
@@ -235,7 +246,7 @@ LEAF uint8_t run_by_bounds(const float *samples, uint64_t *y, const uint64_t *z,
             return 6;
         y[best.bit / 64] ^= UINT64_C(1) << (63 - best.bit % 64);
         bool one = y[best.bit / 64] >> (63 - best.bit % 64) & 1;
-        if (one == (samples[best.bit] < 0))
+        if (one == is_one(samples[best.bit]))
             answer->unlike--;
         else
             answer->unlike++;
@@ -259,7 +270,7 @@ LEAF uint8_t run_samples(const float *samples, uint64_t *y, const uint64_t *z, c
 
 LEAF unsigned is_finite(float x)
 {
-    return (-FLT_MAX <= x) & (x <= FLT_MAX);
+    return (pattern(x) & 0x7F800000) != 0x7F800000;
 }
 
 /* The bits of the samples, and two words of zeros after them; and whether all are finite. With a table of bits, and 32 together,
@@ -277,13 +288,13 @@ static bool read_samples(const float *samples, size_t len, uint64_t *y)
     for (; n + 32 <= len; n += 32) {
         uint32_t v = 0;
         for (unsigned j = 0; j < 32; j++) {
-            v |= samples[n + j] < 0 ? bits[j] : 0;
+            v |= is_one(samples[n + j]) ? bits[j] : 0;
             finite &= is_finite(samples[n + j]);
         }
         y[n / 64] |= (uint64_t)v << (32 - n % 64);
     }
     for (; n < len; n++) {
-        y[n / 64] |= (uint64_t)(samples[n] < 0) << (63 - n % 64);
+        y[n / 64] |= (uint64_t)is_one(samples[n]) << (63 - n % 64);
         finite &= is_finite(samples[n]);
     }
     return finite != 0;

@@ -31,10 +31,11 @@ class Header:
 
 
 class Boundary:
-    """Which of the header's records is which of the library's, by the types of the functions; and that all else agrees."""
+    """Which of the header's records is which of the library's, by the types of the functions; and that all else agrees. Floats that the
+    header lends may be numbers of 32 bits in the library, which are their patterns."""
 
     def __init__(self, header, reader, crate):
-        self.header, self.reader, self.crate, self.records = header, reader, crate, {}
+        self.header, self.reader, self.crate, self.records, self.patterns = header, reader, crate, {}, set()
         names = sorted(name for name in reader.functions if name.startswith(crate + "::"))
         if names != sorted(crate + "::" + name for name in header.functions):
             raise Refused("the header's functions are not those of %s" % crate)
@@ -47,12 +48,15 @@ class Boundary:
     def function(self, function, result, params):
         self.same(function.result, result)
         params = list(params)
-        for ty in function.locals[1:function.params + 1]:
+        for at, ty in enumerate(function.locals[1:function.params + 1]):
             name, kind, pointer, const = params.pop(0)
             if ty[0] == "slice":
                 if not pointer or const == ty[1] or params.pop(0) != (name + "_len", "size_t", False, False):
                     raise Refused("%s is no slice in the header" % name)
-                self.same(ty[2], kind)
+                if ty == ("slice", False, ("int", 32)) and kind == "float":
+                    self.patterns.add((function.name, at))
+                else:
+                    self.same(ty[2], kind)
             elif pointer:
                 raise Refused("%s is a pointer in the header" % name)
             else:

@@ -5,8 +5,8 @@ reads. What the machine computes once is computed once, and what it does not com
 """
 import copy
 
-from mir import (AddrOf, Aggregate, Assign, Block, Call, Const, Deref, Exit, Field, FloatConst, If, Loop, Nothing, Op1, Op2, Repeat, Return,
-                 Switch, Truth, Use, Variant, BOOL, UNIT)
+from mir import (AddrOf, Aggregate, Assign, Block, Call, Const, Deref, Exit, Field, FloatConst, If, Loop, Op1, Op2, Repeat, Return,
+                 Switch, Use, Variant, BOOL, UNIT)
 
 
 class Var:
@@ -21,6 +21,7 @@ class Var:
         self.assigned = 0       # how many assignments
         self.read = 0           # how many reads
         self.partly = False     # a field of it is assigned
+        self.pattern = False    # it lends floats whose patterns are read
         self.value = None       # what is assigned, where that happens once
 
 
@@ -456,9 +457,17 @@ class Fold:
         self.effects, self.bulky = effects, bulky
 
     def whole(self, value):
-        """Whether a value is made in a place of its own: a call that writes, and what is handed over by its address."""
-        made = isinstance(value, (Call, Aggregate, Repeat))
-        return self.effects.value_writes(value) or made and (self.bulky(value.ty) or value.ty[0] == "slice" and isinstance(value, Call))
+        """Whether a value is made in a place of its own: what is handed over by its address, and a slice that a call gives."""
+        if not isinstance(value, (Call, Aggregate, Repeat)):
+            return False
+        return self.bulky(value.ty) or value.ty[0] == "slice" and isinstance(value, Call)
+
+    def fields(self, value):
+        """Where a whole value can stand: as all that is computed, or as a field of a struct that is."""
+        yield value
+        if isinstance(value, Aggregate) and value.ty[0] == "named":
+            for item in value.items:
+                yield from self.fields(item)
 
     def body(self, body):
         made, waiting, hot = [], {}, []
@@ -475,10 +484,15 @@ class Fold:
                 value = waiting.pop(var)
                 out(Assign(self.use(var), value))
 
-        def put(e):
+        def put(e, top=True):
+            """The value with those that wait for it; a whole one that can't stand there is settled before."""
+            if top:
+                fits = {id(f) for f in self.fields(e)}
+                odd = {u.var for u in uses_of(e) if u.var in waiting and self.whole(waiting[u.var]) and id(u) not in fits}
+                settle(lambda v, value: v in odd)
             if isinstance(e, Use) and e.var in waiting:
                 return waiting.pop(e.var)
-            return with_parts(e, [put(part) for part in parts_of(e)])
+            return with_parts(e, [put(part, False) for part in parts_of(e)])
 
         def is_hot(e):
             return bool(hot) and isinstance(e, Use) and e.var is hot[0][0]
@@ -510,8 +524,8 @@ class Fold:
                 else:
                     value = put(statement.value)
                 writes = self.effects.value_writes(value)
-                if simple and self.foldable(place.var):
-                    if self.whole(value):
+                if simple and self.foldable(place.var, value):
+                    if writes:
                         settle(lambda v, e: self.effects.reads_memory(e))
                         out(None)
                         hot.append((place.var, value))
@@ -554,8 +568,9 @@ class Fold:
         out(None)
         return made
 
-    def foldable(self, var):
-        return var.given is None and not var.param and var.assigned == 1 and var.read == 1
+    def foldable(self, var, value):
+        """What has a name keeps its own variable, but for what is large."""
+        return (var.given is None or self.whole(value) and var.ty[0] != "slice") and not var.param and var.assigned == 1 and var.read == 1
 
     def use(self, var):
         made = Use(var.local, var.ty)

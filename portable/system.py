@@ -44,6 +44,12 @@ class Foreign:
     def prune(self):
         return False
 
+    def hands_on(self, var):
+        return []
+
+    def check_patterns(self):
+        pass
+
     def name_all(self):
         pass
 

@@ -9,7 +9,7 @@ import struct
 
 from mir import (COMPARISONS, AddrOf, Aggregate, Assign, Block, Call, Const, Deref, Exit, Field, FloatConst, If, Loop, Op1, Op2, Refused, Repeat, Return,
                  Switch, Truth, Use, Variant, UNIT, BOOL)
-from shape import And, Compute, While, all_values, base_of, count, ends, flat, lists_in, settled, uses_of, values_in, within
+from shape import And, Compute, While, all_statements, all_values, base_of, count, ends, flat, lists_in, settled, uses_of, values_in, within
 
 WIDTH = 120
 KEYWORDS = set("""auto break case char const continue default do double else enum extern float for goto if inline int long register restrict
@@ -27,7 +27,7 @@ SIGNED_RANGE = {8: 128, 16: 32768, 32: 1 << 31, 64: 1 << 63}
 
 HELPERS = {
     "leading_zeros64": """/* How many zeros are before the first one. */
-static uint32_t leading_zeros64(uint64_t x)
+static inline uint32_t leading_zeros64(uint64_t x)
 {
     uint32_t n = 0;
     if (x == 0) {
@@ -57,13 +57,13 @@ static uint32_t leading_zeros64(uint64_t x)
 }
 """,
     "trailing_zeros64": """/* How many zeros are behind the last one. */
-static uint32_t trailing_zeros64(uint64_t x)
+static inline uint32_t trailing_zeros64(uint64_t x)
 {
     return x == 0 ? 64 : 63 - leading_zeros64(x & (~x + 1));
 }
 """,
     "count_ones64": """/* How many ones there are. */
-static uint32_t count_ones64(uint64_t x)
+static inline uint32_t count_ones64(uint64_t x)
 {
     x -= x >> 1 & UINT64_C(0x5555555555555555);
     x = (x & UINT64_C(0x3333333333333333)) + (x >> 2 & UINT64_C(0x3333333333333333));
@@ -72,7 +72,7 @@ static uint32_t count_ones64(uint64_t x)
 }
 """,
     "float_from_bits": """/* The float of a pattern of bits, and the other way round. */
-static float float_from_bits(uint32_t bits)
+static inline float float_from_bits(uint32_t bits)
 {
     float x;
     memcpy(&x, &bits, sizeof x);
@@ -80,15 +80,23 @@ static float float_from_bits(uint32_t bits)
 }
 """,
     "float_to_bits": """/* The pattern of bits of a float. */
-static uint32_t float_to_bits(float x)
+static inline uint32_t float_to_bits(float x)
 {
     uint32_t bits;
     memcpy(&bits, &x, sizeof bits);
     return bits;
 }
 """,
+    "pattern_of": """/* The pattern of bits of a float that is lent; it is not read as a float, which some machines change. */
+static inline uint32_t pattern_of(const float *x)
+{
+    uint32_t bits;
+    memcpy(&bits, x, sizeof bits);
+    return bits;
+}
+""",
     "narrowed": """/* A length for the caller; 0 where no object is that long. */
-static size_t narrowed(uint64_t length)
+static inline size_t narrowed(uint64_t length)
 {
     size_t n = (size_t)length;
     return n == length ? n : 0;
@@ -97,20 +105,20 @@ static size_t narrowed(uint64_t length)
 }
 for _bits in (8, 16, 32, 64):
     HELPERS["signed%d" % _bits] = """/* The number that bits have if the first of them is a sign. */
-static int%(b)d_t signed%(b)d(uint%(b)d_t x)
+static inline int%(b)d_t signed%(b)d(uint%(b)d_t x)
 {
     return x <= INT%(b)d_MAX ? (int%(b)d_t)x : (int%(b)d_t)(-(int%(b)d_t)(UINT%(b)d_MAX - x) - 1);
 }
 """ % {"b": _bits}
     HELPERS["shift_right_signed%d" % _bits] = """/* Halves so many times, towards minus infinity. */
-static uint%(b)d_t shift_right_signed%(b)d(uint%(b)d_t x, uint%(b)d_t n)
+static inline uint%(b)d_t shift_right_signed%(b)d(uint%(b)d_t x, uint%(b)d_t n)
 {
     return (uint%(b)d_t)(x <= INT%(b)d_MAX ? x >> n : ~((uint%(b)d_t)~x >> n));
 }
 """ % {"b": _bits}
 NEEDS = {"trailing_zeros64": ["leading_zeros64"]}
 HELPER_ORDER = (["narrowed"] + ["signed%d" % b for b in (8, 16, 32, 64)] + ["shift_right_signed%d" % b for b in (8, 16, 32, 64)]
-                + ["leading_zeros64", "trailing_zeros64", "count_ones64", "float_from_bits", "float_to_bits"])
+                + ["leading_zeros64", "trailing_zeros64", "count_ones64", "float_from_bits", "float_to_bits", "pattern_of"])
 
 
 def c_name(symbol):
@@ -147,7 +155,8 @@ class Writer:
     def __init__(self, reader, source, effects, boundary=None, header=None, exported=(), large=128):
         self.reader, self.source, self.effects, self.large = reader, source, effects, large
         self.records, self.header, self.exported = boundary.records if boundary else {}, header, set(exported)
-        self.helpers, self.tables, self.slices, self.shapes, self.lengths = set(), {}, {}, {}, {}
+        self.patterns = set(boundary.patterns) if boundary else set()
+        self.helpers, self.tables, self.slices, self.shapes, self.lengths, self.nothings = set(), {}, {}, {}, {}, set()
         self.table_names, self.of_values = {}, {}
         for name, (_, tokens) in source.consts.items():
             numbers = self.constant(name, tokens)
@@ -217,7 +226,7 @@ class Writer:
     def declared(self, ty, name):
         if ty[0] == "array":
             base, n = base_type(ty)
-            return "%s %s[%d]" % (self.scalar(base), name, n)
+            return "%s %s[%d]" % (self.scalar(base), name, max(n, 1))
         if ty[0] == "ref":
             return self.pointer(base_type(ty[2])[0], ty[1], name)
         return "%s %s" % (self.scalar(ty), name)
@@ -296,9 +305,22 @@ class Writer:
 
     def settle(self):
         """Which lengths of slices are used, by any function that they are handed on to; what is computed for others is dropped."""
+        self.spread_patterns()
         self.use_lengths()
         while any([routine.prune() for routine in self.shapes.values()]):
             self.use_lengths()
+
+    def spread_patterns(self):
+        """Where floats whose patterns are read are handed on to: no number of C's may be read through a pointer to another type."""
+        todo = sorted(self.patterns)
+        while todo:
+            name, at = todo.pop()
+            var = self.shapes[name].params[at]
+            if not var.pattern:
+                var.pattern = True
+                todo += self.shapes[name].hands_on(var)
+        for routine in self.shapes.values():
+            routine.check_patterns()
 
     def use_lengths(self):
         for name, routine in self.shapes.items():
@@ -378,6 +400,38 @@ class Routine:
         self.taken.add(made)
         return made
 
+    # -- patterns
+
+    def lender(self, e):
+        """The variable that a slice or a pointer comes from."""
+        if isinstance(e, Aggregate):
+            return self.lender(e.items[0])
+        e = self.counted(e)[0]
+        while isinstance(e, (Field, AddrOf)):
+            e = e.of
+        return e.var if isinstance(e, Use) else None
+
+    def hands_on(self, var):
+        """The parameters of other functions that a slice is handed on to."""
+        for value in all_values(self.body):
+            for e in within(value):
+                if isinstance(e, Call):
+                    for i, arg in enumerate(e.args):
+                        if arg.ty[0] in ("slice", "ref") and self.lender(arg) is var:
+                            yield e.name, i
+
+    def check_patterns(self):
+        for statement in all_statements(self.body):
+            if isinstance(statement, (Assign, Return)) and statement.value is not None and statement.value.ty[0] in ("slice", "ref", "ptr"):
+                if getattr(self.lender(statement.value), "pattern", False):
+                    raise Refused("floats whose patterns are read are kept by %s" % self.function.name)
+            for value in values_in(statement):
+                for e in within(value):
+                    for arg, var in zip(e.args, self.writer.shapes[e.name].params) if isinstance(e, Call) else []:
+                        lender = self.lender(arg) if var.pattern else None
+                        if var.pattern and not (lender and (lender.pattern or base_type(lender.ty)[1] == 0)):
+                            raise Refused("%s is handed floats, and numbers that are none" % e.name)
+
     # -- lengths
 
     def lengths_used(self):
@@ -431,7 +485,7 @@ class Routine:
         params = []
         for i, var in enumerate(self.params):
             if var.ty[0] == "slice":
-                params.append(w.pointer(base_type(var.ty[2])[0], var.ty[1], var.name, var.ty[1]))
+                params.append(w.pointer(("float", 32) if var.pattern else base_type(var.ty[2])[0], var.ty[1], var.name, var.ty[1]))
                 if i in w.lengths[function.name]:
                     params.append("uint64_t %s_len" % var.name)
             elif var.ty[0] == "ref":
@@ -445,7 +499,7 @@ class Routine:
             params.append(w.pointer(base_type(function.result)[0], True, "result", True))
             result = "void"
         result = result or ("%s" % w.declared(function.result, "").strip())
-        return wrap("static %s%s%s(%s)" % (result, "" if result.endswith("*") else " ", c_name(function.name), ", ".join(params) or "void"))
+        return wrap("static inline %s%s%s(%s)" % (result, "" if result.endswith("*") else " ", c_name(function.name), ", ".join(params) or "void"))
 
     def exported_head(self):
         name = self.function.name.split("::")[-1]
@@ -506,7 +560,8 @@ class Routine:
         if isinstance(e, Op2) and e.op == "Offset":
             return self.pointee(e.a)
         if e.ty[0] == "ref":
-            return base_type(e.ty[2])[0]
+            lender = e.of.var if isinstance(e, Field) and isinstance(e.of, Use) else e.var if isinstance(e, Use) else None
+            return ("float", 32) if lender and lender.pattern else base_type(e.ty[2])[0]
         if isinstance(e, Use) and e.var.value is not None:
             return self.pointee(e.var.value)
         raise Refused("a pointer to nothing known")
@@ -525,6 +580,9 @@ class Routine:
             start, n = self.counted(e.of)
             element = isinstance(e.of, Op2) and n is None
             want = base_type(e.ty)[0]
+            if self.pointee(start) == ("float", 32) and want == ("int", 32):
+                self.writer.helpers.add("pattern_of")
+                return Value("pattern_of(%s)" % self.address(e.of).text, POSTFIX, "u32")
             if self.pointee(start) != want:
                 raise Refused("a pointer to %s is read as one to %s" % (self.pointee(start), want))
             inner = self.through(start)
@@ -577,8 +635,6 @@ class Routine:
             return Value("%s + %s" % (self.address(start).at(SUM), self.value(n).at(SUM + 1)), SUM, "ptr")
         if isinstance(start, AddrOf):
             place = start.of
-            if base_type(place.ty)[1] == 0:
-                return Value("NULL", POSTFIX, "ptr")
             made = self.place(place)
             if place.ty[0] == "array":
                 return Value(made.text, made.binds, "ptr")
@@ -779,7 +835,7 @@ class Routine:
         made = []
         for i, (arg, var) in enumerate(zip(e.args, callee.params)):
             if var.ty[0] == "slice":
-                made.append(self.slice_part(arg, 0).text)
+                made.append(self.lent_elements(arg, var))
                 if i in w.lengths[e.name]:
                     made.append(self.as_type_length(arg))
             elif var.by_address:
@@ -787,6 +843,13 @@ class Routine:
             elif var.ty != UNIT:
                 made.append(self.as_type(arg, var.ty).text)
         return made
+
+    def lent_elements(self, arg, var):
+        lender = self.lender(arg) if var.pattern else None
+        if lender and not lender.pattern:
+            self.writer.nothings.add("float")
+            return "no_float"
+        return self.slice_part(arg, 0).text
 
     def as_type_length(self, arg):
         if isinstance(arg, Aggregate):
@@ -827,6 +890,8 @@ class Routine:
         variant = w.variant_names(name)[tag]
         text = ".tag = %s_%s" % (c_name(name), variant)
         if parts[tag]:
+            if any(ty[0] == "array" or w.has_array(ty) and not isinstance(item, (Use, Field, Deref)) for item, ty in zip(e.items[1:], parts[tag])):
+                raise Refused("an enum with an array inside")
             inside = [".field%d = %s" % (i, self.as_type(item, ty).text) for i, (item, ty) in enumerate(zip(e.items[1:], parts[tag]))]
             text += ", .as.%s = {%s}" % (variant, ", ".join(inside))
         return Value("(%s){%s}" % (c_name(name), text), POSTFIX, "named")
@@ -838,18 +903,32 @@ class Routine:
             self.out.append(part)
 
     def write(self):
-        w = self.writer
         self.out = []
         self.place_declarations(self.body, set(self.params))
         for var in self.params:
             if var.ty != UNIT and not self.pointed(var):
                 self.line("(void)%s;" % var.name)
+            if self.exported and var.ty[0] == "slice":
+                self.not_null(var)
         self.statements(self.body)
         while self.out and self.out[-1].strip() == "return;" and self.depth == 1 and self.out[-1] == "    return;":
             self.out.pop()
         if not self.out:
             self.out = []
         return comment_lines(self.item.comment if self.item else "") + self.head() + ["{"] + self.out + ["}", ""]
+
+    def not_null(self, var):
+        """Where the caller hands over no elements the pointer may be NULL, from which C must not count on."""
+        base = ("float", 32) if var.pattern else base_type(var.ty[2])[0]
+        name = "no_%s" % self.writer.scalar(base)
+        if var.ty[1]:
+            name = self.fresh("nothing")
+            self.line("%s %s[1] = {%s};" % (self.writer.scalar(base), name, "{0}" if base[0] == "named" else "0"))
+        else:
+            self.writer.nothings.add(self.writer.scalar(base))
+        self.line("if (%s_len == 0) {" % var.name)
+        self.line("    %s = %s;" % (var.name, name))
+        self.line("}")
 
     def pointed(self, var):
         """Whether a parameter is used; of a slice, more than its length."""
@@ -894,8 +973,7 @@ class Routine:
     def statements(self, body):
         for statement in body:
             for var in self.declared_at.get(("before", id(statement)), []):
-                if base_type(var.ty)[1]:
-                    self.line(self.writer.declared(self.var_type(var), var.name) + ";")
+                self.line(self.writer.declared(self.var_type(var), var.name) + ";")
             self.statement(statement)
 
     def var_type(self, var):
@@ -903,8 +981,19 @@ class Routine:
         if var.ty[0] == "ptr":
             use = Use(var.local, var.ty)
             use.var = var
-            return ("ref", True, self.pointee(use))
+            return ("ref", self.writable(use), self.pointee(use))
         return var.ty
+
+    def writable(self, e):
+        """Whether what a pointer points to may be written."""
+        if isinstance(e, AddrOf):
+            base = base_of(e.of)
+            return base.var.table is None if isinstance(base, Use) else self.writable(base.of)
+        if isinstance(e, Op2):
+            return self.writable(e.a)
+        if e.ty[0] == "ref":
+            return e.ty[1]
+        return isinstance(e, Use) and e.var.value is not None and self.writable(e.var.value)
 
     def statement(self, s):
         if isinstance(s, Assign):
@@ -1030,8 +1119,6 @@ class Routine:
         known = self.declared_at.get(id(s))
         if known:
             var = known[1]
-            if not base_type(var.ty)[1]:
-                return
             head = w.declared(self.var_type(var), var.name)
             if var.ty[0] == "array":
                 self.declare_array(head, var, value)
@@ -1043,7 +1130,7 @@ class Routine:
             return
         made = self.place(place) if not (isinstance(place, Use) and place.ty[0] in ("ref", "ptr")) else Value(place.var.name, POSTFIX, "ptr")
         if place.ty[0] == "array":
-            self.fill(made.at(POSTFIX), value)
+            self.fill(made.at(POSTFIX), value, place)
         elif isinstance(value, Aggregate) and w.has_array(value.ty):
             if any(use.var is base_of(place).var for use in uses_of(value)) if isinstance(base_of(place), Use) else True:
                 raise Refused("a struct with an array inside is made of itself")
@@ -1068,15 +1155,16 @@ class Routine:
             self.line(head + ";")
             self.fill(var.name, value)
 
-    def fill(self, into, value):
-        """The elements of an array."""
+    def fill(self, into, value, place=None):
+        """The elements of an array. What a call makes goes through a copy if the call could see the place that it is for."""
         w = self.writer
         base, n = base_type(value.ty)
         if n == 0:
+            self.line("memset(%s, 0, sizeof %s); /* it has no elements, but C asks for one */" % (into, into))
             return
         octets = "%d * sizeof(%s)" % (n, w.scalar(base)) if w.reader.size(base) > 1 else "%d" % n
         if isinstance(value, Call):
-            if any(isinstance(e, (Use, Field, Deref)) and e.ty[0] == "array" and self.place(e).text == into for e in within(value)):
+            if place is not None and self.seen_by(place, value):
                 name = self.fresh("t")
                 self.line(w.declared(value.ty, name) + ";")
                 self.line(self.call(value, name).text + ";")
@@ -1097,6 +1185,12 @@ class Routine:
             self.line("memcpy(%s, %s, %s);" % (into, self.place(value).text, octets))
         else:
             raise Refused("an array that is made in a way not known")
+
+    def seen_by(self, place, call):
+        base = base_of(place)
+        if isinstance(base, Use):
+            return any(use.var is base.var for use in uses_of(call))
+        return any(self.writer.effects.points(arg.ty) for arg in call.args)
 
     def fill_struct(self, into, value):
         w = self.writer

@@ -21,13 +21,13 @@ typedef struct lent_mut_uint8_t {
 } lent_mut_uint8_t;
 
 /* The number that bits have if the first of them is a sign. */
-static int32_t signed32(uint32_t x)
+static inline int32_t signed32(uint32_t x)
 {
     return x <= INT32_MAX ? (int32_t)x : (int32_t)(-(int32_t)(UINT32_MAX - x) - 1);
 }
 
 /* The number that bits have if the first of them is a sign. */
-static int64_t signed64(uint64_t x)
+static inline int64_t signed64(uint64_t x)
 {
     return x <= INT64_MAX ? (int64_t)x : (int64_t)(-(int64_t)(UINT64_MAX - x) - 1);
 }
@@ -50,7 +50,7 @@ static uint64_t libc_write(uint32_t file, const uint8_t *octets, uint64_t octets
  * crate assumes nothing of its own. No public function has a `requires`. A call that a signal interrupts before it
  * moves a byte counts as one that failed. */
 
-static uint64_t io_least(uint64_t a, uint64_t b)
+static inline uint64_t io_least(uint64_t a, uint64_t b)
 {
     if (a < b) {
         return a;
@@ -58,7 +58,7 @@ static uint64_t io_least(uint64_t a, uint64_t b)
     return b;
 }
 
-static uint64_t io_clamp(uint64_t got, uint64_t most)
+static inline uint64_t io_clamp(uint64_t got, uint64_t most)
 {
     if (0 < signed64(got)) {
         return io_least((uint64_t)signed64(got), most);
@@ -68,12 +68,12 @@ static uint64_t io_clamp(uint64_t got, uint64_t most)
 
 /* 4,096 zeros, for a path (`libc::PATH_MAX`). The `ensures` gives only the length, which lending the array as a
  * slice needs. */
-static void io_buffer(uint8_t *restrict result)
+static inline void io_buffer(uint8_t *restrict result)
 {
     memset(result, 0, 4096);
 }
 
-static void io_copy(const uint8_t *src, uint64_t from, uint8_t *restrict dst, uint64_t to, uint64_t n)
+static inline void io_copy(const uint8_t *src, uint64_t from, uint8_t *restrict dst, uint64_t to, uint64_t n)
 {
     uint64_t i = 0;
     while (i < n) {
@@ -83,8 +83,8 @@ static void io_copy(const uint8_t *src, uint64_t from, uint8_t *restrict dst, ui
 }
 
 /* One read into buf from index `to` on, by way of chunk for the same reason. */
-static uint64_t io_read_to(uint32_t fd, uint8_t *restrict buf, uint64_t buf_len, uint64_t to, uint8_t *restrict chunk,
-        uint64_t chunk_len)
+static inline uint64_t io_read_to(uint32_t fd, uint8_t *restrict buf, uint64_t buf_len, uint64_t to,
+        uint8_t *restrict chunk, uint64_t chunk_len)
 {
     uint64_t n = io_least(buf_len - to, chunk_len);
     uint64_t t = libc_read(fd, chunk, n);
@@ -94,7 +94,7 @@ static uint64_t io_read_to(uint32_t fd, uint8_t *restrict buf, uint64_t buf_len,
 }
 
 /* Reads until buf is full, the input ends or a read fails, and answers how many bytes it put at the start of buf. */
-static uint64_t io_read_full(uint32_t fd, uint8_t *restrict buf, uint64_t buf_len)
+static inline uint64_t io_read_full(uint32_t fd, uint8_t *restrict buf, uint64_t buf_len)
 {
     uint64_t t = libc_read(fd, buf, buf_len);
     uint64_t done = io_clamp(t, buf_len);
@@ -119,7 +119,7 @@ static uint64_t io_read_full(uint32_t fd, uint8_t *restrict buf, uint64_t buf_le
 
 /* One write of buf's bytes from index `from` on. They go by way of chunk: the borrow checker covers `&buf[from..]`,
  * but the proofs here do not use it yet. */
-static uint64_t io_write_from(uint32_t fd, const uint8_t *buf, uint64_t buf_len, uint64_t from,
+static inline uint64_t io_write_from(uint32_t fd, const uint8_t *buf, uint64_t buf_len, uint64_t from,
         uint8_t *restrict chunk, uint64_t chunk_len)
 {
     uint64_t n = io_least(buf_len - from, chunk_len);
@@ -130,7 +130,7 @@ static uint64_t io_write_from(uint32_t fd, const uint8_t *buf, uint64_t buf_len,
 
 /* Writes all of buf and answers true, or stops at the first write that takes nothing or fails and answers false,
  * when some of buf may have been written. On an empty buf it makes no call. */
-static bool io_write_all(uint32_t fd, const uint8_t *buf, uint64_t buf_len)
+static inline bool io_write_all(uint32_t fd, const uint8_t *buf, uint64_t buf_len)
 {
     if (buf_len == 0) {
         return true;
@@ -159,20 +159,20 @@ static bool io_write_all(uint32_t fd, const uint8_t *buf, uint64_t buf_len)
 /* Turns what a call such as `libc::read(fd, buf)` answered into a number of buf's bytes: 0 where got is negative,
  * and never more than buf's length. It takes buf and not its length so that the contract can speak of buf, and
  * `&buf[..n]` then needs no proof file. */
-static uint64_t io_count(uint64_t got, const uint8_t *buf, uint64_t buf_len)
+static inline uint64_t io_count(uint64_t got, const uint8_t *buf, uint64_t buf_len)
 {
     (void)buf;
     return io_clamp(got, buf_len);
 }
 
 /* 65,536 zeros, for a loop that moves much data and would spend its time on calls of 4,096 bytes. */
-static void io_large_buffer(uint8_t *restrict result)
+static inline void io_large_buffer(uint8_t *restrict result)
 {
     memset(result, 0, 65536);
 }
 
 /* How many digits n takes in base, or least where that is more. */
-static uint64_t io_number_places(uint64_t n, uint64_t base, uint64_t least)
+static inline uint64_t io_number_places(uint64_t n, uint64_t base, uint64_t least)
 {
     uint64_t k = 1;
     uint64_t rest = n / base;
@@ -186,7 +186,7 @@ static uint64_t io_number_places(uint64_t n, uint64_t base, uint64_t least)
     return k;
 }
 
-static uint8_t io_number_glyph(uint64_t d)
+static inline uint8_t io_number_glyph(uint64_t d)
 {
     if (d < 10) {
         return (uint8_t)(48 + (uint8_t)d);
@@ -195,7 +195,7 @@ static uint8_t io_number_glyph(uint64_t d)
 }
 
 /* Puts the last k digits of n in base at the start of out. */
-static void io_number_spell(uint64_t n, uint64_t base, uint64_t k, uint8_t *restrict out)
+static inline void io_number_spell(uint64_t n, uint64_t base, uint64_t k, uint8_t *restrict out)
 {
     uint64_t i = k;
     uint64_t rest = n;
@@ -207,7 +207,7 @@ static void io_number_spell(uint64_t n, uint64_t base, uint64_t k, uint8_t *rest
 }
 
 /* Puts n's decimal digits at the start of out, and answers how many there are. */
-static uint64_t io_number_decimal(uint64_t n, uint8_t *restrict out)
+static inline uint64_t io_number_decimal(uint64_t n, uint8_t *restrict out)
 {
     uint64_t k = io_number_places(n, 10, 1);
     io_number_spell(n, 10, k, out);
@@ -215,7 +215,7 @@ static uint64_t io_number_decimal(uint64_t n, uint8_t *restrict out)
 }
 
 /* Writes what decimal makes of n, with no line end, and answers as write_all does. */
-static bool io_number_print_decimal(uint32_t fd, uint64_t n)
+static inline bool io_number_print_decimal(uint32_t fd, uint64_t n)
 {
     uint8_t text[20] = {0};
     uint64_t k = io_number_decimal(n, text);
@@ -242,7 +242,7 @@ static uint32_t os_c_rattle_errno(void)
 }
 
 /* The calling thread's errno. It means something only just after `arg` or a call that failed. */
-static uint32_t os_errno(void)
+static inline uint32_t os_errno(void)
 {
     return os_c_rattle_errno();
 }
@@ -253,7 +253,7 @@ static uint32_t os_c___xpg_strerror_r(uint32_t number, uint8_t *room, uint64_t r
 }
 
 /* How many bytes stand before the first 0, or all of them where none is 0. */
-static uint64_t os_path_before_zero(const uint8_t *text, uint64_t text_len)
+static inline uint64_t os_path_before_zero(const uint8_t *text, uint64_t text_len)
 {
     uint64_t i = 0;
     while (i < text_len) {
@@ -266,7 +266,7 @@ static uint64_t os_path_before_zero(const uint8_t *text, uint64_t text_len)
 }
 
 /* Writes a line to standard error: what failed, as the caller names it, a colon and errno's text. */
-static void os_fail(const uint8_t *what, uint64_t what_len)
+static inline void os_fail(const uint8_t *what, uint64_t what_len)
 {
     uint32_t error = os_errno();
     uint8_t text[64] = {0};
@@ -285,7 +285,7 @@ static uint64_t os_c_rattle_arg_count(void)
 }
 
 /* How many arguments the program was started with, its own name among them. */
-static uint64_t os_arg_count(void)
+static inline uint64_t os_arg_count(void)
 {
     return os_c_rattle_arg_count();
 }
@@ -304,7 +304,7 @@ static uint64_t os_c_rattle_arg(uint64_t i, uint8_t *room, uint64_t room_len)
     return n;
 }
 
-static uint32_t os_arg_error(uint64_t got)
+static inline uint32_t os_arg_error(uint64_t got)
 {
     if (0 <= signed64(got)) {
         return 0;
@@ -326,7 +326,7 @@ static void os_c_rattle_set_errno(uint32_t number)
 /* Puts argument i at the start of buf and answers its length, or 0 where it is missing or longer than buf. It always
  * sets errno: 0 where the whole argument is in buf, even an empty one, EINVAL where it is missing, and ENAMETOOLONG
  * where it is too long. One that is too long leaves its first bytes in buf. */
-static uint64_t os_arg(uint64_t i, uint8_t *restrict buf, uint64_t buf_len)
+static inline uint64_t os_arg(uint64_t i, uint8_t *restrict buf, uint64_t buf_len)
 {
     uint64_t got = os_c_rattle_arg(i, buf, buf_len);
     os_c_rattle_set_errno(os_arg_error(got));
@@ -338,7 +338,7 @@ static uint64_t os_arg(uint64_t i, uint8_t *restrict buf, uint64_t buf_len)
 /* The part of Rattle's std that is Rattle: `num`. steps calls two of its functions. */
 
 /* a + b, modulo 2^64. */
-static uint64_t std_num_wrapping_add_u64(uint64_t a, uint64_t b)
+static inline uint64_t std_num_wrapping_add_u64(uint64_t a, uint64_t b)
 {
     if (a <= UINT64_C(0xFFFFFFFFFFFFFFFF) - b) {
         return a + b;
@@ -347,7 +347,7 @@ static uint64_t std_num_wrapping_add_u64(uint64_t a, uint64_t b)
 }
 
 /* a - b, modulo 2^64: the number that b added to wraps back to a. */
-static uint64_t std_num_wrapping_sub_u64(uint64_t a, uint64_t b)
+static inline uint64_t std_num_wrapping_sub_u64(uint64_t a, uint64_t b)
 {
     if (b <= a) {
         return a - b;
@@ -363,7 +363,7 @@ static uint64_t std_num_wrapping_sub_u64(uint64_t a, uint64_t b)
 /* Where the program stands after a call of the taker: the octets that the call took, whether it goes on, the words
  * and octets so far. */
 typedef struct frames_Standing {
-    taker_Taker taker;
+    telemetry_taker_Taker taker;
     uint64_t taken;
     bool more;
     uint64_t words;
@@ -399,7 +399,7 @@ static const uint8_t frames_main_table_2[50] = {
 };
 
 /* Why there is no limit, in one line on standard error. */
-static void frames_no_limit(void)
+static inline void frames_no_limit(void)
 {
     uint8_t more[1] = {0};
     uint64_t t = libc_read(0, more, 1);
@@ -411,7 +411,7 @@ static void frames_no_limit(void)
 }
 
 /* An edition is one digit; anything else is one that is not known. */
-static uint8_t frames_edition_of(const uint8_t *text, uint64_t text_len)
+static inline uint8_t frames_edition_of(const uint8_t *text, uint64_t text_len)
 {
     if (text_len != 1) {
         return 255;
@@ -424,7 +424,7 @@ static uint8_t frames_edition_of(const uint8_t *text, uint64_t text_len)
 }
 
 /* The edition of the first argument, 0 where there is none. */
-static uint8_t frames_edition(void)
+static inline uint8_t frames_edition(void)
 {
     uint64_t t = os_arg_count();
     if (t < 2) {
@@ -436,13 +436,13 @@ static uint8_t frames_edition(void)
 }
 
 /* The limit, high octet first. */
-static uint16_t frames_limit_of(uint8_t high, uint8_t low)
+static inline uint16_t frames_limit_of(uint8_t high, uint8_t low)
 {
     return (uint16_t)(256 * (uint16_t)high + (uint16_t)low);
 }
 
 /* Writes a text whole. If that fails, it is said on standard error. */
-static bool frames_write(const uint8_t *text, uint64_t text_len)
+static inline bool frames_write(const uint8_t *text, uint64_t text_len)
 {
     if (io_write_all(1, text, text_len)) {
         return true;
@@ -452,7 +452,7 @@ static bool frames_write(const uint8_t *text, uint64_t text_len)
 }
 
 /* How many octets were read; none where the input has ended, or a read failed, which is said on standard error. */
-static uint64_t frames_read(uint8_t *restrict part, uint64_t part_len)
+static inline uint64_t frames_read(uint8_t *restrict part, uint64_t part_len)
 {
     uint64_t got = libc_read(0, part, part_len);
     if (signed64(got) < 0) {
@@ -462,14 +462,14 @@ static uint64_t frames_read(uint8_t *restrict part, uint64_t part_len)
 }
 
 /* A number behind a space. */
-static void frames_put(uint64_t n)
+static inline void frames_put(uint64_t n)
 {
     io_write_all(1, frames_put_table, 1);
     io_number_print_decimal(1, n);
 }
 
 /* The line of a word: whether it is written. */
-static bool frames_line(uint64_t index, uint64_t offset, endings_Corrected r)
+static inline bool frames_line(uint64_t index, uint64_t offset, flipping_endings_Corrected r)
 {
     io_number_print_decimal(1, index);
     frames_put(offset);
@@ -483,12 +483,12 @@ static bool frames_line(uint64_t index, uint64_t offset, endings_Corrected r)
 }
 
 /* One call of the taker. A complete word has its line; its first octet lies 1020 before the octets taken so far. */
-static frames_Standing frames_take(const frames_Standing *s, const uint8_t *part, uint64_t part_len)
+static inline frames_Standing frames_take(const frames_Standing *s, const uint8_t *part, uint64_t part_len)
 {
-    taker_Taker taker = s->taker;
-    taker_Taken r = taker_Taker_take(&taker, part, part_len);
-    taker_Taker next = r.next;
-    endings_Corrected corrected = r.corrected;
+    telemetry_taker_Taker taker = s->taker;
+    telemetry_taker_Taken r = telemetry_taker_Taker_take(&taker, part, part_len);
+    telemetry_taker_Taker next = r.next;
+    flipping_endings_Corrected corrected = r.corrected;
     uint64_t octets = std_num_wrapping_add_u64(s->octets, r.taken);
     if (!r.complete) {
         frames_Standing result;
@@ -510,7 +510,7 @@ static frames_Standing frames_take(const frames_Standing *s, const uint8_t *part
 }
 
 /* Call after call until the part is used up; the rest of it is brought again. */
-static frames_Standing frames_take_all(const frames_Standing *s, const uint8_t *part, uint64_t part_len)
+static inline frames_Standing frames_take_all(const frames_Standing *s, const uint8_t *part, uint64_t part_len)
 {
     frames_Standing now = *s;
     uint64_t at = 0;
@@ -525,11 +525,11 @@ static frames_Standing frames_take_all(const frames_Standing *s, const uint8_t *
 }
 
 /* The next part of the stream; none ends it. */
-static frames_Standing frames_go_on(const frames_Standing *s, uint8_t *restrict part, uint64_t part_len)
+static inline frames_Standing frames_go_on(const frames_Standing *s, uint8_t *restrict part, uint64_t part_len)
 {
     uint64_t n = frames_read(part, part_len);
     if (n == 0) {
-        taker_Taker taker = s->taker;
+        telemetry_taker_Taker taker = s->taker;
         frames_Standing result;
         result.taker = taker;
         result.taken = 0;
@@ -542,7 +542,7 @@ static frames_Standing frames_go_on(const frames_Standing *s, uint8_t *restrict 
 }
 
 /* Part after part. */
-static void frames_stream(const taker_Taker *taker, uint8_t *restrict part, uint64_t part_len)
+static inline void frames_stream(const telemetry_taker_Taker *taker, uint8_t *restrict part, uint64_t part_len)
 {
     frames_Standing s;
     s.taker = *taker;
@@ -560,7 +560,7 @@ static void frames_stream(const taker_Taker *taker, uint8_t *restrict part, uint
     }
 }
 
-static void frames_main(void)
+static inline void frames_main(void)
 {
     uint8_t head[2] = {0};
     uint64_t n = io_read_full(0, head, 2);
@@ -569,7 +569,7 @@ static void frames_main(void)
         return;
     }
     uint8_t t = frames_edition();
-    taker_Made made = taker_Taker_told(t, frames_limit_of(head[0], head[1]));
+    telemetry_taker_Made made = telemetry_taker_Taker_told(t, frames_limit_of(head[0], head[1]));
     if (made.number != 0) {
         io_write_all(2, frames_main_table, 37);
         return;
@@ -579,7 +579,7 @@ static void frames_main(void)
     }
     uint8_t part[65536];
     io_large_buffer(part);
-    taker_Taker taker = made.taker;
+    telemetry_taker_Taker taker = made.taker;
     frames_stream(&taker, part, 0x10000);
 }
 

@@ -17,13 +17,13 @@ typedef struct lent_mut_uint8_t {
 } lent_mut_uint8_t;
 
 /* The number that bits have if the first of them is a sign. */
-static int32_t signed32(uint32_t x)
+static inline int32_t signed32(uint32_t x)
 {
     return x <= INT32_MAX ? (int32_t)x : (int32_t)(-(int32_t)(UINT32_MAX - x) - 1);
 }
 
 /* The number that bits have if the first of them is a sign. */
-static int64_t signed64(uint64_t x)
+static inline int64_t signed64(uint64_t x)
 {
     return x <= INT64_MAX ? (int64_t)x : (int64_t)(-(int64_t)(UINT64_MAX - x) - 1);
 }
@@ -46,7 +46,7 @@ static uint64_t libc_read(uint32_t file, uint8_t *room, uint64_t room_len)
  * crate assumes nothing of its own. No public function has a `requires`. A call that a signal interrupts before it
  * moves a byte counts as one that failed. */
 
-static uint64_t io_least(uint64_t a, uint64_t b)
+static inline uint64_t io_least(uint64_t a, uint64_t b)
 {
     if (a < b) {
         return a;
@@ -54,7 +54,7 @@ static uint64_t io_least(uint64_t a, uint64_t b)
     return b;
 }
 
-static uint64_t io_clamp(uint64_t got, uint64_t most)
+static inline uint64_t io_clamp(uint64_t got, uint64_t most)
 {
     if (0 < signed64(got)) {
         return io_least((uint64_t)signed64(got), most);
@@ -64,12 +64,12 @@ static uint64_t io_clamp(uint64_t got, uint64_t most)
 
 /* 4,096 zeros, for a path (`libc::PATH_MAX`). The `ensures` gives only the length, which lending the array as a
  * slice needs. */
-static void io_buffer(uint8_t *restrict result)
+static inline void io_buffer(uint8_t *restrict result)
 {
     memset(result, 0, 4096);
 }
 
-static void io_copy(const uint8_t *src, uint64_t from, uint8_t *restrict dst, uint64_t to, uint64_t n)
+static inline void io_copy(const uint8_t *src, uint64_t from, uint8_t *restrict dst, uint64_t to, uint64_t n)
 {
     uint64_t i = 0;
     while (i < n) {
@@ -80,7 +80,7 @@ static void io_copy(const uint8_t *src, uint64_t from, uint8_t *restrict dst, ui
 
 /* One write of buf's bytes from index `from` on. They go by way of chunk: the borrow checker covers `&buf[from..]`,
  * but the proofs here do not use it yet. */
-static uint64_t io_write_from(uint32_t fd, const uint8_t *buf, uint64_t buf_len, uint64_t from,
+static inline uint64_t io_write_from(uint32_t fd, const uint8_t *buf, uint64_t buf_len, uint64_t from,
         uint8_t *restrict chunk, uint64_t chunk_len)
 {
     uint64_t n = io_least(buf_len - from, chunk_len);
@@ -91,7 +91,7 @@ static uint64_t io_write_from(uint32_t fd, const uint8_t *buf, uint64_t buf_len,
 
 /* Writes all of buf and answers true, or stops at the first write that takes nothing or fails and answers false,
  * when some of buf may have been written. On an empty buf it makes no call. */
-static bool io_write_all(uint32_t fd, const uint8_t *buf, uint64_t buf_len)
+static inline bool io_write_all(uint32_t fd, const uint8_t *buf, uint64_t buf_len)
 {
     if (buf_len == 0) {
         return true;
@@ -118,8 +118,8 @@ static bool io_write_all(uint32_t fd, const uint8_t *buf, uint64_t buf_len)
 }
 
 /* One read into buf from index `to` on, by way of chunk for the same reason. */
-static uint64_t io_read_to(uint32_t fd, uint8_t *restrict buf, uint64_t buf_len, uint64_t to, uint8_t *restrict chunk,
-        uint64_t chunk_len)
+static inline uint64_t io_read_to(uint32_t fd, uint8_t *restrict buf, uint64_t buf_len, uint64_t to,
+        uint8_t *restrict chunk, uint64_t chunk_len)
 {
     uint64_t n = io_least(buf_len - to, chunk_len);
     uint64_t t = libc_read(fd, chunk, n);
@@ -129,7 +129,7 @@ static uint64_t io_read_to(uint32_t fd, uint8_t *restrict buf, uint64_t buf_len,
 }
 
 /* Reads until buf is full, the input ends or a read fails, and answers how many bytes it put at the start of buf. */
-static uint64_t io_read_full(uint32_t fd, uint8_t *restrict buf, uint64_t buf_len)
+static inline uint64_t io_read_full(uint32_t fd, uint8_t *restrict buf, uint64_t buf_len)
 {
     uint64_t t = libc_read(fd, buf, buf_len);
     uint64_t done = io_clamp(t, buf_len);
@@ -153,7 +153,7 @@ static uint64_t io_read_full(uint32_t fd, uint8_t *restrict buf, uint64_t buf_le
 }
 
 /* How many digits n takes in base, or least where that is more. */
-static uint64_t io_number_places(uint64_t n, uint64_t base, uint64_t least)
+static inline uint64_t io_number_places(uint64_t n, uint64_t base, uint64_t least)
 {
     uint64_t k = 1;
     uint64_t rest = n / base;
@@ -167,7 +167,7 @@ static uint64_t io_number_places(uint64_t n, uint64_t base, uint64_t least)
     return k;
 }
 
-static uint8_t io_number_glyph(uint64_t d)
+static inline uint8_t io_number_glyph(uint64_t d)
 {
     if (d < 10) {
         return (uint8_t)(48 + (uint8_t)d);
@@ -176,7 +176,7 @@ static uint8_t io_number_glyph(uint64_t d)
 }
 
 /* Puts the last k digits of n in base at the start of out. */
-static void io_number_spell(uint64_t n, uint64_t base, uint64_t k, uint8_t *restrict out)
+static inline void io_number_spell(uint64_t n, uint64_t base, uint64_t k, uint8_t *restrict out)
 {
     uint64_t i = k;
     uint64_t rest = n;
@@ -188,7 +188,7 @@ static void io_number_spell(uint64_t n, uint64_t base, uint64_t k, uint8_t *rest
 }
 
 /* Puts n's decimal digits at the start of out, and answers how many there are. */
-static uint64_t io_number_decimal(uint64_t n, uint8_t *restrict out)
+static inline uint64_t io_number_decimal(uint64_t n, uint8_t *restrict out)
 {
     uint64_t k = io_number_places(n, 10, 1);
     io_number_spell(n, 10, k, out);
@@ -196,7 +196,7 @@ static uint64_t io_number_decimal(uint64_t n, uint8_t *restrict out)
 }
 
 /* Writes what decimal makes of n, with no line end, and answers as write_all does. */
-static bool io_number_print_decimal(uint32_t fd, uint64_t n)
+static inline bool io_number_print_decimal(uint32_t fd, uint64_t n)
 {
     uint8_t text[20] = {0};
     uint64_t k = io_number_decimal(n, text);
@@ -223,7 +223,7 @@ static uint32_t os_c_rattle_errno(void)
 }
 
 /* The calling thread's errno. It means something only just after `arg` or a call that failed. */
-static uint32_t os_errno(void)
+static inline uint32_t os_errno(void)
 {
     return os_c_rattle_errno();
 }
@@ -234,7 +234,7 @@ static uint32_t os_c___xpg_strerror_r(uint32_t number, uint8_t *room, uint64_t r
 }
 
 /* How many bytes stand before the first 0, or all of them where none is 0. */
-static uint64_t os_path_before_zero(const uint8_t *text, uint64_t text_len)
+static inline uint64_t os_path_before_zero(const uint8_t *text, uint64_t text_len)
 {
     uint64_t i = 0;
     while (i < text_len) {
@@ -247,7 +247,7 @@ static uint64_t os_path_before_zero(const uint8_t *text, uint64_t text_len)
 }
 
 /* Writes a line to standard error: what failed, as the caller names it, a colon and errno's text. */
-static void os_fail(const uint8_t *what, uint64_t what_len)
+static inline void os_fail(const uint8_t *what, uint64_t what_len)
 {
     uint32_t error = os_errno();
     uint8_t text[64] = {0};
@@ -258,6 +258,17 @@ static void os_fail(const uint8_t *what, uint64_t what_len)
     io_write_all(2, os_fail_table, 2);
     io_write_all(2, text, n);
     io_write_all(2, os_fail_table_2, 1);
+}
+
+/* ---- units ------------------------------------------------------------------------------------------ */
+
+/* Telecommand transmission units of codes 1 and 3, written, and their lengths. */
+
+/* The octets that a codeblock hands out, for any number: code 3's where no unit is of the code. */
+static inline uint64_t units_unitoffers_room(uint8_t code)
+{
+    units_unitoffers_UnitOffer u = units_unitoffers_unit_of(code);
+    return u.information;
 }
 
 /* ---- unitread --------------------------------------------------------------------------------------- */
@@ -293,14 +304,17 @@ static const uint8_t unitread_main_table[60] = {
     105, 110, 102, 111, 114, 109, 97, 116, 105, 111, 110, 10,
 };
 
+/* No elements, but C asks for one. */
+static const uint8_t unitread_main_table_2[1] = {0};
+
 /* The longest unit of 64 KiB of information, code 1's. */
-static void unitread_unit_buffer(uint8_t *restrict result)
+static inline void unitread_unit_buffer(uint8_t *restrict result)
 {
     memset(result, 0, 131096);
 }
 
 /* Whether the input is at its end; if not, why it can't be taken is said. */
-static bool unitread_ended(void)
+static inline bool unitread_ended(void)
 {
     uint8_t more[1] = {0};
     uint64_t got = libc_read(0, more, 1);
@@ -316,20 +330,20 @@ static bool unitread_ended(void)
 }
 
 /* The limit, high octet first. */
-static uint16_t unitread_limit_of(uint8_t high, uint8_t low)
+static inline uint16_t unitread_limit_of(uint8_t high, uint8_t low)
 {
     return (uint16_t)(256 * (uint16_t)high + (uint16_t)low);
 }
 
 /* A number behind a space. */
-static void unitread_put(uint64_t n)
+static inline void unitread_put(uint64_t n)
 {
     io_write_all(1, unitread_put_table, 1);
     io_number_print_decimal(1, n);
 }
 
 /* Index and correct's numbers. */
-static void unitread_put_numbers(uint64_t index, endings_Corrected r)
+static inline void unitread_put_numbers(uint64_t index, flipping_endings_Corrected r)
 {
     io_number_print_decimal(1, index);
     unitread_put(r.number);
@@ -341,7 +355,7 @@ static void unitread_put_numbers(uint64_t index, endings_Corrected r)
     io_write_all(1, unitread_put_table, 1);
 }
 
-static uint8_t unitread_digit(uint8_t d)
+static inline uint8_t unitread_digit(uint8_t d)
 {
     if (d < 10) {
         return (uint8_t)(48 + d);
@@ -349,13 +363,13 @@ static uint8_t unitread_digit(uint8_t d)
     return (uint8_t)(55 + d);
 }
 
-static bool unitread_put_octet(uint8_t octet)
+static inline bool unitread_put_octet(uint8_t octet)
 {
     uint8_t text[2] = {unitread_digit((uint8_t)(octet / 16)), unitread_digit((uint8_t)(octet % 16))};
     return io_write_all(1, text, 2);
 }
 
-static bool unitread_put_octets(const uint8_t *octets, uint64_t octets_len)
+static inline bool unitread_put_octets(const uint8_t *octets, uint64_t octets_len)
 {
     uint64_t i = 0;
     while (i < octets_len) {
@@ -368,7 +382,7 @@ static bool unitread_put_octets(const uint8_t *octets, uint64_t octets_len)
 }
 
 /* The line of an asking's answer: whether it is written, and there may be more. */
-static bool unitread_line(uint64_t index, endings_Corrected r, const uint8_t *out, uint64_t out_len)
+static inline bool unitread_line(uint64_t index, flipping_endings_Corrected r, const uint8_t *out, uint64_t out_len)
 {
     unitread_put_numbers(index, r);
     if (r.number != 0) {
@@ -382,23 +396,23 @@ static bool unitread_line(uint64_t index, endings_Corrected r, const uint8_t *ou
     return true;
 }
 
-static void unitread_out_buffer(uint8_t *restrict result)
+static inline void unitread_out_buffer(uint8_t *restrict result)
 {
     memset(result, 0, 32);
 }
 
 /* One codeblock after another; no unit that is held has more than 8,192. */
-static void unitread_lines(readings_Reading first, const uint8_t *unit, uint64_t unit_len, uint8_t *restrict out,
-        uint64_t out_len)
+static inline void unitread_lines(units_readings_Reading first, const uint8_t *unit, uint64_t unit_len,
+        uint8_t *restrict out, uint64_t out_len)
 {
-    readings_Reading state = first;
+    units_readings_Reading state = first;
     uint64_t index = 0;
     while (index < 8192) {
-        readings_Handed handed = readings_read(state, unit, unit_len, out, out_len);
+        units_readings_Handed handed = units_readings_read(state, unit, unit_len, out, out_len);
         if (handed.none) {
             return;
         }
-        endings_Corrected r = handed.corrected;
+        flipping_endings_Corrected r = handed.corrected;
         if (!unitread_line(index, r, out, out_len)) {
             return;
         }
@@ -407,7 +421,7 @@ static void unitread_lines(readings_Reading first, const uint8_t *unit, uint64_t
     }
 }
 
-static void unitread_main(void)
+static inline void unitread_main(void)
 {
     io_write_all(1, unitread_main_table, 60);
     uint8_t head[3] = {0};
@@ -418,19 +432,16 @@ static void unitread_main(void)
     if (!unitread_ended()) {
         return;
     }
-    readings_Reading state = readings_reader(head[0], unit, n, unitread_limit_of(head[1], head[2]));
-    endings_Corrected kept = state.kept;
+    units_readings_Reading state = units_readings_reader(head[0], unit, n, unitread_limit_of(head[1], head[2]));
+    flipping_endings_Corrected kept = state.kept;
     if (kept.number != 0) {
-        unitread_line(0, kept, NULL, 0);
+        unitread_line(0, kept, unitread_main_table_2, 0);
         return;
     }
     uint8_t out[32];
     unitread_out_buffer(out);
-    if (head[0] == 1) {
-        unitread_lines(state, unit, n, out, 8);
-    } else {
-        unitread_lines(state, unit, n, out, 32);
-    }
+    uint64_t size = units_unitoffers_room(head[0]);
+    unitread_lines(state, unit, n, out, size);
 }
 
 int main(void)

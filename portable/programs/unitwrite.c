@@ -17,13 +17,13 @@ typedef struct lent_mut_uint8_t {
 } lent_mut_uint8_t;
 
 /* The number that bits have if the first of them is a sign. */
-static int32_t signed32(uint32_t x)
+static inline int32_t signed32(uint32_t x)
 {
     return x <= INT32_MAX ? (int32_t)x : (int32_t)(-(int32_t)(UINT32_MAX - x) - 1);
 }
 
 /* The number that bits have if the first of them is a sign. */
-static int64_t signed64(uint64_t x)
+static inline int64_t signed64(uint64_t x)
 {
     return x <= INT64_MAX ? (int64_t)x : (int64_t)(-(int64_t)(UINT64_MAX - x) - 1);
 }
@@ -46,7 +46,7 @@ static uint64_t libc_write(uint32_t file, const uint8_t *octets, uint64_t octets
  * crate assumes nothing of its own. No public function has a `requires`. A call that a signal interrupts before it
  * moves a byte counts as one that failed. */
 
-static uint64_t io_least(uint64_t a, uint64_t b)
+static inline uint64_t io_least(uint64_t a, uint64_t b)
 {
     if (a < b) {
         return a;
@@ -54,7 +54,7 @@ static uint64_t io_least(uint64_t a, uint64_t b)
     return b;
 }
 
-static uint64_t io_clamp(uint64_t got, uint64_t most)
+static inline uint64_t io_clamp(uint64_t got, uint64_t most)
 {
     if (0 < signed64(got)) {
         return io_least((uint64_t)signed64(got), most);
@@ -64,12 +64,12 @@ static uint64_t io_clamp(uint64_t got, uint64_t most)
 
 /* 4,096 zeros, for a path (`libc::PATH_MAX`). The `ensures` gives only the length, which lending the array as a
  * slice needs. */
-static void io_buffer(uint8_t *restrict result)
+static inline void io_buffer(uint8_t *restrict result)
 {
     memset(result, 0, 4096);
 }
 
-static void io_copy(const uint8_t *src, uint64_t from, uint8_t *restrict dst, uint64_t to, uint64_t n)
+static inline void io_copy(const uint8_t *src, uint64_t from, uint8_t *restrict dst, uint64_t to, uint64_t n)
 {
     uint64_t i = 0;
     while (i < n) {
@@ -79,8 +79,8 @@ static void io_copy(const uint8_t *src, uint64_t from, uint8_t *restrict dst, ui
 }
 
 /* One read into buf from index `to` on, by way of chunk for the same reason. */
-static uint64_t io_read_to(uint32_t fd, uint8_t *restrict buf, uint64_t buf_len, uint64_t to, uint8_t *restrict chunk,
-        uint64_t chunk_len)
+static inline uint64_t io_read_to(uint32_t fd, uint8_t *restrict buf, uint64_t buf_len, uint64_t to,
+        uint8_t *restrict chunk, uint64_t chunk_len)
 {
     uint64_t n = io_least(buf_len - to, chunk_len);
     uint64_t t = libc_read(fd, chunk, n);
@@ -90,7 +90,7 @@ static uint64_t io_read_to(uint32_t fd, uint8_t *restrict buf, uint64_t buf_len,
 }
 
 /* Reads until buf is full, the input ends or a read fails, and answers how many bytes it put at the start of buf. */
-static uint64_t io_read_full(uint32_t fd, uint8_t *restrict buf, uint64_t buf_len)
+static inline uint64_t io_read_full(uint32_t fd, uint8_t *restrict buf, uint64_t buf_len)
 {
     uint64_t t = libc_read(fd, buf, buf_len);
     uint64_t done = io_clamp(t, buf_len);
@@ -114,14 +114,14 @@ static uint64_t io_read_full(uint32_t fd, uint8_t *restrict buf, uint64_t buf_le
 }
 
 /* 65,536 zeros, for a loop that moves much data and would spend its time on calls of 4,096 bytes. */
-static void io_large_buffer(uint8_t *restrict result)
+static inline void io_large_buffer(uint8_t *restrict result)
 {
     memset(result, 0, 65536);
 }
 
 /* One write of buf's bytes from index `from` on. They go by way of chunk: the borrow checker covers `&buf[from..]`,
  * but the proofs here do not use it yet. */
-static uint64_t io_write_from(uint32_t fd, const uint8_t *buf, uint64_t buf_len, uint64_t from,
+static inline uint64_t io_write_from(uint32_t fd, const uint8_t *buf, uint64_t buf_len, uint64_t from,
         uint8_t *restrict chunk, uint64_t chunk_len)
 {
     uint64_t n = io_least(buf_len - from, chunk_len);
@@ -132,7 +132,7 @@ static uint64_t io_write_from(uint32_t fd, const uint8_t *buf, uint64_t buf_len,
 
 /* Writes all of buf and answers true, or stops at the first write that takes nothing or fails and answers false,
  * when some of buf may have been written. On an empty buf it makes no call. */
-static bool io_write_all(uint32_t fd, const uint8_t *buf, uint64_t buf_len)
+static inline bool io_write_all(uint32_t fd, const uint8_t *buf, uint64_t buf_len)
 {
     if (buf_len == 0) {
         return true;
@@ -159,7 +159,7 @@ static bool io_write_all(uint32_t fd, const uint8_t *buf, uint64_t buf_len)
 }
 
 /* How many digits n takes in base, or least where that is more. */
-static uint64_t io_number_places(uint64_t n, uint64_t base, uint64_t least)
+static inline uint64_t io_number_places(uint64_t n, uint64_t base, uint64_t least)
 {
     uint64_t k = 1;
     uint64_t rest = n / base;
@@ -173,7 +173,7 @@ static uint64_t io_number_places(uint64_t n, uint64_t base, uint64_t least)
     return k;
 }
 
-static uint8_t io_number_glyph(uint64_t d)
+static inline uint8_t io_number_glyph(uint64_t d)
 {
     if (d < 10) {
         return (uint8_t)(48 + (uint8_t)d);
@@ -182,7 +182,7 @@ static uint8_t io_number_glyph(uint64_t d)
 }
 
 /* Puts the last k digits of n in base at the start of out. */
-static void io_number_spell(uint64_t n, uint64_t base, uint64_t k, uint8_t *restrict out)
+static inline void io_number_spell(uint64_t n, uint64_t base, uint64_t k, uint8_t *restrict out)
 {
     uint64_t i = k;
     uint64_t rest = n;
@@ -194,7 +194,7 @@ static void io_number_spell(uint64_t n, uint64_t base, uint64_t k, uint8_t *rest
 }
 
 /* Puts n's decimal digits at the start of out, and answers how many there are. */
-static uint64_t io_number_decimal(uint64_t n, uint8_t *restrict out)
+static inline uint64_t io_number_decimal(uint64_t n, uint8_t *restrict out)
 {
     uint64_t k = io_number_places(n, 10, 1);
     io_number_spell(n, 10, k, out);
@@ -202,7 +202,7 @@ static uint64_t io_number_decimal(uint64_t n, uint8_t *restrict out)
 }
 
 /* Writes what decimal makes of n, with no line end, and answers as write_all does. */
-static bool io_number_print_decimal(uint32_t fd, uint64_t n)
+static inline bool io_number_print_decimal(uint32_t fd, uint64_t n)
 {
     uint8_t text[20] = {0};
     uint64_t k = io_number_decimal(n, text);
@@ -229,7 +229,7 @@ static uint32_t os_c_rattle_errno(void)
 }
 
 /* The calling thread's errno. It means something only just after `arg` or a call that failed. */
-static uint32_t os_errno(void)
+static inline uint32_t os_errno(void)
 {
     return os_c_rattle_errno();
 }
@@ -240,7 +240,7 @@ static uint32_t os_c___xpg_strerror_r(uint32_t number, uint8_t *room, uint64_t r
 }
 
 /* How many bytes stand before the first 0, or all of them where none is 0. */
-static uint64_t os_path_before_zero(const uint8_t *text, uint64_t text_len)
+static inline uint64_t os_path_before_zero(const uint8_t *text, uint64_t text_len)
 {
     uint64_t i = 0;
     while (i < text_len) {
@@ -253,7 +253,7 @@ static uint64_t os_path_before_zero(const uint8_t *text, uint64_t text_len)
 }
 
 /* Writes a line to standard error: what failed, as the caller names it, a colon and errno's text. */
-static void os_fail(const uint8_t *what, uint64_t what_len)
+static inline void os_fail(const uint8_t *what, uint64_t what_len)
 {
     uint32_t error = os_errno();
     uint8_t text[64] = {0};
@@ -292,7 +292,7 @@ static const uint8_t unitwrite_write_table[26] = {
 };
 
 /* Whether the input is at its end; if not, why it can't be taken is said. */
-static bool unitwrite_ended(void)
+static inline bool unitwrite_ended(void)
 {
     uint8_t more[1] = {0};
     uint64_t got = libc_read(0, more, 1);
@@ -308,20 +308,20 @@ static bool unitwrite_ended(void)
 }
 
 /* The longest unit of 64 KiB of information, code 1's. */
-static void unitwrite_unit_buffer(uint8_t *restrict result)
+static inline void unitwrite_unit_buffer(uint8_t *restrict result)
 {
     memset(result, 0, 131096);
 }
 
-static void unitwrite_refused(uint8_t number)
+static inline void unitwrite_refused(uint8_t number)
 {
     io_write_all(2, unitwrite_refused_table, 31);
     io_number_print_decimal(2, number);
     io_write_all(2, os_fail_table_2, 1);
 }
 
-static void unitwrite_write(uint8_t code, const uint8_t *information, uint64_t information_len, uint8_t *restrict unit,
-        uint64_t unit_len)
+static inline void unitwrite_write(uint8_t code, const uint8_t *information, uint64_t information_len,
+        uint8_t *restrict unit, uint64_t unit_len)
 {
     uint8_t number = units_write_unit(code, information, information_len, unit, unit_len);
     if (number != 0) {
@@ -333,7 +333,7 @@ static void unitwrite_write(uint8_t code, const uint8_t *information, uint64_t i
     }
 }
 
-static void unitwrite_main(void)
+static inline void unitwrite_main(void)
 {
     uint8_t code[1] = {0};
     io_read_full(0, code, 1);

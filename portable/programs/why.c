@@ -17,13 +17,13 @@ typedef struct lent_mut_uint8_t {
 } lent_mut_uint8_t;
 
 /* The number that bits have if the first of them is a sign. */
-static int32_t signed32(uint32_t x)
+static inline int32_t signed32(uint32_t x)
 {
     return x <= INT32_MAX ? (int32_t)x : (int32_t)(-(int32_t)(UINT32_MAX - x) - 1);
 }
 
 /* The number that bits have if the first of them is a sign. */
-static int64_t signed64(uint64_t x)
+static inline int64_t signed64(uint64_t x)
 {
     return x <= INT64_MAX ? (int64_t)x : (int64_t)(-(int64_t)(UINT64_MAX - x) - 1);
 }
@@ -46,7 +46,7 @@ static uint64_t libc_read(uint32_t file, uint8_t *room, uint64_t room_len)
  * crate assumes nothing of its own. No public function has a `requires`. A call that a signal interrupts before it
  * moves a byte counts as one that failed. */
 
-static uint64_t io_least(uint64_t a, uint64_t b)
+static inline uint64_t io_least(uint64_t a, uint64_t b)
 {
     if (a < b) {
         return a;
@@ -54,7 +54,7 @@ static uint64_t io_least(uint64_t a, uint64_t b)
     return b;
 }
 
-static uint64_t io_clamp(uint64_t got, uint64_t most)
+static inline uint64_t io_clamp(uint64_t got, uint64_t most)
 {
     if (0 < signed64(got)) {
         return io_least((uint64_t)signed64(got), most);
@@ -64,12 +64,12 @@ static uint64_t io_clamp(uint64_t got, uint64_t most)
 
 /* 4,096 zeros, for a path (`libc::PATH_MAX`). The `ensures` gives only the length, which lending the array as a
  * slice needs. */
-static void io_buffer(uint8_t *restrict result)
+static inline void io_buffer(uint8_t *restrict result)
 {
     memset(result, 0, 4096);
 }
 
-static void io_copy(const uint8_t *src, uint64_t from, uint8_t *restrict dst, uint64_t to, uint64_t n)
+static inline void io_copy(const uint8_t *src, uint64_t from, uint8_t *restrict dst, uint64_t to, uint64_t n)
 {
     uint64_t i = 0;
     while (i < n) {
@@ -80,7 +80,7 @@ static void io_copy(const uint8_t *src, uint64_t from, uint8_t *restrict dst, ui
 
 /* One write of buf's bytes from index `from` on. They go by way of chunk: the borrow checker covers `&buf[from..]`,
  * but the proofs here do not use it yet. */
-static uint64_t io_write_from(uint32_t fd, const uint8_t *buf, uint64_t buf_len, uint64_t from,
+static inline uint64_t io_write_from(uint32_t fd, const uint8_t *buf, uint64_t buf_len, uint64_t from,
         uint8_t *restrict chunk, uint64_t chunk_len)
 {
     uint64_t n = io_least(buf_len - from, chunk_len);
@@ -91,7 +91,7 @@ static uint64_t io_write_from(uint32_t fd, const uint8_t *buf, uint64_t buf_len,
 
 /* Writes all of buf and answers true, or stops at the first write that takes nothing or fails and answers false,
  * when some of buf may have been written. On an empty buf it makes no call. */
-static bool io_write_all(uint32_t fd, const uint8_t *buf, uint64_t buf_len)
+static inline bool io_write_all(uint32_t fd, const uint8_t *buf, uint64_t buf_len)
 {
     if (buf_len == 0) {
         return true;
@@ -118,8 +118,8 @@ static bool io_write_all(uint32_t fd, const uint8_t *buf, uint64_t buf_len)
 }
 
 /* One read into buf from index `to` on, by way of chunk for the same reason. */
-static uint64_t io_read_to(uint32_t fd, uint8_t *restrict buf, uint64_t buf_len, uint64_t to, uint8_t *restrict chunk,
-        uint64_t chunk_len)
+static inline uint64_t io_read_to(uint32_t fd, uint8_t *restrict buf, uint64_t buf_len, uint64_t to,
+        uint8_t *restrict chunk, uint64_t chunk_len)
 {
     uint64_t n = io_least(buf_len - to, chunk_len);
     uint64_t t = libc_read(fd, chunk, n);
@@ -129,7 +129,7 @@ static uint64_t io_read_to(uint32_t fd, uint8_t *restrict buf, uint64_t buf_len,
 }
 
 /* Reads until buf is full, the input ends or a read fails, and answers how many bytes it put at the start of buf. */
-static uint64_t io_read_full(uint32_t fd, uint8_t *restrict buf, uint64_t buf_len)
+static inline uint64_t io_read_full(uint32_t fd, uint8_t *restrict buf, uint64_t buf_len)
 {
     uint64_t t = libc_read(fd, buf, buf_len);
     uint64_t done = io_clamp(t, buf_len);
@@ -153,7 +153,7 @@ static uint64_t io_read_full(uint32_t fd, uint8_t *restrict buf, uint64_t buf_le
 }
 
 /* How many digits n takes in base, or least where that is more. */
-static uint64_t io_number_places(uint64_t n, uint64_t base, uint64_t least)
+static inline uint64_t io_number_places(uint64_t n, uint64_t base, uint64_t least)
 {
     uint64_t k = 1;
     uint64_t rest = n / base;
@@ -167,7 +167,7 @@ static uint64_t io_number_places(uint64_t n, uint64_t base, uint64_t least)
     return k;
 }
 
-static uint8_t io_number_glyph(uint64_t d)
+static inline uint8_t io_number_glyph(uint64_t d)
 {
     if (d < 10) {
         return (uint8_t)(48 + (uint8_t)d);
@@ -176,7 +176,7 @@ static uint8_t io_number_glyph(uint64_t d)
 }
 
 /* Puts the last k digits of n in base at the start of out. */
-static void io_number_spell(uint64_t n, uint64_t base, uint64_t k, uint8_t *restrict out)
+static inline void io_number_spell(uint64_t n, uint64_t base, uint64_t k, uint8_t *restrict out)
 {
     uint64_t i = k;
     uint64_t rest = n;
@@ -188,7 +188,7 @@ static void io_number_spell(uint64_t n, uint64_t base, uint64_t k, uint8_t *rest
 }
 
 /* Puts n's decimal digits at the start of out, and answers how many there are. */
-static uint64_t io_number_decimal(uint64_t n, uint8_t *restrict out)
+static inline uint64_t io_number_decimal(uint64_t n, uint8_t *restrict out)
 {
     uint64_t k = io_number_places(n, 10, 1);
     io_number_spell(n, 10, k, out);
@@ -196,21 +196,21 @@ static uint64_t io_number_decimal(uint64_t n, uint8_t *restrict out)
 }
 
 /* Writes what decimal makes of n, with no line end, and answers as write_all does. */
-static bool io_number_print_decimal(uint32_t fd, uint64_t n)
+static inline bool io_number_print_decimal(uint32_t fd, uint64_t n)
 {
     uint8_t text[20] = {0};
     uint64_t k = io_number_decimal(n, text);
     return io_write_all(fd, text, k);
 }
 
-/* ---- lines ------------------------------------------------------------------------------------------ */
+/* ---- log -------------------------------------------------------------------------------------------- */
 
-/* The log of a recording, in parts: what its head gives, and what each block of words adds. */
+/* The log: a line of it, and the log of a recording. */
 
 /* The octets of a word. */
-static uint64_t lines_word_octets(uint8_t code)
+static inline uint64_t log_lines_word_octets(uint8_t code)
 {
-    return offer_word_octets(code);
+    return catalogue_offer_word_octets(code);
 }
 
 /* ---- os --------------------------------------------------------------------------------------------- */
@@ -233,7 +233,7 @@ static uint32_t os_c_rattle_errno(void)
 }
 
 /* The calling thread's errno. It means something only just after `arg` or a call that failed. */
-static uint32_t os_errno(void)
+static inline uint32_t os_errno(void)
 {
     return os_c_rattle_errno();
 }
@@ -244,7 +244,7 @@ static uint32_t os_c___xpg_strerror_r(uint32_t number, uint8_t *room, uint64_t r
 }
 
 /* How many bytes stand before the first 0, or all of them where none is 0. */
-static uint64_t os_path_before_zero(const uint8_t *text, uint64_t text_len)
+static inline uint64_t os_path_before_zero(const uint8_t *text, uint64_t text_len)
 {
     uint64_t i = 0;
     while (i < text_len) {
@@ -257,7 +257,7 @@ static uint64_t os_path_before_zero(const uint8_t *text, uint64_t text_len)
 }
 
 /* Writes a line to standard error: what failed, as the caller names it, a colon and errno's text. */
-static void os_fail(const uint8_t *what, uint64_t what_len)
+static inline void os_fail(const uint8_t *what, uint64_t what_len)
 {
     uint32_t error = os_errno();
     uint8_t text[64] = {0};
@@ -313,8 +313,11 @@ static const uint8_t why_main_table[35] = {
     108, 97, 115, 116, 32, 117, 110, 108, 105, 107, 101,
 };
 
+/* No elements, but C asks for one. */
+static const uint8_t why_main_table_2[1] = {0};
+
 /* The end of a line: whether the line is written. If not, that is said. */
-static bool why_put_end(void)
+static inline bool why_put_end(void)
 {
     if (io_write_all(1, os_fail_table_2, 1)) {
         return true;
@@ -324,14 +327,14 @@ static bool why_put_end(void)
 }
 
 /* A number behind a space. */
-static void why_put(uint64_t n)
+static inline void why_put(uint64_t n)
 {
     io_write_all(1, why_put_table, 1);
     io_number_print_decimal(1, n);
 }
 
 /* The same of a signed one. */
-static void why_put_signed(uint8_t n)
+static inline void why_put_signed(uint8_t n)
 {
     if (signed8(n) < 0) {
         io_write_all(1, why_put_signed_table, 2);
@@ -341,7 +344,7 @@ static void why_put_signed(uint8_t n)
     }
 }
 
-static bool why_put_flip(listing_FlipRecord r)
+static inline bool why_put_flip(lists_listing_FlipRecord r)
 {
     io_write_all(1, why_put_flip_table, 6);
     why_put(r.bit);
@@ -351,23 +354,24 @@ static bool why_put_flip(listing_FlipRecord r)
 }
 
 /* The list of a word, to its end; where the flips are shown, to one that could not be written. */
-static listing_Listing why_follow(uint8_t code, uint16_t limit, const uint8_t *word, uint64_t word_len, bool shown)
+static inline lists_listing_Listing why_follow(uint8_t code, uint16_t limit, const uint8_t *word, uint64_t word_len,
+        bool shown)
 {
     uint16_t h[64] = {0};
     uint64_t y[130] = {0};
     uint64_t z[16] = {0};
-    listing_Listing l = listing_begin(code, word, word_len, limit, 511, h, y, z);
+    lists_listing_Listing l = lists_listing_begin(code, word, word_len, limit, 511, h, y, z);
     while (l.goes) {
         if (shown && !why_put_flip(l.record)) {
             return l;
         }
-        l = listing_next(&l, word, word_len, h, y, z);
+        l = lists_listing_next(&l, word, word_len, h, y, z);
     }
     return l;
 }
 
 /* A word's line, as the bench logs it. */
-static bool why_put_line(uint64_t index, listing_Listed a)
+static inline bool why_put_line(uint64_t index, lists_listing_Listed a)
 {
     io_number_print_decimal(1, index);
     why_put(a.number);
@@ -379,7 +383,7 @@ static bool why_put_line(uint64_t index, listing_Listed a)
 }
 
 /* The greatest excess and the lowest bit that has it, where no bit has one above 0. */
-static bool why_put_reason(listing_Listed a)
+static inline bool why_put_reason(lists_listing_Listed a)
 {
     if (a.number != 5) {
         return true;
@@ -390,13 +394,13 @@ static bool why_put_reason(listing_Listed a)
     return why_put_end();
 }
 
-static void why_put_bit(uint32_t n)
+static inline void why_put_bit(uint32_t n)
 {
     why_put(n);
 }
 
 /* How many flips lead to the nearest codeword, and their bits. */
-static bool why_put_reached(const nearest_Reached *r)
+static inline bool why_put_reached(const nearest_Reached *r)
 {
     uint32_t bits[3];
     memcpy(bits, r->bits, 3 * sizeof(uint32_t));
@@ -416,7 +420,7 @@ static bool why_put_reached(const nearest_Reached *r)
 
 /* For a word whose run stuck or came to its limit: the nearest codeword within three flips, or that there is none.
  * Words of another length than code 1's are refused by 2, and nothing is said of them. */
-static bool why_put_nearest(const uint8_t *word, uint64_t word_len, listing_Listed a)
+static inline bool why_put_nearest(const uint8_t *word, uint64_t word_len, lists_listing_Listed a)
 {
     if (a.number < 5 || 6 < a.number) {
         return true;
@@ -435,20 +439,20 @@ static bool why_put_nearest(const uint8_t *word, uint64_t word_len, listing_List
 
 /* A word's line, its flips and the reason: whether they are written. The line stands first, so the run is made
  * twice. */
-static bool why_explain(uint64_t index, uint8_t code, uint16_t limit, const uint8_t *word, uint64_t word_len)
+static inline bool why_explain(uint64_t index, uint8_t code, uint16_t limit, const uint8_t *word, uint64_t word_len)
 {
-    listing_Listing l = why_follow(code, limit, word, word_len, false);
-    listing_Listed a = l.answer;
+    lists_listing_Listing l = why_follow(code, limit, word, word_len, false);
+    lists_listing_Listed a = l.answer;
     if (!why_put_line(index, a)) {
         return false;
     }
-    listing_Listing shown = why_follow(code, limit, word, word_len, true);
+    lists_listing_Listing shown = why_follow(code, limit, word, word_len, true);
     bool t = !shown.goes && why_put_reason(a);
     return t && why_put_nearest(word, word_len, a);
 }
 
 /* After the last octet: if reading fails there, that is said. */
-static void why_ended(void)
+static inline void why_ended(void)
 {
     uint8_t more[1] = {0};
     uint64_t got = libc_read(0, more, 1);
@@ -457,19 +461,19 @@ static void why_ended(void)
     }
 }
 
-static void why_word_buffer(uint8_t *restrict result)
+static inline void why_word_buffer(uint8_t *restrict result)
 {
     memset(result, 0, 1022);
 }
 
 /* The limit, high octet first. */
-static uint16_t why_limit_of(uint8_t high, uint8_t low)
+static inline uint16_t why_limit_of(uint8_t high, uint8_t low)
 {
     return (uint16_t)(256 * (uint16_t)high + (uint16_t)low);
 }
 
 /* Word after word; the last may be short, and is refused. */
-static void why_words(uint8_t code, uint16_t limit, uint8_t *restrict word, uint64_t word_len)
+static inline void why_words(uint8_t code, uint16_t limit, uint8_t *restrict word, uint64_t word_len)
 {
     uint64_t index = 0;
     while (index < UINT64_C(0x8000000000000000)) {
@@ -484,7 +488,7 @@ static void why_words(uint8_t code, uint16_t limit, uint8_t *restrict word, uint
     }
 }
 
-static void why_main(void)
+static inline void why_main(void)
 {
     io_write_all(1, why_main_table, 35);
     if (!why_put_end()) {
@@ -492,14 +496,14 @@ static void why_main(void)
     }
     uint8_t head[3] = {0};
     uint64_t n = io_read_full(0, head, 3);
-    if (n < 3 || !offer_is_offered(head[0])) {
-        why_explain(0, 0, 0, NULL, 0);
+    if (n < 3 || !catalogue_offer_is_offered(head[0])) {
+        why_explain(0, 0, 0, why_main_table_2, 0);
         why_ended();
         return;
     }
     uint8_t word[1022];
     why_word_buffer(word);
-    uint64_t size = lines_word_octets(head[0]);
+    uint64_t size = log_lines_word_octets(head[0]);
     why_words(head[0], why_limit_of(head[1], head[2]), word, size);
     why_ended();
 }

@@ -17,13 +17,13 @@ typedef struct lent_mut_uint8_t {
 } lent_mut_uint8_t;
 
 /* The number that bits have if the first of them is a sign. */
-static int32_t signed32(uint32_t x)
+static inline int32_t signed32(uint32_t x)
 {
     return x <= INT32_MAX ? (int32_t)x : (int32_t)(-(int32_t)(UINT32_MAX - x) - 1);
 }
 
 /* The number that bits have if the first of them is a sign. */
-static int64_t signed64(uint64_t x)
+static inline int64_t signed64(uint64_t x)
 {
     return x <= INT64_MAX ? (int64_t)x : (int64_t)(-(int64_t)(UINT64_MAX - x) - 1);
 }
@@ -46,7 +46,7 @@ static uint64_t libc_write(uint32_t file, const uint8_t *octets, uint64_t octets
  * crate assumes nothing of its own. No public function has a `requires`. A call that a signal interrupts before it
  * moves a byte counts as one that failed. */
 
-static uint64_t io_least(uint64_t a, uint64_t b)
+static inline uint64_t io_least(uint64_t a, uint64_t b)
 {
     if (a < b) {
         return a;
@@ -54,7 +54,7 @@ static uint64_t io_least(uint64_t a, uint64_t b)
     return b;
 }
 
-static uint64_t io_clamp(uint64_t got, uint64_t most)
+static inline uint64_t io_clamp(uint64_t got, uint64_t most)
 {
     if (0 < signed64(got)) {
         return io_least((uint64_t)signed64(got), most);
@@ -64,12 +64,12 @@ static uint64_t io_clamp(uint64_t got, uint64_t most)
 
 /* 4,096 zeros, for a path (`libc::PATH_MAX`). The `ensures` gives only the length, which lending the array as a
  * slice needs. */
-static void io_buffer(uint8_t *restrict result)
+static inline void io_buffer(uint8_t *restrict result)
 {
     memset(result, 0, 4096);
 }
 
-static void io_copy(const uint8_t *src, uint64_t from, uint8_t *restrict dst, uint64_t to, uint64_t n)
+static inline void io_copy(const uint8_t *src, uint64_t from, uint8_t *restrict dst, uint64_t to, uint64_t n)
 {
     uint64_t i = 0;
     while (i < n) {
@@ -80,7 +80,7 @@ static void io_copy(const uint8_t *src, uint64_t from, uint8_t *restrict dst, ui
 
 /* One write of buf's bytes from index `from` on. They go by way of chunk: the borrow checker covers `&buf[from..]`,
  * but the proofs here do not use it yet. */
-static uint64_t io_write_from(uint32_t fd, const uint8_t *buf, uint64_t buf_len, uint64_t from,
+static inline uint64_t io_write_from(uint32_t fd, const uint8_t *buf, uint64_t buf_len, uint64_t from,
         uint8_t *restrict chunk, uint64_t chunk_len)
 {
     uint64_t n = io_least(buf_len - from, chunk_len);
@@ -91,7 +91,7 @@ static uint64_t io_write_from(uint32_t fd, const uint8_t *buf, uint64_t buf_len,
 
 /* Writes all of buf and answers true, or stops at the first write that takes nothing or fails and answers false,
  * when some of buf may have been written. On an empty buf it makes no call. */
-static bool io_write_all(uint32_t fd, const uint8_t *buf, uint64_t buf_len)
+static inline bool io_write_all(uint32_t fd, const uint8_t *buf, uint64_t buf_len)
 {
     if (buf_len == 0) {
         return true;
@@ -120,33 +120,45 @@ static bool io_write_all(uint32_t fd, const uint8_t *buf, uint64_t buf_len)
 /* Turns what a call such as `libc::read(fd, buf)` answered into a number of buf's bytes: 0 where got is negative,
  * and never more than buf's length. It takes buf and not its length so that the contract can speak of buf, and
  * `&buf[..n]` then needs no proof file. */
-static uint64_t io_count(uint64_t got, const uint8_t *buf, uint64_t buf_len)
+static inline uint64_t io_count(uint64_t got, const uint8_t *buf, uint64_t buf_len)
 {
     (void)buf;
     return io_clamp(got, buf_len);
 }
 
 /* 65,536 zeros, for a loop that moves much data and would spend its time on calls of 4,096 bytes. */
-static void io_large_buffer(uint8_t *restrict result)
+static inline void io_large_buffer(uint8_t *restrict result)
 {
     memset(result, 0, 65536);
 }
 
-/* ---- line ------------------------------------------------------------------------------------------- */
+/* ---- log -------------------------------------------------------------------------------------------- */
 
-/* A line of the log, as text: the decimal digits of a number, the fields of an answer, the header. */
+/* The log: a line of it, and the log of a recording. */
 
-static const uint8_t line_put_header_table[36] = {
+/* What the words of a block are corrected and numbered by. */
+typedef struct log_lines_Block {
+    uint8_t code;
+    uint16_t limit;
+    uint64_t size;
+    uint64_t index;
+    uint64_t count;
+} log_lines_Block;
+
+static const uint8_t log_line_put_header_table[36] = {
     119, 111, 114, 100, 32, 97, 110, 115, 119, 101, 114, 32, 102, 108, 105, 112, 115, 32, 102, 105, 114, 115, 116, 32,
     108, 97, 115, 116, 32, 117, 110, 108, 105, 107, 101, 10,
 };
 
-static const uint8_t line_refusal_table[1] = {
-    0,
-};
+/* Whether a recording has fewer than three octets, or a bad code. */
+static inline bool log_lines_is_bad(const uint8_t *head, uint64_t head_len)
+{
+    return head_len < 3 || !catalogue_offer_is_offered(head[0]);
+}
 
 /* A text as it stands, behind the text so far. */
-static uint64_t line_put_text(const uint8_t *octets, uint64_t octets_len, uint8_t *restrict text, uint64_t at)
+static inline uint64_t log_line_put_text(const uint8_t *octets, uint64_t octets_len, uint8_t *restrict text,
+        uint64_t at)
 {
     uint64_t end = at;
     uint64_t k = 0;
@@ -159,163 +171,138 @@ static uint64_t line_put_text(const uint8_t *octets, uint64_t octets_len, uint8_
 }
 
 /* The header, at the start of the text. */
-static uint64_t line_put_header(uint8_t *restrict text)
+static inline uint64_t log_line_put_header(uint8_t *restrict text)
 {
-    return line_put_text(line_put_header_table, 36, text, 0);
+    return log_line_put_text(log_line_put_header_table, 36, text, 0);
 }
 
-/* Refusal 1, from correct itself, to which code 0 is not offered: a further field of the answer is no change here. */
-static endings_Corrected line_refusal(void)
+/* Refusal 1: correct's record for a code that is not offered. */
+static inline flipping_endings_Corrected log_line_refusal(void)
 {
-    uint8_t out[1] = {0};
-    return codes_correct(0, line_refusal_table, 1, 0, out, 1);
+    return flipping_endings_refused_correct(1);
 }
 
-static uint64_t line_octet(uint8_t n)
+static inline uint64_t log_line_octet(uint8_t n)
 {
     return n;
 }
 
-static uint64_t line_wide(uint32_t n)
+static inline uint64_t log_line_wide(uint32_t n)
 {
     return n;
 }
 
 /* What a line gives of an answer. A further field of the answer is one entry here, one in the definition, and one in
  * the proof. */
-static void line_numbers(endings_Corrected a, uint64_t *restrict result)
+static inline void log_line_numbers(flipping_endings_Corrected a, uint64_t *restrict result)
 {
-    result[0] = line_octet(a.number);
-    result[1] = line_wide(a.flips);
-    result[2] = line_wide(a.first);
-    result[3] = line_wide(a.last);
-    result[4] = line_wide(a.unlike);
+    result[0] = log_line_octet(a.number);
+    result[1] = log_line_wide(a.flips);
+    result[2] = log_line_wide(a.first);
+    result[3] = log_line_wide(a.last);
+    result[4] = log_line_wide(a.unlike);
 }
 
 /* One digit, as it is printed. */
-static uint8_t line_glyph(uint64_t d)
+static inline uint8_t log_line_glyph(uint64_t d)
 {
     return (uint8_t)(48 + (uint8_t)d);
 }
 
 /* A number behind the text so far: answers where the text ends then. */
-static uint64_t line_put(uint64_t n, uint8_t *restrict text, uint64_t at)
+static inline uint64_t log_line_put(uint64_t n, uint8_t *restrict text, uint64_t at)
 {
     if (n < 10) {
-        text[at] = line_glyph(n);
+        text[at] = log_line_glyph(n);
         return at + 1;
     }
-    uint64_t end = line_put(n / 10, text, at);
-    text[end] = line_glyph(n % 10);
+    uint64_t end = log_line_put(n / 10, text, at);
+    text[end] = log_line_glyph(n % 10);
     return end + 1;
 }
 
 /* A space and a number. 21 octets hold any. */
-static uint64_t line_put_field(uint64_t n, uint8_t *restrict text, uint64_t at)
+static inline uint64_t log_line_put_field(uint64_t n, uint8_t *restrict text, uint64_t at)
 {
     text[at] = 32;
-    return line_put(n, text, at + 1);
+    return log_line_put(n, text, at + 1);
 }
 
 /* Numbers, a space before each. */
-static uint64_t line_put_fields(const uint64_t *numbers, uint64_t numbers_len, uint8_t *restrict text, uint64_t at)
+static inline uint64_t log_line_put_fields(const uint64_t *numbers, uint64_t numbers_len, uint8_t *restrict text,
+        uint64_t at)
 {
     uint64_t end = at;
     uint64_t k = 0;
     while (k < numbers_len) {
-        end = line_put_field(numbers[k], text, end);
+        end = log_line_put_field(numbers[k], text, end);
         k += 1;
     }
     return end;
 }
 
 /* The line of an answer. 128 octets hold any. */
-static uint64_t line_put_line(uint64_t index, endings_Corrected a, uint8_t *restrict text, uint64_t at)
+static inline uint64_t log_line_put_line(uint64_t index, flipping_endings_Corrected a, uint8_t *restrict text,
+        uint64_t at)
 {
     uint64_t values[5];
-    line_numbers(a, values);
-    uint64_t start = line_put(index, text, at);
-    uint64_t end = line_put_fields(values, 5, text, start);
+    log_line_numbers(a, values);
+    uint64_t start = log_line_put(index, text, at);
+    uint64_t end = log_line_put_fields(values, 5, text, start);
     text[end] = 10;
     return end + 1;
 }
 
-/* Corrects a word into out, and writes its line. */
-static uint64_t line_write_word(uint8_t code, uint16_t limit, uint64_t index, const uint8_t *word, uint64_t word_len,
-        uint8_t *restrict out, uint64_t out_len, uint8_t *restrict text, uint64_t at)
-{
-    endings_Corrected answer = codes_correct(code, word, word_len, limit, out, out_len);
-    return line_put_line(index, answer, text, at);
-}
-
-/* ---- lines ------------------------------------------------------------------------------------------ */
-
-/* The log of a recording, in parts: what its head gives, and what each block of words adds. */
-
-/* What the words of a block are corrected and numbered by. */
-typedef struct lines_Block {
-    uint8_t code;
-    uint16_t limit;
-    uint64_t size;
-    uint64_t index;
-    uint64_t count;
-} lines_Block;
-
-/* Whether a recording has fewer than three octets, or a bad code. */
-static bool lines_is_bad(const uint8_t *head, uint64_t head_len)
-{
-    return head_len < 3 || !offer_is_offered(head[0]);
-}
-
 /* The log of a bad head: the header, and the line of refusal 1. */
-static uint64_t lines_put_bad(uint8_t *restrict text)
+static inline uint64_t log_lines_put_bad(uint8_t *restrict text)
 {
-    uint64_t end = line_put_header(text);
-    return line_put_line(0, line_refusal(), text, end);
+    uint64_t end = log_line_put_header(text);
+    return log_line_put_line(0, log_line_refusal(), text, end);
 }
 
 /* The log of a recording's first three octets, or of the fewer that it has. */
-static uint64_t lines_begin(const uint8_t *head, uint64_t head_len, uint8_t *restrict text)
+static inline uint64_t log_lines_begin(const uint8_t *head, uint64_t head_len, uint8_t *restrict text)
 {
-    if (lines_is_bad(head, head_len)) {
-        return lines_put_bad(text);
+    if (log_lines_is_bad(head, head_len)) {
+        return log_lines_put_bad(text);
     }
-    return line_put_header(text);
+    return log_line_put_header(text);
 }
 
 /* The octets of a word. */
-static uint64_t lines_word_octets(uint8_t code)
+static inline uint64_t log_lines_word_octets(uint8_t code)
 {
-    return offer_word_octets(code);
+    return catalogue_offer_word_octets(code);
 }
 
 /* How many octets of whole words 64 KiB hold. */
-static uint64_t lines_block_octets(uint8_t code)
+static inline uint64_t log_lines_block_octets(uint8_t code)
 {
-    uint64_t size = lines_word_octets(code);
+    uint64_t size = log_lines_word_octets(code);
     return 0x10000 / size * size;
 }
 
 /* The limit, high octet first. */
-static uint16_t lines_limit(uint8_t high, uint8_t low)
+static inline uint16_t log_lines_limit(uint8_t high, uint8_t low)
 {
     return (uint16_t)(256 * (uint16_t)high + (uint16_t)low);
 }
 
 /* A block of words, before which so many octets of words were read. Its last word may be short. */
-static lines_Block lines_block_at(const uint8_t *head, uint64_t read, const uint8_t *words, uint64_t words_len)
+static inline log_lines_Block log_lines_block_at(const uint8_t *head, uint64_t read, const uint8_t *words,
+        uint64_t words_len)
 {
     (void)words;
     uint8_t code = head[0];
-    uint64_t size = lines_word_octets(code);
+    uint64_t size = log_lines_word_octets(code);
     uint64_t index = read / size;
     uint64_t count = (words_len + (size - 1)) / size;
-    return (lines_Block){.code = code, .limit = lines_limit(head[1], head[2]), .size = size, .index = index,
+    return (log_lines_Block){.code = code, .limit = log_lines_limit(head[1], head[2]), .size = size, .index = index,
             .count = count};
 }
 
 /* The lesser of two numbers. */
-static uint64_t lines_least(uint64_t a, uint64_t b)
+static inline uint64_t log_lines_least(uint64_t a, uint64_t b)
 {
     if (a < b) {
         return a;
@@ -323,25 +310,34 @@ static uint64_t lines_least(uint64_t a, uint64_t b)
     return b;
 }
 
+/* Corrects a word into out, and writes its line. */
+static inline uint64_t log_line_write_word(uint8_t code, uint16_t limit, uint64_t index, const uint8_t *word,
+        uint64_t word_len, uint8_t *restrict out, uint64_t out_len, uint8_t *restrict text, uint64_t at)
+{
+    flipping_endings_Corrected answer = codes_correct(code, word, word_len, limit, out, out_len);
+    return log_line_put_line(index, answer, text, at);
+}
+
 /* Corrects word k of those that are numbered from index on, and writes its line. */
-static uint64_t lines_write_at(uint8_t code, uint16_t limit, uint64_t size, uint64_t index, uint64_t k,
+static inline uint64_t log_lines_write_at(uint8_t code, uint16_t limit, uint64_t size, uint64_t index, uint64_t k,
         const uint8_t *words, uint64_t words_len, uint8_t *restrict out, uint64_t out_len, uint8_t *restrict text,
         uint64_t at)
 {
     uint64_t from = k * size;
-    uint64_t to = lines_least(from + size, words_len);
-    return line_write_word(code, limit, index + k, words + from, to - from, out, out_len, text, at);
+    uint64_t to = log_lines_least(from + size, words_len);
+    return log_line_write_word(code, limit, index + k, words + from, to - from, out, out_len, text, at);
 }
 
 /* Corrects words that are numbered from index on, one after another, and writes their lines: answers where the text
  * ends. */
-static uint64_t lines_write_words(uint8_t code, uint16_t limit, uint64_t size, uint64_t index, uint64_t count,
-        const uint8_t *words, uint64_t words_len, uint8_t *restrict out, uint64_t out_len, uint8_t *restrict text)
+static inline uint64_t log_lines_write_words(uint8_t code, uint16_t limit, uint64_t size, uint64_t index,
+        uint64_t count, const uint8_t *words, uint64_t words_len, uint8_t *restrict out, uint64_t out_len,
+        uint8_t *restrict text)
 {
     uint64_t end = 0;
     uint64_t k = 0;
     while (k < count) {
-        end = lines_write_at(code, limit, size, index, k, words, words_len, out, out_len, text, end);
+        end = log_lines_write_at(code, limit, size, index, k, words, words_len, out, out_len, text, end);
         k += 1;
     }
     return end;
@@ -349,11 +345,11 @@ static uint64_t lines_write_words(uint8_t code, uint16_t limit, uint64_t size, u
 
 /* What the log grows by: corrects a block of words, before which so many octets of words were read, and writes their
  * lines. */
-static uint64_t lines_go_on(const uint8_t *head, uint64_t read, const uint8_t *words, uint64_t words_len,
+static inline uint64_t log_lines_go_on(const uint8_t *head, uint64_t read, const uint8_t *words, uint64_t words_len,
         uint8_t *restrict out, uint64_t out_len, uint8_t *restrict text)
 {
-    lines_Block b = lines_block_at(head, read, words, words_len);
-    return lines_write_words(b.code, b.limit, b.size, b.index, b.count, words, words_len, out, out_len, text);
+    log_lines_Block b = log_lines_block_at(head, read, words, words_len);
+    return log_lines_write_words(b.code, b.limit, b.size, b.index, b.count, words, words_len, out, out_len, text);
 }
 
 /* ---- os --------------------------------------------------------------------------------------------- */
@@ -376,7 +372,7 @@ static uint32_t os_c_rattle_errno(void)
 }
 
 /* The calling thread's errno. It means something only just after `arg` or a call that failed. */
-static uint32_t os_errno(void)
+static inline uint32_t os_errno(void)
 {
     return os_c_rattle_errno();
 }
@@ -387,7 +383,7 @@ static uint32_t os_c___xpg_strerror_r(uint32_t number, uint8_t *room, uint64_t r
 }
 
 /* How many bytes stand before the first 0, or all of them where none is 0. */
-static uint64_t os_path_before_zero(const uint8_t *text, uint64_t text_len)
+static inline uint64_t os_path_before_zero(const uint8_t *text, uint64_t text_len)
 {
     uint64_t i = 0;
     while (i < text_len) {
@@ -400,7 +396,7 @@ static uint64_t os_path_before_zero(const uint8_t *text, uint64_t text_len)
 }
 
 /* Writes a line to standard error: what failed, as the caller names it, a colon and errno's text. */
-static void os_fail(const uint8_t *what, uint64_t what_len)
+static inline void os_fail(const uint8_t *what, uint64_t what_len)
 {
     uint32_t error = os_errno();
     uint8_t text[64] = {0};
@@ -434,7 +430,7 @@ static const uint8_t wordbench_write_table[26] = {
 };
 
 /* One read. If it fails, that is said on standard error. */
-static wordbench_Input wordbench_read_once(uint8_t *restrict part, uint64_t part_len)
+static inline wordbench_Input wordbench_read_once(uint8_t *restrict part, uint64_t part_len)
 {
     uint64_t got = libc_read(0, part, part_len);
     if (signed64(got) < 0) {
@@ -444,13 +440,13 @@ static wordbench_Input wordbench_read_once(uint8_t *restrict part, uint64_t part
 }
 
 /* One read, behind the n octets that are there. */
-static wordbench_Input wordbench_read_more(uint8_t *restrict octets, uint64_t octets_len, uint64_t n)
+static inline wordbench_Input wordbench_read_more(uint8_t *restrict octets, uint64_t octets_len, uint64_t n)
 {
     return wordbench_read_once(octets + n, octets_len - n);
 }
 
 /* Reads until the octets are full, the input ends or a read fails. */
-static wordbench_Input wordbench_fill(uint8_t *restrict octets, uint64_t octets_len)
+static inline wordbench_Input wordbench_fill(uint8_t *restrict octets, uint64_t octets_len)
 {
     uint64_t n = 0;
     while (n < octets_len) {
@@ -465,7 +461,7 @@ static wordbench_Input wordbench_fill(uint8_t *restrict octets, uint64_t octets_
 }
 
 /* Writes a text whole. If a write fails, that is said on standard error. */
-static bool wordbench_write(const uint8_t *text, uint64_t text_len)
+static inline bool wordbench_write(const uint8_t *text, uint64_t text_len)
 {
     if (io_write_all(1, text, text_len)) {
         return true;
@@ -474,18 +470,18 @@ static bool wordbench_write(const uint8_t *text, uint64_t text_len)
     return false;
 }
 
-static void wordbench_out_buffer(uint8_t *restrict result)
+static inline void wordbench_out_buffer(uint8_t *restrict result)
 {
     memset(result, 0, 1022);
 }
 
-static void wordbench_text_buffer(uint8_t *restrict result)
+static inline void wordbench_text_buffer(uint8_t *restrict result)
 {
     memset(result, 0, 524416);
 }
 
 /* One block of words, before which so many octets were read: whether its lines are written and another may follow. */
-static bool wordbench_block(const uint8_t *head, uint64_t read, uint8_t *restrict words, uint64_t words_len,
+static inline bool wordbench_block(const uint8_t *head, uint64_t read, uint8_t *restrict words, uint64_t words_len,
         uint8_t *restrict out, uint64_t out_len, uint8_t *restrict text)
 {
     wordbench_Input input = wordbench_fill(words, words_len);
@@ -493,13 +489,13 @@ static bool wordbench_block(const uint8_t *head, uint64_t read, uint8_t *restric
     if (input.failed) {
         return false;
     }
-    uint64_t end = lines_go_on(head, read, words, n, out, out_len, text);
+    uint64_t end = log_lines_go_on(head, read, words, n, out, out_len, text);
     return wordbench_write(text, end) && n == words_len;
 }
 
 /* Block after block, each of as many words. */
-static void wordbench_blocks(const uint8_t *head, uint8_t *restrict words, uint64_t words_len, uint8_t *restrict out,
-        uint64_t out_len, uint8_t *restrict text)
+static inline void wordbench_blocks(const uint8_t *head, uint8_t *restrict words, uint64_t words_len,
+        uint8_t *restrict out, uint64_t out_len, uint8_t *restrict text)
 {
     uint64_t read = 0;
     while (read < UINT64_C(0x8000000000000000) && wordbench_block(head, read, words, words_len, out, out_len, text)) {
@@ -508,7 +504,7 @@ static void wordbench_blocks(const uint8_t *head, uint8_t *restrict words, uint6
 }
 
 /* All words, in blocks of at most 64 KiB. */
-static void wordbench_all(const uint8_t *head)
+static inline void wordbench_all(const uint8_t *head)
 {
     uint8_t words[65536];
     io_large_buffer(words);
@@ -516,22 +512,22 @@ static void wordbench_all(const uint8_t *head)
     wordbench_out_buffer(out);
     uint8_t text[524416];
     wordbench_text_buffer(text);
-    uint64_t size = lines_word_octets(head[0]);
-    uint64_t full = lines_block_octets(head[0]);
+    uint64_t size = log_lines_word_octets(head[0]);
+    uint64_t full = log_lines_block_octets(head[0]);
     wordbench_blocks(head, words, full, out, size, text);
 }
 
 /* The log of a head, and of the words behind it where it is taken. */
-static void wordbench_log(const uint8_t *head, uint64_t head_len)
+static inline void wordbench_log(const uint8_t *head, uint64_t head_len)
 {
     uint8_t text[256] = {0};
-    uint64_t end = lines_begin(head, head_len, text);
-    if (wordbench_write(text, end) && !lines_is_bad(head, head_len)) {
+    uint64_t end = log_lines_begin(head, head_len, text);
+    if (wordbench_write(text, end) && !log_lines_is_bad(head, head_len)) {
         wordbench_all(head);
     }
 }
 
-static void wordbench_main(void)
+static inline void wordbench_main(void)
 {
     uint8_t head[3] = {0};
     wordbench_Input input = wordbench_fill(head, 3);

@@ -8,9 +8,9 @@
     5     (8160,7136)          1020                 892    1022
 
 The calls are the header's, with its names. They take any object with the buffer protocol, read and write its octets where
-they are, and return named tuples; a refused call returns its ``Number`` and writes nothing, but for ``list``'s records.
-``Reader`` goes through the codeblocks of a transmission unit, ``Taker`` through the words of a telemetry stream.
-``pandoricchia.raising`` has the same calls with outputs made for the caller, and raises ``Refused``.
+they are, and return named tuples; a refused call returns its ``Number`` and writes nothing, but for ``list``, which
+writes its records with 5 to 8 too. ``Reader`` goes through the codeblocks of a transmission unit, ``Taker`` through the words of
+a telemetry stream. ``pandoricchia.raising`` has the same calls with outputs made for the caller, and raises ``Refused``.
 
 Two calls have a name that Python has too. ``from pandoricchia import *`` leaves them out, and so does the list below:
 

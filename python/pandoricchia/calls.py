@@ -102,7 +102,7 @@ def correct_samples(code: int, samples: Buffer, limit: int, out: Buffer) -> Corr
     """``correct`` on the bits of a receiver's samples, and by their sizes; codes 1 to 4. 0 to 3, 5, 6, 8 or 16.
 
     The samples are 32-bit floats, one for each bit: an ``array.array("f")``, a memoryview of format ``f`` or numpy's float32.
-    TypeError for any other format.
+    TypeError for any other format. They are read by their bit patterns: no mode of floating point changes an answer.
     """
     code, limit = fit("code", code, c_uint8), fit("limit", limit, c_uint16)
     with memoryview(samples) as view:

@@ -81,12 +81,13 @@ Words that need a look: 1 refused; 1 with more than 2 bits changed; 1 with a bit
         none = "No word needs a look."
         self.assertEqual(looks([0, 0, 1, 2]), ("", none))
         self.assertEqual(looks([0, 0, 1, 2], "--code", 5), ("", none))
+        self.assertEqual(looks([0, 0, 1, 2], "--code", 1), ("", none))
         self.assertEqual(
-            looks([0, 0, 1, 2], "--code", 1),
-            ("1 of 4 words taken (25.0 %) have more bits changed than is promised for code 1, which is 1; at most 2.",
-             "Words that need a look: 1 with more than 1 bit changed"),
+            looks([0, 0, 1, 3], "--code", 1),
+            ("1 of 4 words taken (25.0 %) have more bits changed than is promised for code 1, which is 2; at most 3.",
+             "Words that need a look: 1 with more than 2 bits changed"),
         )
-        for code in (2, 3, 4, 5):  # all alike: it is the link
+        for code in (1, 2, 3, 4, 5):  # all alike: it is the link
             said = f"9 of 9 words taken (100.0 %) have more bits changed than is promised for code {code}, which is 2; at most 12."
             self.assertEqual(looks([8, 9, 10, 11, 12, 8, 7, 8, 8], "--code", code), (said, none))
         self.assertEqual(looks([8] * 9 + [17], "--code", 5)[1], "Words that need a look: 1 with more than 16 bits changed")

@@ -93,7 +93,7 @@ class Reports(unittest.TestCase):
         log = SAMPLES / "code1.log"
         page = Page(self, command("report", "--code", 1, log).out)
         self.assertIn("Words of code 1, (128,64), by their log", page.text)
-        self.assertIn("promised for code 1, which is 1", page.text)
+        self.assertIn("promised for code 1, which is 2", page.text)
         self.assertIn("promised for any code, which is 2", Page(self, command("report", log).out).text)
 
     def test_red(self) -> None:

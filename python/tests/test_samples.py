@@ -3,23 +3,42 @@ from __future__ import annotations
 
 import array
 import math
+import os
 import pathlib
 import random
 import shutil
 import struct
+import subprocess
+import sys
 import tempfile
 import unittest
 from typing import List, Tuple
 
 import pandoricchia
 
-from .command import SAMPLES, command
+from .command import SAMPLES, TOP, command
 from .judge import ask, information, received
 from .pages import Page
 from .test_words import MANY, lines, no_words, not_offered, taken
 
 CODES = (1, 2, 3, 4)
 COLUMNS = b"word answer flips first last unlike\n"
+# Loads a library, and says whether subnormals are taken as 0 from then on, and whether samples of -1e-40 are ones before and after.
+LOADING = """
+import array, ctypes, sys
+import pandoricchia
+
+samples, tiny, octets = array.array("f", [-1e-40] * 128), 5e-324, bytearray(16)
+wanted = pandoricchia.correct(1, b"\\xff" * 16, 9, octets), bytes(octets)
+
+def ones():
+    out = bytearray(16)
+    return (pandoricchia.correct_samples(1, samples, 9, out), bytes(out)) == wanted
+
+before = ones()
+ctypes.CDLL(sys.argv[1])
+print(tiny * 1.5 == 0, before, ones())
+"""
 
 
 def bits(octets: bytes) -> List[int]:
@@ -183,3 +202,18 @@ class Samples(unittest.TestCase):
         self.assertEqual((ran.status, ran.said), (1, ""))
         self.assertIn("answer 16: 1 word", page.bars())
         self.assertIn("A log of pandoricchia samples correct is of another run", page.text)
+
+    def test_modes(self) -> None:
+        """A library that is linked with -ffast-math has subnormals taken as 0 in the whole program: the answers stay."""
+        compiler = shutil.which("cc") or shutil.which("gcc")
+        if compiler is None:
+            self.skipTest("linking with -ffast-math needs a C compiler")
+        source, library = self.place / "fast.c", self.place / "fast.so"
+        source.write_text("int fast;\n")
+        subprocess.run([compiler, "-shared", "-fPIC", "-ffast-math", "-o", str(library), str(source)], check=True)
+        words = [sys.executable, "-c", LOADING, str(library)]
+        ran = subprocess.run(words, stdout=subprocess.PIPE, check=True, env={**os.environ, "PYTHONPATH": str(TOP / "python")})
+        zeros, before, after = ran.stdout.decode().split()
+        self.assertEqual((before, after), ("True", "True"))
+        if zeros != "True":
+            self.skipTest("a library linked with -ffast-math sets no mode here")

@@ -1,6 +1,6 @@
 -- The worked cases of the paper that are marked to be proved, gathered into one statement over a list of them.
 use mathlib.Core.Path.{_≡_, refl, sym, ap, ap₂, _∙_, fun-ext, subst}
-use mathlib.Core.Bool.{Bool, true, false, not, _&&_, and-false}
+use mathlib.Core.Bool.{Bool, true, false, not, _&&_, _||_, and-false}
 use mathlib.Core.List.{List, [], _∷_, _++_}
 use Prim.Native.Nat.{ℕ, _+_, _-_, _/_, _%_, _≤_, _<_, zero-le}
 use native.Mathlib.Nat.{lt-of-lt-of-le, lt-of-le-of-lt, le-of-eq, not-suc-le-zero, lt-of-not-le}
@@ -16,63 +16,79 @@ use Rattle.rules.specs.Codes.{code, code1, code4, code5, bits, checks, informat
 use Rattle.rules.specs.Checks.{covers, check, broken, lowest, degreeOf}
 use Rattle.rules.specs.Encoding.{rowBit, parityBit, encoded, lifted, sent, codeword, written, OwnParity}
 use Rattle.rules.specs.Flipping.{flip, byExcess, run, ended}
-use Rattle.answers.specs.Calls.{encodeAnswer, checkAnswer, openAnswer, judged, refusal, unless, refusedCorrect, ranCorrect}
-use Rattle.answers.specs.Calls.{correctAnswer, refusedStep, nextStep, stepAnswer, ranFrom}
+use Rattle.answers.specs.Calls.{refusedEncode, encodeAnswer, refusedCheck, checkAnswer, refusedOpen, openAnswer, judged, refusal}
+use Rattle.answers.specs.Calls.{unless, refusedCorrect, ranCorrect, correctAnswer, refusedStep, nextStep, stepAnswer, ranFrom}
+use Rattle.answers.specs.Lists.{Entry, refusedList, listAnswer}
 use Rattle.bits.proofs.Sums.{⊕-eq, sum-none, below-at, not-true, and-l}
-use Rattle.bits.proofs.Counting.{count-none, none-counted}
+use Rattle.bits.proofs.Counting.{count-none, count-same, none-counted}
+use Rattle.bits.proofs.Leasts.{least-found}
 use Rattle.rules.proofs.Blocks.{blk, checkIn, check-in}
 use Rattle.bits.proofs.Octets.{zeros-at, digit-zero, Octets, length-octets, octets-same, bit-octets}
 use Rattle.rules.proofs.Flips.{check-flip}
 use Rattle.rules.proofs.Runs.{run-limit, run-quiet}
+use Rattle.rules.proofs.Lowest.{quiet-lowest}
 use Rattle.rules.proofs.Ways.{one-next}
 use Rattle.rules.proofs.Choosing.{quiet-next, by-excess, by-greatest}
 use Rattle.rules.proofs.Published.{published1, published4, published5}
 use Rattle.rules.proofs.Codewords.{own-codeword, codeword-bit, sent-bit, encoded-parity, encoded-information, parity-same, lifted-sent}
 use Rattle.answers.proofs.Three.{among}
-use Rattle.answers.proofs.Answers.{correct-taken, step-taken}
+use Rattle.answers.proofs.Answers.{check-taken, correct-taken, step-taken}
 use Rattle.answers.proofs.Opening.{codeword-opened}
+use Rattle.answers.proofs.Steps.{one-flipped}
 use Rattle.rules.proofs.Numbers.{published, encoded-meets, whole, lifted-whole, four-quiet, met-codeword}
 use Rattle.answers.proofs.Corrections.{oneWrong, bit-one-wrong, lifted-flip, one-back, unsent-wrong, near-degree}
 
 pub data Case : Type 0 where
   -- information is encoded as this word
   encodes : (n : ℕ) (info word : List ℕ) → Case
-  -- just these checks are broken
+  -- just these checks are broken, in increasing order, and check says so
   breaks : (n : ℕ) (word ks : List ℕ) → Case
-  -- a step flips this bit, of this excess
-  steps : (n : ℕ) (word : List ℕ) (k : ℕ) (ex : ℤ) → Case
+  -- a step flips this bit, of this excess, and writes this word
+  steps : (n : ℕ) (word : List ℕ) (k : ℕ) (ex : ℤ) (after : List ℕ) → Case
   -- open lends back these octets
   opens : (n : ℕ) (word part : List ℕ) → Case
-  -- correct gives number, flips, first and last under a limit
+  -- correct gives number, flips, first and last under a limit; or under every limit
   corrects : (n : ℕ) (word : List ℕ) (limit number flips first last : ℕ) → Case
-  -- correct refuses lengths
-  lengths : (n long room number : ℕ) → Case
-  -- no call has this code; open has not this one, step has not this one
+  always : (n : ℕ) (word : List ℕ) (number flips first last : ℕ) → Case
+  -- correct refuses an input of this length, whatever the output; and an output of this length, where the input has that one
+  input : (n long number : ℕ) → Case
+  output : (n long room number : ℕ) → Case
+  -- no call has this code (here six; `capi/proofs/Unoffered` has every call); open has not this one, step has not this one
   unoffered : (n : ℕ) → Case
   unopened : (n : ℕ) → Case
   unstepped : (n : ℕ) → Case
 
-abbrev pub Holds : Case → Type 0
-Holds (encodes n info word) = (out : List ℕ) → length out ≡ code n .wordOctets → encodeAnswer n info out ≡ record { number = 0; out = word }
-Holds (breaks n word ks) = (k : ℕ) → k < checks (code n) → check (code n) (lifted (code n) (bit word)) k ≡ among k ks
-Holds (steps n word k ex) =
-    (out : List ℕ) → length out ≡ code n .wordOctets
-    → (stepAnswer n word out .number ≡ 0) × (stepAnswer n word out .quiet ≡ false) × (stepAnswer n word out .bit ≡ k)
-    × (stepAnswer n word out .excess ≡ ex)
-Holds (opens n word part) = openAnswer n word ≡ record { number = 0; lowest = checks (code n); part = part }
-Holds (corrects n word limit number flips first last) =
+abbrev pub Breaks : ℕ → List ℕ → List ℕ → Type 0
+Breaks n word ks = (k : ℕ) → k < checks (code n) → check (code n) (lifted (code n) (bit word)) k ≡ among k ks
+
+abbrev pub Corrects : ℕ → List ℕ → ℕ → ℕ → ℕ → ℕ → ℕ → Type 0
+Corrects n word limit number flips first last =
     (out : List ℕ) → length out ≡ code n .wordOctets
     → (correctAnswer n word limit out .number ≡ number) × (correctAnswer n word limit out .flips ≡ flips)
     × (correctAnswer n word limit out .first ≡ first) × (correctAnswer n word limit out .last ≡ last)
-Holds (lengths n long room number) = (word out : List ℕ) (limit : ℕ) → length word ≡ long → length out ≡ room
+
+abbrev pub Holds : Case → Type 0
+Holds (encodes n info word) = (out : List ℕ) → length out ≡ code n .wordOctets → encodeAnswer n info out ≡ record { number = 0; out = word }
+Holds (breaks n word ks) =
+    Breaks n word ks × (checkAnswer n word ≡ record { number = 0; broken = length ks; lowest = getD ks 0 (checks (code n)) })
+Holds (steps n word k ex after) =
+    (out : List ℕ) → length out ≡ code n .wordOctets
+    → stepAnswer n word out ≡ record { number = 0; quiet = false; bit = k; excess = ex; out = after }
+Holds (opens n word part) = openAnswer n word ≡ record { number = 0; lowest = checks (code n); part = part }
+Holds (corrects n word limit number flips first last) = Corrects n word limit number flips first last
+Holds (always n word number flips first last) = (limit : ℕ) → Corrects n word limit number flips first last
+Holds (input n long number) = (word out : List ℕ) (limit : ℕ) → length word ≡ long
+    → correctAnswer n word limit out ≡ refusedCorrect out number
+Holds (output n long room number) = (word out : List ℕ) (limit : ℕ) → length word ≡ long → length out ≡ room
     → correctAnswer n word limit out ≡ refusedCorrect out number
 Holds (unoffered n) =
-    ((info out : List ℕ) → encodeAnswer n info out ≡ record { number = 1; out = out })
-    × ((word : List ℕ) → checkAnswer n word ≡ record { number = 1; broken = 0; lowest = 0 })
-    × ((word : List ℕ) → openAnswer n word ≡ record { number = 1; lowest = 0; part = [] })
+    ((info out : List ℕ) → encodeAnswer n info out ≡ refusedEncode out 1)
+    × ((word : List ℕ) → checkAnswer n word ≡ refusedCheck 1)
+    × ((word : List ℕ) → openAnswer n word ≡ refusedOpen 1)
     × ((word out : List ℕ) (limit : ℕ) → correctAnswer n word limit out ≡ refusedCorrect out 1)
     × ((word out : List ℕ) → stepAnswer n word out ≡ refusedStep out 1)
-Holds (unopened n) = (word : List ℕ) → openAnswer n word ≡ record { number = 1; lowest = 0; part = [] }
+    × ((word : List ℕ) (table : List Entry) (limit : ℕ) → listAnswer n word limit table ≡ refusedList table 1)
+Holds (unopened n) = (word : List ℕ) → openAnswer n word ≡ refusedOpen 1
 Holds (unstepped n) = (word out : List ℕ) → stepAnswer n word out ≡ refusedStep out 1
 
 abbrev pub All : List Case → Type 0
@@ -103,18 +119,18 @@ pub starred : List Case
 starred =
     encodes 1 information80 (information80 ++ (0x0E ∷ 0x69 ∷ 0x16 ∷ 0x6B ∷ 0xEF ∷ 0x4C ∷ 0x0B ∷ 0xC2 ∷ []))
     ∷ breaks 1 (only 16 0) (0 ∷ 9 ∷ 26 ∷ 44 ∷ 48 ∷ [])
-    ∷ steps 1 (only 16 0) 0 (pos 5)
+    ∷ steps 1 (only 16 0) 0 (pos 5) (replicate 16 0)
     ∷ breaks 1 (only 16 127) (15 ∷ 24 ∷ 44 ∷ [])
     ∷ breaks 1 (allOnes 16) []
     ∷ opens 1 (allOnes 16) (replicate 8 0xFF)
     ∷ breaks 4 (only 1022 0) (0 ∷ 335 ∷ 551 ∷ 923 ∷ [])
     ∷ breaks 4 (octets 1022 blockBits) []
-    ∷ corrects 4 (octets 1022 blockBits) 0 8 0 0 0
+    ∷ always 4 (octets 1022 blockBits) 8 0 0 0
     ∷ corrects 1 (only 16 0) 0 6 0 5 5
     ∷ corrects 1 (only 16 0) 1 0 1 5 0
-    ∷ corrects 5 shortened 1 5 0 4 4
-    ∷ lengths 1 15 16 2
-    ∷ lengths 1 16 17 3
+    ∷ always 5 shortened 5 0 4 4
+    ∷ input 1 15 2
+    ∷ output 1 16 17 3
     ∷ unoffered 0
     ∷ unoffered 6
     ∷ unopened 4
@@ -126,6 +142,15 @@ starred =
 encodes1 : Holds (encodes 1 information80 (information80 ++ (0x0E ∷ 0x69 ∷ 0x16 ∷ 0x6B ∷ 0xEF ∷ 0x4C ∷ 0x0B ∷ 0xC2 ∷ [])))
 unfolding encodeAnswer code code1 generator16 parity16 encoded lifted sent octets number sum parityBit
 encodes1 out lo = rw (eq-eqb (length out) 16 lo) refl
+
+-- the octets of a word
+short-long : 16 ≡ code1 .wordOctets
+unfolding code1
+short-long = refl
+
+near-long : 1022 ≡ code4 .wordOctets
+unfolding code4
+near-long = refl
 
 -- the word of zeros
 abbrev none : Word
@@ -179,17 +204,50 @@ module _ (n : ℕ) (t : T (offered n && not (eqb n 5))) where
 breaks-by : (n : ℕ) (f : ℕ → Bool) (ks : List ℕ) → T (below n (λ k. not (f k ⊕ among k ks))) → (k : ℕ) → k < n → f k ≡ among k ks
 breaks-by n f ks t k h = ⊕-eq (f k) (among k ks) (not-true (f k ⊕ among k ks) (below-at n (λ k. not (f k ⊕ among k ks)) t k h))
 
+-- check gives their count and the first of them
+counted : (n : ℕ) (word : List ℕ) (m : ℕ) (ks : List ℕ) → T (offered n) → length word ≡ code n .wordOctets → m < checks (code n)
+    → count (checks (code n)) (λ k. among k (m ∷ ks)) ≡ length (m ∷ ks) → T (below m (λ k. not (among k (m ∷ ks))))
+    → Breaks n word (m ∷ ks) → checkAnswer n word ≡ record { number = 0; broken = length (m ∷ ks); lowest = m }
+unfolding broken lowest
+counted n word m ks t lw h many before is =
+    let c = code n in
+    let f = check c (lifted c (bit word)) in
+    check-taken n word t lw
+    ∙ ap₂ (λ b l. record { number = 0; broken = b; lowest = l })
+    (count-same (checks c) f (λ k. among k (m ∷ ks)) is ∙ many)
+    (least-found (checks c) f m h (is m h ∙ ap (λ b. b || among m ks) (eq-eqb m m refl)) (λ k l.
+    is k (omega arith) ∙ not-true (among k (m ∷ ks)) (below-at m (λ k. not (among k (m ∷ ks))) before k l)))
+
+none-broken : (n : ℕ) (word : List ℕ) → T (offered n) → length word ≡ code n .wordOctets → broken (code n) (lifted (code n) (bit word)) ≡ 0
+    → Holds (breaks n word [])
+unfolding broken
+none-broken n word t lw e =
+    let c = code n in
+    let x = lifted c (bit word) in (
+      none-counted (checks c) (check c x) e,
+      check-taken n word t lw ∙ ap₂ (λ b l. record { number = 0; broken = b; lowest = l }) e (quiet-lowest c x e),
+    )
+
 breaks2 : Holds (breaks 1 (only 16 0) (0 ∷ 9 ∷ 26 ∷ 44 ∷ 48 ∷ []))
-unfolding code code1 parity16
-breaks2 k h = only-breaks 1 tt 0 (lit< tt) k ∙ breaks-by 64 (λ k. covers code1 k 0) (0 ∷ 9 ∷ 26 ∷ 44 ∷ 48 ∷ []) tt k h
+unfolding code code1 parity16 count
+breaks2 =
+    let is : Breaks 1 (only 16 0) (0 ∷ 9 ∷ 26 ∷ 44 ∷ 48 ∷ []) = λ k h.
+    only-breaks 1 tt 0 (lit< tt) k ∙ breaks-by 64 (λ k. covers code1 k 0) (0 ∷ 9 ∷ 26 ∷ 44 ∷ 48 ∷ []) tt k h in
+    (is, counted 1 (only 16 0) 0 (9 ∷ 26 ∷ 44 ∷ 48 ∷ []) tt (length-octets 16 (λ n. eqb n 0)) (lit< tt) refl tt is)
 
 breaks4 : Holds (breaks 1 (only 16 127) (15 ∷ 24 ∷ 44 ∷ []))
-unfolding code code1 parity16
-breaks4 k h = only-breaks 1 tt 127 (lit< tt) k ∙ breaks-by 64 (λ k. covers code1 k 127) (15 ∷ 24 ∷ 44 ∷ []) tt k h
+unfolding code code1 parity16 count
+breaks4 =
+    let is : Breaks 1 (only 16 127) (15 ∷ 24 ∷ 44 ∷ []) = λ k h.
+    only-breaks 1 tt 127 (lit< tt) k ∙ breaks-by 64 (λ k. covers code1 k 127) (15 ∷ 24 ∷ 44 ∷ []) tt k h in
+    (is, counted 1 (only 16 127) 15 (24 ∷ 44 ∷ []) tt (length-octets 16 (λ n. eqb n 127)) (lit< tt) refl tt is)
 
 breaks7 : Holds (breaks 4 (only 1022 0) (0 ∷ 335 ∷ 551 ∷ 923 ∷ []))
-unfolding code code4 parity511
-breaks7 k h = only-breaks 4 tt 0 (lit< tt) k ∙ breaks-by 1022 (λ k. covers code4 k 0) (0 ∷ 335 ∷ 551 ∷ 923 ∷ []) tt k h
+unfolding code code4 parity511 count
+breaks7 =
+    let is : Breaks 4 (only 1022 0) (0 ∷ 335 ∷ 551 ∷ 923 ∷ []) = λ k h.
+    only-breaks 4 tt 0 (lit< tt) k ∙ breaks-by 1022 (λ k. covers code4 k 0) (0 ∷ 335 ∷ 551 ∷ 923 ∷ []) tt k h in
+    (is, counted 4 (only 1022 0) 0 (335 ∷ 551 ∷ 923 ∷ []) tt (length-octets 1022 (λ n. eqb n 0)) (lit< tt) refl tt is)
 
 -- code 1: bit 0 has five checks
 degree1 : degreeOf code1 0 ≡ 5
@@ -205,13 +263,18 @@ next1 =
     ∙ one-next code1 (published1 .girth) none (none-met 1 tt) 0 (lit< tt) (by-excess code1 (published1 .some))
     (by-greatest code1 (published1 .some)) zero-le ∙ ap (λ d. flip 0 (pos d)) degree1
 
-steps3 : Holds (steps 1 (only 16 0) 0 (pos 5))
+flip-cleared : written code1 (flipped (lifted code1 (bit (only 16 0))) 0) ≡ replicate 16 0
+unfolding code1 parity16 sent lifted octets number
+flip-cleared = refl
+
+steps3 : Holds (steps 1 (only 16 0) 0 (pos 5) (replicate 16 0))
 unfolding code code1 nextStep
 steps3 out lo =
-    let e : stepAnswer 1 (only 16 0) out ≡ nextStep code1 (only 16 0) (lifted code1 (bit (only 16 0))) out (flip 0 (pos 5)) =
+    let x = lifted code1 (bit (only 16 0)) in
     step-taken 1 (only 16 0) out tt (length-octets 16 (λ n. eqb n 0)) lo
-    ∙ ap (nextStep code1 (only 16 0) (lifted code1 (bit (only 16 0))) out) next1 in
-    (ap (λ r. r .number) e, ap (λ r. r .quiet) e, ap (λ r. r .bit) e, ap (λ r. r .excess) e)
+    ∙ ap (nextStep code1 (only 16 0) x out) next1
+    ∙ ap (λ o. record { number = 0; quiet = false; bit = 0; excess = pos 5; out = o })
+    (one-flipped code1 (only 16 0) x out 0 (pos 5) ∙ flip-cleared)
 
 -- code 1: the word of ones meets every check
 ones-met : broken code1 (lifted code1 (bit (allOnes 16))) ≡ 0
@@ -224,8 +287,8 @@ ones-met =
     (below-at 64 (λ k. not (checkIn 16 (getD parity16 (k / 16) []) (blk 16 (bit (allOnes 16))) (k % 16))) tt k h))
 
 breaks5 : Holds (breaks 1 (allOnes 16) [])
-unfolding broken code code1 parity16
-breaks5 k h = none-counted 64 (check code1 (lifted code1 (bit (allOnes 16)))) ones-met k h
+unfolding code
+breaks5 = none-broken 1 (allOnes 16) tt (length-octets 16 (λ n. true) ∙ short-long) ones-met
 
 opens6 : Holds (opens 1 (allOnes 16) (replicate 8 0xFF))
 unfolding code code1 octets number
@@ -261,8 +324,8 @@ block-met = four-quiet blockBits (λ b. eqb b 0) (λ p h. at p h (decLt p 511) �
         ap₂ _&&_ (le-leb 7154 (7154 + p) (omega arith)) (le-ltb (7154 + p) 7665 (omega (arith, lt-of-not-le g))) ∙ sym (ap (λ z. eqb z 0) q)
 
 breaks8 : Holds (breaks 4 (octets 1022 blockBits) [])
-unfolding broken code code4 parity511
-breaks8 k h = ap (λ x. check code4 x k) block-bits ∙ none-counted 1022 (check code4 blockBits) block-met k h
+unfolding code
+breaks8 = none-broken 4 (octets 1022 blockBits) tt (length-octets 1022 blockBits ∙ near-long) (ap (broken code4) block-bits ∙ block-met)
 
 block-no-codeword : codeword code4 (sent code4 blockBits) ≡ false
 unfolding code4 parity511 generator511
@@ -280,21 +343,17 @@ block-no-codeword = go (codeword code4 (sent code4 blockBits)) refl
         (λ n l. lifted-sent code4 blockBits (λ n l. absurd (not-suc-le-zero l)) n (lt-of-lt-of-le l (published4 .after))) 0
         ∙ block-parity 0) tt)
 
-near-long : 1022 ≡ code4 .wordOctets
-unfolding code4
-near-long = refl
-
 near-unsent : count (code4 .unsent) blockBits ≤ 0
 unfolding code4 count
 near-unsent = zero-le
 
-corrects9 : Holds (corrects 4 (octets 1022 blockBits) 0 8 0 0 0)
+corrects9 : Holds (always 4 (octets 1022 blockBits) 8 0 0 0)
 unfolding code ranCorrect
-corrects9 out lo =
-    let e : correctAnswer 4 (octets 1022 blockBits) 0 out ≡ ranCorrect code4 blockBits (ended 0 blockBits) out =
-    correct-taken 4 (octets 1022 blockBits) 0 out tt (length-octets 1022 blockBits ∙ near-long) lo
-    ∙ ap (λ x. ranCorrect code4 x (run (byExcess code4) 0 x) out) block-bits
-    ∙ ap (λ r. ranCorrect code4 blockBits r out) (run-quiet (byExcess code4) 0 blockBits (quiet-next code4 blockBits block-met)) in
+corrects9 limit out lo =
+    let e : correctAnswer 4 (octets 1022 blockBits) limit out ≡ ranCorrect code4 blockBits (ended 0 blockBits) out =
+    correct-taken 4 (octets 1022 blockBits) limit out tt (length-octets 1022 blockBits ∙ near-long) lo
+    ∙ ap (λ x. ranCorrect code4 x (run (byExcess code4) limit x) out) block-bits
+    ∙ ap (λ r. ranCorrect code4 blockBits r out) (run-quiet (byExcess code4) limit blockBits (quiet-next code4 blockBits block-met)) in
     let eight : judged code4 (ended 0 blockBits) ≡ 8 =
     ap₂ (λ q s. if q then 7 else if not s then 8 else 0) (le-ltb 0 (count (code4 .unsent) blockBits) near-unsent) block-no-codeword in
     (ap (λ r. r .number) e ∙ eight, ap (λ r. r .flips) e, ap (λ r. r .first) e ∙ block-met, ap (λ r. r .last) e ∙ block-met)
@@ -359,30 +418,34 @@ first-unsent : 0 < code5 .unsent
 unfolding code5
 first-unsent = lit< tt
 
-corrects12 : Holds (corrects 5 shortened 1 5 0 4 4)
+corrects12 : Holds (always 5 shortened 5 0 4 4)
 unfolding code
-corrects12 out lo =
+corrects12 limit out lo =
     let e = unsent-wrong 5 tt (encoded code4 (λ n. eqb n 0)) whole-met 0 first-unsent
-    (λ k h. ap (λ w. w k) same-encoded ∙ encoded-information code5 (λ n. eqb n 0) k (lt-of-lt-of-le h (published5 .before))) 1 out lo in
+    (λ k h. ap (λ w. w k) same-encoded ∙ encoded-information code5 (λ n. eqb n 0) k (lt-of-lt-of-le h (published5 .before))) limit out lo in
     let four : degreeOf code5 0 ≡ 4 = near-degree 5 tt 0 (lt-of-le-of-lt zero-le (published5 .some)) in
     (ap (λ r. r .number) e, ap (λ r. r .flips) e, ap (λ r. r .first) e ∙ four, ap (λ r. r .last) e ∙ four)
 
 -- lengths and code numbers
-lengths13 : Holds (lengths 1 15 16 2)
+input13 : Holds (input 1 15 2)
 unfolding correctAnswer code code1
-lengths13 word out limit lw lo = ap (λ z. unless (refusal true z 16 (length out) 16) (refusedCorrect out) (ranFrom 1 word limit out)) lw
+input13 word out limit lw = ap (λ z. unless (refusal true z 16 (length out) 16) (refusedCorrect out) (ranFrom 1 word limit out)) lw
 
-lengths14 : Holds (lengths 1 16 17 3)
+output14 : Holds (output 1 16 17 3)
 unfolding correctAnswer code code1
-lengths14 word out limit lw lo = ap₂ (λ z y. unless (refusal true z 16 y 16) (refusedCorrect out) (ranFrom 1 word limit out)) lw lo
+output14 word out limit lw lo = ap₂ (λ z y. unless (refusal true z 16 y 16) (refusedCorrect out) (ranFrom 1 word limit out)) lw lo
 
-unoffered15 : Holds (unoffered 0)
-unfolding encodeAnswer checkAnswer openAnswer correctAnswer stepAnswer
-unoffered15 = ((λ info out. refl), (λ word. refl), (λ word. refl), (λ word out limit. refl), (λ word out. refl))
-
-unoffered16 : Holds (unoffered 6)
-unfolding encodeAnswer checkAnswer openAnswer correctAnswer stepAnswer
-unoffered16 = ((λ info out. refl), (λ word. refl), (λ word. refl), (λ word out limit. refl), (λ word out. refl))
+-- every number that is not offered
+pub none-offered : (n : ℕ) → offered n ≡ false → Holds (unoffered n)
+unfolding encodeAnswer checkAnswer openAnswer correctAnswer stepAnswer listAnswer
+none-offered n e = rw e (
+  (λ info out. refl),
+  (λ word. refl),
+  (λ word. refl),
+  (λ word out limit. refl),
+  (λ word out. refl),
+  (λ word table limit. refl),
+)
 
 unopened17 : Holds (unopened 4)
 unfolding openAnswer
@@ -416,7 +479,7 @@ all-starred = (
                     corrects10,
                     (
                       corrects11,
-                      (corrects12, (lengths13, (lengths14, (unoffered15, (unoffered16, (unopened17, (unstepped18, tt))))))),
+                      (corrects12, (input13, (output14, (none-offered 0 refl, (none-offered 6 refl, (unopened17, (unstepped18, tt))))))),
                     ),
                   ),
                 ),

@@ -1,15 +1,15 @@
 -- Demand 3, over correct's answers: for every code number, every word, every limit and every output.
 use mathlib.Core.Path.{_≡_, refl, sym, ap, ap₂, _∙_, fun-ext, subst}
-use mathlib.Core.Bool.{Bool, true, false, not, _&&_}
+use mathlib.Core.Bool.{Bool, true, false, not, _&&_, true≢false}
 use mathlib.Core.List.{List}
 use Prim.Native.Nat.{ℕ, zero, suc, _+_, _-_, _*_, _≤_, _<_, zero-le}
 use native.Mathlib.Nat.{le-of-eq, lt-of-not-le, lt-of-lt-of-le}
 use native.Mathlib.Decide.{decLt}
 use native.Mathlib.Omega.{arith}
-use lib.Dec.{T, eqb, leb, ltb, leb→le}
+use lib.Dec.{T, eqb, leb, ltb, leb→le, nltb→le}
 use lib.IntN.{pos}
 use lib.ListN.{length}
-use borrow.Author.Tests.{eq-eqb, ne-eqb, lt-ltb, le-ltb}
+use borrow.Author.Tests.{eqb-true, eq-eqb, ne-eqb, lt-ltb, le-ltb}
 use Rattle.bits.specs.Bits.{Word, bit, octets, count, _⊕_, flipped, if_then_else_}
 use Rattle.rules.specs.Codes.{Code, code, code4, code5, bits, checks, offered}
 use Rattle.rules.specs.Checks.{check, broken, lowest, degreeOf}
@@ -17,7 +17,7 @@ use Rattle.rules.specs.Encoding.{lifted, sent, codeword, written}
 use Rattle.rules.specs.Flipping.{Way, byExcess, Run, run, ended, after}
 use Rattle.answers.specs.Calls.{Corrected, differing, judged, unless, refusedCorrect, ranCorrect, ranFrom, correctAnswer}
 use Rattle.bits.proofs.Sums.{⊕-self, ⊕-false, and-l, and-r, eqb-iff}
-use Rattle.bits.proofs.Counting.{count-none}
+use Rattle.bits.proofs.Counting.{count-none, none-counted}
 use Rattle.bits.proofs.Octets.{Octets, length-octets, bit-octets, bit-past}
 use Rattle.rules.proofs.Runs.{run-within, run-quiet, run-stuck, run-unchanged}
 use Rattle.rules.proofs.Ways.{Chooses, TakesGreatest, Girth, run-fall, limit-serves, run-half, half-serves, one-mended, first-count}
@@ -63,6 +63,30 @@ module _ (c : Code) (r : Run) where
       go true false true f g h = let z = spelled true false true f g h in absurd (omega arith)
       go true false false f g h = let z = spelled true false false f g h in absurd (omega arith)
 
+  -- what is taken ended quiet, its unsent bits are 0, and its sent bits are a codeword
+  pub judged-zero : judged c r ≡ 0
+      → (r .number ≡ 0) × ((n : ℕ) → n < c .unsent → r .word n ≡ false) × (codeword c (sent c (r .word)) ≡ true)
+  judged-zero e = go (eqb (r .number) 0) (ltb 0 (count (c .unsent) (r .word))) (codeword c (sent c (r .word))) refl refl refl
+    where
+      spelled : (p q s : Bool) → eqb (r .number) 0 ≡ p → ltb 0 (count (c .unsent) (r .word)) ≡ q → codeword c (sent c (r .word)) ≡ s
+          → (if not p then r .number else if q then 7 else if not s then 8 else 0) ≡ 0
+      spelled p q s f g h =
+          sym (ap (λ p. if not p then r .number else if ltb 0 (count (c .unsent) (r .word)) then 7 else if not
+          (codeword c (sent c (r .word))) then 8 else 0) f
+          ∙ ap₂ (λ q s. if not p then r .number else if q then 7 else if not s then 8 else 0) g h) ∙ e
+
+      go : (p q s : Bool) → eqb (r .number) 0 ≡ p → ltb 0 (count (c .unsent) (r .word)) ≡ q → codeword c (sent c (r .word)) ≡ s
+          → (r .number ≡ 0) × ((n : ℕ) → n < c .unsent → r .word n ≡ false) × (codeword c (sent c (r .word)) ≡ true)
+      go false q s f g h = absurd (true≢false (sym (eq-eqb (r .number) 0 (spelled false q s f g h)) ∙ f))
+      go true true s f g h = let z = spelled true true s f g h in absurd (omega arith)
+      go true false false f g h = let z = spelled true false false f g h in absurd (omega arith)
+      go true false true f g h = (
+        eqb-true (r .number) 0 f,
+        none-counted (c .unsent) (r .word)
+            (omega (arith, nltb→le 0 (count (c .unsent) (r .word)) (subst (λ b. T (not b)) (sym g) tt))),
+        h,
+      )
+
   -- a quiet end whose unsent bits are 0 and whose sent bits are a codeword is taken
   pub judged-done : r .number ≡ 0 → ((n : ℕ) → n < c .unsent → r .word n ≡ false) → codeword c (sent c (r .word)) ≡ true → judged c r ≡ 0
   judged-done e none is =
@@ -70,6 +94,17 @@ module _ (c : Code) (r : Run) where
       8 else 0) (eq-eqb (r .number) 0 e)
       ∙ ap₂ (λ q s. if q then 7 else if not s then 8 else 0)
       (le-ltb 0 (count (c .unsent) (r .word)) (le-of-eq (count-none (c .unsent) (r .word) none))) is
+
+-- where the number is 0 the output octets are a codeword, whatever the run
+pub ran-codeword : (c : Code) → Published c → (x : Word) (r : Run) (out : List ℕ) → ranCorrect c x r out .number ≡ 0
+    → (length (ranCorrect c x r out .out) ≡ c .wordOctets) × (codeword c (bit (ranCorrect c x r out .out)) ≡ true)
+unfolding ranCorrect
+ran-codeword c pb x r out e =
+    let w : (if eqb (judged c r) 0 then written c (r .word) else out) ≡ written c (r .word) =
+    ap (λ b. if b then written c (r .word) else out) (eq-eqb (judged c r) 0 e) in (
+      ap length w ∙ length-octets (c .wordOctets) (sent c (r .word)),
+      ap (λ o. codeword c (bit o)) w ∙ ap (codeword c) (bit-written c pb (r .word)) ∙ judged-zero c r e .2,
+    )
 
 -- ---- the bounds, for every way of choosing
 
@@ -147,6 +182,17 @@ module _ (n : ℕ) (word : List ℕ) (limit : ℕ) (out : List ℕ) where
     where
       all : ℕ → ℕ → Corrected
       all k l = unless k (refusedCorrect out) (ranFrom n word l out)
+
+  -- where the number is 0 the output octets are a codeword
+  pub out-codeword : correctAnswer n word limit out .number ≡ 0
+      → (length (correctAnswer n word limit out .out) ≡ code n .wordOctets)
+      × (codeword (code n) (bit (correctAnswer n word limit out .out)) ≡ true)
+  out-codeword =
+      correct-cases n word limit out
+      (λ r. r .number ≡ 0 → (length (r .out) ≡ code n .wordOctets) × (codeword (code n) (bit (r .out)) ≡ true))
+      (λ e. absurd (omega (arith, e))) (λ e. absurd (omega (arith, e))) (λ e. absurd (omega (arith, e)))
+      (λ t lw lo. ran-codeword (code n) (published n t) (lifted (code n) (bit word))
+      (run (byExcess (code n)) limit (lifted (code n) (bit word))) out)
 
 -- ---- the near-Earth codes: never more than half
 

@@ -8,7 +8,7 @@ use borrow.Author.Tests.{ne-eqb}
 use Rattle.bits.specs.Bits.{Word, _⊕_, count, tally, flipped}
 use Rattle.rules.specs.Codes.{Code, bits}
 use Rattle.answers.specs.Calls.{differing}
-use Rattle.bits.proofs.Sums.{⊕-assoc, ⊕-self}
+use Rattle.bits.proofs.Sums.{⊕-assoc, ⊕-comm, ⊕-self}
 use Rattle.bits.proofs.Counting.{count-none, count-same, count-xor, count-pick}
 
 -- one bit of many
@@ -35,6 +35,9 @@ back-two false true false = refl
 back-two false false true = refl
 back-two false false false = refl
 
+last-two : (p q r : Bool) → ((p ⊕ q) ⊕ r) ≡ ((p ⊕ r) ⊕ q)
+last-two p q r = ⊕-assoc p q r ∙ ap (λ z. p ⊕ z) (⊕-comm q r) ∙ sym (⊕-assoc p r q)
+
 module _ (c : Code) where
   pub differ-self : (x : Word) → differing c x x ≡ 0
   differ-self x = count-none (bits c) (λ i. x i ⊕ x i) (λ i l. ⊕-self (x i))
@@ -54,6 +57,25 @@ module _ (c : Code) where
         count-one (bits c) b hb,
         count-one (bits c) d hd,
         ap tally (ne-eqb d b (λ q. apart (sym q))),
+      )
+
+  -- a third flip: one bit more
+  pub differ-three : (x : Word) (b d e : ℕ) → b < bits c → d < bits c → e < bits c → (b ≡ d → ⊥) → (b ≡ e → ⊥) → (d ≡ e → ⊥)
+      → differing c (flipped (flipped (flipped x b) d) e) x ≡ 3
+  differ-three x b d e hb hd he bd be de =
+      let a : differing c (flipped (flipped (flipped x b) d) e) x ≡ count (bits c) (λ i. (flipped (flipped x b) d i ⊕ x i) ⊕ eqb i e) =
+      count-same (bits c) (λ i. flipped (flipped (flipped x b) d) e i ⊕ x i) (λ i. (flipped (flipped x b) d i ⊕ x i) ⊕ eqb i e)
+      (λ i l. last-two (flipped (flipped x b) d i) (eqb i e) (x i)) in
+      let at : (flipped (flipped x b) d e ⊕ x e) ≡ false = back-two (x e) (eqb e b) (eqb e d)
+      ∙ ap₂ _⊕_ (ne-eqb e b (λ q. be (sym q))) (ne-eqb e d (λ q. de (sym q))) in
+      omega (
+        arith,
+        a,
+        differ-two x b d hb hd bd,
+        count-xor (bits c) (λ i. flipped (flipped x b) d i ⊕ x i) (λ i. eqb i e),
+        count-pick (bits c) e (λ i. flipped (flipped x b) d i ⊕ x i) he,
+        count-one (bits c) e he,
+        ap tally at,
       )
 
   -- a flip adds one bit that differs, or takes one

@@ -5,6 +5,7 @@ pub mod Demands
 pub mod Corrections
 pub mod Wrong
 pub mod Three
+pub mod Sixteen
 pub mod Steps
 pub mod Refusals
 pub mod Cases

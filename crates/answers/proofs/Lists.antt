@@ -16,7 +16,7 @@ use Rattle.rules.specs.Codes.{Code, code, code1, code2, code3, code4, code5, bi
 use Rattle.rules.specs.Tables.{parity16, parity32, parity64, parity511}
 use Rattle.rules.specs.Checks.{check, broken, excess, brokenOf, metOf}
 use Rattle.rules.specs.Encoding.{lifted, sent, codeword, written}
-use Rattle.rules.specs.Flipping.{Next, quiet, stuck, flip, Way, greatestSent, byExcess, Flip, Run, run}
+use Rattle.rules.specs.Flipping.{Next, quiet, stuck, flip, Way, greatestSent, byExcess, Flip, Run, run, ended}
 use Rattle.answers.specs.Calls.{refusal, unless, judged, Corrected, refusedCorrect, ranCorrect, ranFrom, correctAnswer}
 use Rattle.answers.specs.Lists.{Entry, entries, enteredIn, reason, Listed, listedBy, refusedList, ranList, listedFrom, listAnswer}
 use Rattle.bits.proofs.Counting.{count-le}
@@ -30,6 +30,11 @@ use Rattle.answers.proofs.Answers.{unless-taken, unless-refused, refusa
 use Rattle.answers.proofs.Corrections.{chooses, nearEarthed, near-two, near-offered, near-degree}
 
 -- ---- the answer by cases
+
+-- a table with just as many places as flips serves: one without places a run without flips
+pub just-served : (c : Code) (x : Word) (k : ℕ) → ranList c x (ended k x) [] .number ≡ judged c (ended k x)
+unfolding ranList ranCorrect
+just-served c x k = refl
 
 module _ (n : ℕ) (word : List ℕ) (limit : ℕ) (table : List Entry) where
   pub list-taken : T (offered n) → length word ≡ code n .wordOctets → listAnswer n word limit table ≡ listedFrom n word limit table

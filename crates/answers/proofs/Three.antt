@@ -31,7 +31,7 @@ use Rattle.rules.proofs.Choosing.{chosen, chosen-greatest, chosen-is, flip-next
 use Rattle.rules.proofs.Published.{published1, published2, published3, published4, published5}
 use Rattle.answers.proofs.Answers.{correct-taken}
 use Rattle.answers.proofs.Corrections.{oneWrong, bit-one-wrong, lifted-flip, judged-other, near-degree}
-use Rattle.answers.proofs.Wrong.{twoWrong}
+use Rattle.answers.proofs.Wrong.{twoWrong, threeWrong}
 
 -- ---- a word by the bits that are set in it, and its broken checks by a list
 
@@ -40,11 +40,11 @@ abbrev pub among : ℕ → List ℕ → Bool
 among k [] = false
 among k (j ∷ js) = eqb k j || among k js
 
-abbrev distinct : List ℕ → Bool
+abbrev pub distinct : List ℕ → Bool
 distinct [] = true
 distinct (j ∷ js) = not (among j js) && distinct js
 
-abbrev under : ℕ → List ℕ → Bool
+abbrev pub under : ℕ → List ℕ → Bool
 under n [] = true
 under n (j ∷ js) = ltb j n && under n js
 
@@ -168,11 +168,12 @@ module _ (c : Code) where
 
 -- ---- runs that do not end quiet
 
-stuck-run : (c : Code) (y : Word) (k : ℕ) (ex : ℤ) → byExcess c y ≡ stuck k ex → (limit : ℕ) → (run (byExcess c) limit y .number ≡ 0 → ⊥)
+pub stuck-run : (c : Code) (y : Word) (k : ℕ) (ex : ℤ) → byExcess c y ≡ stuck k ex → (limit : ℕ)
+    → (run (byExcess c) limit y .number ≡ 0 → ⊥)
 stuck-run c y k ex e limit q = let z : _≡_ {A = ℕ} 5 0 = sym (ap (λ r. r .number) (run-stuck (byExcess c) limit y k ex e))
     ∙ q in omega arith
 
-flip-run : (c : Code) (y : Word) (k : ℕ) (ex : ℤ) → byExcess c y ≡ flip k ex
+pub flip-run : (c : Code) (y : Word) (k : ℕ) (ex : ℤ) → byExcess c y ≡ flip k ex
     → ((limit : ℕ) → run (byExcess c) limit (flipped y k) .number ≡ 0 → ⊥)
     → (limit : ℕ) → (run (byExcess c) limit y .number ≡ 0 → ⊥)
 flip-run c y k ex e later zero q = let z : _≡_ {A = ℕ} 6 0 = sym (ap (λ r. r .number) (run-limit (byExcess c) y k ex e)) ∙ q in omega arith
@@ -180,7 +181,7 @@ flip-run c y k ex e later (suc limit) q = later limit (sym (ap (λ r. r .number)
 
 -- ---- the five
 
-deg1 : (m : ℕ) → m < bits code1 → degreeOf code1 m ≡ degree parity16 (m / 16)
+pub deg1 : (m : ℕ) → m < bits code1 → degreeOf code1 m ≡ degree parity16 (m / 16)
 unfolding degreeOf code1 parity16 generator16
 deg1 m h = degree-in 16 8 0 15 parity16 generator16 16 8 tt m h
 
@@ -239,10 +240,6 @@ run5 =
 
 -- ---- the same of correct
 
--- the octets of the zero word with three bits flipped
-abbrev pub threeWrong : Code → ℕ → ℕ → ℕ → List ℕ
-threeWrong c a b d = oneWrong c (twoWrong c (replicate (c .wordOctets) 0) a b) d
-
 module _ (n : ℕ) (off : T (offered n)) (a b d : ℕ) (ha : a < 8 * code n .wordOctets) (hb : b < 8 * code n .wordOctets)
     (hd : d < 8 * code n .wordOctets) where
   zeros : bit (replicate (code n .wordOctets) 0) ≡ wrongBits []
@@ -252,7 +249,7 @@ module _ (n : ℕ) (off : T (offered n)) (a b d : ℕ) (ha : a < 8 * code n .wor
   unfolding lifted
   none = fun-ext (λ i. and-false (not (ltb i (code n .unsent))))
 
-  lifted-three : lifted (code n) (bit (threeWrong (code n) a b d)) ≡ wrongBits
+  lifted-three : lifted (code n) (bit (threeWrong (code n) (replicate (code n .wordOctets) 0) a b d)) ≡ wrongBits
       ((d + code n .unsent) ∷ (b + code n .unsent) ∷ (a + code n .unsent) ∷ [])
   lifted-three =
       ap (lifted (code n)) (bit-one-wrong (code n) (twoWrong (code n) (replicate (code n .wordOctets) 0) a b) d
@@ -267,20 +264,21 @@ module _ (n : ℕ) (off : T (offered n)) (a b d : ℕ) (ha : a < 8 * code n .wor
 
   not-zero : ((limit : ℕ) → run (byExcess (code n)) limit
       (wrongBits ((d + code n .unsent) ∷ (b + code n .unsent) ∷ (a + code n .unsent) ∷ [])) .number ≡ 0 → ⊥)
-      → (limit : ℕ) (out : List ℕ) → length out ≡ code n .wordOctets → correctAnswer n (threeWrong (code n) a b d) limit out .number ≡ 0 → ⊥
+      → (limit : ℕ) (out : List ℕ) → length out ≡ code n .wordOctets
+      → correctAnswer n (threeWrong (code n) (replicate (code n .wordOctets) 0) a b d) limit out .number ≡ 0 → ⊥
   unfolding ranCorrect
   not-zero ran limit out lo e =
-      let r : Run = run (byExcess (code n)) limit (lifted (code n) (bit (threeWrong (code n) a b d))) in
+      let r : Run = run (byExcess (code n)) limit (lifted (code n) (bit (threeWrong (code n) (replicate (code n .wordOctets) 0) a b d))) in
       let z : r .number ≡ 0 → ⊥ = λ q. ran limit (ap (λ y. run (byExcess (code n)) limit y .number) (sym lifted-three) ∙ q) in
       let is : judged (code n) r ≡ 0 =
-      sym (ap (λ a. a .number) (correct-taken n (threeWrong (code n) a b d) limit out off
+      sym (ap (λ a. a .number) (correct-taken n (threeWrong (code n) (replicate (code n .wordOctets) 0) a b d) limit out off
       (length-octets (code n .wordOctets) (flipped (bit (twoWrong (code n) (replicate (code n .wordOctets) 0) a b)) d)) lo)) ∙ e in
       z (sym (judged-other (code n) r (r .number) refl z) ∙ is)
 
 -- For each code the zero word with three wrong bits: correct does not answer 0, whatever the limit.
 abbrev pub NotMended : ℕ → ℕ → ℕ → ℕ → Type 0
 NotMended n a b d = (limit : ℕ) (out : List ℕ) → length out ≡ code n .wordOctets
-    → correctAnswer n (threeWrong (code n) a b d) limit out .number ≡ 0 → ⊥
+    → correctAnswer n (threeWrong (code n) (replicate (code n .wordOctets) 0) a b d) limit out .number ≡ 0 → ⊥
 
 pub three-not-mended : NotMended 1 0 27 43 × NotMended 2 32 157 188 × NotMended 3 128 325 377 × NotMended 4 18 194 1216
     × NotMended 5 0 176 1198

@@ -1,11 +1,11 @@
 -- How many bits really differ: never more than the flips, and both even or both odd.
-use mathlib.Core.Path.{_≡_, refl, sym, ap, ap₂, _∙_, subst}
-use mathlib.Core.Bool.{Bool, true, false, not, _&&_, true≢false}
+use mathlib.Core.Path.{_≡_, refl, sym, ap, ap₂, _∙_}
+use mathlib.Core.Bool.{Bool, true, false, _&&_}
 use mathlib.Core.List.{List, []}
 use Prim.Native.Nat.{ℕ, suc, _+_, _-_, _*_, _%_, _≤_, _<_}
 use native.Mathlib.Nat.{zero-add}
 use native.Mathlib.Omega.{arith}
-use lib.Dec.{T, eqb, ltb, nltb→le}
+use lib.Dec.{T}
 use lib.ListN.{length}
 use borrow.Author.Tests.{eq-eqb, lt-ltb}
 use Rattle.bits.specs.Bits.{Word, bit, octets, count, tally, _⊕_, flipped, if_then_else_}
@@ -13,7 +13,7 @@ use Rattle.rules.specs.Codes.{Code, code, bits, offered}
 use Rattle.rules.specs.Encoding.{lifted, sent, codeword, written}
 use Rattle.rules.specs.Flipping.{Way, byExcess, Run, run}
 use Rattle.answers.specs.Calls.{Corrected, judged, differing, ranCorrect, correctAnswer}
-use Rattle.bits.proofs.Counting.{count-none, count-same, count-add, none-counted}
+use Rattle.bits.proofs.Counting.{count-none, count-same, count-add}
 use Rattle.bits.proofs.Octets.{Octets, bit-octets}
 use Rattle.rules.proofs.Runs.{every-run}
 use Rattle.rules.proofs.Ways.{Chooses}
@@ -22,7 +22,7 @@ use Rattle.rules.proofs.Codewords.{lifted-unsent, lifted-sent-bit, sent-bit}
 use Rattle.rules.proofs.Numbers.{published}
 use Rattle.answers.proofs.Differing.{differ-self, differ-flip}
 use Rattle.answers.proofs.Answers.{correct-cases}
-use Rattle.answers.proofs.Corrections.{chooses, codeword-back, one-back, oneWrong}
+use Rattle.answers.proofs.Corrections.{judged-zero, chooses, codeword-back, one-back, oneWrong}
 
 tally-few : (b : Bool) → tally b ≤ 1
 tally-few true = omega arith
@@ -47,26 +47,29 @@ module _ {c : Code} {way : Way} (ch : Chooses c way) (x : Word) where
       let t = tally-few (x n ⊕ y n) in
       record { most = omega (arith, f, t, ih .most); even = omega (arith, f, t, ih .even) })
 
--- ---- over the answers
+  module _ (limit : ℕ) (out : List ℕ) where
+    -- never above the flips
+    pub ran-unlike : ranCorrect c x (run way limit x) out .unlike ≤ ranCorrect c x (run way limit x) out .flips
+    unfolding ranCorrect
+    ran-unlike = omega (arith, run-near limit x .most, differ-self c x)
+
+    -- both even or both odd
+    pub ran-parity : (ranCorrect c x (run way limit x) out .unlike + ranCorrect c x (run way limit x) out .flips) % 2 ≡ 0
+    unfolding ranCorrect
+    ran-parity = omega (arith, run-near limit x .even, differ-self c x)
+
+-- ---- over correct's answers
 
 module _ (n : ℕ) (word : List ℕ) (limit : ℕ) (out : List ℕ) where
-  near : T (offered n) → Near (code n) (lifted (code n) (bit word)) (lifted (code n) (bit word))
-      (run (byExcess (code n)) limit (lifted (code n) (bit word)))
-  near t = run-near (chooses n t) (lifted (code n) (bit word)) limit (lifted (code n) (bit word))
-
-  -- never above the flips
   pub unlike-within-flips : correctAnswer n word limit out .unlike ≤ correctAnswer n word limit out .flips
-  unfolding ranCorrect
   unlike-within-flips =
-      correct-cases n word limit out (λ r. r .unlike ≤ r .flips) (omega arith) (omega arith) (omega arith) (λ t lw lo.
-      omega (arith, near t .most, differ-self (code n) (lifted (code n) (bit word))))
+      correct-cases n word limit out (λ r. r .unlike ≤ r .flips) (omega arith) (omega arith) (omega arith)
+      (λ t lw lo. ran-unlike (chooses n t) (lifted (code n) (bit word)) limit out)
 
-  -- both even or both odd
   pub unlike-parity : (correctAnswer n word limit out .unlike + correctAnswer n word limit out .flips) % 2 ≡ 0
-  unfolding ranCorrect
   unlike-parity =
-      correct-cases n word limit out (λ r. (r .unlike + r .flips) % 2 ≡ 0) refl refl refl (λ t lw lo.
-      omega (arith, near t .even, differ-self (code n) (lifted (code n) (bit word))))
+      correct-cases n word limit out (λ r. (r .unlike + r .flips) % 2 ≡ 0) refl refl refl
+      (λ t lw lo. ran-parity (chooses n t) (lifted (code n) (bit word)) limit out)
 
 -- where number is 0 it is the number of places in which the received word and the output differ, code 5's last two apart
 places : (c : Code) → Published c → (word : List ℕ) (r : Run) → judged c r ≡ 0
@@ -86,17 +89,8 @@ places c pb word r e =
     ∙ ap (λ b. b && sent c (r .word) i) (lt-ltb i (8 * c .wordOctets) (omega (arith, pb .fits))) ∙ sent-bit c (r .word) i l))))
     ∙ zero-add (count (bits c - c .unsent) (λ i. bit word i ⊕ bit (written c (r .word)) i))
   where
-    none : ltb 0 (count (c .unsent) (r .word)) ≡ false
-    none = go (eqb (r .number) 0) (ltb 0 (count (c .unsent) (r .word))) (codeword c (sent c (r .word))) refl e
-      where
-        go : (a b d : Bool) → eqb (r .number) 0 ≡ a → (if not a then r .number else if b then 7 else if not d then 8 else 0) ≡ 0 → b ≡ false
-        go a false d f q = refl
-        go true true d f q = absurd (omega (arith, q))
-        go false true d f q = absurd (true≢false (sym (eq-eqb (r .number) 0 q) ∙ f))
-
     unsent : (i : ℕ) → i < c .unsent → r .word i ≡ false
-    unsent = none-counted (c .unsent) (r .word)
-        (omega (arith, nltb→le 0 (count (c .unsent) (r .word)) (subst (λ b. T (not b)) (sym none) tt)))
+    unsent = judged-zero c r e .1
 
 pub unlike-places : (n : ℕ) (word : List ℕ) (limit : ℕ) (out : List ℕ) → correctAnswer n word limit out .number ≡ 0
     → correctAnswer n word limit out .unlike ≡ count (bits (code n) - code n .unsent)

@@ -12,9 +12,13 @@ use lib.ListN.{length, take, drop, length-append, length-drop}
 use lib.Seq.{length-take-le, drop-drop, take-take, take-nil}
 use borrow.Author.Tests.{eq-eqb, ne-eqb}
 use Rattle.bits.proofs.Sums.{eqb-iff, and-l, and-r}
-use Rattle.framecheck.specs.FrameCheck.{sound}
+use Rattle.blocks.specs.framecheck.FrameCheck.{sound}
 use Rattle.blocks.proofs.Lists.{put, placed}
-use Rattle.blocks.specs.Blocks.{numberIn, usedIn, dataIn, countRight, clear, fillingIn, fault, Fault, firstFault, imported}
+use Rattle.blocks.specs.Blocks.{front, numberIn, usedIn, dataIn, countRight, clear, fillingIn, fault, Fault, firstFault, imported}
+
+-- a block's data is what was put there
+pub data-back : dataIn (front 0 (1 ∷ 2 ∷ [])) ≡ 1 ∷ 2 ∷ []
+data-back = refl
 
 -- ---- the fault of one block
 

@@ -16,9 +16,9 @@ use Rattle.bits.specs.Bits.{bit, flipped}
 use Rattle.bits.proofs.Orders.{le-or-lt}
 use Rattle.bits.proofs.Octets.{Octets}
 use Rattle.bits.proofs.Sums.{and-l, and-r}
-use Rattle.framecheck.specs.FrameCheck.{frameCheck, framed, sound}
-use Rattle.framecheck.proofs.Frames.{sound-framed, framed-sound}
-use Rattle.framecheck.proofs.Noticed.{burst-noticed, one-noticed, two-noticed}
+use Rattle.blocks.specs.framecheck.FrameCheck.{frameCheck, framed, sound}
+use Rattle.blocks.proofs.framecheck.Frames.{sound-framed, framed-sound}
+use Rattle.blocks.proofs.framecheck.Noticed.{burst-noticed, one-noticed, two-noticed}
 use Rattle.blocks.specs.Blocks.{two, four, front, block, exported, blocksFor, Exported, exportAnswer, numberIn, usedIn, dataIn}
 use Rattle.blocks.specs.Blocks.{countRight, clear, fillingIn, fault, Fault, firstFault, imported, wholeBlocks, Imported, importAnswer}
 use Rattle.blocks.proofs.Writing.{front-long, block-long, exported-long}

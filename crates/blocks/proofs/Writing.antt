@@ -9,8 +9,8 @@ use lib.ListN.{length, take, drop, replicate, length-append, length-replicate, l
 use lib.Seq.{drop-drop, take-all, length-take-le}
 use mathlib.Core.Logic.{⊎-elim}
 use Rattle.bits.proofs.Orders.{le-or-lt}
-use Rattle.framecheck.specs.FrameCheck.{frameCheck, framed}
-use Rattle.framecheck.proofs.Frames.{check-lt}
+use Rattle.blocks.specs.framecheck.FrameCheck.{frameCheck, framed}
+use Rattle.blocks.proofs.framecheck.Frames.{check-lt}
 use Rattle.blocks.specs.Blocks.{two, four, front, block, exported}
 use Rattle.blocks.proofs.Lists.{put, placed, put-length, first-part, last-part, both-put, room-behind}
 

@@ -5,7 +5,7 @@ use Prim.Native.Nat.{ℕ, zero, suc, _+_, _-_, _*_, _/_, _%_}
 use lib.Dec.{eqb, leb, ltb}
 use lib.ListN.{length, getD, take, drop, replicate}
 use Rattle.bits.specs.Bits.{if_then_else_}
-use Rattle.framecheck.specs.FrameCheck.{framed, sound}
+use Rattle.blocks.specs.framecheck.FrameCheck.{framed, sound}
 
 -- Two octets and four octets of a number, high octet first.
 abbrev pub two : ℕ → List ℕ

@@ -1,1 +1,4 @@
 pub mod Blocks
+pub mod framecheck
+pub mod importing
+pub mod exporting

@@ -12,8 +12,8 @@ use ghost.Atoms.{Atoms}
 use contract.Lifetimes.{Lfts}
 use contract.Monad.{Fun, fact}
 use denote.Ref.{RefT, now}
-use Rattle.listing.specs.declared.FlipRecord.{FlipRecord}
-use Rattle.listing.specs.declared.Listed.{Listed}
+use Rattle.lists.specs.declared.listing.FlipRecord.{FlipRecord}
+use Rattle.lists.specs.declared.listing.Listed.{Listed}
 use Rattle.lists.proofs.Outcomes.{Says}
 use Rattle.capi.proofs.pandoricchia_list as list′
 

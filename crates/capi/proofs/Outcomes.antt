@@ -20,8 +20,8 @@ use Rattle.capi.proofs.pandoricchia_encode.Reads as encode-reads
 use Rattle.capi.proofs.pandoricchia_check as check
 use Rattle.capi.proofs.pandoricchia_check.Kinds as check-kinds
 use Rattle.capi.proofs.pandoricchia_check.Reads as check-reads
-use Rattle.taker.specs.Taking.{Taker as TakerAnswer}
-use Rattle.taker.specs.declared.Taker.{Taker}
+use Rattle.telemetry.specs.taker.Taking.{Taker as TakerAnswer}
+use Rattle.telemetry.specs.declared.taker.Taker.{Taker}
 use Rattle.capi.proofs.pandoricchia_taker as taker
 use Rattle.capi.proofs.pandoricchia_taker.Kinds as taker-kinds
 use Rattle.capi.proofs.pandoricchia_taker.Reads as taker-reads
@@ -81,7 +81,7 @@ use Rattle.capi.proofs.pandoricchia_exported_octets.Kinds as exported-o
 use Rattle.capi.proofs.pandoricchia_exported_octets.Reads as exported-octets-reads
 use Rattle.answers.specs.Calls.{Corrected}
 use Rattle.blocks.specs.Blocks.{Imported, Exported}
-use Rattle.endings.specs.declared.Corrected.{Corrected as Numbers}
+use Rattle.flipping.specs.declared.endings.Corrected.{Corrected as Numbers}
 
 pub version-outcome : (κs : Lfts 0) (a : ArgsD version.signature κs) (r₁ r₂ : ResD version.signature κs)
     (s₁ s₂ : AtExit (endedOf 0 version-kinds.ps version-kinds.r) κs)

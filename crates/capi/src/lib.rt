@@ -5,12 +5,13 @@ ghost use lib.ListN.{length};
 ghost use Rattle.answers.specs.Calls.{wordOctetsAnswer, informationOctetsAnswer, encodeAnswer, checkAnswer, openAnswer, correctAnswer};
 ghost use Rattle.answers.specs.Calls.{stepAnswer};
 ghost use Rattle.answers.specs.Lists.{listAnswer};
-ghost use Rattle.listing.specs.Answers.{asEntries, asListed};
+ghost use Rattle.lists.specs.listing.Answers.{asEntries, asListed};
+ghost use Rattle.magnitudes.specs.Patterns.{samplesOf};
 ghost use Rattle.samples.specs.Answers.{samplesAnswer};
 ghost use Rattle.codes.specs.Answers.{asEncoded, asChecked, asStepped};
-ghost use Rattle.endings.specs.Answers.{asCorrected};
-ghost use Rattle.unitrules.specs.Units.{unitOctets, writeAnswer, readerAnswer, readAnswer};
-ghost use Rattle.readings.specs.Answers.{asReading, asHanded};
+ghost use Rattle.flipping.specs.endings.Answers.{asCorrected};
+ghost use Rattle.units.specs.unitrules.Units.{unitOctets, writeAnswer, readerAnswer, readAnswer};
+ghost use Rattle.units.specs.readings.Answers.{asReading, asHanded};
 ghost use Rattle.bch.specs.Bch.{bchEncodeAnswer, bchCheckAnswer};
 ghost use Rattle.bch.specs.Answers.{asEncoded as asBchEncoded, asMended};
 use bch::Mended;
@@ -18,24 +19,28 @@ ghost use Rattle.quick.specs.Quick.{quickAnswer};
 ghost use Rattle.quick.specs.Answers.{asQuick};
 ghost use Rattle.nearest.specs.Nearest.{nearestAnswer};
 ghost use Rattle.nearest.specs.Answers.{asReached};
-ghost use Rattle.taker.specs.Taking.{newTaker, takerForAnswer, takeAnswer};
-ghost use Rattle.taker.specs.Answers.{asTaker, asMade, asTaken};
+ghost use Rattle.telemetry.specs.taker.Taking.{newTaker, takerForAnswer, takeAnswer};
+ghost use Rattle.telemetry.specs.taker.Answers.{asTaker, asMade, asTaken};
 ghost use Rattle.blocks.specs.Blocks.{exportAnswer, exportRoom, importAnswer, importRoom};
-ghost use Rattle.importing.specs.Answers.{asImported};
-ghost use Rattle.exporting.specs.Answers.{asExported};
+ghost use Rattle.blocks.specs.importing.Answers.{asImported};
+ghost use Rattle.blocks.specs.exporting.Answers.{asExported};
+use blocks::exporting;
+use blocks::importing;
+use blocks::importing::Imported;
+use catalogue::offer;
 use codes::Checked;
 use codes::Stepped;
-use endings::Corrected;
-use importing::Imported;
-use listing::FlipRecord;
-use listing::Listed;
+use flipping::endings::Corrected;
+use lists::listing::FlipRecord;
+use lists::listing::Listed;
 use nearest::Reached;
 use quick::Answered;
-use readings::Handed;
-use readings::Reading;
-use taker::Made;
-use taker::Taken;
-use taker::Taker;
+use telemetry::taker::Made;
+use telemetry::taker::Taken;
+use telemetry::taker::Taker;
+use units::readings;
+use units::readings::Handed;
+use units::readings::Reading;
 
 // The version that the header names: 65536 times its major number, 256 times its minor number, and its patch number. The major
 // number moves with the records and with what the calls take.
@@ -124,17 +129,18 @@ pub extern "C" fn pandoricchia_correct(
     codes::correct(code, word, limit, out)
 }
 
-// The same on samples, one for each bit, whose sizes decide between bits of equal excess.
+// The same on samples, one for each bit, whose sizes decide between bits of equal excess. C and Rust hand over floats, and their bit
+// patterns are read.
 #[no_mangle]
 pub extern "C" fn pandoricchia_correct_samples(
     code: u8,
-    samples: &[f32],
+    samples: &[u32],
     limit: u16,
     out: &mut [u8],
 ) -> Corrected
-    ensures { λ r. ⌜ asCorrected r (now (out .exit)) ≡ samplesAnswer code (now (samples .entry)) limit (now (out .entry)) ⌝ }
+    ensures { λ r. ⌜ asCorrected r (now (out .exit)) ≡ samplesAnswer code (samplesOf (now (samples .entry))) limit (now (out .entry)) ⌝ }
 {
-    samples::correct_samples(code, samples, limit, out)
+    samples::correct_patterns(code, samples, limit, out)
 }
 
 // The run's list, a record for each flip, into the caller's table.

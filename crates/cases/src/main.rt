@@ -2,6 +2,7 @@
 ghost use Prim.Native.Nat.{_+_, _*_, _≤_, _<_};
 ghost use mathlib.Core.Path.{_≡_};
 ghost use lib.ListN.{length};
+use flipping::endings;
 use libc::STDOUT_FILENO;
 
 fn text(bytes: &[u8]) {

@@ -3,6 +3,8 @@ ghost use mathlib.Core.Path.{_≡_};
 ghost use Prim.Native.Nat.{_<_, _≤_};
 ghost use lib.ListN.{length};
 ghost use Rattle.layout.specs.Rooms.{tableRoom};
+use catalogue::offer;
+use catalogue::tables;
 use layout::TABLE;
 use libc::STDOUT_FILENO;
 

@@ -19,13 +19,13 @@ use Rattle.rules.proofs.Codewords.{lifted-unsent}
 use Rattle.answers.proofs.Refusals.{unsent-stay}
 use Rattle.layout.specs.declared.Shape.{Shape}
 use Rattle.layout.specs.Lent.{Fit, Lent, laid}
-use Rattle.measured.specs.Measured.{Measured}
-use Rattle.runs.specs.declared.Next.{Next}
-use Rattle.runs.specs.declared.Next.the-variants.{Quiet, Stuck, Flip}
-use Rattle.runs.specs.Passes.{Holding, RunsTo, Within}
+use Rattle.word.specs.measured.Measured.{Measured}
+use Rattle.flipping.specs.declared.runs.Next.{Next}
+use Rattle.flipping.specs.declared.runs.Next.the-variants.{Quiet, Stuck, Flip}
+use Rattle.flipping.specs.runs.Passes.{Holding, RunsTo, Within}
 use Rattle.codes.specs.declared.Course.{Course}
-use Rattle.endings.specs.Ends.{EndsAt, runOf}
-use Rattle.endings.proofs.Ends.{ends-at}
+use Rattle.flipping.specs.endings.Ends.{EndsAt, runOf}
+use Rattle.flipping.proofs.endings.Ends.{ends-at}
 use Rattle.codes.specs.Ends.{RunEnds}
 
 -- correct's numbers and the output, one by one

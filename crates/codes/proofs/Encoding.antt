@@ -18,9 +18,9 @@ use Rattle.bits.proofs.Octets.{bit-past}
 use Rattle.rules.proofs.Codewords.{lifted-sent-bit}
 use Rattle.rules.proofs.Numbers.{five, published}
 use Rattle.vectors.specs.Vectors.{upTo}
-use Rattle.offer.specs.declared.Offer.{Offer}
-use Rattle.offer.specs.Offers.{offerOf}
-use Rattle.offer.proofs.Offers.{is-offered}
+use Rattle.catalogue.specs.declared.offer.Offer.{Offer}
+use Rattle.catalogue.specs.offer.Offers.{offerOf}
+use Rattle.catalogue.proofs.offer.Offers.{is-offered}
 
 -- ---- the spare bits, by the code's record
 

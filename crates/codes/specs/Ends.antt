@@ -6,7 +6,7 @@ use lib.ListN.{length}
 use Rattle.bits.specs.Bits.{Word}
 use Rattle.rules.specs.Codes.{code}
 use Rattle.rules.specs.Checks.{broken, lowest}
-use Rattle.endings.specs.Ends.{wordOf, runOf}
+use Rattle.flipping.specs.endings.Ends.{wordOf, runOf}
 use Rattle.codes.specs.declared.Course.{Course}
 
 -- The run on a received word has ended with the word y, and these are its numbers.

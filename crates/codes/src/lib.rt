@@ -12,19 +12,27 @@ ghost use Rattle.rules.specs.Encoding.{lifted, written};
 ghost use Rattle.rules.specs.Flipping.{byExcess};
 ghost use Rattle.answers.specs.Calls.{sixSet, fault, ranFrom, steppedFrom, nextStep, refusedCheck, refusedStep};
 ghost use Rattle.answers.specs.Calls.{encodeAnswer, checkAnswer, openAnswer, correctAnswer, stepAnswer};
-ghost use Rattle.offer.specs.Offers.{offerOf, Known};
+ghost use Rattle.catalogue.specs.offer.Offers.{offerOf, Known};
 ghost use Rattle.vectors.specs.Vectors.{wbit};
-ghost use Rattle.runs.specs.Passes.{Within, comesNext};
-ghost use Rattle.endings.specs.Answers.{asCorrected};
+ghost use Rattle.flipping.specs.runs.Passes.{Within, comesNext};
+ghost use Rattle.flipping.specs.endings.Answers.{asCorrected};
 ghost use Rattle.codes.specs.Ends.{RunEnds};
 ghost use Rattle.codes.specs.Answers.{asEncoded, asChecked, asOpened, asStepped};
-use endings::Corrected;
+use catalogue::offer;
+use catalogue::offer::Offer;
+use encoder::solver;
+use flipping::endings;
+use flipping::endings::Corrected;
+use flipping::runs;
+use flipping::runs::Ended;
+use flipping::runs::Next;
 use layout::SYNDROME;
 use layout::TABLE;
 use layout::WORD;
-use offer::Offer;
-use runs::Ended;
-use runs::Next;
+use vectors::copying;
+use word::judging;
+use word::measured;
+use word::received;
 
 #[repr(C)]
 pub struct Checked {
@@ -91,7 +99,7 @@ pub fn encode(code: u8, information: &[u8], word: &mut [u8]) -> u8
     ensures { λ r. ⌜ asEncoded r (now (word .exit)) ≡ encodeAnswer code (now (information .entry)) (now (word .entry)) ⌝ }
 {
     let o = offer::of(code);
-    let number = ladder::refusal(
+    let number = refusals::refusal(
         o.offered,
         information.len(),
         o.information,
@@ -113,7 +121,7 @@ pub fn check(code: u8, word: &[u8]) -> Checked
     ensures { λ r. ⌜ asChecked r ≡ checkAnswer code (now (word .entry)) ⌝ }
 {
     let o = offer::of(code);
-    let number = ladder::refusal(o.offered, word.len(), o.word, 0, 0);
+    let number = refusals::refusal(o.offered, word.len(), o.word, 0, 0);
     if number != 0 {
         return refused_check(number);
     }
@@ -149,7 +157,7 @@ pub fn open<'a>(code: u8, word: &'a [u8], number: &mut u8, lowest: &mut u32) -> 
     ensures { λ r. ⌜ asOpened (now (number .exit)) (now (lowest .exit)) (now r) ≡ openAnswer code (now (word .entry)) ⌝ }
 {
     let o = offer::of(code);
-    let refused = ladder::refusal(o.opens, word.len(), o.word, 0, 0);
+    let refused = refusals::refusal(o.opens, word.len(), o.word, 0, 0);
     if refused != 0 {
         *number = refused;
         *lowest = 0;
@@ -238,7 +246,7 @@ pub fn correct(code: u8, word: &[u8], limit: u16, out: &mut [u8]) -> Corrected
     ensures { λ r. ⌜ asCorrected r (now (out .exit)) ≡ correctAnswer code (now (word .entry)) limit (now (out .entry)) ⌝ }
 {
     let o = offer::of(code);
-    let number = ladder::refusal(o.offered, word.len(), o.word, out.len(), o.word);
+    let number = refusals::refusal(o.offered, word.len(), o.word, out.len(), o.word);
     if number != 0 {
         return endings::refused_correct(number);
     }
@@ -321,7 +329,7 @@ pub fn step(code: u8, word: &[u8], out: &mut [u8]) -> Stepped
     ensures { λ r. ⌜ asStepped r (now (out .exit)) ≡ stepAnswer code (now (word .entry)) (now (out .entry)) ⌝ }
 {
     let o = offer::of(code);
-    let number = ladder::refusal(o.steps, word.len(), o.word, out.len(), o.word);
+    let number = refusals::refusal(o.steps, word.len(), o.word, out.len(), o.word);
     if number != 0 {
         return refused_step(number);
     }

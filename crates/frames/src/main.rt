@@ -3,10 +3,11 @@
 ghost use Prim.Native.Nat.{_+_, _≤_, _<_};
 ghost use lib.ListN.{length};
 ghost use Rattle.io.specs.Counts.{Counts};
+use flipping::endings;
 use libc::STDERR_FILENO;
 use libc::STDIN_FILENO;
 use libc::STDOUT_FILENO;
-use taker::Taker;
+use telemetry::taker::Taker;
 
 // How many octets were read; none where the input has ended, or a read failed, which is said on standard error.
 fn read(part: &mut [u8]) -> usize

@@ -2,6 +2,7 @@
 ghost use mathlib.Core.Path.{_≡_};
 ghost use Prim.Native.Nat.{_-_};
 ghost use lib.ListN.{length};
+use blocks::importing;
 use libc::STDERR_FILENO;
 use libc::STDIN_FILENO;
 use libc::STDOUT_FILENO;
@@ -24,14 +25,14 @@ fn is_ended() -> bool {
     let mut one = [0u8; 1];
     let got = libc::read(STDIN_FILENO, &mut one);
     if got < 0 {
-        os::fail(b"standard input");
+        os::fail(b"fromblocks: standard input");
     }
     got == 0
 }
 
 // A line with the number of a refusal and the block at fault.
 fn refuse(number: u8, block: u32) {
-    io::write_all(STDERR_FILENO, b"refused: number ");
+    io::write_all(STDERR_FILENO, b"fromblocks: refused: number ");
     io::print_decimal(STDERR_FILENO, number as u64);
     io::write_all(STDERR_FILENO, b" block ");
     io::print_decimal(STDERR_FILENO, block as u64);
@@ -53,7 +54,7 @@ fn convert(blocks: &[u8], out: &mut [u8]) {
         return;
     }
     if !io::write_all(STDOUT_FILENO, out) {
-        os::fail(b"standard output");
+        os::fail(b"fromblocks: standard output");
     }
 }
 

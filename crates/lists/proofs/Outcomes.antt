@@ -12,9 +12,9 @@ use contract.Lifetimes.{Lfts}
 use contract.Monad.{Fun, fact}
 use denote.Ref.{RefT, now}
 use Rattle.answers.specs.Lists.{Entry, listAnswer}
-use Rattle.listing.specs.Answers.{asEntry, asEntries, asListed}
-use Rattle.listing.specs.declared.FlipRecord.{FlipRecord}
-use Rattle.listing.specs.declared.Listed.{Listed}
+use Rattle.lists.specs.listing.Answers.{asEntry, asEntries, asListed}
+use Rattle.lists.specs.declared.listing.FlipRecord.{FlipRecord}
+use Rattle.lists.specs.declared.listing.Listed.{Listed}
 use Rattle.lists.proofs.list as list′
 
 -- what is said of a result and of the table afterwards

@@ -1,7 +1,9 @@
 // The call list: the records of a run go into the caller's table, one by one. It is proved by hand and only stores them.
+pub mod listing;
+
 ghost use mathlib.Core.Path.{_≡_};
 ghost use Rattle.answers.specs.Lists.{listAnswer};
-ghost use Rattle.listing.specs.Answers.{asEntries, asListed};
+ghost use Rattle.lists.specs.listing.Answers.{asEntries, asListed};
 use layout::SYNDROME;
 use layout::TABLE;
 use layout::WORD;

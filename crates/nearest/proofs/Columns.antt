@@ -20,7 +20,7 @@ use Rattle.rules.proofs.Ways.{shared}
 use Rattle.rules.proofs.Degrees.{bit-degree}
 use Rattle.rules.proofs.Codewords.{encoded-same}
 use Rattle.rules.proofs.Numbers.{published, met-encoded}
-use Rattle.ownparity.proofs.Words.{count-odd}
+use Rattle.word.proofs.ownparity.Words.{count-odd}
 use Rattle.nearest.proofs.Quiet.{bits-are, checks-are, codeword-broken, codeword-met}
 
 inside : (n : ℕ) → n < 128 → n < bits (code 1)

@@ -7,8 +7,8 @@ use Prim.Native.Nat.{ℕ, zero, suc, _≤_, _<_}
 use native.Mathlib.Omega.{arith}
 use lib.ListN.{length, getD, take}
 use Rattle.bits.specs.Bits.{Word, bit, octets}
-use Rattle.bits.proofs.Orders.{le-or-lt, eq-or-not}
-use Rattle.bits.proofs.Octets.{Octets, octets-bit}
+use Rattle.bits.proofs.Orders.{le-or-lt}
+use Rattle.bits.proofs.Octets.{Octets, octets-bit, length-octets}
 use Rattle.rules.specs.Codes.{code}
 use Rattle.rules.specs.Encoding.{codeword}
 use Rattle.answers.specs.Calls.{differing}
@@ -17,7 +17,7 @@ use Rattle.nearest.specs.Nearest.{Reached, refused, found, nearestAnswer
 use Rattle.nearest.specs.Lists.{NotAfter, Mends}
 use Rattle.nearest.proofs.Quiet.{codeword-same}
 use Rattle.nearest.proofs.Lists.{Within, within}
-use Rattle.nearest.proofs.Reaching.{nearest-two, nearest-three, nearest-eighteen, nearest-searched}
+use Rattle.nearest.proofs.Reaching.{nearest-cases, nearest-eighteen, nearest-searched}
 use Rattle.nearest.proofs.Distances.{flipped-far, codeword-mends, differing-same, sixteen-bits}
 
 -- ---- the three places of a list
@@ -122,24 +122,28 @@ module _ (word : List ℕ) (reach : ℕ) (out : List ℕ) (lw : length word ≡ 
 pub refused-empty : (word : List ℕ) (reach : ℕ) (out : List ℕ) → (nearestAnswer word reach out .number ≡ 0 → ⊥)
     → nearestAnswer word reach out ≡ refused (nearestAnswer word reach out .number) out
 refused-empty word reach out =
-    ⊎-elim
-    (λ (lw : length word ≡ 16).
-    ⊎-elim
-    (λ (lo : length out ≡ 16).
+    nearest-cases word reach out Empty (λ k some d. refl) (λ lw lo.
     ⊎-elim
     (λ (h : reach ≤ 3). answer-cases word reach out lw lo h Empty (λ w d. refl) (λ bits w d. absurd (d refl)))
-    (λ (h : 3 < reach). empty 18 (nearest-eighteen word reach out lw lo h))
+    (λ (h : 3 < reach). subst Empty (sym (nearest-eighteen word reach out lw lo h)) (λ d. refl))
     (le-or-lt reach 3))
-    (λ d. empty 3 (nearest-three word reach out lw d))
-    (eq-or-not (length out) 16))
-    (λ d. empty 2 (nearest-two word reach out d))
-    (eq-or-not (length word) 16)
   where
     Empty : Reached → Type 0
     Empty a = (a .number ≡ 0 → ⊥) → a ≡ refused (a .number) out
 
-    empty : (k : ℕ) → nearestAnswer word reach out ≡ refused k out → Empty (nearestAnswer word reach out)
-    empty k e d = e ∙ ap (λ a. refused (a .number) out) (sym e)
+-- Where the number is 0 the output octets are a codeword, whatever was handed in.
+pub out-codeword : (word : List ℕ) (reach : ℕ) (out : List ℕ) → nearestAnswer word reach out .number ≡ 0
+    → (length (nearestAnswer word reach out .out) ≡ 16) × (codeword (code 1) (bit (nearestAnswer word reach out .out)) ≡ true)
+out-codeword word reach out =
+    nearest-cases word reach out Taken (λ k some e. absurd (omega (arith, some, e))) (λ lw lo.
+    ⊎-elim
+    (λ (h : reach ≤ 3). answer-cases word reach out lw lo h Taken (λ w e. absurd (omega (arith, e)))
+    (λ bits w e. (length-octets 16 (flips bits (bit word)), near word reach out lw lo h bits w .sound)))
+    (λ (h : 3 < reach). subst Taken (sym (nearest-eighteen word reach out lw lo h)) (λ e. absurd (omega (arith, e))))
+    (le-or-lt reach 3))
+  where
+    Taken : Reached → Type 0
+    Taken a = a .number ≡ 0 → (length (a .out) ≡ 16) × (codeword (code 1) (bit (a .out)) ≡ true)
 
 -- ---- a codeword
 

@@ -1,48 +1,52 @@
 -- The answer, case by case. Assumes nothing.
-use mathlib.Core.Path.{_≡_, refl, sym, ap, ap₂, _∙_, fun-ext}
-use mathlib.Core.Bool.{true, false, not, true≢false}
+use mathlib.Core.Path.{_≡_, refl, sym, ap, ap₂, _∙_, subst, fun-ext}
+use mathlib.Core.Bool.{true, false, true≢false}
 use mathlib.Core.List.{List}
 use Prim.Native.Nat.{ℕ, _≤_, _<_}
 use native.Mathlib.Nat.{zero-add}
-use lib.Dec.{eqb, ltb}
+use native.Mathlib.Omega.{arith}
+use lib.Dec.{ltb}
 use lib.ListN.{length}
-use borrow.Author.Tests.{eq-eqb, ne-eqb, lt-ltb, le-ltb}
+use borrow.Author.Tests.{lt-ltb, le-ltb}
 use Rattle.bits.specs.Bits.{Word, bit, if_then_else_}
 use Rattle.vectors.specs.Vectors.{from}
-use Rattle.nearest.specs.Nearest.{Found, none, list, Reached, refused, found, searched, nearestAnswer}
+use Rattle.answers.specs.Calls.{refusal, unless}
+use Rattle.answers.proofs.Answers.{Right, unless-refused, unless-taken, unless-cases, refusal-not, refusal-right}
+use Rattle.nearest.specs.Nearest.{Found, none, list, Reached, refused, found, searched, reached, nearestAnswer}
 use Rattle.nearest.specs.Answers.{held, HandedOut}
 use Rattle.nearest.specs.declared.Listed.{Listed}
 
--- ---- the refusals, in their order
+-- ---- refused by a length, by the reach, or searched
 
 module _ (word : List ℕ) (reach : ℕ) (out : List ℕ) where
-  abbrev searching : Reached
-  searching = searched reach (bit word) out
+  abbrev by : ℕ → Reached
+  by k = unless k (λ number. refused number out) (reached word reach out)
 
-  pub nearest-two : (length word ≡ 16 → ⊥) → nearestAnswer word reach out ≡ refused 2 out
+  pub nearest-refused : (k : ℕ) → k ≡ refusal true (length word) 16 (length out) 16 → (k ≡ 0 → ⊥)
+      → nearestAnswer word reach out ≡ refused k out
   unfolding nearestAnswer
-  nearest-two d =
-      ap (λ b. if not b then refused 2 out else if not (eqb (length out) 16) then refused 3 out else
-      if ltb 3 reach then refused 18 out else searching)
-      (ne-eqb (length word) 16 d)
+  nearest-refused k e d = ap by (sym e) ∙ unless-refused (λ number. refused number out) (reached word reach out) k d
 
-  pub nearest-three : length word ≡ 16 → (length out ≡ 16 → ⊥) → nearestAnswer word reach out ≡ refused 3 out
+  right : length word ≡ 16 → length out ≡ 16 → nearestAnswer word reach out ≡ reached word reach out
   unfolding nearestAnswer
-  nearest-three e d =
-      ap₂ (λ a b. if not a then refused 2 out else if not b then refused 3 out else if ltb 3 reach then refused 18 out else searching)
-      (eq-eqb (length word) 16 e) (ne-eqb (length out) 16 d)
+  right e f = unless-taken (λ number. refused number out) (reached word reach out) (refusal true (length word) 16 (length out) 16)
+      (refusal-not true (length word) 16 (length out) 16 tt e f)
 
-  right : length word ≡ 16 → length out ≡ 16 → nearestAnswer word reach out ≡ (if ltb 3 reach then refused 18 out else searching)
+  -- the lengths of a call that is not refused by them
+  pub nearest-right : {k : ℕ} → k ≡ refusal true (length word) 16 (length out) 16 → k ≡ 0 → Right true (length word) 16 (length out) 16
+  nearest-right e z = refusal-right true (length word) 16 (length out) 16 (sym e ∙ z)
+
+  pub nearest-cases : (P : Reached → Type 0) → ((k : ℕ) → 1 ≤ k → P (refused k out))
+      → (length word ≡ 16 → length out ≡ 16 → P (nearestAnswer word reach out)) → P (nearestAnswer word reach out)
   unfolding nearestAnswer
-  right e f =
-      ap₂ (λ a b. if not a then refused 2 out else if not b then refused 3 out else if ltb 3 reach then refused 18 out else searching)
-      (eq-eqb (length word) 16 e) (eq-eqb (length out) 16 f)
+  nearest-cases P p q = unless-cases true (length word) 16 (length out) 16 P (λ number. refused number out) (reached word reach out)
+      (p 1 (omega arith)) (p 2 (omega arith)) (p 3 (omega arith)) (λ t e f. subst P (right e f) (q e f))
 
   pub nearest-eighteen : length word ≡ 16 → length out ≡ 16 → 3 < reach → nearestAnswer word reach out ≡ refused 18 out
-  nearest-eighteen e f h = right e f ∙ ap (λ b. if b then refused 18 out else searching) (lt-ltb 3 reach h)
+  nearest-eighteen e f h = right e f ∙ ap (λ b. if b then refused 18 out else searched reach (bit word) out) (lt-ltb 3 reach h)
 
-  pub nearest-searched : length word ≡ 16 → length out ≡ 16 → reach ≤ 3 → nearestAnswer word reach out ≡ searching
-  nearest-searched e f h = right e f ∙ ap (λ b. if b then refused 18 out else searching) (le-ltb 3 reach h)
+  pub nearest-searched : length word ≡ 16 → length out ≡ 16 → reach ≤ 3 → nearestAnswer word reach out ≡ searched reach (bit word) out
+  nearest-searched e f h = right e f ∙ ap (λ b. if b then refused 18 out else searched reach (bit word) out) (le-ltb 3 reach h)
 
 -- ---- what was searched
 

@@ -8,15 +8,17 @@ use native.Mathlib.Omega.{arith}
 use lib.ListN.{length}
 use Rattle.bits.specs.Bits.{Word, bit, octets, _⊕_, flipped}
 use Rattle.bits.proofs.Sums.{⊕-assoc, ⊕-comm}
-use lib.Dec.{eqb}
+use lib.Dec.{T, eqb}
 use Rattle.bits.proofs.Orders.{eq-or-not}
 use Rattle.bits.proofs.Octets.{Octets, octets-bit, length-octets}
 use Rattle.rules.specs.Codes.{code, bits}
 use Rattle.rules.specs.Encoding.{codeword}
 use Rattle.rules.proofs.Flips.{flip-back}
 use Rattle.answers.specs.Calls.{differing, correctAnswer}
+use Rattle.answers.specs.Promises.{sixteen}
 use Rattle.answers.proofs.Corrections.{oneWrong, bit-one-wrong, one-back}
 use Rattle.answers.proofs.Wrong.{twoWrong}
+use Rattle.answers.proofs.Sixteen.{not-mended}
 use Rattle.nearest.specs.Nearest.{Found, none, list, fewest, flips, found, nearestAnswer}
 use Rattle.nearest.specs.Lists.{Mends}
 use Rattle.nearest.proofs.Quiet.{bits-are, octets-are, unsent-are}
@@ -206,3 +208,13 @@ module _ (word out : List ℕ) (lw : length word ≡ 16) (lo : length out ≡ 16
       ∙ ap (found (flipped (flipped w b) d) out) (twice-fewest w is b d hb hd reach some)
       ∙ ap (λ o. record { number = 0; least = 2; bits = b ∷ d ∷ 0 ∷ []; out = o })
       (ap (octets 16) (ap (λ y. flipped y d) (back-first w is b d hb hd) ∙ flip-back w d) ∙ word-back)
+
+  -- So the 16 pairs that correct does not mend, whatever the limit, are found all the same.
+  pub sixteen-found : (limit reach b d : ℕ) → 2 ≤ reach → reach ≤ 3 → b < d → d < 128 → T (sixteen b d)
+      → (correctAnswer 1 (twoWrong (code 1) word b d) limit out .number ≡ 0 → ⊥)
+      × (nearestAnswer (twoWrong (code 1) word b d) reach out ≡ record { number = 0; least = 2; bits = b ∷ d ∷ 0 ∷ []; out = word })
+  sixteen-found limit reach b d some few hb hd t = (
+    not-mended word out sized (lo ∙ sym octets-are) small is limit b d (omega (arith, bits-are, unsent-are))
+        (omega (arith, bits-are, unsent-are)) t,
+    two-found reach b d some few hb hd,
+  )

@@ -1,12 +1,13 @@
 -- The nearest command of code 1, by plain search: the lists of bits, the fewest flips, and the answer of the call.
-use mathlib.Core.Bool.{not}
+use mathlib.Core.Bool.{true}
 use mathlib.Core.List.{List, [], _∷_}
 use Prim.Native.Nat.{ℕ, zero, suc}
-use lib.Dec.{eqb, ltb}
+use lib.Dec.{ltb}
 use lib.ListN.{length, getD}
 use Rattle.bits.specs.Bits.{Word, bit, octets, flipped, if_then_else_}
 use Rattle.rules.specs.Codes.{code}
 use Rattle.rules.specs.Encoding.{codeword}
+use Rattle.answers.specs.Calls.{refusal, unless}
 
 -- What a search gives: a list of bits, or none.
 pub data Found : Type 0 where
@@ -65,10 +66,10 @@ found x out (list bits) = record { number = 0; least = length bits; bits = place
 abbrev pub searched : ℕ → Word → List ℕ → Reached
 searched reach x out = found x out (fewest reach x)
 
--- Refusals: 2, 3, then 18 for a reach above 3, then 17.
+-- Refusals: 2, 3, then 18 for a reach above 3, then 17. The call takes no code number, so none is refused.
+abbrev pub reached : List ℕ → ℕ → List ℕ → Reached
+reached word reach out = if ltb 3 reach then refused 18 out else searched reach (bit word) out
+
 unfoldable pub nearestAnswer : List ℕ → ℕ → List ℕ → Reached
 nearestAnswer word reach out =
-    if not (eqb (length word) 16) then refused 2 out
-    else if not (eqb (length out) 16) then refused 3 out
-    else if ltb 3 reach then refused 18 out
-    else searched reach (bit word) out
+    unless (refusal true (length word) 16 (length out) 16) (λ number. refused number out) (reached word reach out)

@@ -328,11 +328,9 @@ fn searched(word: &[u8], reach: u8, out: &mut [u8]) -> Reached
 pub fn nearest(word: &[u8], reach: u8, out: &mut [u8]) -> Reached
     ensures { λ r. ⌜ asReached r (now (out .exit)) ≡ nearestAnswer (now (word .entry)) reach (now (out .entry)) ⌝ }
 {
-    if word.len() != 16 {
-        return refused_by(2);
-    }
-    if out.len() != 16 {
-        return refused_by(3);
+    let refused = refusals::refusal(true, word.len(), 16, out.len(), 16);
+    if refused != 0 {
+        return refused_by(refused);
     }
     if reach > 3 {
         return refused_by(18);

@@ -6,7 +6,7 @@ use native.Mathlib.Decide.{ℕ-discrete}
 use native.Mathlib.Omega.{arith}
 use lib.ListN.{getD, set, length-set}
 use lib.Seq.{getD-set-same, getD-set-other}
-use Rattle.tables.proofs.Listed.{Filled}
+use Rattle.catalogue.proofs.tables.Listed.{Filled}
 
 pub filled-more : (n : ℕ) (f : ℕ → ℕ) (t : List ℕ) (i : ℕ) {v : ℕ} → Filled n f t i → i < n → v ≡ f i → Filled n f (set t i v) (i + 1)
 filled-more n f t i {v} d h e = record { below = omega arith; long = length-set t i v ∙ d .long; places = λ j l. go j l (ℕ-discrete j i) }

@@ -4,7 +4,7 @@ use mathlib.Core.Bool.{_&&_}
 use mathlib.Core.List.{List}
 use Prim.Native.Nat.{ℕ, _+_}
 use Rattle.rules.specs.Identity.{rowsTied, allPadded}
-use Rattle.ties.specs.Flat.{parityOf, generatorOf, flatTied}
+use Rattle.identity.specs.ties.Flat.{parityOf, generatorOf, flatTied}
 
 module _ (M printed rows count parts : ℕ) (p g : List ℕ) where
   pub stand-for : {P : List (List (List ℕ))} {G : List (List ℕ)} → parityOf M rows (count + parts) p ≡ P → generatorOf M count parts g ≡ G

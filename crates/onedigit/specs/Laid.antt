@@ -4,7 +4,7 @@ use Prim.Native.Nat.{ℕ, _+_, _*_, _/_, _%_}
 use lib.Dec.{eqb}
 use lib.ListN.{getD}
 use Rattle.bits.specs.Bits.{if_then_else_}
-use Rattle.tables.specs.Flat.{listed}
+use Rattle.catalogue.specs.tables.Flat.{listed}
 
 -- Place i of three for each block, where the list has two for each; the third holds no shift.
 abbrev pub thirdNone : List ℕ → ℕ → ℕ

@@ -6,7 +6,7 @@ use lib.Bits.{bitXor}
 use lib.Dec.{eqb, ltb}
 use lib.ListN.{getD, set}
 use Rattle.bits.specs.Bits.{if_then_else_}
-use Rattle.ties.specs.Flat.{flatTied}
+use Rattle.identity.specs.ties.Flat.{flatTied}
 
 -- One hex digit of one word is another: the digits differ by one of 15 numbers. The digits of a word are counted from the last.
 abbrev pub word : ℕ → ℕ → ℕ

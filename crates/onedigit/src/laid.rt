@@ -3,9 +3,11 @@ ghost use mathlib.Core.Path.{_≡_};
 ghost use Prim.Native.Nat.{_<_};
 ghost use lib.ListN.{length};
 ghost use Rattle.rules.specs.Tables.{parity16, parity32, parity64, parity511, generator16, generator32, generator64, generator511};
-ghost use Rattle.ties.specs.Flat.{parityOf, generatorOf};
+ghost use Rattle.identity.specs.ties.Flat.{parityOf, generatorOf};
 ghost use Rattle.onedigit.specs.Laid.{thirdNone, threes, words4, words28};
 ghost use Rattle.layout.specs.Rooms.{tableRoom};
+use catalogue::tables;
+use identity::printed;
 use layout::TABLE;
 
 // A place without a shift.

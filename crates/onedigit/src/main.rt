@@ -10,8 +10,9 @@ ghost use Rattle.bits.specs.Bits.{tally};
 ghost use Rattle.bits.specs.Bits as bits;
 ghost use Rattle.rules.specs.Codes.{code};
 ghost use Rattle.rules.specs.Identity.{tied};
-ghost use Rattle.ties.specs.Flat.{Sizes, flatTied};
+ghost use Rattle.identity.specs.ties.Flat.{Sizes, flatTied};
 ghost use Rattle.onedigit.specs.Wrong.{inBlock, wrongEntry, digitNoticed, placeNoticed, entryWrong, entryNoticed};
+use identity::ties;
 use libc::STDOUT_FILENO;
 
 // Whether the published tables of codes 1, 2 and 3 are tied.

@@ -1,6 +1,10 @@
 // A quick no: the checks in order, up to the first group with a broken one. A group is worked out at once; the number reported is the
 // definition's.
-use offer::Offer;
+pub mod groups;
+pub mod lowest_narrow;
+pub mod lowest_wide;
+
+use catalogue::offer::Offer;
 ghost use mathlib.Core.Path.{_≡_};
 ghost use mathlib.Core.Bool.{true};
 ghost use Prim.Native.Nat.{ℕ, _≤_};
@@ -9,9 +13,10 @@ ghost use Rattle.bits.specs.Bits.{Word, bit};
 ghost use Rattle.rules.specs.Codes.{Code, code as codeOf, checks, offered};
 ghost use Rattle.rules.specs.Checks.{check, lowest as lowestOf};
 ghost use Rattle.rules.specs.Encoding.{lifted};
-ghost use Rattle.offer.specs.Offers.{offerOf, Known};
+ghost use Rattle.catalogue.specs.offer.Offers.{offerOf, Known};
 ghost use Rattle.quick.specs.Quick.{read, asRead, refusedQuick, quickAnswer};
 ghost use Rattle.quick.specs.Answers.{asQuick};
+use catalogue::offer;
 
 #[repr(C)]
 pub struct Answered {
@@ -58,9 +63,9 @@ fn lowest_broken(o: Offer, word: &[u8]) -> u32
 {
     let sh = o.shape;
     if sh.size == 511 {
-        return quickwide::lowest(o, word);
+        return lowest_wide::lowest(o, word);
     }
-    quicknarrow::lowest(o, word)
+    lowest_narrow::lowest(o, word)
 }
 
 // Whether every check is met, and how many were evaluated.
@@ -68,7 +73,7 @@ pub fn quick(code: u8, word: &[u8]) -> Answered
     ensures { λ r. ⌜ asQuick r ≡ quickAnswer code (now (word .entry)) ⌝ }
 {
     let o = offer::of(code);
-    let number = ladder::refusal(o.offered, word.len(), o.word, 0, 0);
+    let number = refusals::refusal(o.offered, word.len(), o.word, 0, 0);
     if number != 0 {
         return refused(number);
     }

@@ -15,8 +15,13 @@ use Rattle.bits.specs.Bits.{Word, digit, bit, number, octets, _⊕_, flipped}
 use Rattle.bits.proofs.Sums.{⊕-assoc, ⊕-comm, ⊕-self, ⊕-false}
 use Rattle.bits.proofs.Octets.{Octets, digit-number, number-digit, number-lt, bit-octets, octets-same, length-octets, octets-bit}
 use Rattle.vectors.proofs.Places.{digit-xor, same-digits}
-use Rattle.randomiser.specs.Randomiser.{Generator, sequence, sequenceOctet, randomised}
+use Rattle.randomiser.specs.Randomiser.{Generator, register, sequence, sequenceOctet, randomised, telecommand}
 use Rattle.randomiser.proofs.Sequences.{number-same}
+
+-- the sequence is added, and added again: an octet and the first one of the sequence, FF
+pub added-first : (randomised telecommand 0 (0x55 ∷ []) ≡ 0xAA ∷ []) × (randomised telecommand 0 (0xAA ∷ []) ≡ 0x55 ∷ [])
+unfolding randomised register telecommand number
+added-first = (refl, refl)
 
 ⊕-twice : (a b : Bool) → a ⊕ b ⊕ b ≡ a
 ⊕-twice a b = ⊕-assoc a b b ∙ ap (λ z. a ⊕ z) (⊕-self b) ∙ ⊕-false a

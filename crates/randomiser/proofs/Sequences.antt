@@ -1,6 +1,6 @@
 -- The sequence of a generator.
-use mathlib.Core.Path.{_≡_, refl, sym, ap, ap₂, _∙_, subst}
-use mathlib.Core.Bool.{Bool, true, false, not, _&&_}
+use mathlib.Core.Path.{_≡_, refl, sym, ap, ap₂, _∙_}
+use mathlib.Core.Bool.{Bool, true, false, not, _&&_, true≢false}
 use mathlib.Core.List.{List, [], _∷_, _++_}
 use Prim.Native.Nat.{ℕ, zero, suc, _+_, _-_, _*_, _%_, _/_, _≤_, _<_}
 use native.Mathlib.Nat.{add-zero, zero-add, add-suc, suc-add, add-comm, add-assoc, mul-assoc, suc-mul, mod-add-mod, div-add-mod'}
@@ -92,6 +92,35 @@ module _ (g : Generator) (some : 0 < length (g .first)) where
       let m : i < length (g .first) = omega (arith, register-length p) in
       register-at p i m ∙ ap (sequence g) (add-comm p i) ∙ h i ∙ sequence-first i m)
 
+-- all ones
+abbrev pub full : List Bool → Bool
+full [] = true
+full (b ∷ bs) = b && full bs
+
+-- none of the n registers from this one on is all ones
+abbrev pub none-full : List ℕ → ℕ → List Bool → Bool
+none-full powers zero r = true
+none-full powers (suc n) r = not (full r) && none-full powers n (moved powers r)
+
+none-full-at : (g : Generator) (n m : ℕ) → T (none-full (g .powers) n (register g m)) → (i : ℕ) → i < n → full (register g (m + i)) ≡ false
+unfolding register
+none-full-at g zero m t i h = absurd (omega arith)
+none-full-at g (suc n) m t zero h = ap (λ z. full (register g z)) (add-zero m)
+    ∙ not-true (full (register g m)) (and-l (not (full (register g m))) (none-full (g .powers) n (register g (suc m))) t)
+none-full-at g (suc n) m t (suc i) h =
+    ap (λ z. full (register g z)) (add-suc m i ∙ sym (suc-add m i))
+    ∙ none-full-at g n (suc m) (and-r (not (full (register g m))) (none-full (g .powers) n (register g (suc m))) t) i (omega arith)
+
+-- a sequence from all ones does not come again after so many bits as there are registers without all ones behind the first
+pub ones-least : (g : Generator) → 0 < length (g .first) → full (g .first) ≡ true → (k : ℕ) → T (none-full (g .powers) k (register g 1))
+    → (p : ℕ) → 0 < p → p ≤ k → ((n : ℕ) → sequence g (n + p) ≡ sequence g n) → ⊥
+ones-least g bits ones k others p some few h =
+    let e : 1 + (p - 1) ≡ p = omega arith in
+    true≢false (
+    sym (ap full (only-again g bits p h) ∙ ones)
+    ∙ ap (λ z. full (register g z)) (sym e)
+    ∙ none-full-at g k 1 others (p - 1) (omega arith))
+
 -- ---- the telecommand generator
 
 pub telecommand-within : T (within (telecommand .powers) (length (telecommand .first)))
@@ -117,25 +146,6 @@ back = refl
 pub telecommand-period : (n : ℕ) → sequence telecommand (n + 255) ≡ sequence telecommand n
 telecommand-period n = ap (λ r. getD r 0 false) (comes-again telecommand telecommand-some 255 back n)
 
--- all ones
-abbrev full : List Bool → Bool
-full [] = true
-full (b ∷ bs) = b && full bs
-
--- none of the n registers from this one on is all ones
-abbrev none-full : List ℕ → ℕ → List Bool → Bool
-none-full powers zero r = true
-none-full powers (suc n) r = not (full r) && none-full powers n (moved powers r)
-
-none-full-at : (g : Generator) (n m : ℕ) → T (none-full (g .powers) n (register g m)) → (i : ℕ) → i < n → full (register g (m + i)) ≡ false
-unfolding register
-none-full-at g zero m t i h = absurd (omega arith)
-none-full-at g (suc n) m t zero h = ap (λ z. full (register g z)) (add-zero m)
-    ∙ not-true (full (register g m)) (and-l (not (full (register g m))) (none-full (g .powers) n (register g (suc m))) t)
-none-full-at g (suc n) m t (suc i) h =
-    ap (λ z. full (register g z)) (add-suc m i ∙ sym (suc-add m i))
-    ∙ none-full-at g n (suc m) (and-r (not (full (register g m))) (none-full (g .powers) n (register g (suc m))) t) i (omega arith)
-
 telecommand-others : T (none-full (telecommand .powers) 254 (register telecommand 1))
 unfolding register telecommand
 telecommand-others = tt
@@ -143,15 +153,7 @@ telecommand-others = tt
 -- and after no fewer
 pub telecommand-least : (p : ℕ) → 0 < p → p < 255 → ((n : ℕ) → sequence telecommand (n + p) ≡ sequence telecommand n) → ⊥
 unfolding telecommand
-telecommand-least p some few h =
-    let e : 1 + (p - 1) ≡ p = omega arith in
-    true-not-false (
-    sym (ap full (only-again telecommand telecommand-some p h))
-    ∙ ap (λ z. full (register telecommand z)) (sym e)
-    ∙ none-full-at telecommand 254 1 telecommand-others (p - 1) (omega arith))
-  where
-    true-not-false : true ≡ false → ⊥
-    true-not-false e = subst T e tt
+telecommand-least p some few = ones-least telecommand telecommand-some refl 254 telecommand-others p some (omega arith)
 
 -- ---- its octets, which come again after 255
 

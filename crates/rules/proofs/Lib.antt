@@ -5,8 +5,10 @@ pub mod Runs
 pub mod Ways
 pub mod Choosing
 pub mod Two
+pub mod Apart
 pub mod Alike
 pub mod Shared
+pub mod Corners
 pub mod Quiet
 pub mod Unique
 pub mod Inverse
@@ -16,3 +18,4 @@ pub mod Codewords
 pub mod Numbers
 pub mod Degrees
 pub mod Lowest
+pub mod Pairs

@@ -1,18 +1,19 @@
--- Two wrong bits, where every bit has at least four checks and no two bits share two: both are mended, under any way that flips a bit of
--- greatest excess.
-use mathlib.Core.Path.{_≡_, refl, sym, ap, _∙_, fun-ext, subst}
-use mathlib.Core.Bool.{Bool, true, false, true≢false, not, _&&_}
-use Prim.Native.Nat.{ℕ, suc, _+_, _≤_, _<_}
+-- Two wrong bits: both are mended, under any way that flips a bit of greatest excess, unless a third bit has that excess too; and when it
+-- has.
+use mathlib.Core.Path.{_≡_, refl, sym, ap, ap₂, _∙_, fun-ext, subst}
+use mathlib.Core.Bool.{Bool, true, false, not, _&&_, and-comm}
+use Prim.Native.Nat.{ℕ, suc, _+_, _*_, _≤_, _<_}
 use native.Mathlib.Decide.{ℕ-discrete}
 use native.Mathlib.Omega.{arith}
 use lib.Dec.{eqb}
+use lib.IntN.{ℤ}
 use lib.ListN.{length}
 use lib.Signed.{ltZ}
-use borrow.Author.Tests.{lt-ltb}
+use borrow.Author.Tests.{ltb-false, le-ltb}
 use Rattle.bits.specs.Bits.{Word, _⊕_, count, flipped}
 use Rattle.rules.specs.Codes.{Code, bits, checks}
 use Rattle.rules.specs.Checks.{covers, check, broken, excess, brokenOf, metOf, degreeOf}
-use Rattle.rules.specs.Flipping.{Way, Run, run, after}
+use Rattle.rules.specs.Flipping.{Way, Run, flip, run, after}
 use Rattle.bits.proofs.Sums.{⊕-assoc, ⊕-comm, and-⊕}
 use Rattle.bits.proofs.Counting.{count-same, count-xor, count-split}
 use Rattle.rules.proofs.Flips.{broken-met, excess-order, check-flip, flip-back}
@@ -35,7 +36,21 @@ pub record Mends (x : Word) (k : ℕ) (r : Run) : Type 0 where
   pub word : r .word ≡ x
   pub flips : length (r .flips) ≡ k
 
-module _ (c : Code) (girth : Girth c) (four : (n : ℕ) → n < bits c → 4 ≤ degreeOf c n) (x : Word) (met : broken c x ≡ 0)
+-- the checks that three bits share
+unfoldable pub thrice : Code → ℕ → ℕ → ℕ → ℕ
+thrice c n a b = count (checks c) (λ k. (covers c k n && covers c k b) && (covers c k n && covers c k a))
+
+-- Three bits of three checks each, of which each two share a check, and no check covers all three.
+pub record Tied (c : Code) (a b n : ℕ) : Type 0 where
+  pub of-a : degreeOf c a ≡ 3
+  pub of-b : degreeOf c b ≡ 3
+  pub of-n : degreeOf c n ≡ 3
+  pub ab : shared c a b ≡ 1
+  pub na : shared c n a ≡ 1
+  pub nb : shared c n b ≡ 1
+  pub none : thrice c n a b ≡ 0
+
+module _ (c : Code) (girth : Girth c) (x : Word) (met : broken c x ≡ 0)
     (a b : ℕ) (ha : a < bits c) (hb : b < bits c) (apart : a ≡ b → ⊥) where
   abbrev both : Word
   both = flipped (flipped x a) b
@@ -52,38 +67,69 @@ module _ (c : Code) (girth : Girth c) (four : (n : ℕ) → n < bits c → 4 ≤
       (count-same (checks c) _ _ (λ k l. ap (λ z. covers c k a && z) (check-both k l) ∙ and-own (covers c k a) (covers c k b)))
       ∙ count-split (checks c) (λ k. covers c k b) (λ k. covers c k a)
 
-  -- of any bit, those that it shares with either
-  others : (n : ℕ) → brokenOf c both n ≤ shared c n a + shared c n b
-  unfolding shared brokenOf
+  -- and of the second
+  own-second : shared c a b + brokenOf c both b ≡ degreeOf c b
+  unfolding shared brokenOf degreeOf
+  own-second =
+      ap₂ _+_ (count-same (checks c) _ _ (λ k l. and-comm (covers c k a) (covers c k b)))
+      (count-same (checks c) _ _ (λ k l. ap (λ z. covers c k b && z) (check-both k l ∙ ⊕-comm (covers c k a) (covers c k b))
+      ∙ and-own (covers c k b) (covers c k a)))
+      ∙ count-split (checks c) (λ k. covers c k a) (λ k. covers c k b)
+
+  -- of any bit, those that it shares with just one of the two
+  others : (n : ℕ) → brokenOf c both n + 2 * thrice c n a b ≡ shared c n a + shared c n b
+  unfolding shared brokenOf thrice
   others n =
-      let same : count (checks c) (λ k. covers c k n && check c both k) ≡ count (checks c)
-      (λ k. (covers c k n && covers c k a) ⊕ (covers c k n && covers c k b)) =
-      count-same (checks c) _ _ (λ k l. ap (λ z. covers c k n && z) (check-both k l)
-      ∙ and-⊕ (covers c k n) (covers c k a) (covers c k b)) in
-      omega (arith, same, count-xor (checks c) (λ k. covers c k n && covers c k a) (λ k. covers c k n && covers c k b))
+      ap (λ z. z + 2 * count (checks c) (λ k. (covers c k n && covers c k b) && (covers c k n && covers c k a)))
+      (count-same (checks c) _ (λ k. (covers c k n && covers c k a) ⊕ (covers c k n && covers c k b))
+      (λ k l. ap (λ z. covers c k n && z) (check-both k l) ∙ and-⊕ (covers c k n) (covers c k a) (covers c k b)))
+      ∙ count-xor (checks c) (λ k. covers c k n && covers c k a) (λ k. covers c k n && covers c k b)
 
   above : metOf c both a < brokenOf c both a
-  above = omega (arith, own, girth .few a b ha hb apart, four a ha, broken-met c both a)
+  above = omega (arith, own, girth .few a b ha hb apart, girth .many a ha, broken-met c both a)
 
-  -- so any bit but the two is less
-  less : (n : ℕ) → n < bits c → (n ≡ a → ⊥) → (n ≡ b → ⊥) → ltZ (excess c both n) (excess c both a) ≡ true
-  less n h da db =
-      excess-order c both n a
-      ∙ lt-ltb (brokenOf c both n + metOf c both a) (brokenOf c both a + metOf c both n)
-      (omega (
-        arith,
-        own,
-        others n,
-        girth .few a b ha hb apart,
-        girth .few n a h ha da,
-        girth .few n b h hb db,
-        four a ha,
-        four n h,
-        broken-met c both a,
-        broken-met c both n,
-      ))
+  -- so a third bit that is less than neither has three checks, as they have, and shares one with each
+  pub tied : (n : ℕ) → n < bits c → (n ≡ a → ⊥) → (n ≡ b → ⊥) → ltZ (excess c both n) (excess c both a) ≡ false
+      → ltZ (excess c both n) (excess c both b) ≡ false → Tied c a b n
+  tied n h da db la lb =
+      let s = girth .few a b ha hb apart in
+      let sa = girth .few n a h ha da in
+      let sb = girth .few n b h hb db in
+      let ma = girth .many a ha in
+      let mb = girth .many b hb in
+      let mn = girth .many n h in
+      let ea = broken-met c both a in
+      let eb = broken-met c both b in
+      let en = broken-met c both n in
+      let fa = ltb-false (brokenOf c both n + metOf c both a) (brokenOf c both a + metOf c both n)
+      (sym (excess-order c both n a) ∙ la) in
+      let fb = ltb-false (brokenOf c both n + metOf c both b) (brokenOf c both b + metOf c both n)
+      (sym (excess-order c both n b) ∙ lb) in
+      record {
+        of-a = omega (arith, own, others n, s, sa, sb, ma, mn, ea, en, fa);
+        of-b = omega (arith, own-second, others n, s, sa, sb, mb, mn, eb, en, fb);
+        of-n = omega (arith, own, others n, s, sa, sb, ma, mn, ea, en, fa);
+        ab = omega (arith, own, others n, s, sa, sb, ma, mn, ea, en, fa);
+        na = omega (arith, own, others n, s, sa, sb, ma, mn, ea, en, fa);
+        nb = omega (arith, own, others n, s, sa, sb, ma, mn, ea, en, fa);
+        none = omega (arith, own, others n, s, sa, sb, ma, mn, ea, en, fa);
+      }
 
-  module _ {way : Way} (ch : Chooses c way) (takes : TakesGreatest c way) (sa : c .unsent ≤ a) (sb : c .unsent ≤ b) where
+  -- then the three are equal: neither of the two is less
+  pub tied-first : (n : ℕ) → Tied c a b n → ltZ (excess c both a) (excess c both n) ≡ false
+  tied-first n t =
+      excess-order c both a n
+      ∙ le-ltb (brokenOf c both a + metOf c both n) (brokenOf c both n + metOf c both a)
+      (omega (arith, own, others n, t .of-a, t .of-n, t .ab, t .na, t .nb, t .none, broken-met c both a, broken-met c both n))
+
+  pub tied-second : (n : ℕ) → Tied c a b n → ltZ (excess c both b) (excess c both n) ≡ false
+  tied-second n t =
+      excess-order c both b n
+      ∙ le-ltb (brokenOf c both b + metOf c both n) (brokenOf c both n + metOf c both b)
+      (omega (arith, own-second, others n, t .of-b, t .of-n, t .ab, t .na, t .nb, t .none, broken-met c both b, broken-met c both n))
+
+  module _ {way : Way} (ch : Chooses c way) (takes : TakesGreatest c way) (sa : c .unsent ≤ a) (sb : c .unsent ≤ b)
+      (only : (n : ℕ) (ex : ℤ) → way both ≡ flip n ex → (n ≡ a → ⊥) → (n ≡ b → ⊥) → Tied c a b n → ⊥) where
     -- one of the two is flipped, and then the other
     pub two-mended : (limit : ℕ) → Mends x 2 (run way (suc (suc limit)) both)
     two-mended limit = go (flips-one ch takes both a sa ha above)
@@ -107,4 +153,5 @@ module _ (c : Code) (girth : Girth c) (four : (n : ℕ) → n < bits c → 4 ≤
             by : Dec (f .bit ≡ a) → Dec (f .bit ≡ b) → Mends x 2 (run way (suc (suc limit)) both)
             by (yes e) q = then b hb sb (ap (flipped both) e ∙ ap (λ y. flipped y a) (flip-swap x a b) ∙ flip-back (flipped x b) a)
             by (no d) (yes e) = then a ha sa (ap (flipped both) e ∙ flip-back (flipped x a) b)
-            by (no d) (no e) = absurd (true≢false (sym (less (f .bit) (chosen .under) d e) ∙ f .low))
+            by (no d) (no e) = absurd (only (f .bit) (f .value) (f .is) d e (tied (f .bit) (chosen .under) d e (f .low)
+                (takes .most both (f .bit) (f .value) (f .is) b sb hb)))

@@ -10,7 +10,7 @@ use Rattle.bits.specs.Bits.{if_then_else_}
 use Rattle.rules.specs.Codes.{bits, code, offered}
 use Rattle.answers.specs.Calls.{refusal, unless, Corrected, refusedCorrect}
 use Rattle.answers.proofs.Answers.{unless-cases, unless-taken, unless-refused, refusal-not}
-use Rattle.sizes.specs.Samples.{allFinite}
+use Rattle.magnitudes.specs.Samples.{allFinite}
 use Rattle.samples.specs.Answers.{ranSamples, finiteFrom, samplesAnswer}
 
 module _ (n : ℕ) (samples : List Float) (limit : ℕ) (out : List ℕ) where

@@ -1,4 +1,5 @@
 pub mod Answers
 pub mod Promises
 pub mod Correcting
+pub mod Loading
 pub mod Outcomes

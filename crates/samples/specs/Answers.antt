@@ -9,8 +9,8 @@ use Rattle.bits.specs.Bits.{if_then_else_}
 use Rattle.rules.specs.Codes.{bits, code, offered}
 use Rattle.rules.specs.Flipping.{run}
 use Rattle.answers.specs.Calls.{refusal, unless, Corrected, refusedCorrect, ranCorrect}
-use Rattle.sizes.specs.Samples.{read, smaller, allFinite}
-use Rattle.sizes.specs.Sizes.{bySize}
+use Rattle.magnitudes.specs.Samples.{read, smaller, allFinite}
+use Rattle.magnitudes.specs.Sizes.{bySize}
 
 -- The run from the bits read, by the sizes of the samples. All numbers are correct's, for the word that was read.
 abbrev pub ranSamples : ℕ → List Float → ℕ → List ℕ → Corrected

@@ -1,1 +1,2 @@
-pub mod Telemetry
+pub mod sequences
+pub mod taker

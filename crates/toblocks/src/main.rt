@@ -2,6 +2,7 @@
 ghost use mathlib.Core.Path.{_≡_};
 ghost use Prim.Native.Nat.{_-_};
 ghost use lib.ListN.{length};
+use blocks::exporting;
 use libc::STDERR_FILENO;
 use libc::STDIN_FILENO;
 use libc::STDOUT_FILENO;
@@ -24,14 +25,14 @@ fn is_ended() -> bool {
     let mut one = [0u8; 1];
     let got = libc::read(STDIN_FILENO, &mut one);
     if got < 0 {
-        os::fail(b"standard input");
+        os::fail(b"toblocks: standard input");
     }
     got == 0
 }
 
 // A line with the number of a refusal; there is no block at fault.
 fn refuse(number: u8) {
-    io::write_all(STDERR_FILENO, b"refused: number ");
+    io::write_all(STDERR_FILENO, b"toblocks: refused: number ");
     io::print_decimal(STDERR_FILENO, number as u64);
     io::write_all(STDERR_FILENO, b" block 0\n");
 }
@@ -51,7 +52,7 @@ fn convert(octets: &[u8], out: &mut [u8]) {
         return;
     }
     if !io::write_all(STDOUT_FILENO, out) {
-        os::fail(b"standard output");
+        os::fail(b"toblocks: standard output");
     }
 }
 

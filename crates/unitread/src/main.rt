@@ -2,9 +2,12 @@
 ghost use mathlib.Core.Path.{_≡_};
 ghost use Prim.Native.Nat.{_≤_, _<_, _*_};
 ghost use lib.ListN.{length};
+use flipping::endings;
 use libc::STDERR_FILENO;
 use libc::STDIN_FILENO;
 use libc::STDOUT_FILENO;
+use units::readings;
+use units::unitoffers;
 
 // The longest unit of 64 KiB of information, code 1's.
 fn unit_buffer() -> [u8; 131096]
@@ -133,9 +136,6 @@ fn main() {
         return;
     }
     let mut out = out_buffer();
-    if head[0] == 1 {
-        lines(state, &unit[..n], &mut out[..8]);
-    } else {
-        lines(state, &unit[..n], &mut out[..32]);
-    }
+    let size = unitoffers::room(head[0]);
+    lines(state, &unit[..n], &mut out[..size]);
 }

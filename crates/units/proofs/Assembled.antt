@@ -11,8 +11,8 @@ use borrow.Rule.Slice.PartMut.{putMid}
 use Rattle.rules.specs.Codes.{code}
 use Rattle.randomiser.specs.Randomiser.{telecommand, randomised}
 use Rattle.randomiser.proofs.Randomising.{length-randomised}
-use Rattle.unitrules.specs.Units.{codeblock, codeblocks}
-use Rattle.unitrules.proofs.Blocks.{length-codeblocks, length-codeblock, randomised-codeblocks}
+use Rattle.units.specs.unitrules.Units.{codeblock, codeblocks}
+use Rattle.units.proofs.unitrules.Blocks.{length-codeblocks, length-codeblock, randomised-codeblocks}
 
 -- a part behind a front that is done
 pub put-behind : (front out₀ new : List ℕ) (at more : ℕ) → length front ≡ at

@@ -11,8 +11,8 @@ use lib.ListN.{length}
 use borrow.Author.Tests.{eq-eqb, ne-eqb, eqb-true, lt-ltb, le-ltb}
 use Rattle.bits.specs.Bits.{if_then_else_}
 use Rattle.answers.specs.Calls.{Encoded}
-use Rattle.unitrules.specs.Units.{unitCode, unit, unitLength, unitOctets, writeAnswer}
-use Rattle.unitrules.proofs.Answering.{if-is, if-isnt, not-is, not-isnt}
+use Rattle.units.specs.unitrules.Units.{unitCode, unit, unitLength, unitOctets, writeAnswer}
+use Rattle.units.proofs.unitrules.Answering.{if-is, if-isnt, not-is, not-isnt}
 use Rattle.units.specs.Numbers.{writeNumber}
 
 module _ (n long : ℕ) where

@@ -2,16 +2,16 @@
 use mathlib.Core.Path.{_≡_, refl, sym, ap, ap₂, _∙_, subst}
 use mathlib.Core.Bool.{true, false}
 use mathlib.Core.List.{List, _++_}
-use Prim.Native.Nat.{ℕ, zero, suc, _+_, _-_, _*_, _≤_, _<_}
+use Prim.Native.Nat.{ℕ, _+_, _-_, _*_, _≤_, _<_}
 use native.Mathlib.Omega.{arith}
 use lib.ListN.{length, take, drop, replicate, length-append, length-replicate, length-drop}
 use lib.Seq.{take-all, take-append-le, drop-append-le, take-append-add}
 use Rattle.rules.specs.Codes.{code, code1, code3}
 use Rattle.answers.specs.Calls.{encodeAnswer, sixSet}
 use Rattle.answers.proofs.Answers.{encode-taken}
-use Rattle.unitrules.specs.Units.{unitCode, blocksFor, filled, part}
-use Rattle.unitrules.proofs.Shapes.{both, unit-offered}
-use Rattle.unitrules.proofs.Blocks.{encodedOf, take-replicate}
+use Rattle.units.specs.unitrules.Units.{unitCode, blocksFor, filled, part}
+use Rattle.units.proofs.unitrules.Shapes.{both, unit-offered}
+use Rattle.units.proofs.unitrules.Blocks.{encodedOf, take-replicate, drop-replicate}
 
 -- a whole part, encoded
 pub encode-part : (n : ℕ) (part out : List ℕ) → unitCode n ≡ true → length part ≡ code n .informationOctets
@@ -20,11 +20,6 @@ pub encode-part : (n : ℕ) (part out : List ℕ) → unitCode n ≡ true → le
 encode-part n part out u lp lo = encode-taken n part out (unit-offered n u) lp lo (both (λ n. sixSet n part ≡ false) refl refl n u)
 
 -- ---- a part and its fill
-
-drop-replicate : (j m a : ℕ) → drop j (replicate m a) ≡ replicate (m - j) a
-drop-replicate zero m a = let e : m ≡ m - 0 = omega arith in ap (λ z. replicate z a) e
-drop-replicate (suc j) zero a = let e : 0 ≡ 0 - suc j = omega arith in ap (λ z. replicate z a) e
-drop-replicate (suc j) (suc m) a = drop-replicate j m a ∙ (let e : m - j ≡ suc m - suc j = omega arith in ap (λ z. replicate z a) e)
 
 take-over : (rest fill : List ℕ) (size : ℕ) → length rest ≤ size → take size (rest ++ fill) ≡ rest ++ take (size - length rest) fill
 take-over rest fill size h = let e : size ≡ length rest + (size - length rest) = omega arith in ap (λ z. take z (rest ++ fill)) e

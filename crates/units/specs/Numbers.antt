@@ -3,7 +3,7 @@ use mathlib.Core.Bool.{not}
 use Prim.Native.Nat.{ℕ}
 use lib.Dec.{eqb}
 use Rattle.bits.specs.Bits.{if_then_else_}
-use Rattle.unitrules.specs.Units.{unitCode, unitLength}
+use Rattle.units.specs.unitrules.Units.{unitCode, unitLength}
 
 unfoldable pub writeNumber : ℕ → ℕ → ℕ → ℕ
 writeNumber n long room =

@@ -1,4 +1,9 @@
 // Telecommand transmission units of codes 1 and 3, written, and their lengths.
+pub mod readings;
+pub mod unitoffers;
+pub mod unitreader;
+pub mod unitrules;
+
 ghost use mathlib.Core.Path.{_≡_};
 ghost use mathlib.Core.Bool.{true};
 ghost use mathlib.Core.List.{_++_};
@@ -9,8 +14,9 @@ ghost use Rattle.rules.specs.Codes.{code as codeOf};
 ghost use Rattle.rules.specs.Encoding.{lifted, encoded, written};
 ghost use Rattle.codes.specs.Answers.{asEncoded};
 ghost use Rattle.randomiser.specs.Randomiser.{telecommand, randomised};
-ghost use Rattle.unitrules.specs.Units.{unitCode, start, tail as tailOf, blocksFor, codeblock, codeblocks, unit as unitOf, unitLength};
-ghost use Rattle.unitrules.specs.Units.{unitOctets, writeAnswer};
+ghost use Rattle.units.specs.unitrules.Units.{unitCode, start, tail as tailOf, blocksFor, codeblock};
+ghost use Rattle.units.specs.unitrules.Units.{codeblocks, unit as unitOf, unitLength};
+ghost use Rattle.units.specs.unitrules.Units.{unitOctets, writeAnswer};
 ghost use Rattle.units.specs.Numbers.{writeNumber};
 use unitoffers::START;
 use unitoffers::TAIL;
@@ -19,6 +25,7 @@ use unitoffers::is_unit_code;
 use unitoffers::tail_octets;
 use unitoffers::unit_of;
 use unitoffers::word_octets;
+use vectors::copying;
 
 // The octets of a unit, 0 where there is none.
 pub fn unit_octets(code: u8, long: usize) -> usize

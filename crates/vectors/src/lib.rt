@@ -1,4 +1,6 @@
 // Vectors of bits in words of 64.
+pub mod copying;
+
 ghost use mathlib.Core.Path.{_≡_};
 ghost use mathlib.Core.List.{[], _∷_};
 ghost use mathlib.Core.Bool.{false};
@@ -318,17 +320,6 @@ pub fn is_set(ws: &[u64], n: usize) -> bool
     ensures { λ r. ⌜ r ≡ wbit (now (ws .entry)) n ⌝ }
 {
     (ws[n / 64] >> (63 - n % 64)) % 2 == 1
-}
-
-// Clears every bit.
-pub fn clear(ws: &mut [u64])
-    ensures { λ r. ⌜ wbit (now (ws .exit)) ≡ (λ n. false) ⌝ }
-{
-    let mut k = 0;
-    while k < ws.len() {
-        ws[k] = 0;
-        k += 1;
-    }
 }
 
 // All bits u places later, of which the last u are 0; zeros in front.

@@ -3,11 +3,14 @@
 // refused word of code 1 the codeword that is nearest.
 ghost use mathlib.Core.Path.{_≡_};
 ghost use lib.ListN.{length};
+use catalogue::offer;
 use layout::SYNDROME;
 use layout::TABLE;
 use layout::WORD;
 use libc::STDIN_FILENO;
 use libc::STDOUT_FILENO;
+use lists::listing;
+use log::lines;
 
 // No run of any code has more flips than this.
 const PLACES: usize = 511;

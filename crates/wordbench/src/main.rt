@@ -3,9 +3,10 @@ ghost use mathlib.Core.Path.{_≡_};
 ghost use Prim.Native.Nat.{_+_, _%_, _≤_, _<_};
 ghost use lib.ListN.{length};
 ghost use Rattle.io.specs.Counts.{Counts};
-ghost use Rattle.lines.specs.Parts.{Taken, sizeIn, Room, Counted};
+ghost use Rattle.log.specs.lines.Parts.{Taken, sizeIn, Room, Counted};
 use libc::STDIN_FILENO;
 use libc::STDOUT_FILENO;
+use log::lines;
 
 // How many octets were read, and whether reading failed.
 struct Input {

@@ -109,7 +109,7 @@ def drawn(found: Dict[int, Rows], options: Namespace) -> str:
         " received word tells."
         " <i>Refused</i>, with the number of the refusal: "
         + "; ".join(f"{int(number)}, {text(number)}" for number in REFUSALS)
-        + ". What is promised is one wrong bit, under every code, and two under codes 4 and 5: these are proved to come back right,"
+        + ". What is promised is one wrong bit and two, under every code, but 16 pairs of code 1: these are proved to come back right,"
         " where the limit allows as many flips."
         " All else here is what these draws gave. No coding gain and no error rate is claimed.</p>"
     ]

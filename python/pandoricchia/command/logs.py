@@ -6,15 +6,16 @@ import heapq
 import re
 from collections import Counter
 from typing import Counter as Counts
-from typing import Dict, Iterable, Iterator, List, NamedTuple, Optional, Tuple
+from typing import Iterable, Iterator, List, NamedTuple, Optional, Tuple
 
 from .files import Failed, plural
 
 #: Refusals of a whole word: the run's own.
 RUN_REFUSED = (5, 6, 7, 8)
 
-#: Up to so many wrong bits a word is promised to come back as it was sent, under a code; and under any, for a log of no known code.
-PROMISED: Dict[Optional[int], int] = {1: 1, 2: 2, 3: 2, 4: 2, 5: 2, None: 2}
+#: Up to so many wrong bits a word is promised to come back as it was sent, under every code. The 16 pairs of code 1 that are left out are
+#: never mended, so no word that was taken is one of them.
+PROMISED = 2
 
 #: Why somebody should look at a word.
 REFUSED, BACK = "refused", "a bit flipped back"
@@ -111,7 +112,7 @@ class Tally:
         self.code = STREAMED if streamed else code
         #: Whether they came out of a stream, and have offsets in it.
         self.streamed = streamed
-        self.promised = PROMISED[self.code]
+        self.promised = PROMISED
         #: Words by answer; those that a run took by flips and by unlike; all runs by broken checks, flips and whether taken.
         self.answers: Counts[int] = Counter()
         self.flips: Counts[int] = Counter()

@@ -160,7 +160,7 @@ def _worst(parser: argparse.ArgumentParser, default: int) -> None:
     parser.add_argument("--worst", type=_number(0, 1000), default=default, metavar="N", help=many)
 
 
-MENDED = "one wrong bit is promised to be mended under code 1, two under codes 2 to 5"
+MENDED = "two wrong bits are promised to be mended, but 16 pairs of code 1"
 BARE = "the input is words of this code, 1 to 5, without the three octets of a recording"
 OWN_LIMIT = "the most flips of a word, 0 to 65535; else the recording's own, and with --code 65535, which no run reaches"
 

@@ -165,29 +165,31 @@ def _proved(counted: Counted) -> List[str]:
         "A codeword comes back as it is, with no flips.",
         f"One wrong bit alone is mended by exactly one flip, under a limit of at least 1: {covered.get(code, 'any bit')}.",
     ]
+    sixteen = "bits 80 and 109, turned round in their blocks, which are not mended"
+    but = {None: f", but 16 pairs of code 1: {sixteen}", 1: f", but 16 pairs: {sixteen}"}.get(code, "")
+    said.append(f"Two such wrong bits, under a limit of at least 2, are mended by exactly two flips{but}.")
     if code in (None, 4, 5):
-        where = "Under codes 4 and 5 two" if code is None else "Two"
-        said.append(f"{where} such wrong bits, under a limit of at least 2, are mended by exactly two flips.")
+        where = "Under codes 4 and 5 three" if code is None else "Three"
+        said.append(
+            f"{where} such wrong bits, under a limit of at least 3, are mended by exactly three flips, if one of them shares no check"
+            " with the others or all three lie in one check."
+        )
     if code in (None, 1, 2, 3):
         said.append("Codes 1 to 3 never give answer 8.")
     if counted.head is None and code != 5:
         said.append(
             "A log of <code>pandoricchia samples correct</code> is of another run, which chooses by the sizes of samples, and its numbers"
-            " are those of a definition of its own. What is said of codewords, of one wrong bit and of the most flips is proved of it too;"
-            " what is said of unlike, of two wrong bits and of <code>wordbench</code> is not."
+            " are those of a definition of its own. What is said of codewords, of one wrong bit, of three and of the most flips is proved of it too,"
+            " and of two, but 80 pairs of code 1; what is said of unlike and of <code>wordbench</code> is not."
         )
     return said
 
 
 def _not_claimed(code: Optional[int]) -> List[str]:
-    tried = {
-        1: "under code 1 no more than one wrong bit is promised to be mended",
-        2: "two wrong bits were tried, every pair, and all are mended; of three there is no promise",
-        3: "two wrong bits were tried, every pair, and all are mended; of three there is no promise",
-    }.get(code or 0, "of three wrong bits there is no promise")
+    three = "of three wrong bits there is no promise" if code in (1, 2, 3) else "of three wrong bits there is none but the one above"
     return [
         "That a word which was taken is the one that was sent, where more bits were wrong than is promised"
-        f" ({tried}). A run may end at another codeword, and the log does not know.",
+        f" ({three}). A run may end at another codeword, and the log does not know.",
         "Any coding gain or error rate.",
         "What the compiler, the machine, and reading and writing add: that lies outside the proofs, and is tested.",
     ]

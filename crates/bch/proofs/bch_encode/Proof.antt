@@ -18,21 +18,6 @@ returns-2 c =
     let a = c .before .before .before .before in
     sym (encode-three (a .args .information .now) (a .args .word .now) (c .before .if1 .left) (λ q. c .if2 .taken q))
 
-taken-requires : tie.Need-taken-requires
-taken-requires c κs = search needs
-
-divide-requires : tie.Need-divide-requires
-divide-requires c κs = search needs
-
-mul-write : tie.Need-mul-write
-mul-write c = search needs
-
-write-requires : tie.Need-write-requires
-write-requires c κs = search needs
-
-same-length : tie.Need-same-length
-same-length c = search needs
-
 returns-3 : tie.Need-returns-3
 returns-3 c =
     let w = c .before .before in
@@ -49,14 +34,5 @@ returns-3 c =
     ∙ sym (encode-done o (a .args .word .now) seven (e .if2 .left))
 
 pub bch-encode-spec : {M : Type 1} → statement M
-bch-encode-spec =
-    tie.close
-    (tie.spec
-    returns
-    returns-2
-    taken-requires
-    divide-requires
-    mul-write
-    write-requires
-    same-length
-    returns-3)
+bch-encode-spec = tie.close (tie.spec returns returns-2 (λ c κs. search needs) (λ c κs. search needs) (λ c. search needs)
+    (λ c κs. search needs) (λ c. search needs) returns-3)

@@ -5,7 +5,7 @@ use native.Mathlib.Omega.{arith}
 use Rattle.bits.specs.Bits.{digit, number}
 use Rattle.bits.proofs.Octets.{number-lt, number-digit}
 use Rattle.vectors.proofs.Octets.{fits}
-use Rattle.ownparity.proofs.Words.{number-start, number-more}
+use Rattle.word.proofs.ownparity.Words.{number-start, number-more}
 use Rattle.bch.specs.Bch.{remainder}
 use Rattle.bch.proofs.Division.{remainder-same, remainder-lt}
 use Rattle.bch.proofs.Words.{row-odd}
@@ -20,27 +20,6 @@ abbrev μ-loop : tie.MeasureT-loop
 
 loop-holds : tie.Need-loop-holds Inv-loop μ-loop
 loop-holds c = (omega arith, omega arith, number-start (digit 7 (remainder 63 (digit 64 (c .args .v)))))
-
-mul-r : tie.Need-mul-r Inv-loop μ-loop
-mul-r c = omega arith
-
-mul-odd : tie.Need-mul-odd Inv-loop μ-loop
-mul-odd c = omega arith
-
-array-read-odd : tie.Need-array-read-odd Inv-loop μ-loop
-array-read-odd c = omega arith
-
-odd-requires : tie.Need-odd-requires Inv-loop μ-loop
-odd-requires c κs = tt
-
-add-r : tie.Need-add-r Inv-loop μ-loop
-add-r c = omega arith
-
-add-j : tie.Need-add-j Inv-loop μ-loop
-add-j c = omega arith
-
-loop-less : tie.Need-loop-less Inv-loop μ-loop
-loop-less c = omega arith
 
 loop-again : tie.Need-loop-again Inv-loop μ-loop
 loop-again c =
@@ -65,18 +44,5 @@ returns c =
     )
 
 pub divide-spec : {M : Type 1} → statement M
-divide-spec =
-    tie.close
-    (tie.spec
-    Inv-loop
-    μ-loop
-    loop-holds
-    mul-r
-    mul-odd
-    array-read-odd
-    odd-requires
-    add-r
-    add-j
-    loop-less
-    loop-again
-    returns)
+divide-spec = tie.close (tie.spec Inv-loop μ-loop loop-holds (λ c. omega arith) (λ c. omega arith) (λ c. omega arith) (λ c κs. tt)
+    (λ c. omega arith) (λ c. omega arith) (λ c. omega arith) loop-again returns)

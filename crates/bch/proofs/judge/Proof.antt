@@ -12,18 +12,6 @@ use borrow.Author.Needs.{needs}
 use Rattle.bch.proofs.judge.Statement.{statement}
 use Rattle.bch.proofs.judge.Tie as tie
 
-taken-requires : tie.Need-taken-requires
-taken-requires c κs = search needs
-
-divide-requires : tie.Need-divide-requires
-divide-requires c κs = search needs
-
-write-requires : tie.Need-write-requires
-write-requires c κs = search needs
-
-same-length : tie.Need-same-length
-same-length c = search needs
-
 returns : tie.Need-returns
 returns c =
     let w = c .before .before in
@@ -47,9 +35,6 @@ returns-2 c =
     sym (judged-detected x (a .args .out .now) (a .args .detect-only) (c .if2 .taken) (codeword-left x
     ∙ ne-eqb (left x) 0 (λ q. i .if1 .left (e ∙ q))))
 
-places-requires : tie.Need-places-requires
-places-requires c κs = search needs
-
 returns-3 : tie.Need-returns-3
 returns-3 c =
     let p = c .before in
@@ -62,12 +47,6 @@ returns-3 c =
     sym (judged-far x (a .args .out .now) (a .args .detect-only) (codeword-left x ∙ ne-eqb (left x) 0 (λ q. i .if1 .left (e ∙ q)))
     (none-near x (t .taken .result) (d .divide .result) (p .places .result) (omega arith) (t .taken .ensures) e (p .places .ensures)
     (c .if3 .taken)))
-
-write-requires-2 : tie.Need-write-requires-2
-write-requires-2 c κs = search needs
-
-same-length-2 : tie.Need-same-length-2
-same-length-2 c = search needs
 
 returns-4 : tie.Need-returns-4
 returns-4 c =
@@ -90,17 +69,5 @@ returns-4 c =
     ∙ ne-eqb (left x) 0 (λ q. i .if1 .left (e ∙ q))) near)
 
 pub judge-spec : {M : Type 1} → statement M
-judge-spec =
-    tie.close
-    (tie.spec
-    taken-requires
-    divide-requires
-    write-requires
-    same-length
-    returns
-    returns-2
-    places-requires
-    returns-3
-    write-requires-2
-    same-length-2
-    returns-4)
+judge-spec = tie.close (tie.spec (λ c κs. search needs) (λ c κs. search needs) (λ c κs. search needs) (λ c. search needs) returns returns-2
+    (λ c κs. search needs) returns-3 (λ c κs. search needs) (λ c. search needs) returns-4)

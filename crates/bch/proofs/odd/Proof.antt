@@ -1,7 +1,7 @@
 -- `bch::odd` meets its contract. Assumes nothing.
 use native.Mathlib.Omega.{arith}
 use borrow.Author.Needs.{needs}
-use Rattle.ownparity.proofs.Words.{ones-odd}
+use Rattle.word.proofs.ownparity.Words.{ones-odd}
 use Rattle.bch.proofs.odd.Statement.{statement}
 use Rattle.bch.proofs.odd.Tie as tie
 

@@ -40,12 +40,12 @@ use denote.Triple.Spec.{Meets, tripleOf}
 use denote.Triple.Table.{entered, cited}
 use denote.Triple.Walked.{says, Stays, gave-slice, stay-dropped, walkOf, Walks, ends-at, walked, goes-gave-slice, goes-dropped, walk-meets}
 use Rattle.answers.specs.Lists.{listAnswer}
-use Rattle.listing.specs.Answers.{asEntries, asListed}
-use Rattle.listing.specs.declared.FlipRecord.{FlipRecord}
-use Rattle.listing.specs.declared.Listed.{Listed}
-use Rattle.listing.proofs.FlipRecord as T
-use Rattle.listing.proofs.Listed as S
-use Rattle.listing.proofs.Listed.Laws as S′
+use Rattle.lists.specs.listing.Answers.{asEntries, asListed}
+use Rattle.lists.specs.declared.listing.FlipRecord.{FlipRecord}
+use Rattle.lists.specs.declared.listing.Listed.{Listed}
+use Rattle.lists.proofs.listing.FlipRecord as T
+use Rattle.lists.proofs.listing.Listed as S
+use Rattle.lists.proofs.listing.Listed.Laws as S′
 use Rattle.lists.proofs.list as callee
 use Rattle.lists.proofs.list.Symbol as callee-def
 use Rattle.lists.proofs.list.Symbol.{name as #lists·list}

@@ -12,37 +12,9 @@ Inv-loop word₀ apart i₀ word i = length word ≡ length word₀
 abbrev μ-loop : tie.MeasureT-loop
 μ-loop word₀ apart i₀ word i = length word₀ - i
 
-loop-holds : tie.Need-loop-holds Inv-loop μ-loop
-loop-holds c = refl
-
-slice-write-word : tie.Need-slice-write-word Inv-loop μ-loop
-slice-write-word c = omega arith
-
-add-i : tie.Need-add-i Inv-loop μ-loop
-add-i c = omega arith
-
-loop-less : tie.Need-loop-less Inv-loop μ-loop
-loop-less c = omega arith
-
 loop-again : tie.Need-loop-again Inv-loop μ-loop
 loop-again c = simp length-set (omega arith)
 
-same-length : tie.Need-same-length Inv-loop μ-loop
-same-length c = omega arith
-
-returns : tie.Need-returns Inv-loop μ-loop
-returns c = tt
-
 pub spoil-spec : {M : Type 1} → statement M
-spoil-spec =
-    tie.close
-    (tie.spec
-    Inv-loop
-    μ-loop
-    loop-holds
-    slice-write-word
-    add-i
-    loop-less
-    loop-again
-    same-length
-    returns)
+spoil-spec = tie.close (tie.spec Inv-loop μ-loop (λ c. refl) (λ c. omega arith) (λ c. omega arith) (λ c. omega arith) loop-again
+    (λ c. omega arith) (λ c. tt))

@@ -4,21 +4,12 @@ use lib.ListN.{length}
 use Rattle.rules.specs.Codes.{code}
 use Rattle.rules.specs.Checks.{broken, lowest}
 use Rattle.answers.proofs.Answers.{check-taken, check-refused}
-use Rattle.offer.proofs.Offers.{is-offered}
+use Rattle.catalogue.proofs.offer.Offers.{is-offered}
 use Rattle.vectors.proofs.Filling.{zero-words}
-use Rattle.ladder.proofs.Admitted.{offered-by, check-refusal, taken, word-long, fitting}
+use Rattle.refusals.proofs.Admitted.{offered-by, check-refusal, taken, word-long, fitting}
 use borrow.Author.Needs.{needs}
 use Rattle.codes.proofs.check.Statement.{statement}
 use Rattle.codes.proofs.check.Tie as tie
-
-of-requires : tie.Need-of-requires
-of-requires c κs = search needs
-
-refusal-requires : tie.Need-refusal-requires
-refusal-requires c κs = search needs
-
-refused-check-requires : tie.Need-refused-check-requires
-refused-check-requires c κs = search needs
 
 returns : tie.Need-returns
 returns c =
@@ -37,9 +28,6 @@ measure-requires c κs =
     let t = taken (a .args .code) (f .before .of .ensures) (o .offered) (offered-by (a .args .code) (f .before .of .ensures))
     (length (a .args .word .now)) _ 0 0 (f .refusal .ensures) (i .if1 .left) in
     (t .known, t .input-is, zero-words 130, zero-words 16)
-
-broken-requires : tie.Need-broken-requires
-broken-requires c κs = search needs
 
 lowest-requires : tie.Need-lowest-requires
 lowest-requires c κs =
@@ -72,14 +60,5 @@ returns-2 c =
     ∙ sym (check-taken n (a .args .word .now) (is-offered n (t .offers)) (word-long n is (t .offers) (t .input-is)))
 
 pub check-spec : {M : Type 1} → statement M
-check-spec =
-    tie.close
-    (tie.spec
-    of-requires
-    refusal-requires
-    refused-check-requires
-    returns
-    measure-requires
-    broken-requires
-    lowest-requires
-    returns-2)
+check-spec = tie.close (tie.spec (λ c κs. search needs) (λ c κs. search needs) (λ c κs. search needs) returns measure-requires
+    (λ c κs. search needs) lowest-requires returns-2)

@@ -1,20 +1,11 @@
 -- `codes::correct`: refusals in the order of their numbers, then the run. Assumes nothing.
 use mathlib.Core.Path.{sym, _∙_}
 use Rattle.answers.proofs.Answers.{correct-taken, correct-refused}
-use Rattle.offer.proofs.Offers.{is-offered}
-use Rattle.ladder.proofs.Admitted.{offered-by, correct-refusal, taken, word-long}
+use Rattle.catalogue.proofs.offer.Offers.{is-offered}
+use Rattle.refusals.proofs.Admitted.{offered-by, correct-refusal, taken, word-long}
 use borrow.Author.Needs.{needs}
 use Rattle.codes.proofs.correct.Statement.{statement}
 use Rattle.codes.proofs.correct.Tie as tie
-
-of-requires : tie.Need-of-requires
-of-requires c κs = search needs
-
-refusal-requires : tie.Need-refusal-requires
-refusal-requires c κs = search needs
-
-refused-correct-requires : tie.Need-refused-correct-requires
-refused-correct-requires c κs = search needs
 
 returns : tie.Need-returns
 returns c =
@@ -34,9 +25,6 @@ correct-taken-requires c κs =
     (i .if1 .left) in
     (t .known, t .input-is, t .output-is)
 
-same-length : tie.Need-same-length
-same-length c = search needs
-
 returns-2 : tie.Need-returns-2
 returns-2 c =
     let k = c .before .before in
@@ -51,13 +39,5 @@ returns-2 c =
     (word-long n is (t .offers) (t .input-is)) (word-long n is (t .offers) (t .output-is)))
 
 pub correct-spec : {M : Type 1} → statement M
-correct-spec =
-    tie.close
-    (tie.spec
-    of-requires
-    refusal-requires
-    refused-correct-requires
-    returns
-    correct-taken-requires
-    same-length
-    returns-2)
+correct-spec = tie.close (tie.spec (λ c κs. search needs) (λ c κs. search needs) (λ c κs. search needs) returns correct-taken-requires
+    (λ c. search needs) returns-2)

@@ -10,12 +10,6 @@ run-taken-requires c κs =
     let z = zero-words 16 in
     search needs
 
-finish-requires : tie.Need-finish-requires
-finish-requires c κs = search needs
-
-same-length : tie.Need-same-length
-same-length c = search needs
-
 returns : tie.Need-returns
 returns c n off is =
     let r : tie.After-run-taken = search in
@@ -23,10 +17,4 @@ returns c n off is =
     f .finish .ensures n _ off is (r .run-taken .ensures n off is)
 
 pub correct-taken-spec : {M : Type 1} → statement M
-correct-taken-spec =
-    tie.close
-    (tie.spec
-    run-taken-requires
-    finish-requires
-    same-length
-    returns)
+correct-taken-spec = tie.close (tie.spec run-taken-requires (λ c κs. search needs) (λ c. search needs) returns)

@@ -2,18 +2,12 @@
 use mathlib.Core.Path.{sym, ap, _∙_}
 use lib.ListN.{length}
 use Rattle.answers.proofs.Answers.{encode-taken, encode-four, encode-refused}
-use Rattle.offer.proofs.Offers.{is-offered}
-use Rattle.ladder.proofs.Admitted.{offered-by, encode-refusal, taken, word-long, information-long}
+use Rattle.catalogue.proofs.offer.Offers.{is-offered}
+use Rattle.refusals.proofs.Admitted.{offered-by, encode-refusal, taken, word-long, information-long}
 use Rattle.codes.proofs.Encoding.{information-only}
 use borrow.Author.Needs.{needs}
 use Rattle.codes.proofs.encode.Statement.{statement}
 use Rattle.codes.proofs.encode.Tie as tie
-
-of-requires : tie.Need-of-requires
-of-requires c κs = search needs
-
-refusal-requires : tie.Need-refusal-requires
-refusal-requires c κs = search needs
 
 returns : tie.Need-returns
 returns c =
@@ -59,9 +53,6 @@ encode-requires c κs =
     (length (a .args .word .now)) (f .before .of .result .word) (f .refusal .ensures) (i .if1 .left) in
     (t .known, t .input-is, t .output-is)
 
-same-length : tie.Need-same-length
-same-length c = search needs
-
 returns-3 : tie.Need-returns-3
 returns-3 c =
     let k = c .before .before in
@@ -81,14 +72,5 @@ returns-3 c =
     (word-long n is (t .offers) (t .output-is)) six)
 
 pub encode-spec : {M : Type 1} → statement M
-encode-spec =
-    tie.close
-    (tie.spec
-    of-requires
-    refusal-requires
-    returns
-    six-set-requires
-    returns-2
-    encode-requires
-    same-length
-    returns-3)
+encode-spec = tie.close (tie.spec (λ c κs. search needs) (λ c κs. search needs) returns six-set-requires returns-2 encode-requires
+    (λ c. search needs) returns-3)

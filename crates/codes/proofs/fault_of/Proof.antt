@@ -3,7 +3,7 @@ use mathlib.Core.Path.{ap, _∙_}
 use Rattle.rules.specs.Codes.{code}
 use Rattle.rules.specs.Checks.{lowest}
 use Rattle.vectors.proofs.Filling.{zero-words}
-use Rattle.ladder.proofs.Admitted.{word-long, fitting}
+use Rattle.refusals.proofs.Admitted.{word-long, fitting}
 use borrow.Author.Needs.{needs}
 use Rattle.codes.proofs.fault_of.Statement.{statement}
 use Rattle.codes.proofs.fault_of.Tie as tie
@@ -13,9 +13,6 @@ measure-requires c κs =
     let y = zero-words 130 in
     let s = zero-words 16 in
     search needs
-
-fault-requires : tie.Need-fault-requires
-fault-requires c κs = search needs
 
 lowest-requires : tie.Need-lowest-requires
 lowest-requires c κs =
@@ -36,10 +33,4 @@ returns c =
     )
 
 pub fault-of-spec : {M : Type 1} → statement M
-fault-of-spec =
-    tie.close
-    (tie.spec
-    measure-requires
-    fault-requires
-    lowest-requires
-    returns)
+fault-of-spec = tie.close (tie.spec measure-requires (λ c κs. search needs) lowest-requires returns)

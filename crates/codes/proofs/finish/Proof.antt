@@ -1,9 +1,9 @@
 -- `codes::finish`: the run's numbers, its judgement and its word. Assumes nothing.
 use mathlib.Core.Path.{sym}
 use Rattle.rules.proofs.Numbers.{published}
-use Rattle.offer.proofs.Offers.{is-offered}
+use Rattle.catalogue.proofs.offer.Offers.{is-offered}
 use Rattle.codes.proofs.Correcting.{ran-met, ran-unsent, ran-ends, corrected-is}
-use Rattle.endings.specs.Ends.{runOf}
+use Rattle.flipping.specs.endings.Ends.{runOf}
 use borrow.Author.Needs.{needs}
 use Rattle.codes.proofs.finish.Statement.{statement}
 use Rattle.codes.proofs.finish.Tie as tie

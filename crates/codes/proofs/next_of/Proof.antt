@@ -2,7 +2,7 @@
 use mathlib.Core.Path.{sym, ap, _∙_}
 use Rattle.rules.specs.Codes.{code}
 use Rattle.rules.specs.Flipping.{byExcess}
-use Rattle.ladder.proofs.Admitted.{shaped, unsent-is}
+use Rattle.refusals.proofs.Admitted.{shaped, unsent-is}
 use Rattle.codes.proofs.Correcting.{holding, within-bits}
 use borrow.Author.Needs.{needs}
 use Rattle.codes.proofs.next_of.Statement.{statement}

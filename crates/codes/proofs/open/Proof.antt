@@ -3,21 +3,12 @@ use mathlib.Core.Path.{refl, sym, ap, _∙_}
 use native.Mathlib.Omega.{arith}
 use lib.ListN.{length, take, length-take}
 use Rattle.answers.proofs.Answers.{open-from, open-refused}
-use Rattle.offer.proofs.Offers.{small}
+use Rattle.catalogue.proofs.offer.Offers.{small}
 use Rattle.codes.proofs.Opened.{opened-other, opened-codeword}
-use Rattle.ladder.proofs.Admitted.{as-truth, opens-by, opens-offered, open-refusal, taken, word-long, information-long}
+use Rattle.refusals.proofs.Admitted.{as-truth, opens-by, opens-offered, open-refusal, taken, word-long, information-long}
 use borrow.Author.Needs.{needs}
 use Rattle.codes.proofs.open.Statement.{statement}
 use Rattle.codes.proofs.open.Tie as tie
-
-of-requires : tie.Need-of-requires
-of-requires c κs = search needs
-
-refusal-requires : tie.Need-refusal-requires
-refusal-requires c κs = search needs
-
-slice-aggregate-result : tie.Need-slice-aggregate-result
-slice-aggregate-result c = search needs
 
 returns : tie.Need-returns
 returns c =
@@ -36,9 +27,6 @@ fault-of-requires c κs =
     let t = taken n is (f .before .of .result .opens) (opens-offered n is) (length (a .args .word .now)) (f .before .of .result .word) 0 0
     (f .refusal .ensures) (i .if1 .left) in
     (t .known, t .input-is)
-
-slice-aggregate-result-2 : tie.Need-slice-aggregate-result-2
-slice-aggregate-result-2 c = search needs
 
 returns-2 : tie.Need-returns-2
 returns-2 c =
@@ -81,15 +69,5 @@ returns-3 c =
     ∙ sym (open-from n (a .args .word .now) (as-truth (opens-by n is (t .chosen))) (word-long n is (t .offers) (t .input-is)))
 
 pub open-spec : {M : Type 1} → statement M
-open-spec =
-    tie.close
-    (tie.spec
-    of-requires
-    refusal-requires
-    slice-aggregate-result
-    returns
-    fault-of-requires
-    slice-aggregate-result-2
-    returns-2
-    slice-aggregate-result-3
-    returns-3)
+open-spec = tie.close (tie.spec (λ c κs. search needs) (λ c κs. search needs) (λ c. search needs) returns fault-of-requires
+    (λ c. search needs) returns-2 slice-aggregate-result-3 returns-3)

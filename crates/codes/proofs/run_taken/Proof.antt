@@ -1,18 +1,12 @@
 -- `codes::run_taken`: the word is measured, and the run made on it. Assumes nothing.
 use mathlib.Core.Path.{sym}
 use Rattle.rules.specs.Codes.{code}
-use Rattle.ladder.proofs.Admitted.{shaped, unsent-is, fitting}
-use Rattle.endings.proofs.Ends.{begins, beginning}
+use Rattle.refusals.proofs.Admitted.{shaped, unsent-is, fitting}
+use Rattle.flipping.proofs.endings.Ends.{begins, beginning}
 use Rattle.codes.proofs.Correcting.{run-ends}
 use borrow.Author.Needs.{needs}
 use Rattle.codes.proofs.run_taken.Statement.{statement}
 use Rattle.codes.proofs.run_taken.Tie as tie
-
-measure-requires : tie.Need-measure-requires
-measure-requires c κs = search needs
-
-broken-requires : tie.Need-broken-requires
-broken-requires c κs = search needs
 
 lowest-requires : tie.Need-lowest-requires
 lowest-requires c κs =
@@ -44,11 +38,4 @@ returns c n off is =
     run-ends n _ _ _ _ _ e _ _ _ _ (ends .0) (b .broken .ensures) (ends .1) (l .lowest .ensures)
 
 pub run-taken-spec : {M : Type 1} → statement M
-run-taken-spec =
-    tie.close
-    (tie.spec
-    measure-requires
-    broken-requires
-    lowest-requires
-    run-requires
-    returns)
+run-taken-spec = tie.close (tie.spec (λ c κs. search needs) (λ c κs. search needs) lowest-requires run-requires returns)

@@ -1,6 +1,6 @@
 -- `codes::six_set`: the last octet and its multiple. Assumes nothing.
 use native.Mathlib.Omega.{arith}
-use Rattle.offer.proofs.Offers.{small}
+use Rattle.catalogue.proofs.offer.Offers.{small}
 use Rattle.codes.proofs.Encoding.{six-is}
 use Rattle.codes.proofs.six_set.Statement.{statement}
 use Rattle.codes.proofs.six_set.Tie as tie

@@ -1,19 +1,10 @@
 -- `codes::step`: refusals in the order of their numbers, then one step. Assumes nothing.
 use mathlib.Core.Path.{sym, _∙_}
 use Rattle.answers.proofs.Answers.{step-taken, step-refused}
-use Rattle.ladder.proofs.Admitted.{as-truth, steps-by, steps-offered, step-refusal, taken, word-long}
+use Rattle.refusals.proofs.Admitted.{as-truth, steps-by, steps-offered, step-refusal, taken, word-long}
 use borrow.Author.Needs.{needs}
 use Rattle.codes.proofs.step.Statement.{statement}
 use Rattle.codes.proofs.step.Tie as tie
-
-of-requires : tie.Need-of-requires
-of-requires c κs = search needs
-
-refusal-requires : tie.Need-refusal-requires
-refusal-requires c κs = search needs
-
-refused-step-requires : tie.Need-refused-step-requires
-refused-step-requires c κs = search needs
 
 returns : tie.Need-returns
 returns c =
@@ -33,9 +24,6 @@ step-taken-requires c κs =
     (i .if1 .left) in
     (t .known, t .input-is, t .output-is)
 
-same-length : tie.Need-same-length
-same-length c = search needs
-
 returns-2 : tie.Need-returns-2
 returns-2 c =
     let k = c .before .before in
@@ -50,13 +38,5 @@ returns-2 c =
     (word-long n is (t .offers) (t .input-is)) (word-long n is (t .offers) (t .output-is)))
 
 pub step-spec : {M : Type 1} → statement M
-step-spec =
-    tie.close
-    (tie.spec
-    of-requires
-    refusal-requires
-    refused-step-requires
-    returns
-    step-taken-requires
-    same-length
-    returns-2)
+step-spec = tie.close (tie.spec (λ c κs. search needs) (λ c κs. search needs) (λ c κs. search needs) returns step-taken-requires
+    (λ c. search needs) returns-2)

@@ -10,25 +10,10 @@ use Rattle.bits.specs.Bits.{flipped}
 use Rattle.rules.specs.Codes.{code}
 use Rattle.rules.specs.Encoding.{written}
 use Rattle.answers.specs.Calls.{nextStep}
-use Rattle.runs.specs.Passes.{comesNext, Within}
+use Rattle.flipping.specs.runs.Passes.{comesNext, Within}
 use borrow.Author.Needs.{needs}
 use Rattle.codes.proofs.step_out.Statement.{statement}
 use Rattle.codes.proofs.step_out.Tie as tie
-
-enum-told : tie.Need-enum-told
-enum-told c = search needs
-
-copy-requires : tie.Need-copy-requires
-copy-requires c κs = search needs
-
-enum-told-2 : tie.Need-enum-told-2
-enum-told-2 c = search needs
-
-refused-step-requires : tie.Need-refused-step-requires
-refused-step-requires c κs = search needs
-
-enum-known-next : tie.Need-enum-known-next
-enum-known-next c = search needs
 
 write-flipped-requires : tie.Need-write-flipped-requires
 write-flipped-requires c κs =
@@ -42,9 +27,6 @@ cast-place c =
     let f : tie.After-next = search in
     let l = subst (Within 8176) (f .next .given .1) (s .pre .3) in
     search needs
-
-same-length : tie.Need-same-length
-same-length c = search needs
 
 returns : tie.Need-returns
 unfolding nextStep
@@ -63,9 +45,6 @@ returns-2 c n off is e =
     c .refused-step .ensures (s .args .out .now)
     ∙ ap (nextStep (code n) (s .args .word .now) _ (s .args .out .now)) (sym (ap comesNext (told .enum-told2 .given .1)))
 
-same-length-2 : tie.Need-same-length-2
-same-length-2 c = search needs
-
 returns-3 : tie.Need-returns-3
 unfolding nextStep
 returns-3 c n off is e =
@@ -82,18 +61,5 @@ returns-3 c n off is e =
     ∙ ap (nextStep (code n) (s .args .word .now) _ (s .args .out .now)) (sym (ap comesNext (f .next .given .1)))
 
 pub step-out-spec : {M : Type 1} → statement M
-step-out-spec =
-    tie.close
-    (tie.spec
-    enum-told
-    copy-requires
-    enum-told-2
-    refused-step-requires
-    enum-known-next
-    write-flipped-requires
-    cast-place
-    same-length
-    returns
-    returns-2
-    same-length-2
-    returns-3)
+step-out-spec = tie.close (tie.spec (λ c. search needs) (λ c κs. search needs) (λ c. search needs) (λ c κs. search needs)
+    (λ c. search needs) write-flipped-requires cast-place (λ c. search needs) returns returns-2 (λ c. search needs) returns-3)

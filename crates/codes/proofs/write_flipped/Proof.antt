@@ -3,8 +3,8 @@ use mathlib.Core.Path.{ap, _∙_}
 use native.Mathlib.Omega.{arith}
 use Rattle.rules.specs.Codes.{code}
 use Rattle.rules.specs.Encoding.{written}
-use Rattle.offer.proofs.Offers.{small}
-use Rattle.ladder.proofs.Admitted.{word-long, unsent-is, bits-are}
+use Rattle.catalogue.proofs.offer.Offers.{small}
+use Rattle.refusals.proofs.Admitted.{word-long, unsent-is, bits-are}
 use borrow.Author.Needs.{needs}
 use Rattle.codes.proofs.write_flipped.Statement.{statement}
 use Rattle.codes.proofs.write_flipped.Tie as tie

@@ -1,8 +1,8 @@
 -- `codes::write_taken` meets its contract. Assumes nothing.
 use native.Mathlib.Omega.{arith}
 use Rattle.rules.specs.Codes.{code}
-use Rattle.offer.proofs.Offers.{small}
-use Rattle.ladder.proofs.Admitted.{word-long, unsent-is, bits-are}
+use Rattle.catalogue.proofs.offer.Offers.{small}
+use Rattle.refusals.proofs.Admitted.{word-long, unsent-is, bits-are}
 use Rattle.codes.proofs.Correcting.{wrote-word, wrote-none}
 use borrow.Author.Needs.{needs}
 use Rattle.codes.proofs.write_taken.Statement.{statement}

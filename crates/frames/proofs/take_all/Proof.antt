@@ -12,21 +12,6 @@ Inv-loop part now₀ at₀ now at = at ≤ length part
 abbrev μ-loop : tie.MeasureT-loop
 μ-loop part now₀ at₀ now at = length part - at
 
-loop-holds : tie.Need-loop-holds Inv-loop μ-loop
-loop-holds c = search needs
-
-returns : tie.Need-returns Inv-loop μ-loop
-returns c = search needs
-
-sub-take : tie.Need-sub-take Inv-loop μ-loop
-sub-take c = search needs
-
-part-take-start : tie.Need-part-take-start Inv-loop μ-loop
-part-take-start c = search needs
-
-part-take-end : tie.Need-part-take-end Inv-loop μ-loop
-part-take-end c = search needs
-
 take-requires : tie.Need-take-requires Inv-loop μ-loop
 take-requires c κs =
     let h = c .before .before .before .before .loop in
@@ -72,22 +57,6 @@ loop-again c =
       length-drop (h .at) part,
     )
 
-returns-2 : tie.Need-returns-2 Inv-loop μ-loop
-returns-2 c = search needs
-
 pub take-all-spec : {M : Type 1} → statement M
-take-all-spec =
-    tie.close
-    (tie.spec
-    Inv-loop
-    μ-loop
-    loop-holds
-    returns
-    sub-take
-    part-take-start
-    part-take-end
-    take-requires
-    add-at
-    loop-less
-    loop-again
-    returns-2)
+take-all-spec = tie.close (tie.spec Inv-loop μ-loop (λ c. search needs) (λ c. search needs) (λ c. search needs) (λ c. search needs)
+    (λ c. search needs) take-requires add-at loop-less loop-again (λ c. search needs))

@@ -57,27 +57,27 @@ use denote.Triple.Walked.{says, Stays, stay-slice, stay-dropped, walkOf, Walks, 
 use borrow.Author.Needs.{scaled-fits}
 use borrow.Rule.Array.Init.{part-room}
 use Rattle.vectors.proofs.Filling.{zero-words}
-use Rattle.listing.specs.Answers.{asEntry, asEntries, listedAs}
-use Rattle.listing.specs.Listings.{listOf, soFar, Blank, Lists, Goes}
-use Rattle.listing.specs.declared.FlipRecord.{FlipRecord}
-use Rattle.listing.specs.declared.Listed.{Listed}
-use Rattle.listing.specs.declared.Listing.{Listing}
+use Rattle.lists.specs.listing.Answers.{asEntry, asEntries, listedAs}
+use Rattle.lists.specs.listing.Listings.{listOf, soFar, Blank, Lists, Goes}
+use Rattle.lists.specs.declared.listing.FlipRecord.{FlipRecord}
+use Rattle.lists.specs.declared.listing.Listed.{Listed}
+use Rattle.lists.specs.declared.listing.Listing.{Listing}
 use Rattle.lists.proofs.Lending.{Behind, Last, fills}
-use Rattle.listing.proofs.Writing.{in-table, put-next}
-use Rattle.listing.proofs.FlipRecord as T
-use Rattle.listing.proofs.FlipRecord.Laws as T′
-use Rattle.listing.proofs.Listed as S
-use Rattle.listing.proofs.Listed.Laws as S′
-use Rattle.listing.proofs.Listing as L
-use Rattle.listing.proofs.Listing.Laws as L′
-use Rattle.listing.proofs.begin as begin
-use Rattle.listing.proofs.begin.Symbol as begin-def
-use Rattle.listing.proofs.begin.Symbol.{name as #listing·begin}
-use Rattle.listing.proofs.begin.Met as begin-thm
-use Rattle.listing.proofs.next as next′
-use Rattle.listing.proofs.next.Symbol as next-def
-use Rattle.listing.proofs.next.Symbol.{name as #listing·next}
-use Rattle.listing.proofs.next.Met as next-thm
+use Rattle.lists.proofs.listing.Writing.{in-table, put-next}
+use Rattle.lists.proofs.listing.FlipRecord as T
+use Rattle.lists.proofs.listing.FlipRecord.Laws as T′
+use Rattle.lists.proofs.listing.Listed as S
+use Rattle.lists.proofs.listing.Listed.Laws as S′
+use Rattle.lists.proofs.listing.Listing as L
+use Rattle.lists.proofs.listing.Listing.Laws as L′
+use Rattle.lists.proofs.listing.begin as begin
+use Rattle.lists.proofs.listing.begin.Symbol as begin-def
+use Rattle.lists.proofs.listing.begin.Symbol.{name as #listing·begin}
+use Rattle.lists.proofs.listing.begin.Met as begin-thm
+use Rattle.lists.proofs.listing.next as next′
+use Rattle.lists.proofs.listing.next.Symbol as next-def
+use Rattle.lists.proofs.listing.next.Symbol.{name as #listing·next}
+use Rattle.lists.proofs.listing.next.Met as next-thm
 use Rattle.lists.proofs.list.Key.{name as #lists·list}
 use Rattle.lists.proofs.list as list′
 use Rattle.lists.proofs.list.Statement as stated
@@ -789,7 +789,7 @@ list-spec 𝓤 H 𝓜 𝓖 𝓡 =
     entered 𝓤 H (tripleOf 𝓤 H (𝓖 .A) list′.signature (list′.spec 𝓤 H (𝓖 .A) (𝓜 .mem) (𝓡 .run)))
     (tables 𝓤 H 𝓜 𝓡 code.env .C) (tables 𝓤 H 𝓜 𝓡 code.env .Λ) #lists·list code.function (code.unfolded 𝓤 H 𝓜 𝓡)
     (list-meets 𝓤 H (𝓖 .A) (givenOf 𝓤 H 𝓜 𝓖) (𝓜 .mem) (𝓡 .run) (tablesOf 𝓤 H 𝓜 (tables 𝓤 H 𝓜 𝓡 code.env))
-    (cited 𝓤 H (Begin 𝓤 H (𝓖 .A) (𝓜 .mem) (𝓡 .run)) 𝓜 𝓡 code.env #listing·begin begin-def.routine code.calls-listing·begin
+    (cited 𝓤 H (Begin 𝓤 H (𝓖 .A) (𝓜 .mem) (𝓡 .run)) 𝓜 𝓡 code.env #listing·begin begin-def.routine code.calls-lists·listing·begin
     (begin-thm.met 𝓤 H 𝓜 𝓖 𝓡))
-    (cited 𝓤 H (Next 𝓤 H (𝓖 .A) (𝓜 .mem) (𝓡 .run)) 𝓜 𝓡 code.env #listing·next next-def.routine code.calls-listing·next
+    (cited 𝓤 H (Next 𝓤 H (𝓖 .A) (𝓜 .mem) (𝓡 .run)) 𝓜 𝓡 code.env #listing·next next-def.routine code.calls-lists·listing·next
     (next-thm.met 𝓤 H 𝓜 𝓖 𝓡)))

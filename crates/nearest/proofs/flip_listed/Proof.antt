@@ -22,29 +22,11 @@ abbrev μ-loop : tie.MeasureT-loop
 loop-holds : tie.Need-loop-holds Inv-loop μ-loop
 loop-holds c = (omega arith, c .before .before .pre .0, λ bits e. refl)
 
-cast-if1 : tie.Need-cast-if1 Inv-loop μ-loop
-cast-if1 c = search needs
-
-mul-flip-bit : tie.Need-mul-flip-bit Inv-loop μ-loop
-mul-flip-bit c = search needs
-
-array-read-flip-bit : tie.Need-array-read-flip-bit Inv-loop μ-loop
-array-read-flip-bit c = search needs
-
-cast-flip-bit : tie.Need-cast-flip-bit Inv-loop μ-loop
-cast-flip-bit c = search needs
-
 flip-bit-requires : tie.Need-flip-bit-requires Inv-loop μ-loop
 flip-bit-requires c κs =
     let a = c .before .before .before .before .before .before in
     let l = c .before .before .before .loop in
     omega (arith, a .pre .2 (l .k), l .inv .1)
-
-add-k : tie.Need-add-k Inv-loop μ-loop
-add-k c = search needs
-
-loop-less : tie.Need-loop-less Inv-loop μ-loop
-loop-less c = search needs
 
 loop-again : tie.Need-loop-again Inv-loop μ-loop
 loop-again c =
@@ -57,9 +39,6 @@ loop-again c =
           ∙ flip-more (a .args .l) bits e (a .pre .1) (l .k) (wbit (l .y)) _ (omega arith) (c .before .before .flip-bit .ensures),
     )
 
-same-length : tie.Need-same-length Inv-loop μ-loop
-same-length c = search needs
-
 returns : tie.Need-returns Inv-loop μ-loop
 returns c =
     let l = c .before .before .loop in
@@ -67,19 +46,5 @@ returns c =
     λ bits e. flip-all (a .args .l) bits e (a .pre .1) (l .k) (wbit (l .y)) (omega arith) ∙ sym (l .inv .2 bits e)
 
 pub flip-listed-spec : {M : Type 1} → statement M
-flip-listed-spec =
-    tie.close
-    (tie.spec
-    Inv-loop
-    μ-loop
-    loop-holds
-    cast-if1
-    mul-flip-bit
-    array-read-flip-bit
-    cast-flip-bit
-    flip-bit-requires
-    add-k
-    loop-less
-    loop-again
-    same-length
-    returns)
+flip-listed-spec = tie.close (tie.spec Inv-loop μ-loop loop-holds (λ c. search needs) (λ c. search needs) (λ c. search needs)
+    (λ c. search needs) flip-bit-requires (λ c. search needs) (λ c. search needs) loop-again (λ c. search needs) returns)

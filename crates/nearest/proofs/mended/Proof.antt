@@ -9,12 +9,6 @@ use borrow.Author.Needs.{needs}
 use Rattle.nearest.proofs.mended.Statement.{statement}
 use Rattle.nearest.proofs.mended.Tie as tie
 
-list-for-requires : tie.Need-list-for-requires
-list-for-requires c κs = search needs
-
-refused-by-requires : tie.Need-refused-by-requires
-refused-by-requires c κs = search needs
-
 returns : tie.Need-returns
 returns c =
     let l = c .before .before .before .list-for in
@@ -30,9 +24,6 @@ hand-out-requires c κs =
     let m = held-small (s .args .reach) (wbit (s .args .y .now)) (l .result) (s .pre .1) (l .ensures) in
     (search needs, m .0, m .1)
 
-same-length : tie.Need-same-length
-same-length c = search needs
-
 returns-2 : tie.Need-returns-2
 returns-2 c =
     let s : tie.Start = search in
@@ -43,12 +34,4 @@ returns-2 c =
     (not-false (l .result .found) (e .if1 .left)) (c .before .before .before .hand-out .ensures)
 
 pub mended-spec : {M : Type 1} → statement M
-mended-spec =
-    tie.close
-    (tie.spec
-    list-for-requires
-    refused-by-requires
-    returns
-    hand-out-requires
-    same-length
-    returns-2)
+mended-spec = tie.close (tie.spec (λ c κs. search needs) (λ c κs. search needs) returns hand-out-requires (λ c. search needs) returns-2)

@@ -17,9 +17,6 @@ abbrev μ-loop : tie.MeasureT-loop
 loop-holds : tie.Need-loop-holds Inv-loop μ-loop
 loop-holds c = (c .pre .1, refl)
 
-mul-if1 : tie.Need-mul-if1 Inv-loop μ-loop
-mul-if1 c = search needs
-
 shared-slice-read-if1 : tie.Need-shared-slice-read-if1 Inv-loop μ-loop
 shared-slice-read-if1 c = lent-long _ _ (c .before .before .before .pre .0) (omega arith)
 
@@ -28,12 +25,6 @@ returns c =
     let l = c .before .before .before .loop in
     let a = c .before .before .before .before in
     (omega arith, sym (l .inv .1 ∙ lowest-here (a .args .columns .now) (l .n) (a .args .z) (a .pre .0) (omega arith) (c .if1 .taken)))
-
-add-n : tie.Need-add-n Inv-loop μ-loop
-add-n c = search needs
-
-loop-less : tie.Need-loop-less Inv-loop μ-loop
-loop-less c = search needs
 
 loop-again : tie.Need-loop-again Inv-loop μ-loop
 loop-again c =
@@ -48,16 +39,5 @@ returns-2 c =
     (omega arith, lowest-end (l .n) (a .args .z) (omega arith) ∙ sym (l .inv .1))
 
 pub only-spec : {M : Type 1} → statement M
-only-spec =
-    tie.close
-    (tie.spec
-    Inv-loop
-    μ-loop
-    loop-holds
-    mul-if1
-    shared-slice-read-if1
-    returns
-    add-n
-    loop-less
-    loop-again
-    returns-2)
+only-spec = tie.close (tie.spec Inv-loop μ-loop loop-holds (λ c. search needs) shared-slice-read-if1 returns (λ c. search needs)
+    (λ c. search needs) loop-again returns-2)

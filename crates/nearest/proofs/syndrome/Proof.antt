@@ -19,20 +19,8 @@ abbrev μ-loop : tie.MeasureT-loop
 loop-holds : tie.Need-loop-holds Inv-loop μ-loop
 loop-holds c = (omega arith, partly-none (wbit (c .before .before .args .y .now)))
 
-is-set-requires : tie.Need-is-set-requires Inv-loop μ-loop
-is-set-requires c κs = search needs
-
-mul-z : tie.Need-mul-z Inv-loop μ-loop
-mul-z c = search needs
-
 shared-slice-read-z : tie.Need-shared-slice-read-z Inv-loop μ-loop
 shared-slice-read-z c = lent-long _ _ (c .before .before .before .before .before .before .before .pre .0) (omega arith)
-
-add-n : tie.Need-add-n Inv-loop μ-loop
-add-n c = search needs
-
-loop-less : tie.Need-loop-less Inv-loop μ-loop
-loop-less c = search needs
 
 loop-again : tie.Need-loop-again Inv-loop μ-loop
 loop-again c =
@@ -56,16 +44,5 @@ returns c =
     partly-all (wbit (a .args .y .now)) (l .n) (l .z) (omega arith) (l .inv .1)
 
 pub syndrome-spec : {M : Type 1} → statement M
-syndrome-spec =
-    tie.close
-    (tie.spec
-    Inv-loop
-    μ-loop
-    loop-holds
-    is-set-requires
-    mul-z
-    shared-slice-read-z
-    add-n
-    loop-less
-    loop-again
-    returns)
+syndrome-spec = tie.close (tie.spec Inv-loop μ-loop loop-holds (λ c κs. search needs) (λ c. search needs) shared-slice-read-z
+    (λ c. search needs) (λ c. search needs) loop-again returns)

@@ -5,25 +5,10 @@ use Prim.Native.Nat.{ℕ, _/_}
 use native.Mathlib.Nat.{mod-lt}
 use native.Mathlib.Omega.{arith}
 use lib.ListN.{set}
-use Rattle.ties.specs.Flat.{flatTied}
+use Rattle.identity.specs.ties.Flat.{flatTied}
 use borrow.Author.Needs.{needs}
 use Rattle.onedigit.proofs.digit_noticed.Statement.{statement}
 use Rattle.onedigit.proofs.digit_noticed.Tie as tie
-
-div-at : tie.Need-div-at
-div-at c = search needs
-
-mul-other-word : tie.Need-mul-other-word
-mul-other-word c = search needs
-
-slice-read-other-word : tie.Need-slice-read-other-word
-slice-read-other-word c = search needs
-
-add-other-word : tie.Need-add-other-word
-add-other-word c = search needs
-
-rem-other-word : tie.Need-rem-other-word
-rem-other-word c = search needs
 
 cast-other-word : tie.Need-cast-other-word
 cast-other-word c = omega (arith, mod-lt (c .before .before .before .args .t / 15) (c .before .before .before .pre .1))
@@ -31,12 +16,6 @@ cast-other-word c = omega (arith, mod-lt (c .before .before .before .args .t / 1
 other-word-requires : tie.Need-other-word-requires
 other-word-requires c κs =
     (omega arith, omega (arith, mod-lt (c .before .before .before .args .t / 15) (c .before .before .before .pre .1)))
-
-word-noticed-requires : tie.Need-word-noticed-requires
-word-noticed-requires c κs = search needs
-
-same-length : tie.Need-same-length
-same-length c = search needs
 
 returns : tie.Need-returns
 returns c =
@@ -50,16 +29,5 @@ returns c =
     )
 
 pub digit-noticed-spec : {M : Type 1} → statement M
-digit-noticed-spec =
-    tie.close
-    (tie.spec
-    div-at
-    mul-other-word
-    slice-read-other-word
-    add-other-word
-    rem-other-word
-    cast-other-word
-    other-word-requires
-    word-noticed-requires
-    same-length
-    returns)
+digit-noticed-spec = tie.close (tie.spec (λ c. search needs) (λ c. search needs) (λ c. search needs) (λ c. search needs) (λ c. search needs)
+    cast-other-word other-word-requires (λ c κs. search needs) (λ c. search needs) returns)

@@ -5,7 +5,7 @@ use Prim.Native.Nat.{ℕ, _-_, _*_, _/_, _≤_, _<_}
 use native.Mathlib.Omega.{arith}
 use lib.ListN.{length}
 use Rattle.bits.specs.Bits as bits
-use Rattle.ties.specs.Flat.{Sizes}
+use Rattle.identity.specs.ties.Flat.{Sizes}
 use Rattle.onedigit.specs.Wrong.{digitNoticed}
 use Rattle.bits.proofs.Counting.{tally-le, count-start}
 use Rattle.onedigit.proofs.Counts.{count-more, within, product-fits}
@@ -66,17 +66,8 @@ digit-noticed-requires c κs =
           (within (l .t) (length (a .generator .now) * a .digits) 15 some h)),
     )
 
-one-if-requires : tie.Need-one-if-requires Inv-loop μ-loop
-one-if-requires c κs = tt
-
 add-noticed : tie.Need-add-noticed Inv-loop μ-loop
 add-noticed c = omega (arith, tally-le (c .before .before .before .digit-noticed .result))
-
-add-t : tie.Need-add-t Inv-loop μ-loop
-add-t c = omega arith
-
-loop-less : tie.Need-loop-less Inv-loop μ-loop
-loop-less c = omega arith
 
 loop-again : tie.Need-loop-again Inv-loop μ-loop
 loop-again c =
@@ -112,19 +103,5 @@ returns c =
     )
 
 pub digits-noticed-spec : {M : Type 1} → statement M
-digits-noticed-spec =
-    tie.close
-    (tie.spec
-    Inv-loop
-    μ-loop
-    mul-n
-    mul-n-2
-    loop-holds
-    digit-noticed-requires
-    one-if-requires
-    add-noticed
-    add-t
-    loop-less
-    loop-again
-    same-length
-    returns)
+digits-noticed-spec = tie.close (tie.spec Inv-loop μ-loop mul-n mul-n-2 loop-holds digit-noticed-requires (λ c κs. tt) add-noticed
+    (λ c. omega arith) (λ c. omega arith) loop-again same-length returns)

@@ -6,7 +6,7 @@ use native.Mathlib.Nat.{mod-lt}
 use native.Mathlib.Omega.{arith}
 use lib.ListN.{length}
 use Rattle.bits.specs.Bits as bits
-use Rattle.ties.specs.Flat.{Sizes}
+use Rattle.identity.specs.ties.Flat.{Sizes}
 use Rattle.onedigit.specs.Wrong.{placeNoticed, entryNoticed}
 use Rattle.bits.proofs.Counting.{tally-le, count-start}
 use Rattle.onedigit.proofs.Counts.{count-more, within, product-fits}
@@ -23,9 +23,6 @@ Inv-loop m rows count parts parity₀ generator n noticed₀ t₀ parity noticed
 
 abbrev μ-loop : tie.MeasureT-loop
 μ-loop m rows count parts parity₀ generator n noticed₀ t₀ parity noticed t = n - t
-
-add-n : tie.Need-add-n Inv-loop μ-loop
-add-n c = omega arith
 
 mul-n : tie.Need-mul-n Inv-loop μ-loop
 mul-n c =
@@ -46,18 +43,6 @@ loop-holds c =
       λ printed fits. count-start (entryNoticed (a .m) printed (a .rows) (a .count) (a .parts) (a .parity .now) (a .generator .now)),
     )
 
-add-entry-noticed : tie.Need-add-entry-noticed Inv-loop μ-loop
-add-entry-noticed c = omega arith
-
-div-entry-noticed : tie.Need-div-entry-noticed Inv-loop μ-loop
-div-entry-noticed c = omega arith
-
-add-entry-noticed-2 : tie.Need-add-entry-noticed-2 Inv-loop μ-loop
-add-entry-noticed-2 c = omega arith
-
-rem-entry-noticed : tie.Need-rem-entry-noticed Inv-loop μ-loop
-rem-entry-noticed c = omega arith
-
 entry-noticed-requires : tie.Need-entry-noticed-requires Inv-loop μ-loop
 entry-noticed-requires c κs =
     let s = c .before .before .before .before .before in
@@ -71,17 +56,8 @@ entry-noticed-requires c κs =
       omega (arith, mod-lt (l .t) pos),
     )
 
-one-if-requires : tie.Need-one-if-requires Inv-loop μ-loop
-one-if-requires c κs = tt
-
 add-noticed : tie.Need-add-noticed Inv-loop μ-loop
 add-noticed c = omega (arith, tally-le (c .before .before .before .entry-noticed .result))
-
-add-t : tie.Need-add-t Inv-loop μ-loop
-add-t c = omega arith
-
-loop-less : tie.Need-loop-less Inv-loop μ-loop
-loop-less c = omega arith
 
 loop-again : tie.Need-loop-again Inv-loop μ-loop
 loop-again c =
@@ -117,23 +93,6 @@ returns c =
     )
 
 pub entries-noticed-spec : {M : Type 1} → statement M
-entries-noticed-spec =
-    tie.close
-    (tie.spec
-    Inv-loop
-    μ-loop
-    add-n
-    mul-n
-    loop-holds
-    add-entry-noticed
-    div-entry-noticed
-    add-entry-noticed-2
-    rem-entry-noticed
-    entry-noticed-requires
-    one-if-requires
-    add-noticed
-    add-t
-    loop-less
-    loop-again
-    same-length
-    returns)
+entries-noticed-spec = tie.close (tie.spec Inv-loop μ-loop (λ c. omega arith) mul-n loop-holds (λ c. omega arith) (λ c. omega arith)
+    (λ c. omega arith) (λ c. omega arith) entry-noticed-requires (λ c κs. tt) add-noticed (λ c. omega arith) (λ c. omega arith) loop-again
+    same-length returns)

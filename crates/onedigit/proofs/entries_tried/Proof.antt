@@ -17,9 +17,6 @@ Inv-loop m parity n tried₀ t₀ tried t =
 abbrev μ-loop : tie.MeasureT-loop
 μ-loop m parity n tried₀ t₀ tried t = n - t
 
-add-n : tie.Need-add-n Inv-loop μ-loop
-add-n c = omega arith
-
 mul-n : tie.Need-mul-n Inv-loop μ-loop
 mul-n c =
     let a = c .before .args in
@@ -34,18 +31,6 @@ loop-holds c =
     let l : a .m + 1 ≤ 65536 = omega arith in
     (omega arith, product-fits h l, omega arith, count-start (entryWrong (a .m) (a .parity .now)))
 
-add-wrong-entry : tie.Need-add-wrong-entry Inv-loop μ-loop
-add-wrong-entry c = omega arith
-
-div-wrong-entry : tie.Need-div-wrong-entry Inv-loop μ-loop
-div-wrong-entry c = omega arith
-
-add-wrong-entry-2 : tie.Need-add-wrong-entry-2 Inv-loop μ-loop
-add-wrong-entry-2 c = omega arith
-
-rem-wrong-entry : tie.Need-rem-wrong-entry Inv-loop μ-loop
-rem-wrong-entry c = omega arith
-
 wrong-entry-requires : tie.Need-wrong-entry-requires Inv-loop μ-loop
 wrong-entry-requires c κs =
     let a = c .before .before .before .args in
@@ -54,17 +39,8 @@ wrong-entry-requires c κs =
     let h : l .t < length (a .parity .now) * (a .m + 1) = omega arith in
     (within (l .t) (length (a .parity .now)) (a .m + 1) pos h, omega arith)
 
-one-if-requires : tie.Need-one-if-requires Inv-loop μ-loop
-one-if-requires c κs = tt
-
 add-tried : tie.Need-add-tried Inv-loop μ-loop
 add-tried c = omega (arith, tally-le (c .before .wrong-entry .result))
-
-add-t : tie.Need-add-t Inv-loop μ-loop
-add-t c = omega arith
-
-loop-less : tie.Need-loop-less Inv-loop μ-loop
-loop-less c = omega arith
 
 loop-again : tie.Need-loop-again Inv-loop μ-loop
 loop-again c =
@@ -86,22 +62,6 @@ returns c =
     l .inv .3 ∙ ap (λ (x : ℕ). count x (entryWrong (a .m) (a .parity .now))) e
 
 pub entries-tried-spec : {M : Type 1} → statement M
-entries-tried-spec =
-    tie.close
-    (tie.spec
-    Inv-loop
-    μ-loop
-    add-n
-    mul-n
-    loop-holds
-    add-wrong-entry
-    div-wrong-entry
-    add-wrong-entry-2
-    rem-wrong-entry
-    wrong-entry-requires
-    one-if-requires
-    add-tried
-    add-t
-    loop-less
-    loop-again
+entries-tried-spec = tie.close (tie.spec Inv-loop μ-loop (λ c. omega arith) mul-n loop-holds (λ c. omega arith) (λ c. omega arith)
+    (λ c. omega arith) (λ c. omega arith) wrong-entry-requires (λ c κs. tt) add-tried (λ c. omega arith) (λ c. omega arith) loop-again
     returns)

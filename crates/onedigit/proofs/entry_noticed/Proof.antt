@@ -3,16 +3,10 @@ use mathlib.Core.Path.{refl, sym, ap, _∙_}
 use mathlib.Core.Bool.{Bool, not, _&&_}
 use lib.ListN.{set}
 use borrow.Author.Tests.{not-true, not-false}
-use Rattle.ties.specs.Flat.{flatTied}
+use Rattle.identity.specs.ties.Flat.{flatTied}
 use borrow.Author.Needs.{needs}
 use Rattle.onedigit.proofs.entry_noticed.Statement.{statement}
 use Rattle.onedigit.proofs.entry_noticed.Tie as tie
-
-wrong-entry-requires : tie.Need-wrong-entry-requires
-wrong-entry-requires c κs = search needs
-
-same-length : tie.Need-same-length
-same-length c = search needs
 
 returns : tie.Need-returns
 returns c =
@@ -23,15 +17,6 @@ returns c =
           (sym (not-true (c .before .wrong-entry .result) (c .if1 .taken)) ∙ c .before .wrong-entry .ensures),
       refl,
     )
-
-cast-place-noticed : tie.Need-cast-place-noticed
-cast-place-noticed c = search needs
-
-place-noticed-requires : tie.Need-place-noticed-requires
-place-noticed-requires c κs = search needs
-
-same-length-2 : tie.Need-same-length-2
-same-length-2 c = search needs
 
 returns-2 : tie.Need-returns-2
 returns-2 c =
@@ -47,13 +32,5 @@ returns-2 c =
     )
 
 pub entry-noticed-spec : {M : Type 1} → statement M
-entry-noticed-spec =
-    tie.close
-    (tie.spec
-    wrong-entry-requires
-    same-length
-    returns
-    cast-place-noticed
-    place-noticed-requires
-    same-length-2
-    returns-2)
+entry-noticed-spec = tie.close (tie.spec (λ c κs. search needs) (λ c. search needs) returns (λ c. search needs) (λ c κs. search needs)
+    (λ c. search needs) returns-2)

@@ -8,21 +8,6 @@ use Rattle.onedigit.proofs.Standing.{stand-for}
 use Rattle.onedigit.proofs.tied_16.Statement.{statement}
 use Rattle.onedigit.proofs.tied_16.Tie as tie
 
-parity-16-requires : tie.Need-parity-16-requires
-parity-16-requires c κs = search needs
-
-slice-aggregate-tied : tie.Need-slice-aggregate-tied
-slice-aggregate-tied c = search needs
-
-generator-16-requires : tie.Need-generator-16-requires
-generator-16-requires c κs = search needs
-
-slice-aggregate-tied-2 : tie.Need-slice-aggregate-tied-2
-slice-aggregate-tied-2 c = search needs
-
-tied-requires : tie.Need-tied-requires
-tied-requires c κs = search needs
-
 returns : tie.Need-returns
 unfolding tied code code1
 returns c =
@@ -32,12 +17,5 @@ returns c =
     ∙ stand-for 16 16 4 4 4 (parity .result) (generator .result) (parity .ensures) (generator .ensures)
 
 pub tied-16-spec : {M : Type 1} → statement M
-tied-16-spec =
-    tie.close
-    (tie.spec
-    parity-16-requires
-    slice-aggregate-tied
-    generator-16-requires
-    slice-aggregate-tied-2
-    tied-requires
-    returns)
+tied-16-spec = tie.close (tie.spec (λ c κs. search needs) (λ c. search needs) (λ c κs. search needs) (λ c. search needs)
+    (λ c κs. search needs) returns)

@@ -8,21 +8,6 @@ use Rattle.onedigit.proofs.Standing.{stand-for}
 use Rattle.onedigit.proofs.tied_511.Statement.{statement}
 use Rattle.onedigit.proofs.tied_511.Tie as tie
 
-parity-511-requires : tie.Need-parity-511-requires
-parity-511-requires c κs = search needs
-
-slice-aggregate-tied : tie.Need-slice-aggregate-tied
-slice-aggregate-tied c = search needs
-
-generator-511-requires : tie.Need-generator-511-requires
-generator-511-requires c κs = search needs
-
-slice-aggregate-tied-2 : tie.Need-slice-aggregate-tied-2
-slice-aggregate-tied-2 c = search needs
-
-tied-requires : tie.Need-tied-requires
-tied-requires c κs = search needs
-
 returns : tie.Need-returns
 unfolding tied code code4 code5
 returns c =
@@ -33,12 +18,5 @@ returns c =
     (e, e)
 
 pub tied-511-spec : {M : Type 1} → statement M
-tied-511-spec =
-    tie.close
-    (tie.spec
-    parity-511-requires
-    slice-aggregate-tied
-    generator-511-requires
-    slice-aggregate-tied-2
-    tied-requires
-    returns)
+tied-511-spec = tie.close (tie.spec (λ c κs. search needs) (λ c. search needs) (λ c κs. search needs) (λ c. search needs)
+    (λ c κs. search needs) returns)

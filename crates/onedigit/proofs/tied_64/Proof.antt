@@ -8,21 +8,6 @@ use Rattle.onedigit.proofs.Standing.{stand-for}
 use Rattle.onedigit.proofs.tied_64.Statement.{statement}
 use Rattle.onedigit.proofs.tied_64.Tie as tie
 
-parity-64-requires : tie.Need-parity-64-requires
-parity-64-requires c κs = search needs
-
-slice-aggregate-tied : tie.Need-slice-aggregate-tied
-slice-aggregate-tied c = search needs
-
-generator-64-requires : tie.Need-generator-64-requires
-generator-64-requires c κs = search needs
-
-slice-aggregate-tied-2 : tie.Need-slice-aggregate-tied-2
-slice-aggregate-tied-2 c = search needs
-
-tied-requires : tie.Need-tied-requires
-tied-requires c κs = search needs
-
 returns : tie.Need-returns
 unfolding tied code code3
 returns c =
@@ -32,12 +17,5 @@ returns c =
     ∙ stand-for 64 64 4 4 4 (parity .result) (generator .result) (parity .ensures) (generator .ensures)
 
 pub tied-64-spec : {M : Type 1} → statement M
-tied-64-spec =
-    tie.close
-    (tie.spec
-    parity-64-requires
-    slice-aggregate-tied
-    generator-64-requires
-    slice-aggregate-tied-2
-    tied-requires
-    returns)
+tied-64-spec = tie.close (tie.spec (λ c κs. search needs) (λ c. search needs) (λ c κs. search needs) (λ c. search needs)
+    (λ c κs. search needs) returns)

@@ -11,15 +11,6 @@ use Rattle.onedigit.specs.Wrong.{added}
 use Rattle.onedigit.proofs.wrong_entry.Statement.{statement}
 use Rattle.onedigit.proofs.wrong_entry.Tie as tie
 
-mul-wide : tie.Need-mul-wide
-mul-wide c = search needs
-
-shared-slice-read-wide : tie.Need-shared-slice-read-wide
-shared-slice-read-wide c = search needs
-
-wide-requires : tie.Need-wide-requires
-wide-requires c κs = search needs
-
 returns : tie.Need-returns
 returns c =
     let a = c .before .before .before .before .args in
@@ -28,12 +19,6 @@ returns c =
     ap (λ (y : ℕ). not (eqb y (a .s))) held
     ∙ sym (ap (λ (b : Bool). if b then not (eqb p (a .s)) else added (a .m) (a .parity .now) (a .place) (a .s))
     (lt-ltb p (a .m) (subst (λ (y : ℕ). y < a .m) held (c .if1 .taken))))
-
-mul-in-block : tie.Need-mul-in-block
-mul-in-block c = search needs
-
-in-block-requires : tie.Need-in-block-requires
-in-block-requires c κs = search needs
 
 returns-2 : tie.Need-returns-2
 returns-2 c =
@@ -45,13 +30,5 @@ returns-2 c =
     (le-ltb p (a .m) (subst (λ (y : ℕ). a .m ≤ y) held (c .before .if1 .left))))
 
 pub wrong-entry-spec : {M : Type 1} → statement M
-wrong-entry-spec =
-    tie.close
-    (tie.spec
-    mul-wide
-    shared-slice-read-wide
-    wide-requires
-    returns
-    mul-in-block
-    in-block-requires
-    returns-2)
+wrong-entry-spec = tie.close (tie.spec (λ c. search needs) (λ c. search needs) (λ c κs. search needs) returns (λ c. search needs)
+    (λ c κs. search needs) returns-2)

@@ -15,10 +15,4 @@ returns-2 : tie.Need-returns-2
 returns-2 c = c .lowest2 .ensures
 
 pub lowest-broken-spec : {M : Type 1} → statement M
-lowest-broken-spec =
-    tie.close
-    (tie.spec
-    lowest-requires
-    returns
-    lowest-requires-2
-    returns-2)
+lowest-broken-spec = tie.close (tie.spec lowest-requires returns lowest-requires-2 returns-2)

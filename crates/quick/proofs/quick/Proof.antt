@@ -7,22 +7,13 @@ use Rattle.bits.specs.Bits.{bit}
 use Rattle.rules.specs.Codes.{code}
 use Rattle.rules.specs.Encoding.{lifted}
 use Rattle.rules.proofs.Lowest.{lowest-le}
-use Rattle.offer.proofs.Offers.{is-offered}
-use Rattle.ladder.proofs.Admitted.{offered-by, check-refusal, taken, word-long}
+use Rattle.catalogue.proofs.offer.Offers.{is-offered}
+use Rattle.refusals.proofs.Admitted.{offered-by, check-refusal, taken, word-long}
 use Rattle.quick.proofs.Promises.{quick-taken, quick-refused}
-use Rattle.groups.proofs.Shapes.{checked}
+use Rattle.quick.proofs.groups.Shapes.{checked}
 use borrow.Author.Needs.{needs}
 use Rattle.quick.proofs.quick.Statement.{statement}
 use Rattle.quick.proofs.quick.Tie as tie
-
-of-requires : tie.Need-of-requires
-of-requires c κs = search needs
-
-refusal-requires : tie.Need-refusal-requires
-refusal-requires c κs = search needs
-
-refused-requires : tie.Need-refused-requires
-refused-requires c κs = search needs
 
 returns : tie.Need-returns
 returns c =
@@ -98,15 +89,5 @@ returns-2 c =
     ∙ sym (quick-taken n (a .args .word .now) (is-offered n (t .offers)) (word-long n is (t .offers) (t .input-is)))
 
 pub quick-spec : {M : Type 1} → statement M
-quick-spec =
-    tie.close
-    (tie.spec
-    of-requires
-    refusal-requires
-    refused-requires
-    returns
-    lowest-broken-requires
-    mul-answer
-    cast-answer
-    answer-requires
-    returns-2)
+quick-spec = tie.close (tie.spec (λ c κs. search needs) (λ c κs. search needs) (λ c κs. search needs) returns lowest-broken-requires
+    mul-answer cast-answer answer-requires returns-2)

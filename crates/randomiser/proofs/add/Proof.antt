@@ -11,12 +11,6 @@ use Rattle.randomiser.proofs.Parts.{more-done, out-length, all-done}
 use Rattle.randomiser.proofs.add.Statement.{statement}
 use Rattle.randomiser.proofs.add.Tie as tie
 
-mul-whole : tie.Need-mul-whole
-mul-whole c = search needs
-
-slice-relend-prefix-add-words : tie.Need-slice-relend-prefix-add-words
-slice-relend-prefix-add-words c = search needs
-
 slice-aggregate-add-words : tie.Need-slice-aggregate-add-words
 slice-aggregate-add-words c =
     let o = c .before .before .before .args .octets .now in
@@ -28,24 +22,6 @@ add-words-requires c κs =
     let o = s .args .octets .now in
     let long = length-take-le (length o / 8 * 8) o (omega arith) in
     (omega (arith, long), omega (arith, long, s .pre))
-
-sub-add-octets : tie.Need-sub-add-octets
-sub-add-octets c = search needs
-
-part-add-octets-start : tie.Need-part-add-octets-start
-part-add-octets-start c = search needs
-
-part-add-octets-end : tie.Need-part-add-octets-end
-part-add-octets-end c = search needs
-
-add-add-octets : tie.Need-add-add-octets
-add-add-octets c = search needs
-
-add-octets-requires : tie.Need-add-octets-requires
-add-octets-requires c κs = search needs
-
-same-length : tie.Need-same-length
-same-length c = search needs
 
 returns : tie.Need-returns
 returns c g used known =
@@ -70,17 +46,5 @@ returns c g used known =
     (more-done g used o out (rest .last .0) w (length out - w) room done more)
 
 pub add-spec : {M : Type 1} → statement M
-add-spec =
-    tie.close
-    (tie.spec
-    mul-whole
-    slice-relend-prefix-add-words
-    slice-aggregate-add-words
-    add-words-requires
-    sub-add-octets
-    part-add-octets-start
-    part-add-octets-end
-    add-add-octets
-    add-octets-requires
-    same-length
-    returns)
+add-spec = tie.close (tie.spec (λ c. search needs) (λ c. search needs) slice-aggregate-add-words add-words-requires (λ c. search needs)
+    (λ c. search needs) (λ c. search needs) (λ c. search needs) (λ c κs. search needs) (λ c. search needs) returns)

@@ -23,24 +23,6 @@ loop-holds : tie.Need-loop-holds Inv-loop μ-loop
 unfolding randomised
 loop-holds c = (omega arith, refl, λ g used known. refl)
 
-add-octets : tie.Need-add-octets Inv-loop μ-loop
-add-octets c = omega arith
-
-shared-slice-read-octets : tie.Need-shared-slice-read-octets Inv-loop μ-loop
-shared-slice-read-octets c = omega arith
-
-slice-read-octets : tie.Need-slice-read-octets Inv-loop μ-loop
-slice-read-octets c = omega arith
-
-slice-write-octets : tie.Need-slice-write-octets Inv-loop μ-loop
-slice-write-octets c = omega arith
-
-add-i : tie.Need-add-i Inv-loop μ-loop
-add-i c = omega arith
-
-loop-less : tie.Need-loop-less Inv-loop μ-loop
-loop-less c = omega arith
-
 loop-again : tie.Need-loop-again Inv-loop μ-loop
 loop-again c =
     let h = c .before .before .before .loop in
@@ -53,9 +35,6 @@ loop-again c =
           (known (h .i) (omega arith)),
     )
 
-same-length : tie.Need-same-length Inv-loop μ-loop
-same-length c = omega arith
-
 returns : tie.Need-returns Inv-loop μ-loop
 returns c g used known =
     let h = c .before .loop in
@@ -63,18 +42,5 @@ returns c g used known =
     all-done g used (a .octets .now) (h .octets) (h .i) (omega arith) (h .inv .2 g used known)
 
 pub add-octets-spec : {M : Type 1} → statement M
-add-octets-spec =
-    tie.close
-    (tie.spec
-    Inv-loop
-    μ-loop
-    loop-holds
-    add-octets
-    shared-slice-read-octets
-    slice-read-octets
-    slice-write-octets
-    add-i
-    loop-less
-    loop-again
-    same-length
-    returns)
+add-octets-spec = tie.close (tie.spec Inv-loop μ-loop loop-holds (λ c. omega arith) (λ c. omega arith) (λ c. omega arith) (λ c. omega arith)
+    (λ c. omega arith) (λ c. omega arith) loop-again (λ c. omega arith) returns)

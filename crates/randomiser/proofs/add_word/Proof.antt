@@ -15,21 +15,6 @@ use Rattle.randomiser.proofs.Randomising.{by-bits, table-bit}
 use Rattle.randomiser.proofs.add_word.Statement.{statement}
 use Rattle.randomiser.proofs.add_word.Tie as tie
 
-eight-requires : tie.Need-eight-requires
-eight-requires c κs = search needs
-
-eight-requires-2 : tie.Need-eight-requires-2
-eight-requires-2 c κs = search needs
-
-slice-aggregate-store : tie.Need-slice-aggregate-store
-slice-aggregate-store c = search needs
-
-store-requires : tie.Need-store-requires
-store-requires c κs = search needs
-
-same-length : tie.Need-same-length
-same-length c = search needs
-
 returns : tie.Need-returns
 returns c g used known =
     let s = c .before .before .before .before .before .before .before .before .before .before in
@@ -47,12 +32,5 @@ returns c g used known =
     c .before .before .store .ensures ∙ by-bits g used o (from 0 (wbit (v ∷ 0 ∷ []))) each
 
 pub add-word-spec : {M : Type 1} → statement M
-add-word-spec =
-    tie.close
-    (tie.spec
-    eight-requires
-    eight-requires-2
-    slice-aggregate-store
-    store-requires
-    same-length
-    returns)
+add-word-spec = tie.close (tie.spec (λ c κs. search needs) (λ c κs. search needs) (λ c. search needs) (λ c κs. search needs)
+    (λ c. search needs) returns)

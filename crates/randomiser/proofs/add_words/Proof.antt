@@ -24,21 +24,6 @@ loop-holds : tie.Need-loop-holds Inv-loop μ-loop
 unfolding randomised
 loop-holds c = (omega arith, omega arith, refl, λ g used known. refl)
 
-add-end : tie.Need-add-end Inv-loop μ-loop
-add-end c = omega arith
-
-sub-add-word : tie.Need-sub-add-word Inv-loop μ-loop
-sub-add-word c = omega arith
-
-part-add-word-start : tie.Need-part-add-word-start Inv-loop μ-loop
-part-add-word-start c = omega arith
-
-part-add-word-end : tie.Need-part-add-word-end Inv-loop μ-loop
-part-add-word-end c = omega arith
-
-add-add-word : tie.Need-add-add-word Inv-loop μ-loop
-add-add-word c = omega arith
-
 add-word-requires : tie.Need-add-word-requires Inv-loop μ-loop
 add-word-requires c κs =
     let s = c .before .before .before .before .before in
@@ -46,9 +31,6 @@ add-word-requires c κs =
     let few = length-take (l .at + 8 - l .at) (drop (l .at) (l .octets)) in
     let left = length-drop (l .at) (l .octets) in
     (few ∙ omega (arith, left, l .inv .2, s .pre .0, l .inv .0), omega (arith, s .pre .1, s .pre .0, l .inv .0))
-
-loop-less : tie.Need-loop-less Inv-loop μ-loop
-loop-less c = omega arith
 
 loop-again : tie.Need-loop-again Inv-loop μ-loop
 loop-again c =
@@ -74,9 +56,6 @@ loop-again c =
           ∙ ap (λ z. randomised g (used + l .at) (take z (drop (l .at) (l .octets)))) m),
     )
 
-same-length : tie.Need-same-length Inv-loop μ-loop
-same-length c = search needs
-
 returns : tie.Need-returns Inv-loop μ-loop
 returns c g used known =
     let s = c .before .before .before .before in
@@ -84,19 +63,5 @@ returns c g used known =
     all-done g used (s .args .octets .now) (l .octets) (l .at) (omega arith) (l .inv .3 g used known)
 
 pub add-words-spec : {M : Type 1} → statement M
-add-words-spec =
-    tie.close
-    (tie.spec
-    Inv-loop
-    μ-loop
-    loop-holds
-    add-end
-    sub-add-word
-    part-add-word-start
-    part-add-word-end
-    add-add-word
-    add-word-requires
-    loop-less
-    loop-again
-    same-length
-    returns)
+add-words-spec = tie.close (tie.spec Inv-loop μ-loop loop-holds (λ c. omega arith) (λ c. omega arith) (λ c. omega arith) (λ c. omega arith)
+    (λ c. omega arith) add-word-requires (λ c. omega arith) loop-again (λ c. search needs) returns)

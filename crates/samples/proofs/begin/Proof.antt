@@ -1,15 +1,9 @@
 -- `samples::begin`: the word's checks are measured and counted. Assumes nothing.
 use Rattle.rules.specs.Codes.{code}
-use Rattle.ladder.proofs.Admitted.{fitting}
+use Rattle.refusals.proofs.Admitted.{fitting}
 use borrow.Author.Needs.{needs}
 use Rattle.samples.proofs.begin.Statement.{statement}
 use Rattle.samples.proofs.begin.Tie as tie
-
-checks-requires : tie.Need-checks-requires
-checks-requires c κs = search needs
-
-broken-requires : tie.Need-broken-requires
-broken-requires c κs = search needs
 
 lowest-requires : tie.Need-lowest-requires
 lowest-requires c κs =
@@ -32,10 +26,4 @@ returns c n off is =
     )
 
 pub begin-spec : {M : Type 1} → statement M
-begin-spec =
-    tie.close
-    (tie.spec
-    checks-requires
-    broken-requires
-    lowest-requires
-    returns)
+begin-spec = tie.close (tie.spec (λ c κs. search needs) (λ c κs. search needs) lowest-requires returns)

@@ -1,15 +1,12 @@
 -- `samples::correct_read`: a run that is not refused is written. Assumes nothing.
 use native.Mathlib.Omega.{arith}
 use Rattle.rules.specs.Codes.{code}
-use Rattle.offer.proofs.Offers.{small}
-use Rattle.ladder.proofs.Admitted.{word-long, unsent-is, bits-are}
+use Rattle.catalogue.proofs.offer.Offers.{small}
+use Rattle.refusals.proofs.Admitted.{word-long, unsent-is, bits-are}
 use Rattle.samples.proofs.Correcting.{wrote-word, wrote-none}
 use borrow.Author.Needs.{needs}
 use Rattle.samples.proofs.correct_read.Statement.{statement}
 use Rattle.samples.proofs.correct_read.Tie as tie
-
-run-read-requires : tie.Need-run-read-requires
-run-read-requires c κs = search needs
 
 write-requires : tie.Need-write-requires
 write-requires c κs =
@@ -17,9 +14,6 @@ write-requires c κs =
     let k = s .pre in
     let o = small (k .0) in
     (o .unsent, omega (arith, k .3, o .word), λ h. o .plain (omega (arith, h, k .3)), omega (arith, k .3, o .ends))
-
-same-length : tie.Need-same-length
-same-length c = search needs
 
 returns : tie.Need-returns
 returns c n off is =
@@ -34,11 +28,4 @@ returns-2 c n off is =
     c .before .before .run-read .ensures n off is .answers (s .args .out .now) _ (wrote-none _ _ _ (c .if1 .left))
 
 pub correct-read-spec : {M : Type 1} → statement M
-correct-read-spec =
-    tie.close
-    (tie.spec
-    run-read-requires
-    write-requires
-    same-length
-    returns
-    returns-2)
+correct-read-spec = tie.close (tie.spec (λ c κs. search needs) write-requires (λ c. search needs) returns returns-2)

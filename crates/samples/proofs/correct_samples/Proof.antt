@@ -1,21 +1,12 @@
 -- `samples::correct_samples`: refusals in their order, then the run. Assumes nothing.
 use mathlib.Core.Path.{sym, _∙_}
 use lib.ListN.{length}
-use Rattle.ladder.proofs.Admitted.{taken, steps-offered}
+use Rattle.refusals.proofs.Admitted.{taken, steps-offered}
 use Rattle.samples.proofs.Answers.{samples-refused}
 use Rattle.samples.proofs.Correcting.{samples-refusal}
 use borrow.Author.Needs.{needs}
 use Rattle.samples.proofs.correct_samples.Statement.{statement}
 use Rattle.samples.proofs.correct_samples.Tie as tie
-
-of-requires : tie.Need-of-requires
-of-requires c κs = search needs
-
-refusal-requires : tie.Need-refusal-requires
-refusal-requires c κs = search needs
-
-refused-correct-requires : tie.Need-refused-correct-requires
-refused-correct-requires c κs = search needs
 
 returns : tie.Need-returns
 returns c =
@@ -26,17 +17,14 @@ returns c =
     ∙ sym (samples-refused (a .code) (a .samples .now) (a .limit) (a .out .now) _
     (samples-refusal (a .code) (f .before .of .ensures) _ _ (f .refusal .ensures)) (c .before .if1 .taken))
 
-correct-taken-requires : tie.Need-correct-taken-requires
-correct-taken-requires c κs =
+correct-loaded-requires : tie.Need-correct-loaded-requires
+correct-loaded-requires c κs =
     let s : tie.Start = search in
     let f : tie.After-refusal = search in
     let o = f .before .of in
     let t = taken (s .args .code) (o .ensures) (o .result .steps) (steps-offered (s .args .code) (o .ensures)) _ _ _ _ (f .refusal .ensures)
     (c .before .if1 .left) in
     (t .known, t .chosen, t .input-is, t .output-is)
-
-same-length : tie.Need-same-length
-same-length c = search needs
 
 returns-2 : tie.Need-returns-2
 returns-2 c =
@@ -47,16 +35,8 @@ returns-2 c =
     let a = s .args in
     let t = taken (a .code) (o .ensures) (o .result .steps) (steps-offered (a .code) (o .ensures)) (length (a .samples .now))
     (o .result .bits) (length (a .out .now)) (o .result .word) (f .refusal .ensures) (else1 .if1 .left) in
-    c .before .before .correct-taken .ensures (a .code) (t .offers) (o .ensures)
+    c .before .before .correct-loaded .ensures (a .code) (t .offers) (o .ensures)
 
 pub correct-samples-spec : {M : Type 1} → statement M
-correct-samples-spec =
-    tie.close
-    (tie.spec
-    of-requires
-    refusal-requires
-    refused-correct-requires
-    returns
-    correct-taken-requires
-    same-length
-    returns-2)
+correct-samples-spec = tie.close (tie.spec (λ c κs. search needs) (λ c κs. search needs) (λ c κs. search needs) returns
+    correct-loaded-requires (λ c. search needs) returns-2)

@@ -8,10 +8,7 @@ use Rattle.samples.proofs.run_judged.Tie as tie
 run-requires : tie.Need-run-requires
 run-requires c κs =
     let s : tie.Start = search in
-    (s .pre .1, s .pre .2, s .pre .3, s .pre .4, s .pre .5, s .pre .6)
-
-judge-requires : tie.Need-judge-requires
-judge-requires c κs = search needs
+    (s .pre .1, s .pre .2, s .pre .3, s .pre .4, s .pre .5)
 
 returns : tie.Need-returns
 returns c n off is t begins low =
@@ -21,7 +18,7 @@ returns c n off is t begins low =
     let g = after-run .run in
     let j = c .judge in
     let x = a .samples .now in
-    let at = s .pre .5 in
+    let at = s .pre .4 in
     let to = g .ensures (code n) begins in
     record {
       answers = corrected-is n t _ x (a .limit) (g .result) _ _ at to (a .first) (a .lowest) (j .result) (begins .broken) low
@@ -31,9 +28,4 @@ returns c n off is t begins low =
     }
 
 pub run-judged-spec : {M : Type 1} → statement M
-run-judged-spec =
-    tie.close
-    (tie.spec
-    run-requires
-    judge-requires
-    returns)
+run-judged-spec = tie.close (tie.spec run-requires (λ c κs. search needs) returns)

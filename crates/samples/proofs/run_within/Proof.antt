@@ -1,7 +1,7 @@
 -- `samples::run_within`: what the run begins with is the code's. Assumes nothing.
 use mathlib.Core.Path.{sym, ap, _∙_}
 use Rattle.rules.specs.Codes.{code}
-use Rattle.ladder.proofs.Admitted.{as-truth, shaped, steps-by, bits-are}
+use Rattle.refusals.proofs.Admitted.{as-truth, shaped, steps-by, bits-are}
 use Rattle.samples.proofs.Correcting.{all-sent}
 use Rattle.samples.proofs.run_within.Statement.{statement}
 use Rattle.samples.proofs.run_within.Tie as tie
@@ -10,7 +10,7 @@ begin-requires : tie.Need-begin-requires
 begin-requires c κs =
     let s : tie.Start = search in
     let k = s .pre .0 in
-    (record { number = k .number; offers = k .offers; is = ap (λ z. z .shape .size) (k .is) }, s .pre .5)
+    (record { number = k .number; offers = k .offers; is = ap (λ z. z .shape .size) (k .is) }, s .pre .4)
 
 run-judged-requires : tie.Need-run-judged-requires
 run-judged-requires c κs =
@@ -23,7 +23,6 @@ run-judged-requires c κs =
       shaped k (e .0 ∙ sym (ap (λ z. z .shape) (k .is))) .0,
       s .pre .2 ∙ bits-are (k .number) (k .is) (k .offers) ∙ e .1 .lent .bits-are,
       s .pre .3,
-      s .pre .4,
       record {
         code = code (k .number);
         begins = record { lent = e .1 .lent; unsent = all-sent (k .number) (k .is) (s .pre .1); held = e .2; broken = e .3 };
@@ -39,9 +38,4 @@ returns c n off is =
     (record { lent = e .1 .lent; unsent = all-sent n is (s .pre .1); held = e .2; broken = e .3 }) (e .4)
 
 pub run-within-spec : {M : Type 1} → statement M
-run-within-spec =
-    tie.close
-    (tie.spec
-    begin-requires
-    run-judged-requires
-    returns)
+run-within-spec = tie.close (tie.spec begin-requires run-judged-requires returns)

@@ -8,24 +8,9 @@ use lib.Seq.{length-take-le}
 use Rattle.syndromes.proofs.add_all.Statement.{statement}
 use Rattle.syndromes.proofs.add_all.Tie as tie
 
-add-narrow-blocks-requires : tie.Need-add-narrow-blocks-requires
-add-narrow-blocks-requires c κs = search needs
-
-returns : tie.Need-returns
-returns c = search needs
-
-array-borrow-prefix-part : tie.Need-array-borrow-prefix-part
-array-borrow-prefix-part c = search needs
-
 slice-aggregate-add-blocks : tie.Need-slice-aggregate-add-blocks
 slice-aggregate-add-blocks c = sym (length-take-le (c .before .before .before .args .sh .words) (replicate 8 0)
     (omega arith))
-
-mul-d : tie.Need-mul-d
-mul-d c = search needs
-
-array-borrow-prefix-d : tie.Need-array-borrow-prefix-d
-array-borrow-prefix-d c = search needs
 
 slice-aggregate-add-blocks-2 : tie.Need-slice-aggregate-add-blocks-2
 slice-aggregate-add-blocks-2 c = sym (length-take-le (2 * c .before .before .before .before .args .sh .words)
@@ -41,19 +26,6 @@ add-blocks-requires c κs =
       s .pre .1,
     )
 
-returns-2 : tie.Need-returns-2
-returns-2 c = search needs
-
 pub add-all-spec : {M : Type 1} → statement M
-add-all-spec =
-    tie.close
-    (tie.spec
-    add-narrow-blocks-requires
-    returns
-    array-borrow-prefix-part
-    slice-aggregate-add-blocks
-    mul-d
-    array-borrow-prefix-d
-    slice-aggregate-add-blocks-2
-    add-blocks-requires
-    returns-2)
+add-all-spec = tie.close (tie.spec (λ c κs. search needs) (λ c. search needs) (λ c. search needs) slice-aggregate-add-blocks
+    (λ c. search needs) (λ c. search needs) slice-aggregate-add-blocks-2 add-blocks-requires (λ c. search needs))

@@ -22,15 +22,6 @@ loop-holds c =
     reached-none (wide (a .sh)) (a .sh .rows) (wide-some (a .h .now) (a .sh) (pre .0))
     (spread (a .sh) (a .h .now) (a .b) (turned (wbit (a .d .now)))) (a .acc .now) (pre .3)
 
-add-row-requires : tie.Need-add-row-requires Inv-loop μ-loop
-add-row-requires c κs = search needs
-
-add-r : tie.Need-add-r Inv-loop μ-loop
-add-r c = search needs
-
-loop-less : tie.Need-loop-less Inv-loop μ-loop
-loop-less c = omega arith
-
 loop-again : tie.Need-loop-again Inv-loop μ-loop
 loop-again c =
     let s : tie.Start Inv-loop μ-loop = search in
@@ -41,9 +32,6 @@ loop-again c =
     (l .acc) (l .r) (l .inv)
     _ (omega arith) (search needs) (c .before .before .add-row .ensures)
 
-same-length : tie.Need-same-length Inv-loop μ-loop
-same-length c = search needs
-
 returns : tie.Need-returns Inv-loop μ-loop
 returns c =
     let a = c .before .before .before .before .before .before .args in
@@ -53,15 +41,5 @@ returns c =
     (l .acc) (l .r) (l .inv) (omega arith)
 
 pub add-block-spec : {M : Type 1} → statement M
-add-block-spec =
-    tie.close
-    (tie.spec
-    Inv-loop
-    μ-loop
-    loop-holds
-    add-row-requires
-    add-r
-    loop-less
-    loop-again
-    same-length
-    returns)
+add-block-spec = tie.close (tie.spec Inv-loop μ-loop loop-holds (λ c κs. search needs) (λ c. search needs) (λ c. omega arith) loop-again
+    (λ c. search needs) returns)

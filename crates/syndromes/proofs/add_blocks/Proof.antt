@@ -25,15 +25,6 @@ loop-holds c =
     let pre = c .before .before .pre in
     (omega arith, pre .1, pre .2, pre .3 ∙ summed-none (a .h .now) (a .sh) (pre .0) (wbit (a .y .now)))
 
-add-wide-block-requires : tie.Need-add-wide-block-requires Inv-loop μ-loop
-add-wide-block-requires c κs = search needs
-
-add-b : tie.Need-add-b Inv-loop μ-loop
-add-b c = search needs
-
-loop-less : tie.Need-loop-less Inv-loop μ-loop
-loop-less c = omega arith
-
 loop-again : tie.Need-loop-again Inv-loop μ-loop
 loop-again c =
     let s : tie.Start Inv-loop μ-loop = search in
@@ -51,12 +42,6 @@ loop-again c =
           ∙ summed-more h sh (s .pre .0) (wbit (a .y .now)) (l .b),
     )
 
-same-length : tie.Need-same-length Inv-loop μ-loop
-same-length c = search needs
-
-same-length-2 : tie.Need-same-length-2 Inv-loop μ-loop
-same-length-2 c = search needs
-
 returns : tie.Need-returns Inv-loop μ-loop
 returns c =
     let a = c .before .before .before .before .before .args in
@@ -65,16 +50,5 @@ returns c =
     l .inv .3 ∙ ap (λ (k : ℕ). rowed (wide (a .sh)) (a .sh .rows) (summed (a .sh) (a .h .now) (wbit (a .y .now)) k)) all
 
 pub add-blocks-spec : {M : Type 1} → statement M
-add-blocks-spec =
-    tie.close
-    (tie.spec
-    Inv-loop
-    μ-loop
-    loop-holds
-    add-wide-block-requires
-    add-b
-    loop-less
-    loop-again
-    same-length
-    same-length-2
-    returns)
+add-blocks-spec = tie.close (tie.spec Inv-loop μ-loop loop-holds (λ c κs. search needs) (λ c. search needs) (λ c. omega arith) loop-again
+    (λ c. search needs) (λ c. search needs) returns)

@@ -36,20 +36,8 @@ window-requires c κs =
     let s = c .before .before .before .before .before in
     omega (arith, block-room (s .args .h .now) (s .args .sh) (s .pre .0) (c .before .before .before .before .loop .b) (omega arith))
 
-front-requires : tie.Need-front-requires Inv-loop μ-loop
-front-requires c κs = omega arith
-
 double-word-requires : tie.Need-double-word-requires Inv-loop μ-loop
 double-word-requires c κs = (omega arith, omega arith)
-
-add-narrow-block-requires : tie.Need-add-narrow-block-requires Inv-loop μ-loop
-add-narrow-block-requires c κs = search needs
-
-add-b : tie.Need-add-b Inv-loop μ-loop
-add-b c = search needs
-
-loop-less : tie.Need-loop-less Inv-loop μ-loop
-loop-less c = omega arith
 
 loop-again : tie.Need-loop-again Inv-loop μ-loop
 loop-again c =
@@ -78,18 +66,5 @@ returns c =
     l .inv .1 ∙ ap (λ (k : ℕ). rowed (wide (a .sh)) (a .sh .rows) (summed (a .sh) (a .h .now) (wbit (a .y .now)) k)) all
 
 pub add-narrow-blocks-spec : {M : Type 1} → statement M
-add-narrow-blocks-spec =
-    tie.close
-    (tie.spec
-    Inv-loop
-    μ-loop
-    loop-holds
-    mul-window
-    window-requires
-    front-requires
-    double-word-requires
-    add-narrow-block-requires
-    add-b
-    loop-less
-    loop-again
-    returns)
+add-narrow-blocks-spec = tie.close (tie.spec Inv-loop μ-loop loop-holds mul-window window-requires (λ c κs. omega arith)
+    double-word-requires (λ c κs. search needs) (λ c. search needs) (λ c. omega arith) loop-again returns)

@@ -25,12 +25,6 @@ double-block-requires c κs =
 add-block-requires : tie.Need-add-block-requires
 add-block-requires c κs = (search needs, search needs, search needs, search needs)
 
-same-length : tie.Need-same-length
-same-length c = search needs
-
-same-length-2 : tie.Need-same-length-2
-same-length-2 c = search needs
-
 returns : tie.Need-returns
 returns c =
     let s : tie.Start = search in
@@ -41,12 +35,5 @@ returns c =
     (doubled .double-block .ensures)
 
 pub add-wide-block-spec : {M : Type 1} → statement M
-add-wide-block-spec =
-    tie.close
-    (tie.spec
-    mul-double-block
-    double-block-requires
-    add-block-requires
-    same-length
-    same-length-2
+add-wide-block-spec = tie.close (tie.spec mul-double-block double-block-requires add-block-requires (λ c. search needs) (λ c. search needs)
     returns)

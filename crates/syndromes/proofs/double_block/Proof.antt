@@ -15,23 +15,10 @@ double-requires c κs =
     let after = c .before .before .before .before in
     (upTo-again _ _ _ (after .cut .ensures), search needs, search needs, search needs, search needs)
 
-same-length : tie.Need-same-length
-same-length c = search needs
-
-same-length-2 : tie.Need-same-length-2
-same-length-2 c = search needs
-
 returns : tie.Need-returns
 returns c =
     let after = c .before .before .before .before .before .before .before in
     c .before .before .double .ensures ∙ ap (twice _) (after .cut .ensures)
 
 pub double-block-spec : {M : Type 1} → statement M
-double-block-spec =
-    tie.close
-    (tie.spec
-    cut-requires
-    double-requires
-    same-length
-    same-length-2
-    returns)
+double-block-spec = tie.close (tie.spec cut-requires double-requires (λ c. search needs) (λ c. search needs) returns)

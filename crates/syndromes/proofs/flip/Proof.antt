@@ -10,15 +10,6 @@ use borrow.Author.Needs.{needs}
 use Rattle.syndromes.proofs.flip.Statement.{statement}
 use Rattle.syndromes.proofs.flip.Tie as tie
 
-flip-bit-requires : tie.Need-flip-bit-requires
-flip-bit-requires c κs = search needs
-
-div-flip-checks : tie.Need-div-flip-checks
-div-flip-checks c = search needs
-
-rem-flip-checks : tie.Need-rem-flip-checks
-rem-flip-checks c = search needs
-
 flip-checks-requires : tie.Need-flip-checks-requires
 flip-checks-requires c κs =
     let s : tie.Start = search in
@@ -44,11 +35,4 @@ returns c =
     )
 
 pub flip-spec : {M : Type 1} → statement M
-flip-spec =
-    tie.close
-    (tie.spec
-    flip-bit-requires
-    div-flip-checks
-    rem-flip-checks
-    flip-checks-requires
-    returns)
+flip-spec = tie.close (tie.spec (λ c κs. search needs) (λ c. search needs) (λ c. search needs) flip-checks-requires returns)

@@ -22,15 +22,6 @@ loop-holds c =
     reached-none (wide (a .sh)) (a .sh .rows) (wide-some (a .h .now) (a .sh) (pre .0))
     (spread (a .sh) (a .h .now) (a .b) (covering (a .sh .size) (a .k))) (a .z .now) (pre .3)
 
-flip-row-requires : tie.Need-flip-row-requires Inv-loop μ-loop
-flip-row-requires c κs = search needs
-
-add-r : tie.Need-add-r Inv-loop μ-loop
-add-r c = search needs
-
-loop-less : tie.Need-loop-less Inv-loop μ-loop
-loop-less c = omega arith
-
 loop-again : tie.Need-loop-again Inv-loop μ-loop
 loop-again c =
     let s : tie.Start Inv-loop μ-loop = search in
@@ -41,9 +32,6 @@ loop-again c =
     (l .z) (l .r) (l .inv)
     _ (omega arith) (search needs) (c .before .before .flip-row .ensures)
 
-same-length : tie.Need-same-length Inv-loop μ-loop
-same-length c = search needs
-
 returns : tie.Need-returns Inv-loop μ-loop
 returns c =
     let a = c .before .before .before .before .before .args in
@@ -53,15 +41,5 @@ returns c =
     (l .z) (l .r) (l .inv) (omega arith)
 
 pub flip-checks-spec : {M : Type 1} → statement M
-flip-checks-spec =
-    tie.close
-    (tie.spec
-    Inv-loop
-    μ-loop
-    loop-holds
-    flip-row-requires
-    add-r
-    loop-less
-    loop-again
-    same-length
-    returns)
+flip-checks-spec = tie.close (tie.spec Inv-loop μ-loop loop-holds (λ c κs. search needs) (λ c. search needs) (λ c. omega arith) loop-again
+    (λ c. search needs) returns)

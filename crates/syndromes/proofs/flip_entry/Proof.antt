@@ -12,26 +12,11 @@ use borrow.Author.Needs.{needs}
 use Rattle.syndromes.proofs.flip_entry.Statement.{statement}
 use Rattle.syndromes.proofs.flip_entry.Tie as tie
 
-sub-i : tie.Need-sub-i
-sub-i c = search needs
-
-add-i : tie.Need-add-i
-add-i c = search needs
-
-mul-flip-bit : tie.Need-mul-flip-bit
-mul-flip-bit c = search needs
-
-mul-flip-bit-2 : tie.Need-mul-flip-bit-2
-mul-flip-bit-2 c = search needs
-
 add-flip-bit : tie.Need-add-flip-bit
 add-flip-bit c = ⊎-elim (λ w. omega arith) (λ w. omega arith) (c .before .before .before .if2 .came)
 
 flip-bit-requires : tie.Need-flip-bit-requires
 flip-bit-requires c κs = ⊎-elim (λ w. omega arith) (λ w. omega arith) (c .before .before .before .if2 .came)
-
-same-length : tie.Need-same-length
-same-length c = search needs
 
 returns : tie.Need-returns
 returns c =
@@ -69,15 +54,5 @@ returns-2 c =
     entry-none (a .sh .size) (covering (a .sh .size) (a .k)) (a .s) (wbit (a .z .now)) (w * a .r) (w * (a .r + 1)) l
 
 pub flip-entry-spec : {M : Type 1} → statement M
-flip-entry-spec =
-    tie.close
-    (tie.spec
-    sub-i
-    add-i
-    mul-flip-bit
-    mul-flip-bit-2
-    add-flip-bit
-    flip-bit-requires
-    same-length
-    returns
-    returns-2)
+flip-entry-spec = tie.close (tie.spec (λ c. search needs) (λ c. search needs) (λ c. search needs) (λ c. search needs) add-flip-bit
+    flip-bit-requires (λ c. search needs) returns returns-2)

@@ -29,9 +29,6 @@ sum : (sh : Shape) (place : ℕ) → place < 1024 → 1 ≤ sh .words → sh .si
     → place / (64 * sh .words) * sh .size + place % (64 * sh .words) ≤ 525000
 sum sh place l o s w = omega (arith, near sh place l s w, mod-lt place {m = 64 * sh .words} (omega arith))
 
-first-requires : tie.Need-first-requires
-first-requires c κs = search needs
-
 mul-result : tie.Need-mul-result
 mul-result c =
     let a = c .before .before .before .before in
@@ -51,20 +48,11 @@ returns c =
     let is : f .first .result ≡ least 1024 (laid code (a .args .sh) x) = f .first .ensures ∙ ap₂ least (ap (λ n. 64 * n) long) e in
     lowest-none h (a .args .sh) fit code lent x (omega (arith, c .before .if1 .taken))
 
-mul-wide : tie.Need-mul-wide
-mul-wide c = search needs
-
-div-result : tie.Need-div-result
-div-result c = search needs
-
 mul-result-2 : tie.Need-mul-result-2
 mul-result-2 c =
     let f = c .before .before .before in
     let a = f .before .before in
     omega (arith, near (a .args .sh) (f .first .result) (omega (arith, c .before .before .if1 .left)) (a .pre .3) (a .pre .1))
-
-rem-result : tie.Need-rem-result
-rem-result c = search needs
 
 add-result : tie.Need-add-result
 add-result c =
@@ -90,17 +78,5 @@ returns-2 c =
     ∙ lowest-found h sh fit code lent x (omega (arith, c .before .before .if1 .left))
 
 pub lowest-spec : {M : Type 1} → statement M
-lowest-spec =
-    tie.close
-    (tie.spec
-    first-requires
-    mul-result
-    cast-result
-    returns
-    mul-wide
-    div-result
-    mul-result-2
-    rem-result
-    add-result
-    cast-result-2
-    returns-2)
+lowest-spec = tie.close (tie.spec (λ c κs. search needs) mul-result cast-result returns (λ c. search needs) (λ c. search needs) mul-result-2
+    (λ c. search needs) add-result cast-result-2 returns-2)

@@ -56,17 +56,5 @@ returns c =
     (read-any (a .h .now) at 0 (a .sh .size) (omega arith), read-any (a .h .now) (at + 1) 0 (a .sh .size) inside)
 
 pub read-places-spec : {M : Type 1} → statement M
-read-places-spec =
-    tie.close
-    (tie.spec
-    mul-at
-    add-at
-    mul-at-2
-    mul-t6
-    shared-slice-read-t9
-    cast-t7
-    add-t10
-    mul-t11
-    shared-slice-read-t13
-    cast-t14
-    returns)
+read-places-spec = tie.close (tie.spec mul-at add-at mul-at-2 mul-t6 shared-slice-read-t9 cast-t7 add-t10 mul-t11 shared-slice-read-t13
+    cast-t14 returns)

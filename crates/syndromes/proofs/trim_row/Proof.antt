@@ -8,33 +8,6 @@ use borrow.Author.Needs.{needs}
 use Rattle.syndromes.proofs.trim_row.Statement.{statement}
 use Rattle.syndromes.proofs.trim_row.Tie as tie
 
-mul-last : tie.Need-mul-last
-mul-last c = search needs
-
-add-last : tie.Need-add-last
-add-last c = search needs
-
-sub-last : tie.Need-sub-last
-sub-last c = search needs
-
-mul-front : tie.Need-mul-front
-mul-front c = search needs
-
-slice-read-front : tie.Need-slice-read-front
-slice-read-front c = search needs
-
-front-requires : tie.Need-front-requires
-front-requires c κs = search needs
-
-mul-z : tie.Need-mul-z
-mul-z c = search needs
-
-slice-write-z : tie.Need-slice-write-z
-slice-write-z c = search needs
-
-same-length : tie.Need-same-length
-same-length c = search needs
-
 returns : tie.Need-returns
 returns c x e =
     let a = c .before .before .before .before .before .before .before .args in
@@ -50,17 +23,5 @@ returns-2 c x e =
     e ∙ within-full (wide (a .sh)) (a .sh .size) (omega arith) x (a .r) (omega arith)
 
 pub trim-row-spec : {M : Type 1} → statement M
-trim-row-spec =
-    tie.close
-    (tie.spec
-    mul-last
-    add-last
-    sub-last
-    mul-front
-    slice-read-front
-    front-requires
-    mul-z
-    slice-write-z
-    same-length
-    returns
-    returns-2)
+trim-row-spec = tie.close (tie.spec (λ c. search needs) (λ c. search needs) (λ c. search needs) (λ c. search needs) (λ c. search needs)
+    (λ c κs. search needs) (λ c. search needs) (λ c. search needs) (λ c. search needs) returns returns-2)

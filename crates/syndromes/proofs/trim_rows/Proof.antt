@@ -29,20 +29,11 @@ trim-row-requires c κs =
     let room = mul-le-mul-right {m = r + 1} {n = a .sh .rows} (a .sh .words) (omega arith) in
     search needs
 
-add-r : tie.Need-add-r Inv-loop μ-loop
-add-r c = search needs
-
-loop-less : tie.Need-loop-less Inv-loop μ-loop
-loop-less c = omega arith
-
 loop-again : tie.Need-loop-again Inv-loop μ-loop
 loop-again c =
     let a = c .before .before .before .before .before .before .before .before .args in
     let l = c .before .before .before .before .before .before .loop in
     (omega arith, search needs, c .before .before .trim-row .ensures (wbit (a .z .now)) (l .inv .2))
-
-same-length : tie.Need-same-length Inv-loop μ-loop
-same-length c = search needs
 
 returns : tie.Need-returns Inv-loop μ-loop
 returns c =
@@ -52,15 +43,5 @@ returns c =
     l .inv .2 ∙ ap (λ (k : ℕ). within (wide (a .sh)) (a .sh .size) k (wbit (a .z .now))) all
 
 pub trim-rows-spec : {M : Type 1} → statement M
-trim-rows-spec =
-    tie.close
-    (tie.spec
-    Inv-loop
-    μ-loop
-    loop-holds
-    trim-row-requires
-    add-r
-    loop-less
-    loop-again
-    same-length
-    returns)
+trim-rows-spec = tie.close (tie.spec Inv-loop μ-loop loop-holds trim-row-requires (λ c. search needs) (λ c. omega arith) loop-again
+    (λ c. search needs) returns)

@@ -4,12 +4,9 @@ use native.Mathlib.Omega.{arith}
 use borrow.Author.Needs.{needs}
 use borrow.Author.Tests.{not-true, not-false}
 use Rattle.units.proofs.Lengths.{octets-other, octets-none, octets-fit, octets-great}
-use Rattle.unitoffers.proofs.Offers.{offer-is, steps, long-unit, long-fits}
+use Rattle.units.proofs.unitoffers.Offers.{offer-is, steps, long-unit, long-fits}
 use Rattle.units.proofs.unit_octets.Statement.{statement}
 use Rattle.units.proofs.unit_octets.Tie as tie
-
-unit-of-requires : tie.Need-unit-of-requires
-unit-of-requires c κs = search needs
 
 returns : tie.Need-returns
 returns c =
@@ -23,9 +20,6 @@ returns-2 c =
     let u = o .before .before in
     let a = u .before .args in
     sym (octets-none (a .code) (a .long) (offer-is (a .code) _ (u .unit-of .ensures) (not-false _ (o .if1 .left))) (c .if2 .taken))
-
-sub-blocks : tie.Need-sub-blocks
-sub-blocks c = search needs
 
 div-blocks : tie.Need-div-blocks
 div-blocks c =
@@ -85,17 +79,5 @@ returns-4 c =
     sym (octets-great (a .code) (a .long) o (d .if2 .left) (l .great (c .if3 .left)))
 
 pub unit-octets-spec : {M : Type 1} → statement M
-unit-octets-spec =
-    tie.close
-    (tie.spec
-    unit-of-requires
-    returns
-    returns-2
-    sub-blocks
-    div-blocks
-    add-blocks
-    add-ends
-    mul-result
-    add-result
-    returns-3
-    returns-4)
+unit-octets-spec = tie.close (tie.spec (λ c κs. search needs) returns returns-2 (λ c. search needs) div-blocks add-blocks add-ends
+    mul-result add-result returns-3 returns-4)

@@ -3,8 +3,8 @@ use Prim.Native.Nat.{_-_, _*_}
 use mathlib.Core.List.{_++_}
 use lib.ListN.{length, replicate}
 use Rattle.rules.specs.Codes.{code}
-use Rattle.unitrules.specs.Units.{codeblock}
-use Rattle.unitrules.proofs.Blocks.{encodedOf}
+use Rattle.units.specs.unitrules.Units.{codeblock}
+use Rattle.units.proofs.unitrules.Blocks.{encodedOf}
 use mathlib.Core.Path.{_≡_, refl, sym, ap, ap₂, _∙_, subst}
 use native.Mathlib.Omega.{arith}
 use Rattle.randomiser.specs.Randomiser.{telecommand, randomised}
@@ -12,9 +12,6 @@ use Rattle.units.proofs.Parts.{from-fits, part-last, part-whole, lent-r
 use borrow.Author.Needs.{needs}
 use Rattle.units.proofs.write_block.Statement.{statement}
 use Rattle.units.proofs.write_block.Tie as tie
-
-information-octets-requires : tie.Need-information-octets-requires
-information-octets-requires c κs = search needs
 
 mul-from : tie.Need-mul-from
 mul-from c = let a = c .before .before .before in omega (
@@ -44,30 +41,6 @@ part-write-last-start c = let i = c .before in let a = i .before .before .before
       (i .information-octets .ensures .0) (a .pre .1),
 )
 
-part-write-last-end : tie.Need-part-write-last-end
-part-write-last-end c = search needs
-
-write-last-requires : tie.Need-write-last-requires
-write-last-requires c κs = search needs
-
-add-end : tie.Need-add-end
-add-end c = search needs
-
-sub-write-part : tie.Need-sub-write-part
-sub-write-part c = search needs
-
-part-write-part-start : tie.Need-part-write-part-start
-part-write-part-start c = search needs
-
-part-write-part-end : tie.Need-part-write-part-end
-part-write-part-end c = search needs
-
-write-part-requires : tie.Need-write-part-requires
-write-part-requires c κs = search needs
-
-same-length : tie.Need-same-length
-same-length c = search needs
-
 returns : tie.Need-returns
 unfolding codeblock
 returns c =
@@ -81,9 +54,6 @@ returns c =
     ∙ sym (part-last (a .args .code) (a .pre .0) (a .args .information .now) (a .args .k) (i .information-octets .result)
     (i .information-octets .ensures .0) (a .pre .1) (t .if1 .taken)))
 
-same-length-2 : tie.Need-same-length-2
-same-length-2 c = search needs
-
 returns-2 : tie.Need-returns-2
 unfolding codeblock
 returns-2 c =
@@ -96,22 +66,6 @@ returns-2 c =
     (i .information-octets .ensures .0) (a .pre .1) (t .if1 .left)))
 
 pub write-block-spec : {M : Type 1} → statement M
-write-block-spec =
-    tie.close
-    (tie.spec
-    information-octets-requires
-    mul-from
-    sub-left
-    sub-write-last
-    part-write-last-start
-    part-write-last-end
-    write-last-requires
-    add-end
-    sub-write-part
-    part-write-part-start
-    part-write-part-end
-    write-part-requires
-    same-length
-    returns
-    same-length-2
-    returns-2)
+write-block-spec = tie.close (tie.spec (λ c κs. search needs) mul-from sub-left sub-write-last part-write-last-start (λ c. search needs)
+    (λ c κs. search needs) (λ c. search needs) (λ c. search needs) (λ c. search needs) (λ c. search needs) (λ c κs. search needs)
+    (λ c. search needs) returns (λ c. search needs) returns-2)

@@ -9,7 +9,7 @@ use native.Mathlib.Numerals.{add-one}
 use lib.ListN.{length, take, drop, length-drop, drop-of-length-le}
 use lib.Seq.{length-take-le}
 use Rattle.rules.specs.Codes.{code as codeOf}
-use Rattle.unitrules.specs.Units.{blocksFor, codeblocks}
+use Rattle.units.specs.unitrules.Units.{blocksFor, codeblocks}
 use Rattle.units.proofs.Parts.{goes, all-there, k-small}
 use Rattle.units.proofs.Assembled.{more-length, more-blocks}
 use Rattle.units.proofs.write_blocks.Statement.{statement}
@@ -36,12 +36,6 @@ add-end c =
     let a = c .before .before .before .before .before in
     let g = goes (length (a .args .information .now)) (h .k) (a .args .code) (h .at) (w .word-octets .result) (length (h .out)) (a .pre .0)
     (w .word-octets .ensures .0) (h .inv .0) (h .inv .2 ∙ a .pre .1) (c .loop-test .taken) in omega (arith, g .next)
-
-sub-write-block : tie.Need-sub-write-block Inv-loop μ-loop
-sub-write-block c = omega arith
-
-part-write-block-start : tie.Need-part-write-block-start Inv-loop μ-loop
-part-write-block-start c = omega arith
 
 part-write-block-end : tie.Need-part-write-block-end Inv-loop μ-loop
 part-write-block-end c =
@@ -119,20 +113,5 @@ returns c =
     (codeblocks (a .args .code) (a .args .information .now) (blocksFor (a .args .code) (length (a .args .information .now)))))
 
 pub write-blocks-spec : {M : Type 1} → statement M
-write-blocks-spec =
-    tie.close
-    (tie.spec
-    Inv-loop
-    μ-loop
-    word-octets-requires
-    loop-holds
-    add-end
-    sub-write-block
-    part-write-block-start
-    part-write-block-end
-    write-block-requires
-    add-k
-    loop-less
-    loop-again
-    same-length
-    returns)
+write-blocks-spec = tie.close (tie.spec Inv-loop μ-loop word-octets-requires loop-holds add-end (λ c. omega arith) (λ c. omega arith)
+    part-write-block-end write-block-requires add-k loop-less loop-again same-length returns)

@@ -7,35 +7,17 @@ use lib.ListN.{length, drop}
 use lib.Seq.{length-take-le}
 use borrow.Rule.Slice.PartMut.{putMid}
 use Rattle.randomiser.specs.Randomiser.{telecommand, randomised}
-use Rattle.unitrules.specs.Units.{start, blocksFor, codeblocks}
+use Rattle.units.specs.unitrules.Units.{start, blocksFor, codeblocks}
 use Rattle.units.proofs.Assembled.{put-last}
 use borrow.Author.Needs.{needs}
 use Rattle.units.proofs.write_front.Statement.{statement}
 use Rattle.units.proofs.write_front.Tie as tie
-
-slice-relend-prefix-write-start : tie.Need-slice-relend-prefix-write-start
-slice-relend-prefix-write-start c = search needs
 
 slice-aggregate-write-start : tie.Need-slice-aggregate-write-start
 slice-aggregate-write-start c = let a = c .before .before .before in sym (length-take-le 8 (a .args .out .now) (omega (arith, a .pre .1)))
 
 write-start-requires : tie.Need-write-start-requires
 write-start-requires c κs = let a = c .before .before .before in length-take-le 8 (a .args .out .now) (omega (arith, a .pre .1))
-
-sub-write-blocks : tie.Need-sub-write-blocks
-sub-write-blocks c = search needs
-
-part-write-blocks-start : tie.Need-part-write-blocks-start
-part-write-blocks-start c = search needs
-
-part-write-blocks-end : tie.Need-part-write-blocks-end
-part-write-blocks-end c = search needs
-
-write-blocks-requires : tie.Need-write-blocks-requires
-write-blocks-requires c κs = search needs
-
-same-length : tie.Need-same-length
-same-length c = search needs
 
 returns : tie.Need-returns
 returns c =
@@ -49,15 +31,5 @@ returns c =
     ∙ put-last start out blocks 8 refl (omega (arith, a .pre .1))
 
 pub write-front-spec : {M : Type 1} → statement M
-write-front-spec =
-    tie.close
-    (tie.spec
-    slice-relend-prefix-write-start
-    slice-aggregate-write-start
-    write-start-requires
-    sub-write-blocks
-    part-write-blocks-start
-    part-write-blocks-end
-    write-blocks-requires
-    same-length
-    returns)
+write-front-spec = tie.close (tie.spec (λ c. search needs) slice-aggregate-write-start write-start-requires (λ c. search needs)
+    (λ c. search needs) (λ c. search needs) (λ c κs. search needs) (λ c. search needs) returns)

@@ -7,15 +7,12 @@ use lib.ListN.{length, drop, replicate, length-append, length-drop}
 use lib.Seq.{length-take-le}
 use Rattle.rules.specs.Codes.{code}
 use Rattle.randomiser.specs.Randomiser.{telecommand, randomised}
-use Rattle.unitrules.proofs.Shapes.{sizes}
-use Rattle.unitrules.proofs.Blocks.{encodedOf}
+use Rattle.units.proofs.unitrules.Shapes.{sizes}
+use Rattle.units.proofs.unitrules.Blocks.{encodedOf}
 use Rattle.units.proofs.Parts.{filled-part, filled-part-length}
 use borrow.Author.Needs.{needs}
 use Rattle.units.proofs.write_last.Statement.{statement}
 use Rattle.units.proofs.write_last.Tie as tie
-
-fill-requires : tie.Need-fill-requires
-fill-requires c κs = search needs
 
 array-borrow-prefix-part : tie.Need-array-borrow-prefix-part
 array-borrow-prefix-part c =
@@ -77,9 +74,6 @@ write-part-requires c κs =
       a .pre .3,
     )
 
-same-length : tie.Need-same-length
-same-length c = search needs
-
 returns : tie.Need-returns
 returns c =
     let w = c .before .before in
@@ -93,15 +87,5 @@ returns c =
     (code (a .args .code) .informationOctets) (k .copy .ensures) (f .fill .ensures) (a .pre .2) (a .pre .1) few)
 
 pub write-last-spec : {M : Type 1} → statement M
-write-last-spec =
-    tie.close
-    (tie.spec
-    fill-requires
-    array-borrow-prefix-part
-    slice-aggregate-copy
-    copy-requires
-    array-share-prefix-part
-    slice-aggregate-write-part
-    write-part-requires
-    same-length
-    returns)
+write-last-spec = tie.close (tie.spec (λ c κs. search needs) array-borrow-prefix-part slice-aggregate-copy copy-requires
+    array-share-prefix-part slice-aggregate-write-part write-part-requires (λ c. search needs) returns)

@@ -8,9 +8,6 @@ use borrow.Author.Needs.{needs}
 use Rattle.units.proofs.write_number.Statement.{statement}
 use Rattle.units.proofs.write_number.Tie as tie
 
-is-unit-code-requires : tie.Need-is-unit-code-requires
-is-unit-code-requires c κs = search needs
-
 returns : tie.Need-returns
 returns c =
     let a = c .before .before .args in
@@ -21,9 +18,6 @@ returns-2 c =
     let e = c .before in
     let a = e .before .before .args in
     sym (number-two (a .code) (a .long) (a .room) (sym (e .before .is-unit-code .ensures) ∙ not-false _ (e .if1 .left)) (c .if2 .taken))
-
-unit-octets-requires : tie.Need-unit-octets-requires
-unit-octets-requires c κs = search needs
 
 returns-3 : tie.Need-returns-3
 returns-3 c =
@@ -59,13 +53,4 @@ returns-5 c =
     ∙ octets-some (a .code) (a .long) (o .unit-octets .result) u d (o .unit-octets .ensures) (c .before .if3 .left)))
 
 pub write-number-spec : {M : Type 1} → statement M
-write-number-spec =
-    tie.close
-    (tie.spec
-    is-unit-code-requires
-    returns
-    returns-2
-    unit-octets-requires
-    returns-3
-    returns-4
-    returns-5)
+write-number-spec = tie.close (tie.spec (λ c κs. search needs) returns returns-2 (λ c κs. search needs) returns-3 returns-4 returns-5)

@@ -3,8 +3,8 @@ use mathlib.Core.Path.{_≡_, refl, sym, ap, ap₂, _∙_, subst}
 use native.Mathlib.Omega.{arith}
 use Rattle.randomiser.specs.Randomiser.{telecommand, randomised}
 use lib.ListN.{length}
-use Rattle.unitrules.proofs.Shapes.{sizes}
-use Rattle.unitrules.proofs.Blocks.{length-encoded}
+use Rattle.units.proofs.unitrules.Shapes.{sizes}
+use Rattle.units.proofs.unitrules.Blocks.{length-encoded}
 use Rattle.units.proofs.Parts.{encode-part}
 use borrow.Author.Needs.{needs}
 use Rattle.units.proofs.write_part.Statement.{statement}

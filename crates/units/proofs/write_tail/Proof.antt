@@ -1,9 +1,9 @@
 -- `units::write_tail`: one code has a tail, and the other none. Assumes nothing.
 use mathlib.Core.Path.{_≡_, sym, ap, _∙_}
 use lib.ListN.{length}
-use Rattle.unitrules.specs.Units.{tail}
-use Rattle.unitrules.proofs.Shapes.{none-long}
-use Rattle.unitoffers.proofs.Offers.{whole-tail}
+use Rattle.units.specs.unitrules.Units.{tail}
+use Rattle.units.proofs.unitrules.Shapes.{none-long}
+use Rattle.units.proofs.unitoffers.Offers.{whole-tail}
 use borrow.Author.Needs.{needs}
 use Rattle.units.proofs.write_tail.Statement.{statement}
 use Rattle.units.proofs.write_tail.Tie as tie

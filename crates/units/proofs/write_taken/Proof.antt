@@ -9,21 +9,12 @@ use borrow.Rule.Slice.PartMut.{putMid}
 use Rattle.rules.specs.Codes.{code as codeOf}
 use Rattle.randomiser.specs.Randomiser.{telecommand, randomised}
 use Rattle.randomiser.proofs.Randomising.{length-randomised}
-use Rattle.unitrules.specs.Units.{start, tail, blocksFor, codeblocks, unit}
-use Rattle.unitrules.proofs.Blocks.{length-codeblocks}
+use Rattle.units.specs.unitrules.Units.{start, tail, blocksFor, codeblocks, unit}
+use Rattle.units.proofs.unitrules.Blocks.{length-codeblocks}
 use Rattle.units.proofs.Assembled.{put-last}
 use borrow.Author.Needs.{needs}
 use Rattle.units.proofs.write_taken.Statement.{statement}
 use Rattle.units.proofs.write_taken.Tie as tie
-
-tail-octets-requires : tie.Need-tail-octets-requires
-tail-octets-requires c κs = search needs
-
-sub-room : tie.Need-sub-room
-sub-room c = search needs
-
-slice-relend-prefix-write-front : tie.Need-slice-relend-prefix-write-front
-slice-relend-prefix-write-front c = search needs
 
 slice-aggregate-write-front : tie.Need-slice-aggregate-write-front
 slice-aggregate-write-front c =
@@ -39,21 +30,6 @@ write-front-requires c κs =
       length-take-le (length (a .args .out .now) - t .tail-octets .result) (a .args .out .now) (omega arith)
           ∙ omega (arith, a .pre .1, t .tail-octets .ensures .0),
     )
-
-sub-write-tail : tie.Need-sub-write-tail
-sub-write-tail c = search needs
-
-part-write-tail-start : tie.Need-part-write-tail-start
-part-write-tail-start c = search needs
-
-part-write-tail-end : tie.Need-part-write-tail-end
-part-write-tail-end c = search needs
-
-write-tail-requires : tie.Need-write-tail-requires
-write-tail-requires c κs = search needs
-
-same-length : tie.Need-same-length
-same-length c = search needs
 
 returns : tie.Need-returns
 unfolding unit
@@ -75,17 +51,5 @@ returns c =
     ∙ append-assoc start blocks (tail n)
 
 pub write-taken-spec : {M : Type 1} → statement M
-write-taken-spec =
-    tie.close
-    (tie.spec
-    tail-octets-requires
-    sub-room
-    slice-relend-prefix-write-front
-    slice-aggregate-write-front
-    write-front-requires
-    sub-write-tail
-    part-write-tail-start
-    part-write-tail-end
-    write-tail-requires
-    same-length
-    returns)
+write-taken-spec = tie.close (tie.spec (λ c κs. search needs) (λ c. search needs) (λ c. search needs) slice-aggregate-write-front
+    write-front-requires (λ c. search needs) (λ c. search needs) (λ c. search needs) (λ c κs. search needs) (λ c. search needs) returns)

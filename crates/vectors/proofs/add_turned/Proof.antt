@@ -26,30 +26,6 @@ loop-holds c =
           (λ n h. sym (added-before y z (64 * a .at) (64 * (a .at + a .w)) n (omega arith))),
     )
 
-add-span : tie.Need-add-span Inv-loop μ-loop
-add-span c = omega arith
-
-span-requires : tie.Need-span-requires Inv-loop μ-loop
-span-requires c κs = omega arith
-
-add-acc : tie.Need-add-acc Inv-loop μ-loop
-add-acc c = omega arith
-
-mul-acc : tie.Need-mul-acc Inv-loop μ-loop
-mul-acc c = omega arith
-
-slice-read-acc : tie.Need-slice-read-acc Inv-loop μ-loop
-slice-read-acc c = omega arith
-
-slice-write-acc : tie.Need-slice-write-acc Inv-loop μ-loop
-slice-write-acc c = omega arith
-
-add-j : tie.Need-add-j Inv-loop μ-loop
-add-j c = omega arith
-
-loop-less : tie.Need-loop-less Inv-loop μ-loop
-loop-less c = omega arith
-
 loop-again : tie.Need-loop-again Inv-loop μ-loop
 loop-again c =
     let a = c .before .before .before .before .before .before .args in
@@ -81,20 +57,5 @@ returns c =
     (λ n h. sym (added-after y z (64 * a .at) (64 * (a .at + a .w)) n (omega arith) (omega arith)))
 
 pub add-turned-spec : {M : Type 1} → statement M
-add-turned-spec =
-    tie.close
-    (tie.spec
-    Inv-loop
-    μ-loop
-    loop-holds
-    add-span
-    span-requires
-    add-acc
-    mul-acc
-    slice-read-acc
-    slice-write-acc
-    add-j
-    loop-less
-    loop-again
-    same-length
-    returns)
+add-turned-spec = tie.close (tie.spec Inv-loop μ-loop loop-holds (λ c. omega arith) (λ c κs. omega arith) (λ c. omega arith)
+    (λ c. omega arith) (λ c. omega arith) (λ c. omega arith) (λ c. omega arith) (λ c. omega arith) loop-again same-length returns)

@@ -22,24 +22,6 @@ loop-holds c =
     let a = c .before .before .args in
     filled-start (a .v .now) (from (a .p) (wbit (a .y .now)))
 
-add-span : tie.Need-add-span Inv-loop μ-loop
-add-span c = omega arith
-
-span-requires : tie.Need-span-requires Inv-loop μ-loop
-span-requires c κs = omega arith
-
-mul-v : tie.Need-mul-v Inv-loop μ-loop
-mul-v c = omega arith
-
-slice-write-v : tie.Need-slice-write-v Inv-loop μ-loop
-slice-write-v c = omega arith
-
-add-k : tie.Need-add-k Inv-loop μ-loop
-add-k c = omega arith
-
-loop-less : tie.Need-loop-less Inv-loop μ-loop
-loop-less c = omega arith
-
 loop-again : tie.Need-loop-again Inv-loop μ-loop
 loop-again c =
     let a = c .before .before .before .before .before .args in
@@ -47,12 +29,6 @@ loop-again c =
     let y = wbit (a .y .now) in
     filled-more (a .v .now) (from (a .p) y) (l .v) (l .k) (l .inv) (c .span .result) (omega arith) (λ i hi. c .span .ensures i hi
     ∙ ap y (omega arith))
-
-trim-requires : tie.Need-trim-requires Inv-loop μ-loop
-trim-requires c κs = tt
-
-same-length : tie.Need-same-length Inv-loop μ-loop
-same-length c = search needs
 
 returns : tie.Need-returns Inv-loop μ-loop
 returns c =
@@ -63,19 +39,5 @@ returns c =
     ∙ upTo-joined (a .m) (64 * l .k) (from (a .p) (wbit (a .y .now))) (wbit (a .v .now)) (omega arith)
 
 pub cut-spec : {M : Type 1} → statement M
-cut-spec =
-    tie.close
-    (tie.spec
-    Inv-loop
-    μ-loop
-    loop-holds
-    add-span
-    span-requires
-    mul-v
-    slice-write-v
-    add-k
-    loop-less
-    loop-again
-    trim-requires
-    same-length
-    returns)
+cut-spec = tie.close (tie.spec Inv-loop μ-loop loop-holds (λ c. omega arith) (λ c κs. omega arith) (λ c. omega arith) (λ c. omega arith)
+    (λ c. omega arith) (λ c. omega arith) loop-again (λ c κs. tt) (λ c. search needs) returns)

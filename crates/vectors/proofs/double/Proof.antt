@@ -9,72 +9,6 @@ use Rattle.vectors.proofs.Doubling.{at-stored, end-stored}
 use Rattle.vectors.proofs.double.Statement.{statement}
 use Rattle.vectors.proofs.double.Tie as tie
 
-add-n : tie.Need-add-n
-add-n c = search needs
-
-mul-t : tie.Need-mul-t
-mul-t c = search needs
-
-sub-t : tie.Need-sub-t
-sub-t c = search needs
-
-double-words-requires : tie.Need-double-words-requires
-double-words-requires c κs = search needs
-
-sub-a : tie.Need-sub-a
-sub-a c = search needs
-
-mul-a : tie.Need-mul-a
-mul-a c = search needs
-
-shared-slice-read-a : tie.Need-shared-slice-read-a
-shared-slice-read-a c = search needs
-
-shared-slice-read-d : tie.Need-shared-slice-read-d
-shared-slice-read-d c = search needs
-
-sub-d : tie.Need-sub-d
-sub-d c = search needs
-
-shr-d : tie.Need-shr-d
-shr-d c = search needs
-
-sub-d-2 : tie.Need-sub-d-2
-sub-d-2 c = search needs
-
-mul-d : tie.Need-mul-d
-mul-d c = search needs
-
-slice-write-d : tie.Need-slice-write-d
-slice-write-d c = search needs
-
-mul-if1 : tie.Need-mul-if1
-mul-if1 c = search needs
-
-sub-if1 : tie.Need-sub-if1
-sub-if1 c = search needs
-
-funnel-requires : tie.Need-funnel-requires
-funnel-requires c κs = search needs
-
-mul-d-2 : tie.Need-mul-d-2
-mul-d-2 c = search needs
-
-sub-d-3 : tie.Need-sub-d-3
-sub-d-3 c = search needs
-
-mul-d-3 : tie.Need-mul-d-3
-mul-d-3 c = search needs
-
-slice-write-d-2 : tie.Need-slice-write-d-2
-slice-write-d-2 c = search needs
-
-mul-trim : tie.Need-mul-trim
-mul-trim c = search needs
-
-trim-requires : tie.Need-trim-requires
-trim-requires c κs = search needs
-
 same-length : tie.Need-same-length
 same-length c =
     let after-d : tie.After-d = search in
@@ -108,9 +42,6 @@ returns c =
     (w .ensures)
     (u .result) (c .before .before .before .before .before .before .shared-slice-known3 .given 0 .fits) (omega arith) (u .ensures)
 
-same-length-2 : tie.Need-same-length-2
-same-length-2 c = search needs
-
 returns-2 : tie.Need-returns-2
 returns-2 c =
     let s : tie.Start = search in
@@ -123,32 +54,8 @@ returns-2 c =
     (c .before .shared-slice-known3 .given 0 .fits) (omega arith) (omega arith) (omega arith)
 
 pub double-spec : {M : Type 1} → statement M
-double-spec =
-    tie.close
-    (tie.spec
-    add-n
-    mul-t
-    sub-t
-    double-words-requires
-    sub-a
-    mul-a
-    shared-slice-read-a
-    shared-slice-read-d
-    sub-d
-    shr-d
-    sub-d-2
-    mul-d
-    slice-write-d
-    mul-if1
-    sub-if1
-    funnel-requires
-    mul-d-2
-    sub-d-3
-    mul-d-3
-    slice-write-d-2
-    mul-trim
-    trim-requires
-    same-length
-    returns
-    same-length-2
-    returns-2)
+double-spec = tie.close (tie.spec (λ c. search needs) (λ c. search needs) (λ c. search needs) (λ c κs. search needs) (λ c. search needs)
+    (λ c. search needs) (λ c. search needs) (λ c. search needs) (λ c. search needs) (λ c. search needs) (λ c. search needs)
+    (λ c. search needs) (λ c. search needs) (λ c. search needs) (λ c. search needs) (λ c κs. search needs) (λ c. search needs)
+    (λ c. search needs) (λ c. search needs) (λ c. search needs) (λ c. search needs) (λ c κs. search needs) same-length returns
+    (λ c. search needs) returns-2)

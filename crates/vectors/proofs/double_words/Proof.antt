@@ -14,47 +14,11 @@ Inv-loop v n t d₀ a₀ k₀ d a k = (k + 1 ≤ n) × (length d ≡ length d₀
 abbrev μ-loop : tie.MeasureT-loop
 μ-loop v n t d₀ a₀ k₀ d a k = n - k
 
-shared-slice-read-a : tie.Need-shared-slice-read-a Inv-loop μ-loop
-shared-slice-read-a c = omega arith
-
 loop-holds : tie.Need-loop-holds Inv-loop μ-loop
 loop-holds c = (omega arith, refl, refl, λ j h. absurd (omega arith))
 
-add-loop : tie.Need-add-loop Inv-loop μ-loop
-add-loop c = omega arith
-
-add-b : tie.Need-add-b Inv-loop μ-loop
-add-b c = omega arith
-
-mul-b : tie.Need-mul-b Inv-loop μ-loop
-mul-b c = omega arith
-
-shared-slice-read-b : tie.Need-shared-slice-read-b Inv-loop μ-loop
-shared-slice-read-b c = omega arith
-
-mul-d : tie.Need-mul-d Inv-loop μ-loop
-mul-d c = omega arith
-
-slice-write-d : tie.Need-slice-write-d Inv-loop μ-loop
-slice-write-d c = omega arith
-
-funnel-requires : tie.Need-funnel-requires Inv-loop μ-loop
-funnel-requires c κs = omega arith
-
-add-d : tie.Need-add-d Inv-loop μ-loop
-add-d c = omega arith
-
-mul-d-2 : tie.Need-mul-d-2 Inv-loop μ-loop
-mul-d-2 c = omega arith
-
 slice-write-d-2 : tie.Need-slice-write-d-2 Inv-loop μ-loop
 slice-write-d-2 c = simp length-set (omega arith)
-
-add-k : tie.Need-add-k Inv-loop μ-loop
-add-k c = omega arith
-
-loop-less : tie.Need-loop-less Inv-loop μ-loop
-loop-less c = omega arith
 
 loop-again : tie.Need-loop-again Inv-loop μ-loop
 loop-again c =
@@ -76,25 +40,6 @@ returns : tie.Need-returns Inv-loop μ-loop
 returns c j h = c .before .loop .inv .3 j (omega arith)
 
 pub double-words-spec : {M : Type 1} → statement M
-double-words-spec =
-    tie.close
-    (tie.spec
-    Inv-loop
-    μ-loop
-    shared-slice-read-a
-    loop-holds
-    add-loop
-    add-b
-    mul-b
-    shared-slice-read-b
-    mul-d
-    slice-write-d
-    funnel-requires
-    add-d
-    mul-d-2
-    slice-write-d-2
-    add-k
-    loop-less
-    loop-again
-    same-length
-    returns)
+double-words-spec = tie.close (tie.spec Inv-loop μ-loop (λ c. omega arith) loop-holds (λ c. omega arith) (λ c. omega arith)
+    (λ c. omega arith) (λ c. omega arith) (λ c. omega arith) (λ c. omega arith) (λ c κs. omega arith) (λ c. omega arith) (λ c. omega arith)
+    slice-write-d-2 (λ c. omega arith) (λ c. omega arith) loop-again same-length returns)

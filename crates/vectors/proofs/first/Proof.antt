@@ -19,26 +19,8 @@ Inv-loop ws k₀ k = (k ≤ length ws) × Clear ws k
 abbrev μ-loop : tie.MeasureT-loop
 μ-loop ws k₀ k = length ws - k
 
-skip-requires : tie.Need-skip-requires Inv-loop μ-loop
-skip-requires c κs = search needs
-
 loop-holds : tie.Need-loop-holds Inv-loop μ-loop
 loop-holds c = c .skip .ensures
-
-mul-if1 : tie.Need-mul-if1 Inv-loop μ-loop
-mul-if1 c = omega arith
-
-shared-slice-read-if1 : tie.Need-shared-slice-read-if1 Inv-loop μ-loop
-shared-slice-read-if1 c = omega arith
-
-mul-result : tie.Need-mul-result Inv-loop μ-loop
-mul-result c = search needs
-
-mul-result-2 : tie.Need-mul-result-2 Inv-loop μ-loop
-mul-result-2 c = search needs
-
-shared-slice-read-result : tie.Need-shared-slice-read-result Inv-loop μ-loop
-shared-slice-read-result c = search needs
 
 cast-result : tie.Need-cast-result Inv-loop μ-loop
 cast-result c =
@@ -57,19 +39,10 @@ returns c =
     let k = l .loop .k in
     first-of ws k (omega arith) (l .loop .inv .1) (pos-of-ne-zero (c .before .if1 .taken)) (c .shared-slice-known3 .given k .fits)
 
-add-k : tie.Need-add-k Inv-loop μ-loop
-add-k c = search needs
-
-loop-less : tie.Need-loop-less Inv-loop μ-loop
-loop-less c = omega arith
-
 loop-again : tie.Need-loop-again Inv-loop μ-loop
 loop-again c =
     let l = c .before .before .before in
     (omega arith, clear-more (l .before .before .before .args .ws .now) (l .loop .k) (l .loop .inv .1) (c .if1 .left))
-
-mul-result-3 : tie.Need-mul-result-3 Inv-loop μ-loop
-mul-result-3 c = search needs
 
 returns-2 : tie.Need-returns-2 Inv-loop μ-loop
 returns-2 c =
@@ -79,23 +52,6 @@ returns-2 c =
     ap (λ (k : ℕ). 64 * k) e ∙ sym (least-none (64 * length ws) (wbit ws) (λ i h. l .inv .1 i (omega arith)))
 
 pub first-spec : {M : Type 1} → statement M
-first-spec =
-    tie.close
-    (tie.spec
-    Inv-loop
-    μ-loop
-    skip-requires
-    loop-holds
-    mul-if1
-    shared-slice-read-if1
-    mul-result
-    mul-result-2
-    shared-slice-read-result
-    cast-result
-    add-result
-    returns
-    add-k
-    loop-less
-    loop-again
-    mul-result-3
-    returns-2)
+first-spec = tie.close (tie.spec Inv-loop μ-loop (λ c κs. search needs) loop-holds (λ c. omega arith) (λ c. omega arith) (λ c. search needs)
+    (λ c. search needs) (λ c. search needs) cast-result add-result returns (λ c. search needs) (λ c. omega arith) loop-again
+    (λ c. search needs) returns-2)

@@ -22,12 +22,6 @@ mul-number c =
     let h : l .number < 2 ^ 56 = fits (8 * l .j) 56 (l .number) (l .inv .1 .0) (omega arith) in
     omega arith
 
-add-number : tie.Need-add-number Inv-loop μ-loop
-add-number c = omega arith
-
-shared-slice-read-number : tie.Need-shared-slice-read-number Inv-loop μ-loop
-shared-slice-read-number c = omega arith
-
 cast-number : tie.Need-cast-number Inv-loop μ-loop
 cast-number c = omega (arith, c .shared-slice-known .given (c .before .before .before .args .at + c .before .before .loop .j))
 
@@ -36,12 +30,6 @@ add-number-2 c =
     let l = c .before .before .loop in
     let h : l .number < 2 ^ 56 = fits (8 * l .j) 56 (l .number) (l .inv .1 .0) (omega arith) in
     omega (arith, c .shared-slice-known .given (c .before .before .before .args .at + l .j))
-
-add-j : tie.Need-add-j Inv-loop μ-loop
-add-j c = omega arith
-
-loop-less : tie.Need-loop-less Inv-loop μ-loop
-loop-less c = omega arith
 
 loop-again : tie.Need-loop-again Inv-loop μ-loop
 loop-again c =
@@ -56,18 +44,5 @@ returns c =
     subst (λ (j : ℕ). Gathered (a .octets .now) (a .at) j (l .number)) (omega arith) (l .inv .1)
 
 pub gathered-spec : {M : Type 1} → statement M
-gathered-spec =
-    tie.close
-    (tie.spec
-    Inv-loop
-    μ-loop
-    loop-holds
-    mul-number
-    add-number
-    shared-slice-read-number
-    cast-number
-    add-number-2
-    add-j
-    loop-less
-    loop-again
-    returns)
+gathered-spec = tie.close (tie.spec Inv-loop μ-loop loop-holds mul-number (λ c. omega arith) (λ c. omega arith) cast-number add-number-2
+    (λ c. omega arith) (λ c. omega arith) loop-again returns)

@@ -20,30 +20,6 @@ loop-holds c =
     let y = wbit (a .ws .now) in
     (later-first y, filled-start (a .ws .now) (later (a .u) y))
 
-mul-v : tie.Need-mul-v Inv-loop μ-loop
-mul-v c = omega arith
-
-slice-read-v : tie.Need-slice-read-v Inv-loop μ-loop
-slice-read-v c = omega arith
-
-sub-funnel : tie.Need-sub-funnel Inv-loop μ-loop
-sub-funnel c = omega arith
-
-funnel-requires : tie.Need-funnel-requires Inv-loop μ-loop
-funnel-requires c κs = omega arith
-
-mul-ws : tie.Need-mul-ws Inv-loop μ-loop
-mul-ws c = omega arith
-
-slice-write-ws : tie.Need-slice-write-ws Inv-loop μ-loop
-slice-write-ws c = omega arith
-
-add-k : tie.Need-add-k Inv-loop μ-loop
-add-k c = omega arith
-
-loop-less : tie.Need-loop-less Inv-loop μ-loop
-loop-less c = omega arith
-
 loop-again : tie.Need-loop-again Inv-loop μ-loop
 loop-again c =
     let s = c .before .before .before .before .before .before in
@@ -73,21 +49,5 @@ returns-2 : tie.Need-returns-2 Inv-loop μ-loop
 returns-2 c = later-none (c .before .before .args .u) (wbit (c .before .before .args .ws .now)) (omega arith)
 
 pub lift-spec : {M : Type 1} → statement M
-lift-spec =
-    tie.close
-    (tie.spec
-    Inv-loop
-    μ-loop
-    loop-holds
-    mul-v
-    slice-read-v
-    sub-funnel
-    funnel-requires
-    mul-ws
-    slice-write-ws
-    add-k
-    loop-less
-    loop-again
-    same-length
-    returns
-    returns-2)
+lift-spec = tie.close (tie.spec Inv-loop μ-loop loop-holds (λ c. omega arith) (λ c. omega arith) (λ c. omega arith) (λ c κs. omega arith)
+    (λ c. omega arith) (λ c. omega arith) (λ c. omega arith) (λ c. omega arith) loop-again same-length returns returns-2)

@@ -11,21 +11,6 @@ use Rattle.vectors.proofs.Filling.{word-stored}
 use Rattle.vectors.proofs.load.Statement.{statement}
 use Rattle.vectors.proofs.load.Tie as tie
 
-load-whole-requires : tie.Need-load-whole-requires
-load-whole-requires c κs = search needs
-
-last-requires : tie.Need-last-requires
-last-requires c κs = search needs
-
-mul-ws : tie.Need-mul-ws
-mul-ws c = search needs
-
-slice-write-ws : tie.Need-slice-write-ws
-slice-write-ws c = search needs
-
-same-length : tie.Need-same-length
-same-length c = search needs
-
 returns : tie.Need-returns
 returns c =
     let s = c .before .before .before .before .before .before .before .before in
@@ -36,9 +21,6 @@ returns c =
     word-stored (w .last .1 .0) k x (wbit (a .ws .now)) (w .ensures) (c .last .result) (omega arith) (c .last .ensures)
     ∙ zeros-behind (a .octets .now) (a .ws .now) (k + 1) (s .pre .1) (omega arith)
 
-same-length-2 : tie.Need-same-length-2
-same-length-2 c = search needs
-
 returns-2 : tie.Need-returns-2
 returns-2 c =
     let s = c .before .before .before .before .before .before .before in
@@ -46,14 +28,5 @@ returns-2 c =
     ∙ zeros-behind (s .args .octets .now) (s .args .ws .now) (length (s .args .octets .now) / 8) (s .pre .1) (omega arith)
 
 pub load-spec : {M : Type 1} → statement M
-load-spec =
-    tie.close
-    (tie.spec
-    load-whole-requires
-    last-requires
-    mul-ws
-    slice-write-ws
-    same-length
-    returns
-    same-length-2
-    returns-2)
+load-spec = tie.close (tie.spec (λ c κs. search needs) (λ c κs. search needs) (λ c. search needs) (λ c. search needs) (λ c. search needs)
+    returns (λ c. search needs) returns-2)

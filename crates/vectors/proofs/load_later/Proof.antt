@@ -12,42 +12,6 @@ use Rattle.vectors.proofs.Spans.{later-holds, later-next}
 use Rattle.vectors.proofs.load_later.Statement.{statement}
 use Rattle.vectors.proofs.load_later.Tie as tie
 
-load-whole-later-requires : tie.Need-load-whole-later-requires
-load-whole-later-requires c κs = search needs
-
-last-requires : tie.Need-last-requires
-last-requires c κs = search needs
-
-sub-funnel : tie.Need-sub-funnel
-sub-funnel c = search needs
-
-funnel-requires : tie.Need-funnel-requires
-funnel-requires c κs = search needs
-
-mul-ws : tie.Need-mul-ws
-mul-ws c = search needs
-
-slice-write-ws : tie.Need-slice-write-ws
-slice-write-ws c = search needs
-
-sub-funnel-2 : tie.Need-sub-funnel-2
-sub-funnel-2 c = search needs
-
-funnel-requires-2 : tie.Need-funnel-requires-2
-funnel-requires-2 c κs = search needs
-
-add-ws : tie.Need-add-ws
-add-ws c = search needs
-
-mul-ws-2 : tie.Need-mul-ws-2
-mul-ws-2 c = search needs
-
-slice-write-ws-2 : tie.Need-slice-write-ws-2
-slice-write-ws-2 c = search needs
-
-same-length : tie.Need-same-length
-same-length c = search needs
-
 returns : tie.Need-returns
 returns c =
     let s : tie.Start = search in
@@ -71,19 +35,6 @@ returns c =
     ∙ later-behind o (a .ws .now) (k + 1 + 1) u (s .pre .3) (omega arith)
 
 pub load-later-spec : {M : Type 1} → statement M
-load-later-spec =
-    tie.close
-    (tie.spec
-    load-whole-later-requires
-    last-requires
-    sub-funnel
-    funnel-requires
-    mul-ws
-    slice-write-ws
-    sub-funnel-2
-    funnel-requires-2
-    add-ws
-    mul-ws-2
-    slice-write-ws-2
-    same-length
-    returns)
+load-later-spec = tie.close (tie.spec (λ c κs. search needs) (λ c κs. search needs) (λ c. search needs) (λ c κs. search needs)
+    (λ c. search needs) (λ c. search needs) (λ c. search needs) (λ c κs. search needs) (λ c. search needs) (λ c. search needs)
+    (λ c. search needs) (λ c. search needs) returns)

@@ -20,24 +20,6 @@ loop-holds c =
     let a = c .before .before .args in
     (omega arith, filled-start (a .ws .now) (bit (a .octets .now)))
 
-mul-eight : tie.Need-mul-eight Inv-loop μ-loop
-mul-eight c = omega arith
-
-eight-requires : tie.Need-eight-requires Inv-loop μ-loop
-eight-requires c κs = omega arith
-
-mul-ws : tie.Need-mul-ws Inv-loop μ-loop
-mul-ws c = omega arith
-
-slice-write-ws : tie.Need-slice-write-ws Inv-loop μ-loop
-slice-write-ws c = omega arith
-
-add-k : tie.Need-add-k Inv-loop μ-loop
-add-k c = omega arith
-
-loop-less : tie.Need-loop-less Inv-loop μ-loop
-loop-less c = omega arith
-
 loop-again : tie.Need-loop-again Inv-loop μ-loop
 loop-again c =
     let a = c .before .before .before .before .before .args in
@@ -59,18 +41,5 @@ returns c =
     l .inv .1 .bits ∙ ap (λ m. joined (64 * m) (bit (a .octets .now)) (wbit (a .ws .now))) all
 
 pub load-whole-spec : {M : Type 1} → statement M
-load-whole-spec =
-    tie.close
-    (tie.spec
-    Inv-loop
-    μ-loop
-    loop-holds
-    mul-eight
-    eight-requires
-    mul-ws
-    slice-write-ws
-    add-k
-    loop-less
-    loop-again
-    same-length
-    returns)
+load-whole-spec = tie.close (tie.spec Inv-loop μ-loop loop-holds (λ c. omega arith) (λ c κs. omega arith) (λ c. omega arith)
+    (λ c. omega arith) (λ c. omega arith) (λ c. omega arith) loop-again same-length returns)

@@ -23,30 +23,6 @@ loop-holds c =
     let x = bit (a .octets .now) in
     (omega arith, later-first x, filled-start (a .ws .now) (later (a .u) x))
 
-mul-eight : tie.Need-mul-eight Inv-loop μ-loop
-mul-eight c = omega arith
-
-eight-requires : tie.Need-eight-requires Inv-loop μ-loop
-eight-requires c κs = omega arith
-
-sub-funnel : tie.Need-sub-funnel Inv-loop μ-loop
-sub-funnel c = omega arith
-
-funnel-requires : tie.Need-funnel-requires Inv-loop μ-loop
-funnel-requires c κs = omega arith
-
-mul-ws : tie.Need-mul-ws Inv-loop μ-loop
-mul-ws c = omega arith
-
-slice-write-ws : tie.Need-slice-write-ws Inv-loop μ-loop
-slice-write-ws c = omega arith
-
-add-k : tie.Need-add-k Inv-loop μ-loop
-add-k c = omega arith
-
-loop-less : tie.Need-loop-less Inv-loop μ-loop
-loop-less c = omega arith
-
 loop-again : tie.Need-loop-again Inv-loop μ-loop
 loop-again c =
     let s = c .before .before .before .before .before .before in
@@ -75,20 +51,5 @@ returns c =
     )
 
 pub load-whole-later-spec : {M : Type 1} → statement M
-load-whole-later-spec =
-    tie.close
-    (tie.spec
-    Inv-loop
-    μ-loop
-    loop-holds
-    mul-eight
-    eight-requires
-    sub-funnel
-    funnel-requires
-    mul-ws
-    slice-write-ws
-    add-k
-    loop-less
-    loop-again
-    same-length
-    returns)
+load-whole-later-spec = tie.close (tie.spec Inv-loop μ-loop loop-holds (λ c. omega arith) (λ c κs. omega arith) (λ c. omega arith)
+    (λ c κs. omega arith) (λ c. omega arith) (λ c. omega arith) (λ c. omega arith) (λ c. omega arith) loop-again same-length returns)

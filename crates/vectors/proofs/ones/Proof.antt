@@ -20,12 +20,6 @@ abbrev μ-loop : tie.MeasureT-loop
 loop-holds : tie.Need-loop-holds Inv-loop μ-loop
 loop-holds c = (omega arith, count-start (wbit (c .args .ws .now)))
 
-mul-n : tie.Need-mul-n Inv-loop μ-loop
-mul-n c = omega arith
-
-shared-slice-read-n : tie.Need-shared-slice-read-n Inv-loop μ-loop
-shared-slice-read-n c = omega arith
-
 cast-n : tie.Need-cast-n Inv-loop μ-loop
 cast-n c =
     let v = getD (c .before .before .before .args .ws .now) (c .before .before .loop .k) 0 in
@@ -41,12 +35,6 @@ add-n c =
       count-le (64 * l .k) (wbit (a .ws .now)),
     )
 
-add-k : tie.Need-add-k Inv-loop μ-loop
-add-k c = omega arith
-
-loop-less : tie.Need-loop-less Inv-loop μ-loop
-loop-less c = omega arith
-
 loop-again : tie.Need-loop-again Inv-loop μ-loop
 loop-again c =
     let a = c .before .before .before .args in
@@ -61,17 +49,5 @@ returns c =
     l .inv .1 ∙ ap (λ (k : ℕ). count (64 * k) (wbit (a .ws .now))) e
 
 pub ones-spec : {M : Type 1} → statement M
-ones-spec =
-    tie.close
-    (tie.spec
-    Inv-loop
-    μ-loop
-    loop-holds
-    mul-n
-    shared-slice-read-n
-    cast-n
-    add-n
-    add-k
-    loop-less
-    loop-again
-    returns)
+ones-spec = tie.close (tie.spec Inv-loop μ-loop loop-holds (λ c. omega arith) (λ c. omega arith) cast-n add-n (λ c. omega arith)
+    (λ c. omega arith) loop-again returns)

@@ -28,30 +28,6 @@ loop-holds c =
           (λ n h. sym (joined-below (8 * a .at) n z (λ k. digit 64 (a .v) (k - 8 * a .at)) (omega arith))),
     )
 
-mul-out : tie.Need-mul-out Inv-loop μ-loop
-mul-out c = omega arith
-
-sub-out : tie.Need-sub-out Inv-loop μ-loop
-sub-out c = omega arith
-
-shr-out : tie.Need-shr-out Inv-loop μ-loop
-shr-out c = omega arith
-
-cast-out : tie.Need-cast-out Inv-loop μ-loop
-cast-out c = omega arith
-
-add-out : tie.Need-add-out Inv-loop μ-loop
-add-out c = omega arith
-
-slice-write-out : tie.Need-slice-write-out Inv-loop μ-loop
-slice-write-out c = omega arith
-
-add-j : tie.Need-add-j Inv-loop μ-loop
-add-j c = omega arith
-
-loop-less : tie.Need-loop-less Inv-loop μ-loop
-loop-less c = omega arith
-
 loop-again : tie.Need-loop-again Inv-loop μ-loop
 loop-again c =
     let a = c .before .before .args in
@@ -84,20 +60,5 @@ returns c =
     l .inv .2 ∙ ap (λ (j : ℕ). joined (8 * (a .at + j)) (after (8 * a .at) z (a .v)) z) e
 
 pub put-spec : {M : Type 1} → statement M
-put-spec =
-    tie.close
-    (tie.spec
-    Inv-loop
-    μ-loop
-    loop-holds
-    mul-out
-    sub-out
-    shr-out
-    cast-out
-    add-out
-    slice-write-out
-    add-j
-    loop-less
-    loop-again
-    same-length
-    returns)
+put-spec = tie.close (tie.spec Inv-loop μ-loop loop-holds (λ c. omega arith) (λ c. omega arith) (λ c. omega arith) (λ c. omega arith)
+    (λ c. omega arith) (λ c. omega arith) (λ c. omega arith) (λ c. omega arith) loop-again same-length returns)

@@ -31,24 +31,6 @@ loop-holds c =
           c .slice-known .given i .fits,
     )
 
-add-span : tie.Need-add-span Inv-loop μ-loop
-add-span c = omega arith
-
-span-requires : tie.Need-span-requires Inv-loop μ-loop
-span-requires c κs = omega arith
-
-mul-put : tie.Need-mul-put Inv-loop μ-loop
-mul-put c = omega arith
-
-put-requires : tie.Need-put-requires Inv-loop μ-loop
-put-requires c κs = omega arith
-
-add-k : tie.Need-add-k Inv-loop μ-loop
-add-k c = omega arith
-
-loop-less : tie.Need-loop-less Inv-loop μ-loop
-loop-less c = omega arith
-
 loop-again : tie.Need-loop-again Inv-loop μ-loop
 loop-again c =
     let start : tie.Start Inv-loop μ-loop = search in
@@ -66,21 +48,6 @@ loop-again c =
           ∙ ap (λ (n : ℕ). joined (8 * n) x y) e,
       λ i. c .slice-known2 .given i .fits,
     )
-
-add-span-2 : tie.Need-add-span-2 Inv-loop μ-loop
-add-span-2 c = omega arith
-
-span-requires-2 : tie.Need-span-requires-2 Inv-loop μ-loop
-span-requires-2 c κs = omega arith
-
-mul-put-2 : tie.Need-mul-put-2 Inv-loop μ-loop
-mul-put-2 c = omega arith
-
-put-requires-2 : tie.Need-put-requires-2 Inv-loop μ-loop
-put-requires-2 c κs = omega arith
-
-same-length : tie.Need-same-length Inv-loop μ-loop
-same-length c = search needs
 
 returns : tie.Need-returns Inv-loop μ-loop
 returns c =
@@ -109,24 +76,6 @@ returns-2 c =
     written (a .out .now) (l .out) (from (a .u) (wbit (a .ws .now))) (8 * (8 * l .k)) (l .inv .1) (l .inv .3) (omega arith) (l .inv .2)
 
 pub store-spec : {M : Type 1} → statement M
-store-spec =
-    tie.close
-    (tie.spec
-    Inv-loop
-    μ-loop
-    loop-holds
-    add-span
-    span-requires
-    mul-put
-    put-requires
-    add-k
-    loop-less
-    loop-again
-    add-span-2
-    span-requires-2
-    mul-put-2
-    put-requires-2
-    same-length
-    returns
-    same-length-2
-    returns-2)
+store-spec = tie.close (tie.spec Inv-loop μ-loop loop-holds (λ c. omega arith) (λ c κs. omega arith) (λ c. omega arith)
+    (λ c κs. omega arith) (λ c. omega arith) (λ c. omega arith) loop-again (λ c. omega arith) (λ c κs. omega arith) (λ c. omega arith)
+    (λ c κs. omega arith) (λ c. search needs) returns same-length-2 returns-2)

@@ -21,27 +21,6 @@ loop-holds c =
     let y = wbit (a .ws .now) in
     (omega arith, omega arith, filled-from (a .ws .now) (upTo (a .n) y) (a .n / 64) (λ i h. sym (upTo-below (a .n) i y (omega arith))))
 
-mul-front : tie.Need-mul-front Inv-loop μ-loop
-mul-front c = omega arith
-
-slice-read-front : tie.Need-slice-read-front Inv-loop μ-loop
-slice-read-front c = omega arith
-
-front-requires : tie.Need-front-requires Inv-loop μ-loop
-front-requires c κs = omega arith
-
-mul-ws : tie.Need-mul-ws Inv-loop μ-loop
-mul-ws c = omega arith
-
-slice-write-ws : tie.Need-slice-write-ws Inv-loop μ-loop
-slice-write-ws c = omega arith
-
-add-k : tie.Need-add-k Inv-loop μ-loop
-add-k c = omega arith
-
-loop-less : tie.Need-loop-less Inv-loop μ-loop
-loop-less c = omega arith
-
 loop-again : tie.Need-loop-again Inv-loop μ-loop
 loop-again c =
     let a = c .before .before .before .before .before .args in
@@ -67,19 +46,5 @@ returns c =
     (λ i h. upTo-past (a .ws .now) (a .n) i h)
 
 pub trim-spec : {M : Type 1} → statement M
-trim-spec =
-    tie.close
-    (tie.spec
-    Inv-loop
-    μ-loop
-    loop-holds
-    mul-front
-    slice-read-front
-    front-requires
-    mul-ws
-    slice-write-ws
-    add-k
-    loop-less
-    loop-again
-    same-length
-    returns)
+trim-spec = tie.close (tie.spec Inv-loop μ-loop loop-holds (λ c. omega arith) (λ c. omega arith) (λ c κs. omega arith) (λ c. omega arith)
+    (λ c. omega arith) (λ c. omega arith) (λ c. omega arith) loop-again same-length returns)

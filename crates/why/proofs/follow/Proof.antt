@@ -2,7 +2,7 @@
 use Prim.Native.Nat.{_-_}
 use native.Mathlib.Omega.{arith}
 use Rattle.vectors.proofs.Filling.{zero-words}
-use Rattle.listing.specs.Listings.{Lists}
+use Rattle.lists.specs.listing.Listings.{Lists}
 use borrow.Author.Needs.{needs}
 use Rattle.why.proofs.follow.Statement.{statement}
 use Rattle.why.proofs.follow.Tie as tie
@@ -19,12 +19,6 @@ begin-requires c κs = (zero-words 130, zero-words 16)
 
 loop-holds : tie.Need-loop-holds Inv-loop μ-loop
 loop-holds c = c .begin .ensures .1
-
-put-flip-requires : tie.Need-put-flip-requires Inv-loop μ-loop
-put-flip-requires c κs = search needs
-
-returns : tie.Need-returns Inv-loop μ-loop
-returns c = search needs
 
 next-requires : tie.Need-next-requires Inv-loop μ-loop
 next-requires c κs =
@@ -48,20 +42,6 @@ loop-again c =
     let in-loop : tie.In-loop Inv-loop μ-loop = search in
     c .next .ensures .1 _ _ 511 (in-loop .before .loop .inv)
 
-returns-2 : tie.Need-returns-2 Inv-loop μ-loop
-returns-2 c = search needs
-
 pub follow-spec : {M : Type 1} → statement M
-follow-spec =
-    tie.close
-    (tie.spec
-    Inv-loop
-    μ-loop
-    begin-requires
-    loop-holds
-    put-flip-requires
-    returns
-    next-requires
-    loop-less
-    loop-again
-    returns-2)
+follow-spec = tie.close (tie.spec Inv-loop μ-loop begin-requires loop-holds (λ c κs. search needs) (λ c. search needs) next-requires
+    loop-less loop-again (λ c. search needs))

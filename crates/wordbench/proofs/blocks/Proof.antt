@@ -4,8 +4,8 @@ use Prim.Native.Nat.{ℕ, _-_, _%_, _^_}
 use native.Mathlib.Nat.{zero-mod}
 use native.Mathlib.Omega.{arith}
 use lib.ListN.{length}
-use Rattle.lines.specs.Parts.{sizeIn}
-use Rattle.lines.proofs.Whole.{whole-sum}
+use Rattle.log.specs.lines.Parts.{sizeIn}
+use Rattle.log.proofs.lines.Whole.{whole-sum}
 use borrow.Author.Needs.{needs}
 use Rattle.wordbench.proofs.blocks.Statement.{statement}
 use Rattle.wordbench.proofs.blocks.Tie as tie
@@ -27,12 +27,6 @@ block-requires c κs =
     let h = c .before .before .before .before .loop in
     (s .pre .0 .0, (h .inv .3 ∙ s .pre .0 .1 .0, omega arith), (h .inv .0, omega arith))
 
-add-read : tie.Need-add-read Inv-loop μ-loop
-add-read c = search needs
-
-loop-less : tie.Need-loop-less Inv-loop μ-loop
-loop-less c = search needs
-
 -- as many octets are whole words too
 as-whole : (a b w : ℕ) → a ≡ b → b % w ≡ 0 → a % w ≡ 0
 as-whole a b w e f = ap (λ n. n % w) e ∙ f
@@ -50,46 +44,7 @@ loop-again c =
       omega arith,
     )
 
-same-length : tie.Need-same-length Inv-loop μ-loop
-same-length c = search needs
-
-same-length-2 : tie.Need-same-length-2 Inv-loop μ-loop
-same-length-2 c = search needs
-
-same-length-3 : tie.Need-same-length-3 Inv-loop μ-loop
-same-length-3 c = search needs
-
-returns : tie.Need-returns Inv-loop μ-loop
-returns c = search needs
-
-same-length-4 : tie.Need-same-length-4 Inv-loop μ-loop
-same-length-4 c = search needs
-
-same-length-5 : tie.Need-same-length-5 Inv-loop μ-loop
-same-length-5 c = search needs
-
-same-length-6 : tie.Need-same-length-6 Inv-loop μ-loop
-same-length-6 c = search needs
-
-returns-2 : tie.Need-returns-2 Inv-loop μ-loop
-returns-2 c = search needs
-
 pub blocks-spec : {M : Type 1} → statement M
-blocks-spec =
-    tie.close
-    (tie.spec
-    Inv-loop
-    μ-loop
-    loop-holds
-    block-requires
-    add-read
-    loop-less
-    loop-again
-    same-length
-    same-length-2
-    same-length-3
-    returns
-    same-length-4
-    same-length-5
-    same-length-6
-    returns-2)
+blocks-spec = tie.close (tie.spec Inv-loop μ-loop loop-holds block-requires (λ c. search needs) (λ c. search needs) loop-again
+    (λ c. search needs) (λ c. search needs) (λ c. search needs) (λ c. search needs) (λ c. search needs) (λ c. search needs)
+    (λ c. search needs) (λ c. search needs))

@@ -5,7 +5,7 @@ use Prim.Native.Nat.{_-_, _/_, _%_}
 use native.Mathlib.Omega.{arith}
 use lib.ListN.{getD}
 use borrow.Author.Needs.{needs}
-use Rattle.tables.proofs.Listed.{Filled, filled-all}
+use Rattle.catalogue.proofs.tables.Listed.{Filled, filled-all}
 use Rattle.onedigit.specs.Laid.{words28}
 use Rattle.onedigit.proofs.Filling.{filled-more}
 use Rattle.onedigit.proofs.laid.flat28.Statement.{statement}
@@ -20,36 +20,6 @@ abbrev μ-loop : tie.MeasureT-loop
 loop-holds : tie.Need-loop-holds Inv-loop μ-loop
 loop-holds c = record { below = omega arith; long = search needs; places = λ j l. absurd (omega arith) }
 
-mul-g : tie.Need-mul-g Inv-loop μ-loop
-mul-g c = search needs
-
-mul-g-2 : tie.Need-mul-g-2 Inv-loop μ-loop
-mul-g-2 c = search needs
-
-mul-g-3 : tie.Need-mul-g-3 Inv-loop μ-loop
-mul-g-3 c = search needs
-
-index-1-g : tie.Need-index-1-g Inv-loop μ-loop
-index-1-g c = search needs
-
-index-2-g : tie.Need-index-2-g Inv-loop μ-loop
-index-2-g c = search needs
-
-index-3-g : tie.Need-index-3-g Inv-loop μ-loop
-index-3-g c = search needs
-
-mul-g-4 : tie.Need-mul-g-4 Inv-loop μ-loop
-mul-g-4 c = search needs
-
-array-write-g : tie.Need-array-write-g Inv-loop μ-loop
-array-write-g c = search needs
-
-add-i : tie.Need-add-i Inv-loop μ-loop
-add-i c = search needs
-
-loop-less : tie.Need-loop-less Inv-loop μ-loop
-loop-less c = search needs
-
 loop-again : tie.Need-loop-again Inv-loop μ-loop
 loop-again c =
     let k = c .before .before .loop in
@@ -60,21 +30,6 @@ unfolding words28
 returns c = filled-all 224 _ (c .before .loop .g) (c .before .loop .i) (c .before .loop .inv) (omega arith)
 
 pub flat28-spec : {M : Type 1} → statement M
-flat28-spec =
-    tie.close
-    (tie.spec
-    Inv-loop
-    μ-loop
-    loop-holds
-    mul-g
-    mul-g-2
-    mul-g-3
-    index-1-g
-    index-2-g
-    index-3-g
-    mul-g-4
-    array-write-g
-    add-i
-    loop-less
-    loop-again
+flat28-spec = tie.close (tie.spec Inv-loop μ-loop loop-holds (λ c. search needs) (λ c. search needs) (λ c. search needs) (λ c. search needs)
+    (λ c. search needs) (λ c. search needs) (λ c. search needs) (λ c. search needs) (λ c. search needs) (λ c. search needs) loop-again
     returns)

@@ -5,7 +5,7 @@ use Prim.Native.Nat.{_-_, _/_, _%_}
 use native.Mathlib.Omega.{arith}
 use lib.ListN.{getD}
 use borrow.Author.Needs.{needs}
-use Rattle.tables.proofs.Listed.{Filled, filled-all}
+use Rattle.catalogue.proofs.tables.Listed.{Filled, filled-all}
 use Rattle.onedigit.specs.Laid.{words4}
 use Rattle.onedigit.proofs.Filling.{filled-more}
 use Rattle.onedigit.proofs.laid.flat4.Statement.{statement}
@@ -20,30 +20,6 @@ abbrev μ-loop : tie.MeasureT-loop
 loop-holds : tie.Need-loop-holds Inv-loop μ-loop
 loop-holds c = record { below = omega arith; long = search needs; places = λ j l. absurd (omega arith) }
 
-mul-g : tie.Need-mul-g Inv-loop μ-loop
-mul-g c = search needs
-
-mul-g-2 : tie.Need-mul-g-2 Inv-loop μ-loop
-mul-g-2 c = search needs
-
-index-1-g : tie.Need-index-1-g Inv-loop μ-loop
-index-1-g c = search needs
-
-index-2-g : tie.Need-index-2-g Inv-loop μ-loop
-index-2-g c = search needs
-
-mul-g-3 : tie.Need-mul-g-3 Inv-loop μ-loop
-mul-g-3 c = search needs
-
-array-write-g : tie.Need-array-write-g Inv-loop μ-loop
-array-write-g c = search needs
-
-add-i : tie.Need-add-i Inv-loop μ-loop
-add-i c = search needs
-
-loop-less : tie.Need-loop-less Inv-loop μ-loop
-loop-less c = search needs
-
 loop-again : tie.Need-loop-again Inv-loop μ-loop
 loop-again c =
     let k = c .before .before .loop in
@@ -54,19 +30,5 @@ unfolding words4
 returns c = filled-all 16 _ (c .before .loop .g) (c .before .loop .i) (c .before .loop .inv) (omega arith)
 
 pub flat4-spec : {M : Type 1} → statement M
-flat4-spec =
-    tie.close
-    (tie.spec
-    Inv-loop
-    μ-loop
-    loop-holds
-    mul-g
-    mul-g-2
-    index-1-g
-    index-2-g
-    mul-g-3
-    array-write-g
-    add-i
-    loop-less
-    loop-again
-    returns)
+flat4-spec = tie.close (tie.spec Inv-loop μ-loop loop-holds (λ c. search needs) (λ c. search needs) (λ c. search needs) (λ c. search needs)
+    (λ c. search needs) (λ c. search needs) (λ c. search needs) (λ c. search needs) loop-again returns)

@@ -2,8 +2,8 @@
 use mathlib.Core.Path.{_≡_, refl, ap, _∙_}
 use borrow.Author.Needs.{needs}
 use Rattle.rules.specs.Tables.{generator511}
-use Rattle.printed.specs.Words.{tableWords}
-use Rattle.ties.specs.Flat.{pieces, joined, generatorOf}
+use Rattle.identity.specs.printed.Words.{tableWords}
+use Rattle.identity.specs.ties.Flat.{pieces, joined, generatorOf}
 use Rattle.onedigit.specs.Laid.{words28}
 use Rattle.onedigit.proofs.laid.generator_511.Statement.{statement}
 use Rattle.onedigit.proofs.laid.generator_511.Tie as tie

@@ -2,8 +2,8 @@
 use mathlib.Core.Path.{_≡_, refl, ap, _∙_}
 use borrow.Author.Needs.{needs}
 use Rattle.rules.specs.Tables.{parity16}
-use Rattle.tables.specs.Flat.{pairs, flat8}
-use Rattle.ties.specs.Flat.{pieces, parityOf}
+use Rattle.catalogue.specs.tables.Flat.{pairs, flat8}
+use Rattle.identity.specs.ties.Flat.{pieces, parityOf}
 use Rattle.onedigit.specs.Laid.{threes}
 use Rattle.onedigit.proofs.laid.parity_16.Statement.{statement}
 use Rattle.onedigit.proofs.laid.parity_16.Tie as tie
@@ -12,27 +12,8 @@ stands : parityOf 16 4 8 (threes (flat8 (pairs parity16))) ≡ parity16
 unfolding pieces threes flat8 parity16
 stands = refl
 
-slice-aggregate-lend16 : tie.Need-slice-aggregate-lend16
-slice-aggregate-lend16 c = search needs
-
-lend16-requires : tie.Need-lend16-requires
-lend16-requires c κs = search needs
-
-slice-aggregate-spread : tie.Need-slice-aggregate-spread
-slice-aggregate-spread c = search needs
-
-spread-requires : tie.Need-spread-requires
-spread-requires c κs = search needs
-
 returns : tie.Need-returns
 returns c = ap (parityOf 16 4 8) (c .spread .ensures ∙ ap threes (c .before .before .before .lend16 .ensures)) ∙ stands
 
 pub parity-16-spec : {M : Type 1} → statement M
-parity-16-spec =
-    tie.close
-    (tie.spec
-    slice-aggregate-lend16
-    lend16-requires
-    slice-aggregate-spread
-    spread-requires
-    returns)
+parity-16-spec = tie.close (tie.spec (λ c. search needs) (λ c κs. search needs) (λ c. search needs) (λ c κs. search needs) returns)

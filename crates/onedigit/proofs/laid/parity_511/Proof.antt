@@ -2,8 +2,8 @@
 use mathlib.Core.Path.{_≡_, refl, ap, _∙_}
 use borrow.Author.Needs.{needs}
 use Rattle.rules.specs.Tables.{parity511}
-use Rattle.tables.specs.Flat.{pairs, flat16}
-use Rattle.ties.specs.Flat.{pieces, parityOf}
+use Rattle.catalogue.specs.tables.Flat.{pairs, flat16}
+use Rattle.identity.specs.ties.Flat.{pieces, parityOf}
 use Rattle.onedigit.specs.Laid.{threes}
 use Rattle.onedigit.proofs.laid.parity_511.Statement.{statement}
 use Rattle.onedigit.proofs.laid.parity_511.Tie as tie
@@ -12,27 +12,8 @@ stands : parityOf 511 2 16 (threes (flat16 (pairs parity511))) ≡ parity511
 unfolding pieces threes flat16 parity511
 stands = refl
 
-slice-aggregate-lend511 : tie.Need-slice-aggregate-lend511
-slice-aggregate-lend511 c = search needs
-
-lend511-requires : tie.Need-lend511-requires
-lend511-requires c κs = search needs
-
-slice-aggregate-spread : tie.Need-slice-aggregate-spread
-slice-aggregate-spread c = search needs
-
-spread-requires : tie.Need-spread-requires
-spread-requires c κs = search needs
-
 returns : tie.Need-returns
 returns c = ap (parityOf 511 2 16) (c .spread .ensures ∙ ap threes (c .before .before .before .lend511 .ensures)) ∙ stands
 
 pub parity-511-spec : {M : Type 1} → statement M
-parity-511-spec =
-    tie.close
-    (tie.spec
-    slice-aggregate-lend511
-    lend511-requires
-    slice-aggregate-spread
-    spread-requires
-    returns)
+parity-511-spec = tie.close (tie.spec (λ c. search needs) (λ c κs. search needs) (λ c. search needs) (λ c κs. search needs) returns)

@@ -2,7 +2,7 @@
 use Prim.Native.Nat.{_-_}
 use native.Mathlib.Omega.{arith}
 use borrow.Author.Needs.{needs}
-use Rattle.tables.proofs.Listed.{Filled, filled-all}
+use Rattle.catalogue.proofs.tables.Listed.{Filled, filled-all}
 use Rattle.onedigit.specs.Laid.{thirdNone, threes}
 use Rattle.onedigit.proofs.Filling.{filled-more}
 use Rattle.onedigit.proofs.laid.spread.Statement.{statement}
@@ -17,21 +17,6 @@ abbrev μ-loop : tie.MeasureT-loop
 loop-holds : tie.Need-loop-holds Inv-loop μ-loop
 loop-holds c = record { below = omega arith; long = search needs; places = λ j l. absurd (omega arith) }
 
-place-requires : tie.Need-place-requires Inv-loop μ-loop
-place-requires c κs = search needs
-
-mul-p : tie.Need-mul-p Inv-loop μ-loop
-mul-p c = search needs
-
-array-write-p : tie.Need-array-write-p Inv-loop μ-loop
-array-write-p c = search needs
-
-add-i : tie.Need-add-i Inv-loop μ-loop
-add-i c = search needs
-
-loop-less : tie.Need-loop-less Inv-loop μ-loop
-loop-less c = search needs
-
 loop-again : tie.Need-loop-again Inv-loop μ-loop
 loop-again c =
     let k = c .before .before .loop in
@@ -42,16 +27,5 @@ unfolding threes
 returns c = filled-all 96 _ (c .before .loop .p) (c .before .loop .i) (c .before .loop .inv) (omega arith)
 
 pub spread-spec : {M : Type 1} → statement M
-spread-spec =
-    tie.close
-    (tie.spec
-    Inv-loop
-    μ-loop
-    loop-holds
-    place-requires
-    mul-p
-    array-write-p
-    add-i
-    loop-less
-    loop-again
-    returns)
+spread-spec = tie.close (tie.spec Inv-loop μ-loop loop-holds (λ c κs. search needs) (λ c. search needs) (λ c. search needs)
+    (λ c. search needs) (λ c. search needs) loop-again returns)

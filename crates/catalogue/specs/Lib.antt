@@ -1,0 +1,2 @@
+pub mod offer
+pub mod tables

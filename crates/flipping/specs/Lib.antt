@@ -1,0 +1,5 @@
+pub mod bounds
+pub mod choice
+pub mod narrow
+pub mod runs
+pub mod endings

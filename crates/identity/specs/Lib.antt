@@ -1,0 +1,2 @@
+pub mod ties
+pub mod printed

@@ -1,5 +1,0 @@
-pub mod Smallest
-pub mod Choosing
-pub mod Orders
-pub mod Reading
-pub mod Masks

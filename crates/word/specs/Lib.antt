@@ -1,0 +1,2 @@
+pub mod measured
+pub mod ownparity
