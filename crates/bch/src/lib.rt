@@ -7,7 +7,7 @@ ghost use Rattle.bch.specs.Bch.{remainder, written, judged, bch_encode_answer, b
 ghost use Rattle.bch.specs.Answers.{alone, as_encoded, as_mended};
 
 #[repr(C)]
-#[derive(Drop)]
+#[derive(Clone, Copy)]
 pub struct Mended {
     pub number: u8,
     pub mended: u8,

@@ -10,7 +10,7 @@ use super::framecheck;
 use vectors::copying;
 
 #[repr(C)]
-#[derive(Drop)]
+#[derive(Clone, Copy)]
 pub struct Imported {
     pub number: u8,
     pub block: u32,

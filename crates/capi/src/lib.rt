@@ -89,7 +89,7 @@ pub extern "C" fn pandoricchia_quick(code: u8, word: &[u8]) -> Answered
 
 // What open gives, with the number of leading octets for the part: a returned reference has no form in C.
 #[repr(C)]
-#[derive(Drop)]
+#[derive(Clone, Copy)]
 pub struct Opened {
     pub number: u8,
     pub lowest: u32,

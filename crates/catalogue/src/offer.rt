@@ -5,7 +5,7 @@ ghost use Rattle.catalogue.specs.offer.Offers.{telecommand_offer, near_earth_off
 
 use layout::Shape;
 
-#[derive(Drop)]
+#[derive(Clone, Copy)]
 pub struct Offer {
     // which calls offer the code: open and step leave out one each
     pub offered: bool,

@@ -25,7 +25,7 @@ use vectors::copying;
 use word::{judging, measured, received};
 
 #[repr(C)]
-#[derive(Drop)]
+#[derive(Clone, Copy)]
 pub struct Checked {
     pub number: u8,
     pub broken: u32,
@@ -33,7 +33,7 @@ pub struct Checked {
 }
 
 #[repr(C)]
-#[derive(Drop)]
+#[derive(Clone, Copy)]
 pub struct Stepped {
     pub number: u8,
     pub quiet: bool,
@@ -42,14 +42,14 @@ pub struct Stepped {
 }
 
 // What is wrong with a word, by number, and its lowest broken check.
-#[derive(Drop)]
+#[derive(Clone, Copy)]
 struct Found {
     number: u8,
     lowest: u32,
 }
 
 // A run on a received word: its end, and how many checks are broken at its start and which is the lowest of them.
-#[derive(Drop)]
+#[derive(Clone, Copy)]
 struct Course {
     ended: Ended,
     first: u32,

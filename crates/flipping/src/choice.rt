@@ -11,7 +11,7 @@ use super::bounds;
 use layout::{BLOCKS, ROWS, STARTS, Shape};
 
 // A bit, and its score.
-#[derive(Drop)]
+#[derive(Clone, Copy)]
 pub struct Best {
     pub score: u32,
     pub bit: usize,

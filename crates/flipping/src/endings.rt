@@ -14,7 +14,7 @@ use layout::WORD;
 use word::unlike;
 
 #[repr(C)]
-#[derive(Drop)]
+#[derive(Clone, Copy)]
 pub struct Corrected {
     pub number: u8,
     pub flips: u32,

@@ -19,7 +19,7 @@ use layout::{BLOCKS, Shape, TABLE, WORD};
 pub const NARROW_ROWS: usize = 4;
 
 // Of the bits of a block, those that have none, at most one and at most two of some checks met; and how many checks these are.
-#[derive(Drop)]
+#[derive(Clone, Copy)]
 struct Weights {
     none: u64,
     one: u64,
@@ -28,14 +28,14 @@ struct Weights {
 }
 
 // A score, and the bits that have it.
-#[derive(Drop)]
+#[derive(Clone, Copy)]
 struct Level {
     score: u32,
     mask: u64,
 }
 
 // The greatest score, and the first block that has it.
-#[derive(Drop)]
+#[derive(Clone, Copy)]
 pub struct Peak {
     pub score: u32,
     pub block: usize,

@@ -18,21 +18,21 @@ use super::{bounds, choice, narrow};
 use layout::{BLOCKS, ROWS, STARTS, SYNDROME, Shape, TABLE, WORD};
 
 // What comes next: quiet; or stuck, with the greatest excess and the lowest bit that has it; or this bit, of this excess, is to be flipped.
-#[derive(Drop)]
+#[derive(Clone, Copy)]
 pub enum Next {
     Quiet,
     Stuck(usize, i8),
     Flip(usize, i8),
 }
 
-#[derive(Drop)]
+#[derive(Clone, Copy)]
 pub struct Ran {
     pub number: u8,
     pub flips: u32,
 }
 
 // A run, and the broken checks at its end.
-#[derive(Drop)]
+#[derive(Clone, Copy)]
 pub struct Ended {
     pub ran: Ran,
     pub last: u32,

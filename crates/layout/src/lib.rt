@@ -1,5 +1,5 @@
 // How a code is handed to the engine: its shape in numbers, and its parity table as one flat list.
-#[derive(Drop)]
+#[derive(Clone, Copy)]
 pub struct Shape {
     // M, the size of a block
     pub size: usize,

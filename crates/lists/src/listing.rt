@@ -23,7 +23,7 @@ use word::{judging, measured};
 
 // For a flip: its bit number, its excess, and the broken checks left after it.
 #[repr(C)]
-#[derive(Drop)]
+#[derive(Clone, Copy)]
 pub struct FlipRecord {
     pub bit: u32,
     pub excess: i8,
@@ -32,7 +32,7 @@ pub struct FlipRecord {
 
 // Correct's numbers, then bit and excess of the reason.
 #[repr(C)]
-#[derive(Drop)]
+#[derive(Clone, Copy)]
 pub struct Listed {
     pub number: u8,
     pub flips: u32,
@@ -45,7 +45,7 @@ pub struct Listed {
 }
 
 // A list that is being written. Where it goes on, a flip was made, and its record belongs at this place; else the answer is made.
-#[derive(Drop)]
+#[derive(Clone, Copy)]
 pub struct Listing {
     pub goes: bool,
     pub place: usize,

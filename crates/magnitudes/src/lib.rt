@@ -8,13 +8,13 @@ ghost use Rattle.magnitudes.specs.Patterns.{all_finite};
 ghost use Rattle.magnitudes.specs.Sizes.{smallest as smallestOf};
 
 // The bits of some samples, and whether all of these are finite.
-#[derive(Drop)]
+#[derive(Clone, Copy)]
 struct Narrow {
     bits: u32,
     finite: bool,
 }
 
-#[derive(Drop)]
+#[derive(Clone, Copy)]
 struct Wide {
     bits: u64,
     finite: bool,

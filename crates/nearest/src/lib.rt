@@ -8,7 +8,7 @@ ghost use Rattle.nearest.specs.Answers.{column_list, Broken, lowest_from, held, 
 
 // The places of bits that are not used are 0.
 #[repr(C)]
-#[derive(Drop)]
+#[derive(Clone, Copy)]
 pub struct Reached {
     pub number: u8,
     pub least: u32,
@@ -16,7 +16,7 @@ pub struct Reached {
 }
 
 // A list of up to three bits, or none.
-#[derive(Drop)]
+#[derive(Clone, Copy)]
 struct Listed {
     found: bool,
     count: u32,

@@ -274,7 +274,7 @@ fn line(n: usize, digits: usize, caught: usize, entries: usize, found: usize)
 }
 
 // How many are tried, and how many of them noticed.
-#[derive(Drop)]
+#[derive(Clone, Copy)]
 struct Tried {
     tried: usize,
     noticed: usize,

@@ -4,7 +4,7 @@ ghost use Rattle.bits.specs.Bits.{digit, tally};
 ghost use Rattle.planes.specs.Counts.{value};
 
 // Count i is written with bit i of each plane; bit 0 is the most significant.
-#[derive(Drop)]
+#[derive(Clone, Copy)]
 pub struct Planes {
     pub one: u64,
     pub two: u64,
@@ -12,7 +12,7 @@ pub struct Planes {
 }
 
 // The counts after an addition, and the places where a count passed 7: there it begins anew.
-#[derive(Drop)]
+#[derive(Clone, Copy)]
 pub struct Sum {
     pub planes: Planes,
     pub over: u64,

@@ -17,7 +17,7 @@ use catalogue::offer;
 use catalogue::offer::Offer;
 
 #[repr(C)]
-#[derive(Drop)]
+#[derive(Clone, Copy)]
 pub struct Answered {
     pub number: u8,
     pub yes: bool,

@@ -32,7 +32,7 @@ use word::{judging, measured, received};
 const MOST: usize = 8176;
 
 // What a run begins with: its code's shape, and how many checks of the word are broken and the lowest of them.
-#[derive(Drop)]
+#[derive(Clone, Copy)]
 struct Begun {
     shape: Shape,
     first: u32,

@@ -16,7 +16,7 @@ use layout::{BLOCKS, ROWS, STARTS, Shape};
 pub const UNKNOWN: usize = 8176;
 
 // How many of its checks every bit of a block has met at least, and the smallest bit that has met no more; or UNKNOWN.
-#[derive(Drop)]
+#[derive(Clone, Copy)]
 struct Low {
     met: u8,
     bit: usize,

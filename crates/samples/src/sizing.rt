@@ -19,7 +19,7 @@ use layout::{BLOCKS, ROWS, STARTS, SYNDROME, Shape, TABLE, WORD};
 use word::unlike;
 
 // A run, the broken checks at its end, and in how many bits the word then differs from the one that was read.
-#[derive(Drop)]
+#[derive(Clone, Copy)]
 pub struct Ended {
     pub ran: Ran,
     pub last: u32,
@@ -27,7 +27,7 @@ pub struct Ended {
 }
 
 // What comes next: number 0, the bit that is flipped and by how many checks fewer are broken then; or the number that the run ends with.
-#[derive(Drop)]
+#[derive(Clone, Copy)]
 struct Chosen {
     number: u8,
     bit: usize,
@@ -36,7 +36,7 @@ struct Chosen {
 
 // What a pass comes to: number 0, the broken checks that are left and in how many bits the word differs then; or the number that the run
 // ends with.
-#[derive(Drop)]
+#[derive(Clone, Copy)]
 struct Passed {
     number: u8,
     left: u32,

@@ -12,7 +12,7 @@ use layout::{BLOCK, DOUBLED, SYNDROME, Shape, TABLE, WORD};
 use vectors::Pair;
 
 // What stands at the two places of a block.
-#[derive(Drop)]
+#[derive(Clone, Copy)]
 struct Places {
     first: usize,
     second: usize,

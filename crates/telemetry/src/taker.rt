@@ -42,7 +42,7 @@ pub struct Taken {
 }
 
 // How far a search went: the place then, and the octets searched.
-#[derive(Drop)]
+#[derive(Clone, Copy)]
 struct Searched {
     place: usize,
     at: usize,

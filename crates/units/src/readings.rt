@@ -17,7 +17,7 @@ use vectors::copying;
 
 // A reading of a unit: the answer that ended it (its number is 0 while it goes on), its code and limit, and the codeblocks handed out.
 #[repr(C)]
-#[derive(Drop)]
+#[derive(Clone, Copy)]
 pub struct Reading {
     pub kept: Corrected,
     pub code: u8,
@@ -27,7 +27,7 @@ pub struct Reading {
 
 // An asking's answer: correct's numbers, whether there is none, and the reading from here on.
 #[repr(C)]
-#[derive(Drop)]
+#[derive(Clone, Copy)]
 pub struct Handed {
     pub corrected: Corrected,
     pub none: bool,

@@ -12,7 +12,7 @@ pub const TAIL: [u8; 16] = [
 
 // What a code number fixes of units: whether they are of this code, the octets of a codeblock, of its information and of the tail,
 // and how many codeblocks no length can hold.
-#[derive(Drop)]
+#[derive(Clone, Copy)]
 pub struct UnitOffer {
     pub offered: bool,
     pub word: usize,

@@ -10,7 +10,7 @@ use super::readings::{Handed, Reading};
 use super::{readings, unitoffers};
 use flipping::endings;
 
-#[derive(Drop)]
+#[derive(Clone, Copy)]
 pub struct Reader<'a> {
     pub unit: &'a [u8],
     pub place: usize,
@@ -19,7 +19,7 @@ pub struct Reader<'a> {
 }
 
 // An asking's answer with the octets that it hands out, and zeros behind them; `handed.next.place` is where the reader stands next.
-#[derive(Drop)]
+#[derive(Clone, Copy)]
 pub struct Block {
     pub handed: Handed,
     pub octets: [u8; 32],

@@ -205,7 +205,7 @@ pub fn double(v: &[u64], m: usize, d: &mut [u64])
 }
 
 // Two words, one after the other.
-#[derive(Drop)]
+#[derive(Clone, Copy)]
 pub struct Pair {
     pub first: u64,
     pub second: u64,

@@ -7,7 +7,7 @@ use catalogue::offer;
 use layout::{SYNDROME, TABLE, WORD};
 use libc::{STDIN_FILENO, STDOUT_FILENO};
 use lists::listing;
-use log::lines;
+use wordlog::lines;
 
 // No run of any code has more flips than this.
 const PLACES: usize = 511;

@@ -68,7 +68,7 @@ fn odd_blocks(y: &[u64]) -> u64
 }
 
 // For each parity block, 1 if an odd number of bits are set of the blocks that it is counted with.
-#[derive(Drop)]
+#[derive(Clone, Copy)]
 pub struct Together {
     pub first: u64,
     pub second: u64,

@@ -1,13 +1,13 @@
 // Corrects a recording: one octet code, two octets limit, then words to the end. Prints its log.
 ghost use Rattle.std.specs.Prelude.{◌≡◌, ◌+◌, ◌%◌, ◌≤◌, ◌<◌, length};
 ghost use Rattle.io.specs.Counts.{IsPrefixLen};
-ghost use Rattle.log.specs.lines.Parts.{Taken, size_in, Room, Counted};
+ghost use Rattle.wordlog.specs.lines.Parts.{Taken, size_in, Room, Counted};
 
 use libc::{STDIN_FILENO, STDOUT_FILENO};
-use log::lines;
+use wordlog::lines;
 
 // How many octets were read, and whether reading failed.
-#[derive(Drop)]
+#[derive(Clone, Copy)]
 struct Input {
     octets: usize,
     failed: bool,

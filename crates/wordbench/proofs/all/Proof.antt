@@ -4,8 +4,8 @@ use Prim.Native.Nat.{◌%◌}
 use native.Mathlib.Omega.{arith}
 use lib.ListN.{length-take}
 use lib.Seq.{length-take-le}
-use Rattle.log.specs.lines.Parts.{size_in}
-use Rattle.log.proofs.lines.Whole.{good}
+use Rattle.wordlog.specs.lines.Parts.{size_in}
+use Rattle.wordlog.proofs.lines.Whole.{good}
 use borrow.Author.Rules.{rules}
 use Rattle.wordbench.proofs.all.Statement.{statement}
 use Rattle.wordbench.proofs.all.Tie as tie

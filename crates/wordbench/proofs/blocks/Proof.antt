@@ -4,8 +4,8 @@ use Prim.Native.Nat.{ℕ, ◌-◌, ◌%◌, ◌^◌}
 use native.Mathlib.Nat.{zero-mod}
 use native.Mathlib.Omega.{arith}
 use lib.ListN.{length}
-use Rattle.log.specs.lines.Parts.{size_in}
-use Rattle.log.proofs.lines.Whole.{whole_sum}
+use Rattle.wordlog.specs.lines.Parts.{size_in}
+use Rattle.wordlog.proofs.lines.Whole.{whole_sum}
 use borrow.Author.Rules.{rules}
 use Rattle.wordbench.proofs.blocks.Statement.{statement}
 use Rattle.wordbench.proofs.blocks.Tie as tie

@@ -2,7 +2,7 @@
 use mathlib.Core.Path.{sym, ◌∙◌}
 use native.Mathlib.Omega.{arith}
 use lib.ListN.{length-take}
-use Rattle.log.proofs.lines.Whole.{good}
+use Rattle.wordlog.proofs.lines.Whole.{good}
 use borrow.Author.Tests.{not-true}
 use borrow.Author.Rules.{rules}
 use Rattle.wordbench.proofs.log.Statement.{statement}

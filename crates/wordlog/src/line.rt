@@ -1,0 +1,140 @@
+// A line of the log, as text: the decimal digits of a number, the fields of an answer, the header.
+ghost use Rattle.std.specs.Prelude.{◌≡◌, [], ◌∷◌, ◌++◌, ◌+◌, ◌*◌, ◌≤◌, ◌<◌, ◌^◌, length, take};
+ghost use Rattle.rules.specs.Codes.{code as code_of};
+ghost use Rattle.answers.specs.Calls.{refused_correct_of};
+ghost use Rattle.flipping.specs.endings.Answers.{as_corrected};
+ghost use Rattle.wordlog.specs.line.Line.{decimal, fields, numbers as numbersOf, header, line as line_of, word_line};
+
+use flipping::endings;
+
+fn octet(n: u8) -> u64
+    ensures { (result ≡ n) × (result < 2 ^ 8) }
+{
+    n as u64
+}
+
+fn wide(n: u32) -> u64
+    ensures { (result ≡ n) × (result < 2 ^ 32) }
+{
+    n as u64
+}
+
+// One digit, as it is printed.
+fn glyph(d: u64) -> u8
+    requires { d < 10 }
+    ensures { result ≡ 48 + d }
+{
+    48 + d as u8
+}
+
+// A number behind the text so far: answers where the text ends then.
+fn put(n: u64, text: &mut [u8], at: usize) -> usize
+    requires { at + length (decimal n) ≤ length text.old }
+    ensures { (result ≡ at + length (decimal n)) × (take result text.new ≡ take at text.old ++ decimal n) }
+{
+    if n < 10 {
+        text[at] = glyph(n);
+        return at + 1;
+    }
+    let end = put(n / 10, text, at);
+    text[end] = glyph(n % 10);
+    end + 1
+}
+
+// A space and a number. 21 octets hold any.
+fn put_field(n: u64, text: &mut [u8], at: usize) -> usize
+    requires { at + 21 ≤ length text.old }
+    ensures { (result ≤ at + 21) × (take result text.new ≡ take at text.old ++ (32 ∷ decimal n)) }
+{
+    text[at] = b' ';
+    put(n, text, at + 1)
+}
+
+// Numbers, a space before each.
+fn put_fields(numbers: &[u64], text: &mut [u8], at: usize) -> usize
+    requires { at + 21 * length numbers.now ≤ length text.old }
+    ensures upper_bound { result ≤ at + 21 * length numbers.now }
+    ensures text_after { take result text.new ≡ take at text.old ++ fields numbers.now }
+{
+    let mut end = at;
+    let mut k: usize = 0;
+    while k < numbers.len() {
+        end = put_field(numbers[k], text, end);
+        k += 1;
+    }
+    end
+}
+
+// What a line gives of an answer. A further field of the answer is one entry here, one in the definition, and one in the proof.
+fn numbers(a: endings::Corrected) -> [u64; 5]
+    ensures { result ≡ numbersOf (as_corrected a []) }
+{
+    [
+        octet(a.number),
+        wide(a.flips),
+        wide(a.first),
+        wide(a.last),
+        wide(a.unlike),
+    ]
+}
+
+// The line of an answer. 128 octets hold any.
+pub fn put_line(index: u64, a: endings::Corrected, text: &mut [u8], at: usize) -> usize
+    requires { at + 128 ≤ length text.old }
+    ensures { (result ≤ at + 128) × (take result text.new ≡ take at text.old ++ line_of index (as_corrected a [])) }
+{
+    let values = numbers(a);
+    let start = put(index, text, at);
+    let end = put_fields(&values, text, start);
+    text[end] = b'\n';
+    end + 1
+}
+
+// A text as it stands, behind the text so far.
+fn put_text(octets: &[u8], text: &mut [u8], at: usize) -> usize
+    requires { at + length octets.now ≤ length text.old }
+    ensures value { result ≡ at + length octets.now }
+    ensures text_after { take result text.new ≡ take at text.old ++ octets.now }
+{
+    let mut end = at;
+    let mut k: usize = 0;
+    while k < octets.len() {
+        text[end] = octets[k];
+        end += 1;
+        k += 1;
+    }
+    end
+}
+
+// The header, at the start of the text.
+pub fn put_header(text: &mut [u8]) -> usize
+    requires { 128 ≤ length text.old }
+    ensures { (result ≤ 128) × (take result text.new ≡ header) }
+{
+    put_text(b"word answer flips first last unlike\n", text, 0)
+}
+
+// Corrects a word into out, and writes its line.
+pub fn write_word(
+    code: u8,
+    limit: u16,
+    index: u64,
+    word: &[u8],
+    out: &mut [u8],
+    text: &mut [u8],
+    at: usize,
+) -> usize
+    requires { (length out.old ≡ (code_of code).octets_of_word) × (at + 128 ≤ length text.old) }
+    ensures upper_bound { result ≤ at + 128 }
+    ensures text_after { take result text.new ≡ take at text.old ++ word_line code limit index word.now }
+{
+    let answer = codes::correct(code, word, limit, out);
+    put_line(index, answer, text, at)
+}
+
+// Refusal 1: correct's record for a code that is not offered.
+pub fn refusal() -> endings::Corrected
+    ensures { line_of 0 (as_corrected result []) ≡ line_of 0 (refused_correct_of [] 1) }
+{
+    endings::refused_correct(1)
+}
