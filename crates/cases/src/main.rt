@@ -1,4 +1,7 @@
 // Runs the paper's cases that are not proved, and every row of the generator tables: a line for each, held to what is printed.
+
+#![tactic(auto)]
+
 ghost use Rattle.std.specs.Prelude.{◌+◌, ◌*◌, ◌≤◌, ◌<◌, ◌≡◌, length};
 
 use flipping::endings;

@@ -1,4 +1,7 @@
 // Prints what the pictures in docs are drawn from: the parity tables as they are lent, and runs on spoiled words, flip by flip.
+
+#![tactic(auto)]
+
 ghost use Rattle.std.specs.Prelude.{◌≡◌, ◌<◌, ◌≤◌, length};
 ghost use Rattle.layout.specs.Rooms.{table_room};
 

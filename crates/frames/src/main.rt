@@ -1,5 +1,8 @@
 // Takes the words of code 5 out of a telemetry stream: two octets limit, then the stream to its end. Prints a line for each word.
 // The first argument is the edition; without it the old sequence stays.
+
+#![tactic(auto)]
+
 ghost use Rattle.std.specs.Prelude.{◌+◌, ◌<◌, ◌≤◌, length};
 ghost use Rattle.io.specs.Counts.{IsPrefixLen};
 

@@ -1,4 +1,7 @@
 // Reads blocks of the lab's disk from standard input and writes the octets of the recording.
+
+#![tactic(auto)]
+
 ghost use Rattle.std.specs.Prelude.{◌≡◌, ◌-◌, length};
 
 use blocks::importing;

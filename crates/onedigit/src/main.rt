@@ -1,4 +1,7 @@
 // Who would notice one wrong digit in a table? Tries every one, and counts those that break the identity between the two tables.
+
+#![tactic(auto)]
+
 mod laid;
 
 ghost use Rattle.std.specs.Prelude.{◌≡◌, not, ℕ, ◌+◌, ◌*◌, ◌/◌, ◌%◌, ◌^◌, ◌<◌, ◌≤◌, length, set};

@@ -1,5 +1,8 @@
 // Tries every pair of wrong bits of codes 1, 2 and 3 on the word of zeros: which are not mended by two flips, and how many are. A run
 // does not depend on the codeword that was sent, so what is found holds for every codeword.
+
+#![tactic(auto)]
+
 ghost use Rattle.std.specs.Prelude.{◌+◌, ◌*◌, ◌≤◌, ◌<◌, ◌≡◌, length};
 
 use libc::STDOUT_FILENO;

@@ -1,4 +1,7 @@
 // Reads the octets of a recording from standard input and writes them in blocks of the lab's disk.
+
+#![tactic(auto)]
+
 ghost use Rattle.std.specs.Prelude.{◌≡◌, ◌-◌, length};
 
 use blocks::exporting;

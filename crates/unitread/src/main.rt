@@ -1,4 +1,7 @@
 // Reads a telecommand transmission unit: one octet code, two octets limit, then the unit. Prints a line for each codeblock.
+
+#![tactic(auto)]
+
 ghost use Rattle.std.specs.Prelude.{◌≡◌, ◌≤◌, ◌<◌, ◌*◌, length};
 
 use flipping::endings;

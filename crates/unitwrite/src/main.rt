@@ -1,4 +1,7 @@
 // Writes a telecommand transmission unit: one octet code, then information to the end; the unit goes to standard output.
+
+#![tactic(auto)]
+
 ghost use Rattle.std.specs.Prelude.{◌≡◌, ◌≤◌, length};
 
 use libc::{STDERR_FILENO, STDIN_FILENO, STDOUT_FILENO};

@@ -1,6 +1,9 @@
 // The reason behind each line of the bench log. Reads what wordbench reads: one octet code, two octets limit, then words to the end.
 // Under a word's line stand its flips, with bit, excess and broken checks left, for refusal 5 the bit of greatest excess, and for a
 // refused word of code 1 the codeword that is nearest.
+
+#![tactic(auto)]
+
 ghost use Rattle.std.specs.Prelude.{◌≡◌, length};
 
 use catalogue::offer;

@@ -1,4 +1,7 @@
 // Corrects a recording: one octet code, two octets limit, then words to the end. Prints its log.
+
+#![tactic(auto)]
+
 ghost use Rattle.std.specs.Prelude.{◌≡◌, ◌+◌, ◌%◌, ◌≤◌, ◌<◌, length};
 ghost use Rattle.io.specs.Counts.{IsPrefixLen};
 ghost use Rattle.wordlog.specs.lines.Parts.{Taken, size_in, Room, Counted};
