@@ -1,6 +1,6 @@
 -- `bch::divide` meets its contract: after j passes r has the first j coefficients of the remainder. Assumes nothing.
 use mathlib.Core.Path.{◌≡◌, sym, ap, ◌∙◌, subst}
-use Prim.Native.Nat.{ℕ, ◌+◌, ◌-◌, ◌*◌, ◌^◌, ◌≤◌, ◌<◌}
+use Prim.Native.Nat.{ℕ, ◌+◌, ◌*◌, ◌^◌, ◌<◌}
 use native.Mathlib.Omega.{arith}
 use Rattle.bits.specs.Bits.{digit, number}
 use Rattle.bits.proofs.Octets.{number_lt, number_digit}
@@ -9,22 +9,15 @@ use Rattle.word.proofs.ownparity.Words.{number_start, number_more}
 use Rattle.bch.specs.Bch.{remainder}
 use Rattle.bch.proofs.Division.{remainder_same, remainder_lt}
 use Rattle.bch.proofs.Words.{row_odd}
-use Rattle.bch.proofs.divide.Statement.{statement}
-use Rattle.bch.proofs.divide.Tie as tie
+use Rattle.bch.proofs.divide.Goals as goal
 
-abbrev invariant-loop : tie.invariant-loop
-invariant-loop v r₀ j₀ r j = (j ≤ 7) × (r < 2 ^ 7) × (r ≡ number j (digit 7 (remainder 63 (digit 64 v))))
+pub loop-j-init : goal.loop-j-init
+loop-j-init c = (omega arith, omega arith, number_start (digit 7 (remainder 63 (digit 64 c.args.v))))
 
-abbrev decreases-loop : tie.decreases-loop
-decreases-loop v r₀ j₀ r j = 7 - j
-
-loop-holds : tie.Need-loop-init invariant-loop decreases-loop
-loop-holds c = (omega arith, omega arith, number_start (digit 7 (remainder 63 (digit 64 c.args.v))))
-
-loop-again : tie.Need-loop-preserved invariant-loop decreases-loop
-loop-again c =
-    let l = c.before.before.loop in
-    let u = c.before.before.before.args.v in
+pub loop-j-preserved : goal.loop-j-preserved
+loop-j-preserved c =
+    let l = c.loop-j in
+    let u = c.args.v in
     let x = digit 7 (remainder 63 (digit 64 u)) in
     let r = 2 * l.r + c.odd.result in
     let h : l.j < 7 = omega arith in
@@ -32,17 +25,13 @@ loop-again c =
     ap (λ (n : ℕ). 2 * l.r + n) (row_odd l.j u c.odd.result c.odd.ensures.1 h) ∙ number_more l.j l.r x l.invariant.2 in
     (omega arith, fits (l.j + 1) 7 r (subst (λ (n : ℕ). n < 2 ^ (l.j + 1)) (sym e) (number_lt (l.j + 1) x)) (omega arith), e)
 
-returns : tie.Need-returns invariant-loop decreases-loop
+pub returns : goal.returns
 returns c =
-    let l = c.before.loop in
-    let x = digit 64 c.before.before.args.v in
+    let l = c.loop-j in
+    let x = digit 64 c.args.v in
     let e : l.j ≡ 7 = omega arith in (
       l.invariant.1,
       λ y h.
           l.invariant.2 ∙ ap (λ (n : ℕ). number n (digit 7 (remainder 63 x))) e ∙ number_digit 7 (remainder 63 x) (remainder_lt 63 x)
           ∙ remainder_same 63 x y (λ i k. h i (omega arith)),
     )
-
-pub divide-spec : {M : Type 1} → statement M
-divide-spec = tie.close (tie.spec invariant-loop decreases-loop loop-holds (λ c. omega arith) (λ c. omega arith) (λ c. omega arith) (λ c κs. tt)
-    (λ c. omega arith) (λ c. omega arith) (λ c. omega arith) loop-again returns)
