@@ -14,8 +14,8 @@ use Rattle.randomiser.proofs.Parts.{more_done, out_length, all_done}
 use Rattle.telemetry.proofs.sequences.add_first.Given as goal
 
 abbrev pub invariant-loop-at : goal.invariant-loop-at
-invariant-loop-at l = (at ≡ at / 255 * 255) × (at ≤ 1020) × (length l.at ≡ 1020)
-    × (l.at ≡ randomised telemetry 0 (take at l.initial.word) ++ drop at l.initial.word)
+invariant-loop-at l = (l.at ≡ l.at / 255 * 255) × (l.at ≤ 1020) × (length l.word ≡ 1020)
+    × (l.word ≡ randomised telemetry 0 (take l.at l.initial.word) ++ drop l.at l.initial.word)
 
 abbrev pub decreases-loop-at : goal.decreases-loop-at
-decreases-loop-at l = 1020 - at
+decreases-loop-at l = 1020 - l.at
