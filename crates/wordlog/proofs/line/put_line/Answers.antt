@@ -9,17 +9,6 @@ use Rattle.wordlog.proofs.line.Texts.{long64, line_whole}
 use borrow.Author.Rules.{rules}
 use Rattle.wordlog.proofs.line.put_line.Goals as goal
 
-abbrev start : tie.After-slice-known3 → tie.Start
-start c = search
-
--- where the numbers end
-ends : (c : goal.After-slice_known-3-1) → c.put_fields-end.result < (start c).args.at + 128
-ends c =
-    let n = ap length c.numbers-values.ensures in
-    let f = c.put_fields-end in
-    let p = c.put-start in
-    omega (arith, n, f.ensures.upper_bound, p.ensures.0, long64 c.args.index (omega arith))
-
 pub put-start-requires : goal.put-start-requires
 put-start-requires c = omega (arith, long64 c.args.index (omega arith))
 
@@ -33,10 +22,10 @@ put_fields-end-requires c =
     omega (arith, n, p.ensures.0, long64 c.args.index (omega arith))
 
 pub bounds-text-end : goal.bounds-text-end
-bounds-text-end c = omega (arith, ends c)
+bounds-text-end c = omega (arith, ap length c.numbers-values.ensures, c.put_fields-end.ensures.upper_bound, c.put-start.ensures.0, long64 c.args.index (omega arith))
 
 pub overflow_add-result : goal.overflow_add-result
-overflow_add-result c = omega (arith, ends c)
+overflow_add-result c = omega (arith, ap length c.numbers-values.ensures, c.put_fields-end.ensures.upper_bound, c.put-start.ensures.0, long64 c.args.index (omega arith))
 
 pub shape_of-text : goal.shape_of-text
 shape_of-text c = simp length-set (omega arith)
@@ -49,8 +38,8 @@ returns c =
     let a = c.args in
     let before = take a.at a.text.now in
     let first = take p.result p.new.text in
-    let e : f.result < length f.new.text = omega (arith, ends c) in (
-      omega (arith, ends c),
+    let e : f.result < length f.new.text = omega (arith, ap length c.numbers-values.ensures, c.put_fields-end.ensures.upper_bound, c.put-start.ensures.0, long64 c.args.index (omega arith)) in (
+      omega (arith, ap length c.numbers-values.ensures, c.put_fields-end.ensures.upper_bound, c.put-start.ensures.0, long64 c.args.index (omega arith)),
       line_whole before f.new.text first a.index f.result (as_corrected a.a []) e f.ensures.text_after
           p.ensures.1 ns.ensures,
     )

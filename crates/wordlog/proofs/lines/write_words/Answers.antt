@@ -9,19 +9,7 @@ use lib.ListN.{length, take}
 use Rattle.wordlog.specs.line.Line.{word_line}
 use Rattle.wordlog.specs.lines.Log.{word, lines}
 use Rattle.wordlog.proofs.lines.Pieces.{starts_before}
-use Rattle.wordlog.proofs.lines.write_words.Reads as reads
-use Rattle.wordlog.proofs.lines.write_words.Lts as lts
-use Rattle.wordlog.proofs.lines.write_at.Reads as write-at-reads
 use Rattle.wordlog.proofs.lines.write_words.Goals as goal
-
--- in the loop a word starts before the end
-starts : (c : lts.In-loop (write-at-reads.Asked, write-at-reads.Learnt) reads.Pre reads.Post invariant-loop decreases-loop)
-    → let a = c.before.before.before.before.before.args in
-    let k = c.before.loop.k in
-    (k * a.size < length a.words.now) × (16 * k ≤ k * a.size)
-starts c =
-    let s = c.before.before.before.before.before in
-    starts_before (length s.args.words.now) s.args.size c.before.loop.k s.requires.0.0.1 (omega (arith, s.requires.0.1))
 
 pub loop-k-init : goal.loop-k-init
 unfolding lines
@@ -30,12 +18,12 @@ loop-k-init c = (omega arith, omega arith, omega arith, refl, refl, refl)
 pub write_at-end-requires : goal.write_at-end-requires
 write_at-end-requires c =
     let h = c.loop-k in
-    let b = starts c in
-    record { numbered = (c.requires.0.0, omega (arith, c.requires.0.1)); out_len = (h.invariant.3 ∙ c.requires.1.0, omega (arith, b.0, b.1)) }
+    let b = (starts_before (length c.args.words.now) c.args.size c.loop-k.k c.requires.numbered.0.1 (omega (arith, c.requires.numbered.1))) in
+    record { numbered = (c.requires.numbered.0, omega (arith, c.requires.numbered.1)); out_len = (h.invariant.3 ∙ c.requires.out_len.0, omega (arith, b.0, b.1)) }
 
 pub overflow_add-k : goal.overflow_add-k
 overflow_add-k c =
-    let b = starts c in
+    let b = (starts_before (length c.args.words.now) c.args.size c.loop-k.k c.requires.numbered.0.1 (omega (arith, c.requires.numbered.1))) in
     omega (arith, b.0, b.1)
 
 pub loop-k-preserved : goal.loop-k-preserved
@@ -43,7 +31,7 @@ unfolding lines
 loop-k-preserved c =
     let h = c.loop-k in
     let w = c.write_at-end in
-    let b = starts in-loop in
+    let b = (starts_before (length c.args.words.now) c.args.size c.loop-k.k c.requires.numbered.0.1 (omega (arith, c.requires.numbered.1))) in
     let a = c.args in (
       omega arith,
       omega arith,
