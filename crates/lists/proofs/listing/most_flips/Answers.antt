@@ -5,17 +5,13 @@ use lib.ListN.{length}
 use Rattle.rules.specs.Codes.{code}
 use Rattle.rules.specs.Flipping.{by_excess, run}
 use Rattle.lists.proofs.listing.Writing.{flips_few, flips_half}
-use Rattle.lists.proofs.listing.most_flips.Statement.{statement}
-use Rattle.lists.proofs.listing.most_flips.Tie as tie
+use Rattle.lists.proofs.listing.most_flips.Goals as goal
 
-returns : tie.Need-returns
-returns c =
+pub returns-then-o : goal.returns-then-o
+returns-then-o c =
     λ n off is x first limit.
-    subst (λ k. length (run (by_excess (code n)) limit x).flips ≤ k / 2) (sym first) (flips_half n off _ is x limit c.if1.true)
+    subst (λ k. length (run (by_excess (code n)) limit x).flips ≤ k / 2) (sym first) (flips_half n off _ is x limit c.if-o.true)
 
-returns-2 : tie.Need-returns-2
-returns-2 c =
+pub returns : goal.returns
+returns c =
     λ n off is x first limit. subst (λ k. length (run (by_excess (code n)) limit x).flips ≤ k) (sym first) (flips_few n off _ is x limit)
-
-pub most-flips-spec : {M : Type 1} → statement M
-most-flips-spec = tie.close (tie.spec returns returns-2)
