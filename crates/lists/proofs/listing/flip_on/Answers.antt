@@ -12,7 +12,7 @@ use Rattle.lists.proofs.listing.flip_on.Goals as goal
 pub ended-requires : goal.ended-requires
 ended-requires c =
     let st = c.requires.0.stands in
-    let small : c.args.l.limit < 65536 = search (rules, c.struct_known-1.given) in
+    let small : c.args.l.limit < 65536 = search rules in
     (known_of c.requires.0.number _ _ _ st.measures, st.measures.long, omega (arith, st.measures.under, st.going.within, small))
 
 pub returns-then-flips-l : goal.returns-then-flips-l

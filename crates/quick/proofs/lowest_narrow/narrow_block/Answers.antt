@@ -47,7 +47,7 @@ bounds-h-at c =
 pub overflow_cast-h : goal.overflow_cast-h
 overflow_cast-h c =
     let a = c.args in
-    omega (arith, c.shared_slice_known-3-1.given (place_of a.sh a.r a.b))
+    omega (arith, c.type_inv.h (place_of a.sh a.r a.b))
 
 pub overflow_add-at-2 : goal.overflow_add-at-2
 overflow_add-at-2 c =
@@ -64,7 +64,7 @@ bounds-h-at-2 c =
 pub overflow_cast-h-2 : goal.overflow_cast-h-2
 overflow_cast-h-2 c =
     let a = c.args in
-    omega (arith, c.shared_slice_known-4-1.given (place_of a.sh a.r a.b + 1))
+    omega (arith, c.type_inv.h (place_of a.sh a.r a.b + 1))
 
 pub returns : goal.returns
 returns c =

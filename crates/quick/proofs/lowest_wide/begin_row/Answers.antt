@@ -42,12 +42,12 @@ bounds-h-r c =
 pub overflow_cast-begins : goal.overflow_cast-begins
 overflow_cast-begins c =
     let k = c.loop-k.k in
-    omega (arith, c.shared_slice_known-1.given (2 * (c.args.r * c.args.sh.blocks) + k))
+    omega (arith, c.type_inv.h (2 * (c.args.r * c.args.sh.blocks) + k))
 
 pub overflow_add-begins-in-loop-k : goal.overflow_add-begins-in-loop-k
 overflow_add-begins-in-loop-k c =
     let k = c.loop-k.k in
-    omega (arith, c.requires.0.blocks, c.shared_slice_known-1.given (2 * (c.args.r * c.args.sh.blocks) + k))
+    omega (arith, c.requires.0.blocks, c.type_inv.h (2 * (c.args.r * c.args.sh.blocks) + k))
 
 pub offset_bounds-begins-k : goal.offset_bounds-begins-k
 offset_bounds-begins-k c = omega (arith, c.requires.0.blocks)

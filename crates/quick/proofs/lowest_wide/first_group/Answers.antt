@@ -35,7 +35,7 @@ bounds-h-k c =
     omega (arith, place_room c.args.h.now c.args.sh c.requires.0 0 (k / 2) c.requires.1 (omega arith))
 
 pub overflow_cast-h : goal.overflow_cast-h
-overflow_cast-h c = omega (arith, c.shared_slice_known-in-loop-k-1.given c.loop-k.k)
+overflow_cast-h c = omega (arith, c.type_inv.h c.loop-k.k)
 
 pub wide_entry-v-requires : goal.wide_entry-v-requires
 wide_entry-v-requires c =

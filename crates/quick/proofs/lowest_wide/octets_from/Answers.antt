@@ -5,7 +5,7 @@ use Rattle.quick.proofs.lowest_wide.Windows.{nine}
 use Rattle.quick.proofs.lowest_wide.octets_from.Goals as goal
 
 pub overflow_cast-octets : goal.overflow_cast-octets
-overflow_cast-octets c = omega (arith, c.shared_slice_known-2-1.given (c.args.p / 8 + 8))
+overflow_cast-octets c = omega (arith, c.type_inv.octets (c.args.p / 8 + 8))
 
 pub returns : goal.returns
 returns c =
