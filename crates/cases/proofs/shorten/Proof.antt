@@ -13,6 +13,7 @@ abbrev decreases-loop : tie.decreases-loop
 decreases-loop word sent₀ i₀ sent i = length sent₀ - i
 
 pub shorten-spec : {M : Type 1} → statement M
-shorten-spec = tie.close (tie.spec invariant-loop decreases-loop (λ c. search rules) (λ c. search rules) (λ c κs. search rules) (λ c. search rules)
+shorten-spec = tie.close (tie.spec invariant-loop decreases-loop (λ c. search rules) (λ c. search rules) (λ c κs. search rules)
+    (λ c. search rules)
     (λ c κs. search rules) (λ c. search rules) (λ c. search rules) (λ c. search rules) (λ c. search rules) (λ c. search rules)
     (λ c. search rules))

@@ -13,6 +13,7 @@ abbrev decreases-loop : tie.decreases-loop
 decreases-loop octets n out₀ i₀ out i = length out₀ - i
 
 pub spell-spec : {M : Type 1} → statement M
-spell-spec = tie.close (tie.spec invariant-loop decreases-loop (λ c. search rules) (λ c. search rules) (λ c. search rules) (λ c κs. search rules)
+spell-spec = tie.close (tie.spec invariant-loop decreases-loop (λ c. search rules) (λ c. search rules) (λ c. search rules)
+    (λ c κs. search rules)
     (λ c κs. search rules) (λ c. search rules) (λ c. search rules) (λ c. search rules) (λ c. search rules) (λ c. search rules)
     (λ c. search rules))

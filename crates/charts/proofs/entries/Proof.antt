@@ -11,5 +11,6 @@ abbrev decreases-loop : tie.decreases-loop
 decreases-loop code size blocks h i₀ i = 64 - i
 
 pub entries-spec : {M : Type 1} → statement M
-entries-spec = tie.close (tie.spec invariant-loop decreases-loop (λ c. tt) (λ c. omega arith) (λ c. omega arith) (λ c κs. tt) (λ c. omega arith)
+entries-spec = tie.close (tie.spec invariant-loop decreases-loop (λ c. tt) (λ c. omega arith) (λ c. omega arith) (λ c κs. tt)
+    (λ c. omega arith)
     (λ c. omega arith) (λ c κs. omega arith) (λ c. omega arith) (λ c. omega arith) (λ c. tt) (λ c. tt))

@@ -18,5 +18,6 @@ loop-again : tie.Need-loop-preserved invariant-loop decreases-loop
 loop-again c = (omega arith, omega arith)
 
 pub flips-spec : {M : Type 1} → statement M
-flips-spec = tie.close (tie.spec invariant-loop decreases-loop loop-holds (λ c κs. tt) (λ c. omega arith) (λ c. omega arith) loop-again (λ c. omega arith)
+flips-spec = tie.close (tie.spec invariant-loop decreases-loop loop-holds (λ c κs. tt) (λ c. omega arith) (λ c. omega arith) loop-again
+    (λ c. omega arith)
     (λ c. omega arith) (λ c. tt) (λ c. omega arith) (λ c. omega arith) (λ c. tt))

@@ -16,5 +16,6 @@ loop-again : tie.Need-loop-preserved invariant-loop decreases-loop
 loop-again c = simp length-set (omega arith)
 
 pub spoil-spec : {M : Type 1} → statement M
-spoil-spec = tie.close (tie.spec invariant-loop decreases-loop (λ c. refl) (λ c. omega arith) (λ c. omega arith) (λ c. omega arith) loop-again
+spoil-spec = tie.close (tie.spec invariant-loop decreases-loop (λ c. refl) (λ c. omega arith) (λ c. omega arith)
+    (λ c. omega arith) loop-again
     (λ c. omega arith) (λ c. tt))

@@ -12,5 +12,6 @@ abbrev decreases-loop : tie.decreases-loop
 decreases-loop code word n₀ n = 8 * length word - n
 
 pub wrong-spec : {M : Type 1} → statement M
-wrong-spec = tie.close (tie.spec invariant-loop decreases-loop (λ c. tt) (λ c. omega arith) (λ c. omega arith) (λ c. omega arith) (λ c κs. omega arith)
+wrong-spec = tie.close (tie.spec invariant-loop decreases-loop (λ c. tt) (λ c. omega arith) (λ c. omega arith) (λ c. omega arith)
+    (λ c κs. omega arith)
     (λ c κs. tt) (λ c. omega arith) (λ c. omega arith) (λ c. tt) (λ c. tt))

@@ -10,5 +10,6 @@ abbrev decreases-loop : tie.decreases-loop
 decreases-loop part₀ s₀ parts₀ part s parts = 0x8000000000000000 - parts
 
 pub stream-spec : {M : Type 1} → statement M
-stream-spec = tie.close (tie.spec invariant-loop decreases-loop (λ c. search rules) (λ c κs. search rules) (λ c. search rules) (λ c. search rules)
+stream-spec = tie.close (tie.spec invariant-loop decreases-loop (λ c. search rules) (λ c κs. search rules) (λ c. search rules)
+    (λ c. search rules)
     (λ c. search rules) (λ c. search rules) (λ c. search rules) (λ c. search rules) (λ c. search rules))

@@ -55,5 +55,6 @@ loop-again c =
     )
 
 pub take_all_spec : {M : Type 1} → statement M
-take_all_spec = tie.close (tie.spec invariant-loop decreases-loop (λ c. search rules) (λ c. search rules) (λ c. search rules) (λ c. search rules)
+take_all_spec = tie.close (tie.spec invariant-loop decreases-loop (λ c. search rules) (λ c. search rules) (λ c. search rules)
+    (λ c. search rules)
     (λ c. search rules) take-requires add_at loop-less loop-again (λ c. search rules))

@@ -12,5 +12,6 @@ abbrev decreases-loop : tie.decreases-loop
 decreases-loop octets i₀ i = length octets - i
 
 pub is-zeros-spec : {M : Type 1} → statement M
-is-zeros-spec = tie.close (tie.spec invariant-loop decreases-loop (λ c. search rules) (λ c. search rules) (λ c. search rules) (λ c. search rules)
+is-zeros-spec = tie.close (tie.spec invariant-loop decreases-loop (λ c. search rules) (λ c. search rules) (λ c. search rules)
+    (λ c. search rules)
     (λ c. search rules) (λ c. search rules) (λ c. search rules))

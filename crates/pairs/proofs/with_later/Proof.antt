@@ -14,6 +14,7 @@ abbrev decreases-loop : tie.decreases-loop
 decreases-loop code a word₀ out₀ end mended₀ b₀ word out mended b = end - b
 
 pub with-later-spec : {M : Type 1} → statement M
-with-later-spec = tie.close (tie.spec invariant-loop decreases-loop (λ c. search rules) (λ c. search rules) (λ c κs. search rules) (λ c. search rules)
+with-later-spec = tie.close (tie.spec invariant-loop decreases-loop (λ c. search rules) (λ c. search rules) (λ c κs. search rules)
+    (λ c. search rules)
     (λ c κs. search rules) (λ c κs. search rules) (λ c. search rules) (λ c κs. search rules) (λ c. search rules) (λ c. search rules)
     (λ c. search rules) (λ c κs. search rules) (λ c. search rules) (λ c. search rules) (λ c. search rules))

@@ -13,6 +13,7 @@ abbrev decreases-loop : tie.decreases-loop
 decreases-loop unit out₀ state₀ index₀ out state index = 8192 - index
 
 pub lines-spec : {M : Type 1} → statement M
-lines-spec = tie.close (tie.spec invariant-loop decreases-loop (λ c. search rules) (λ c κs. search rules) (λ c. search rules) (λ c. search rules)
+lines-spec = tie.close (tie.spec invariant-loop decreases-loop (λ c. search rules) (λ c κs. search rules) (λ c. search rules)
+    (λ c. search rules)
     (λ c κs. search rules) (λ c. search rules) (λ c. search rules) (λ c. search rules) (λ c. search rules) (λ c. search rules)
     (λ c. search rules) (λ c. search rules))

@@ -12,5 +12,6 @@ abbrev decreases-loop : tie.decreases-loop
 decreases-loop octets i₀ t3 i = length octets - i
 
 pub put-octets-spec : {M : Type 1} → statement M
-put-octets-spec = tie.close (tie.spec invariant-loop decreases-loop (λ c. search rules) (λ c. search rules) (λ c κs. search rules) (λ c. search rules)
+put-octets-spec = tie.close (tie.spec invariant-loop decreases-loop (λ c. search rules) (λ c. search rules) (λ c κs. search rules)
+    (λ c. search rules)
     (λ c. search rules) (λ c. search rules) (λ c. search rules) (λ c. search rules) (λ c κs. search rules) (λ c. search rules))

@@ -43,5 +43,6 @@ loop-again c =
     c.next.ensures.1 _ _ 511 in-loop.before.loop.inv
 
 pub follow-spec : {M : Type 1} → statement M
-follow-spec = tie.close (tie.spec invariant-loop decreases-loop begin-requires loop-holds (λ c κs. search rules) (λ c. search rules) next-requires
+follow-spec = tie.close (tie.spec invariant-loop decreases-loop begin-requires loop-holds (λ c κs. search rules)
+    (λ c. search rules) next-requires
     loop-less loop-again (λ c. search rules))

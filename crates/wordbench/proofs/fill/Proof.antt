@@ -30,5 +30,6 @@ returns-2 c =
     (h, sym (length-take-le c.before.loop.n c.before.loop.octets h))
 
 pub fill_spec : {M : Type 1} → statement M
-fill_spec = tie.close (tie.spec invariant-loop decreases-loop loop-holds (λ c κs. search rules) (λ c. search rules) returns (λ c. search rules)
+fill_spec = tie.close (tie.spec invariant-loop decreases-loop loop-holds (λ c κs. search rules) (λ c. search rules) returns
+    (λ c. search rules)
     (λ c. search rules) (λ c. search rules) (λ c. search rules) returns-2)
