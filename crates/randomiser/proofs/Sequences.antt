@@ -1,16 +1,15 @@
 -- The sequence of a generator.
 use mathlib.Core.Path.{◌≡◌, refl, sym, ap, ap₂, ◌∙◌}
 use mathlib.Core.Bool.{Bool, true, false, not, ◌&&◌, true≢false}
-use mathlib.Core.List.{List, [], ◌∷◌, ◌++◌}
+use mathlib.Core.List.{List, [], ◌∷◌}
 use Prim.Native.Nat.{ℕ, zero, suc, ◌+◌, ◌-◌, ◌*◌, ◌%◌, ◌/◌, ◌≤◌, ◌<◌}
 use native.Mathlib.Nat.{add-zero, zero-add, add-suc, suc-add, add_comm, add_assoc, mul_assoc, suc-mul, mod-add-mod, div-add-mod'}
 use native.Mathlib.Omega.{arith}
-use lib.Dec.{T, eqb, ltb, leb, ltb→lt}
-use lib.ListN.{length, get_or, drop, take, replicate, length-append, length-drop, get_or-append}
+use lib.Dec.{T, ltb, ltb→lt}
+use lib.ListN.{length, get_or, drop, length-append, length-drop, get_or-append}
 use lib.Seq.{get_or-drop, get_or_at, ext_get_or}
-use Rattle.bits.specs.Bits.{Word, tally, number, over, below, ◌⊕◌}
+use Rattle.bits.specs.Bits.{Word, tally, number, over, ◌⊕◌}
 use Rattle.bits.proofs.Sums.{and_l, and_r, not-true}
-use Rattle.bits.proofs.Octets.{octets_same}
 use Rattle.randomiser.specs.Randomiser.{Generator, moved, register, sequence, sequence_octet, telecommand}
 
 -- ---- any generator: the sequence is what its polynomial says

@@ -1,5 +1,5 @@
 -- `codes::check`: refusals in the order of their numbers, then the count. Assumes nothing.
-use mathlib.Core.Path.{refl, sym, ap, ap₂, ◌∙◌}
+use mathlib.Core.Path.{sym, ap, ap₂, ◌∙◌}
 use lib.ListN.{length}
 use Rattle.rules.specs.Codes.{code}
 use Rattle.rules.specs.Checks.{broken, lowest}
@@ -7,7 +7,6 @@ use Rattle.answers.proofs.Answers.{check_taken, check_refused}
 use Rattle.catalogue.proofs.offer.Offers.{is_offered}
 use Rattle.vectors.proofs.Filling.{zero_words}
 use Rattle.refusals.proofs.Admitted.{offered_by, check_refusal, taken, word_long, fitting}
-use borrow.Author.Rules.{rules}
 use Rattle.codes.proofs.check.Goals as goal
 
 pub returns-then-number-ne0 : goal.returns-then-number-ne0

@@ -3,7 +3,6 @@ use mathlib.Core.Path.{sym, ◌∙◌}
 use Rattle.answers.proofs.Answers.{correct_taken, correct_refused}
 use Rattle.catalogue.proofs.offer.Offers.{is_offered}
 use Rattle.refusals.proofs.Admitted.{offered_by, correct_refusal, taken, word_long}
-use borrow.Author.Rules.{rules}
 use Rattle.codes.proofs.correct.Goals as goal
 
 pub returns-then-number-ne0 : goal.returns-then-number-ne0

@@ -5,7 +5,6 @@ use Rattle.answers.proofs.Answers.{encode_taken, encode_four, encode_refused}
 use Rattle.catalogue.proofs.offer.Offers.{is_offered}
 use Rattle.refusals.proofs.Admitted.{offered_by, encode_refusal, taken, word_long, information_long}
 use Rattle.codes.proofs.Encoding.{information_only}
-use borrow.Author.Rules.{rules}
 use Rattle.codes.proofs.encode.Goals as goal
 
 pub returns-then-number-ne0 : goal.returns-then-number-ne0

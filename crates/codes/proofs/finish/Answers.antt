@@ -4,7 +4,6 @@ use Rattle.rules.proofs.Numbers.{published}
 use Rattle.catalogue.proofs.offer.Offers.{is_offered}
 use Rattle.codes.proofs.Correcting.{ran_met, ran_unsent, ran_ends, corrected_is}
 use Rattle.flipping.specs.endings.Ends.{run_of}
-use borrow.Author.Rules.{rules}
 use Rattle.codes.proofs.finish.Goals as goal
 
 pub judge-number-requires : goal.judge-number-requires

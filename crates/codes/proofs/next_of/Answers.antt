@@ -4,7 +4,6 @@ use Rattle.rules.specs.Codes.{code}
 use Rattle.rules.specs.Flipping.{by_excess}
 use Rattle.refusals.proofs.Admitted.{shaped, unsent_is}
 use Rattle.codes.proofs.Correcting.{holding, within_bits}
-use borrow.Author.Rules.{rules}
 use Rattle.codes.proofs.next_of.Goals as goal
 
 pub comes_next-requires : goal.comes_next-requires

@@ -6,7 +6,6 @@ use Rattle.answers.proofs.Answers.{open-from, open_refused}
 use Rattle.catalogue.proofs.offer.Offers.{small}
 use Rattle.codes.proofs.Opened.{opened_other, opened_codeword}
 use Rattle.refusals.proofs.Admitted.{as_truth, opens_by, opens_offered, open_refusal, taken, word_long, information_long}
-use borrow.Author.Rules.{rules}
 use Rattle.codes.proofs.open.Goals as goal
 
 pub returns-then-refused-ne0 : goal.returns-then-refused-ne0

@@ -4,7 +4,6 @@ use Rattle.rules.specs.Codes.{code}
 use Rattle.refusals.proofs.Admitted.{shaped, unsent_is, fitting}
 use Rattle.flipping.proofs.endings.Ends.{begins, beginning}
 use Rattle.codes.proofs.Correcting.{run_ends}
-use borrow.Author.Rules.{rules}
 use Rattle.codes.proofs.run_taken.Goals as goal
 
 pub lowest-lowest-requires : goal.lowest-lowest-requires

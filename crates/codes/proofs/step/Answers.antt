@@ -2,7 +2,6 @@
 use mathlib.Core.Path.{sym, ◌∙◌}
 use Rattle.answers.proofs.Answers.{step_taken, step_refused}
 use Rattle.refusals.proofs.Admitted.{as_truth, steps_by, steps_offered, step_refusal, taken, word_long}
-use borrow.Author.Rules.{rules}
 use Rattle.codes.proofs.step.Goals as goal
 
 pub returns-then-number-ne0 : goal.returns-then-number-ne0

@@ -1,7 +1,6 @@
 -- `codes::step_out`: quiet, stuck, or one flip. Assumes nothing.
 use mathlib.Core.Path.{sym, ap, ap₂, ◌∙◌, subst}
 use mathlib.Core.Bool.{true, false}
-use Prim.Native.Nat.{◌<◌}
 use mir.Syntax.{w8}
 use mir.Val.{SFits}
 use mir.ValLaws.{to_z-of_z}

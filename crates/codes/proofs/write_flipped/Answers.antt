@@ -5,7 +5,6 @@ use Rattle.rules.specs.Codes.{code}
 use Rattle.rules.specs.Encoding.{written}
 use Rattle.catalogue.proofs.offer.Offers.{small}
 use Rattle.refusals.proofs.Admitted.{word_long, unsent_is, bits_are}
-use borrow.Author.Rules.{rules}
 use Rattle.codes.proofs.write_flipped.Goals as goal
 
 pub write-requires : goal.write-requires

@@ -4,7 +4,6 @@ use Rattle.rules.specs.Codes.{code}
 use Rattle.catalogue.proofs.offer.Offers.{small}
 use Rattle.refusals.proofs.Admitted.{word_long, unsent_is, bits_are}
 use Rattle.codes.proofs.Correcting.{wrote_word, wrote_none}
-use borrow.Author.Rules.{rules}
 use Rattle.codes.proofs.write_taken.Goals as goal
 
 pub write-requires : goal.write-requires

@@ -14,7 +14,7 @@ use Rattle.rules.specs.Codes.{Code}
 use Rattle.rules.specs.Checks.{check, broken_of, degree_of}
 use Rattle.rules.proofs.Blocks.{count_all as entries_all}
 use Rattle.layout.specs.declared.Shape.{Shape}
-use Rattle.layout.specs.Lent.{kept, entries, total, place_of, shifts_of, Lent, laid, score}
+use Rattle.layout.specs.Lent.{kept, entries, place_of, shifts_of, Lent, laid, score}
 use Rattle.layout.proofs.Lending.{total_same}
 use Rattle.layout.proofs.Laying.{laid_at}
 use Rattle.flipping.specs.bounds.Reading.{Twice, hits, Starts, Gathered}

@@ -10,7 +10,7 @@ use native.Mathlib.Decide.{dec_lt, ℕ_discrete}
 use native.Mathlib.Omega.{arith}
 use borrow.Author.Tests.{ne_eqb, lt-ltb, le-ltb, ltb-true, le-leb, leb-true, leb-false}
 use lib.Dec.{leb, ltb}
-use lib.ListN.{get_or, length, set, length-set}
+use lib.ListN.{get_or, set, length-set}
 use lib.Seq.{get_or-set_same, get_or-set_other}
 use lib.Arith.{digits_div, digits_lt}
 use Rattle.bits.specs.Bits.{Word, digit, least, if◌then◌else◌}

@@ -5,7 +5,6 @@ use Prim.Native.Nat.{ℕ, ◌≤◌, ◌-◌, ◌+◌, ◌*◌, ◌/◌}
 use native.Mathlib.Omega.{arith}
 use lib.ListN.{length, get_or, take, drop, length-take}
 use lib.Seq.{length-take-le}
-use borrow.Author.Rules.{rules}
 use Rattle.randomiser.specs.Randomiser.{sequence_octet, randomised}
 use Rattle.randomiser.proofs.Parts.{more_done, out_length, all_done}
 use Rattle.randomiser.proofs.add.Goals as goal

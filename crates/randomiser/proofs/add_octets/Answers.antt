@@ -1,12 +1,11 @@
 -- `randomiser::add_octets`: what is done so far is randomised, and the rest is as it was. Assumes nothing.
-use mathlib.Core.Path.{◌≡◌, refl}
-use mathlib.Core.List.{◌++◌}
-use Prim.Native.Nat.{ℕ, ◌≤◌, ◌<◌, ◌-◌, ◌+◌}
+use mathlib.Core.Path.{refl}
+use Prim.Native.Nat.{◌+◌}
 use native.Mathlib.Omega.{arith}
-use lib.ListN.{length, take, drop, get_or, length-set}
+use lib.ListN.{get_or, length-set}
 use Rattle.randomiser.proofs.Randomising.{randomised_more}
 use Rattle.randomiser.proofs.Parts.{all_done}
-use Rattle.randomiser.specs.Randomiser.{Generator, sequence_octet, randomised}
+use Rattle.randomiser.specs.Randomiser.{randomised}
 use Rattle.randomiser.proofs.add_octets.Goals as goal
 
 pub loop-i-init : goal.loop-i-init

@@ -5,8 +5,7 @@ use Prim.Native.Nat.{ℕ, ◌+◌, ◌*◌, ◌/◌, ◌<◌}
 use native.Mathlib.Omega.{arith}
 use lib.Bits.{bit_xor}
 use lib.ListN.{length}
-use borrow.Author.Rules.{rules}
-use Rattle.bits.specs.Bits.{bit, octets, ◌⊕◌}
+use Rattle.bits.specs.Bits.{bit, ◌⊕◌}
 use Rattle.vectors.specs.Vectors.{wbit, from}
 use Rattle.vectors.proofs.Places.{digit_xor}
 use Rattle.vectors.proofs.Filling.{word_at}

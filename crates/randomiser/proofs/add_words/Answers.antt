@@ -1,12 +1,11 @@
 -- `randomiser::add_words`: what is done so far is randomised, and the rest is as it was. Assumes nothing.
 use mathlib.Core.Path.{◌≡◌, refl, sym, ap, ◌∙◌}
-use mathlib.Core.List.{◌++◌}
-use Prim.Native.Nat.{ℕ, ◌≤◌, ◌<◌, ◌-◌, ◌+◌, ◌*◌, ◌/◌}
+use Prim.Native.Nat.{◌≤◌, ◌-◌, ◌+◌}
 use native.Mathlib.Omega.{arith}
 use lib.ListN.{length, take, drop, get_or, length-take, length-drop}
 use borrow.Rule.Slice.PartMut.{put_mid, same_len_mid}
 use borrow.Author.Rules.{rules}
-use Rattle.randomiser.specs.Randomiser.{Generator, sequence_octet, randomised}
+use Rattle.randomiser.specs.Randomiser.{sequence_octet, randomised}
 use Rattle.randomiser.proofs.Parts.{more_done, all_done}
 use Rattle.randomiser.proofs.add_words.Goals as goal
 

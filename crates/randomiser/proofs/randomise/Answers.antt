@@ -5,7 +5,6 @@ use native.Mathlib.Omega.{arith}
 use Rattle.bits.specs.Bits.{number}
 use Rattle.randomiser.specs.Randomiser.{telecommand}
 use Rattle.randomiser.proofs.Sequences.{telecommand_octets, telecommand_place}
-use borrow.Author.Rules.{rules}
 use Rattle.randomiser.proofs.randomise.Goals as goal
 
 --? slice-aggregate-add : tie.Need-slice-aggregate-add

@@ -1,10 +1,8 @@
 -- `narrowparity::add_narrow` meets its contract: after b passes the rows have the first b blocks. Assumes nothing.
 use mathlib.Core.Path.{◌≡◌, ap, ap₂, ◌∙◌}
-use Prim.Native.Nat.{ℕ, ◌-◌, ◌≤◌}
+use Prim.Native.Nat.{ℕ}
 use native.Mathlib.Omega.{arith}
-use borrow.Author.Rules.{rules}
 use Rattle.bits.specs.Bits.{Word, bit}
-use Rattle.vectors.specs.Vectors.{wbit}
 use Rattle.vectors.proofs.Filling.{zero_words}
 use Rattle.syndromes.specs.Rows.{plus, rowed, wide, spread, doubled, turned, summed}
 use Rattle.syndromes.proofs.Laid.{summed_none, summed_more}

@@ -3,13 +3,12 @@ use mathlib.Core.Path.{◌≡◌, refl, sym, ap, ap₂, ◌∙◌, subst}
 use Prim.Native.Nat.{ℕ, ◌-◌, ◌*◌}
 use native.Mathlib.Omega.{arith}
 use lib.Dec.{lit≤}
-use borrow.Author.Rules.{rules}
 use Rattle.bits.specs.Bits.{Word, bit, octets}
 use Rattle.rules.specs.Codes.{code, information}
 use Rattle.rules.specs.Encoding.{parity_bit}
 use Rattle.vectors.specs.Vectors.{up_to}
 use Rattle.vectors.proofs.Filling.{zero_words}
-use Rattle.catalogue.proofs.offer.Offers.{small, fixed}
+use Rattle.catalogue.proofs.offer.Offers.{fixed}
 use Rattle.word.proofs.received.Handed.{taken_whole}
 use Rattle.encoder.specs.parityrows.Rows.{narrow_shape, end_rows, informed, completed}
 use Rattle.encoder.proofs.parityrows.Ready.{narrow_is, last_size, ready_as, all_sent, short_of, short_sent}

@@ -1,15 +1,7 @@
 -- `narrowparity::turns` meets its contract: the sum so far, and what the shifts from place k on add, are the whole. Assumes nothing.
-use mathlib.Core.Path.{ap}
-use Prim.Native.Nat.{◌-◌, ◌≤◌, ◌<◌}
-use native.Mathlib.Omega.{arith}
-use lib.ListN.{get_or}
-use borrow.Author.Rules.{rules}
-use borrow.Author.Tests.{ltb-true, ltb-false}
-use Rattle.bits.specs.Bits.{◌⊕◌}
-use Rattle.bits.proofs.Octets.{digit_zero}
+use Prim.Native.Nat.{◌-◌, ◌≤◌}
 use Rattle.vectors.specs.Vectors.{both}
-use Rattle.encoder.specs.parityrows.Rows.{copies}
-use Rattle.encoder.proofs.parityrows.Laws.{Summed, summed_more, summed_all, rest_none, rest_past}
+use Rattle.encoder.proofs.parityrows.Laws.{Summed}
 use Rattle.encoder.proofs.narrowparity.turns.Given as goal
 
 abbrev pub invariant-loop-k : goal.invariant-loop-k

@@ -1,6 +1,5 @@
 -- `parityrows::lay_tail` meets its contract: the last bits of the information, and the rows behind them. Assumes nothing.
 use Prim.Native.Nat.{◌*◌, ◌/◌}
-use borrow.Author.Rules.{rules}
 use Rattle.bits.specs.Bits.{bit}
 use Rattle.vectors.specs.Vectors.{from}
 use Rattle.encoder.proofs.parityrows.lay_tail.Goals as goal

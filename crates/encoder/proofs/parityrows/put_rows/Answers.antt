@@ -1,11 +1,11 @@
 -- `parityrows::put_rows` meets its contract: after a passes the first a parity blocks stand behind the first bits. Assumes nothing.
 use mathlib.Core.Path.{◌≡◌, ap, ◌∙◌}
-use Prim.Native.Nat.{ℕ, ◌+◌, ◌-◌, ◌*◌, ◌%◌, ◌≤◌}
+use Prim.Native.Nat.{ℕ, ◌+◌, ◌-◌, ◌*◌, ◌%◌}
 use native.Mathlib.Nat.{mod-lt}
 use native.Mathlib.Omega.{arith}
 use Rattle.bits.specs.Bits.{Word}
-use Rattle.vectors.specs.Vectors.{wbit, up_to, joined, added}
-use Rattle.encoder.specs.parityrows.Rows.{held, behind}
+use Rattle.vectors.specs.Vectors.{up_to, joined, added}
+use Rattle.encoder.specs.parityrows.Rows.{behind}
 use Rattle.encoder.proofs.parityrows.Laws.{tail_room, rows_start, rows_more, rows_few}
 use Rattle.encoder.proofs.parityrows.put_rows.Goals as goal
 

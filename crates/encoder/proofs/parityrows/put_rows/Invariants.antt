@@ -1,12 +1,9 @@
 -- `parityrows::put_rows` meets its contract: after a passes the first a parity blocks stand behind the first bits. Assumes nothing.
-use mathlib.Core.Path.{◌≡◌, ap, ◌∙◌}
-use Prim.Native.Nat.{ℕ, ◌+◌, ◌-◌, ◌*◌, ◌%◌, ◌≤◌}
-use native.Mathlib.Nat.{mod-lt}
-use native.Mathlib.Omega.{arith}
+use mathlib.Core.Path.{◌≡◌}
+use Prim.Native.Nat.{ℕ, ◌+◌, ◌-◌, ◌*◌, ◌≤◌}
 use Rattle.bits.specs.Bits.{Word}
-use Rattle.vectors.specs.Vectors.{wbit, up_to, joined, added}
+use Rattle.vectors.specs.Vectors.{wbit, up_to, joined}
 use Rattle.encoder.specs.parityrows.Rows.{held, behind}
-use Rattle.encoder.proofs.parityrows.Laws.{tail_room, rows_start, rows_more, rows_few}
 use Rattle.encoder.proofs.parityrows.put_rows.Given as goal
 
 abbrev pub invariant-loop-a : goal.invariant-loop-a

@@ -1,6 +1,5 @@
 -- `parityrows::put_spare` meets its contract: the octet that the information does not fill, and zeros behind it. Assumes nothing.
 use lib.ListN.{length-set}
-use borrow.Author.Rules.{rules}
 use Rattle.encoder.proofs.parityrows.Written.{spare_stored}
 use Rattle.encoder.proofs.parityrows.put_spare.Goals as goal
 

@@ -2,7 +2,6 @@
 use mathlib.Core.Path.{◌∙◌}
 use Prim.Native.Nat.{◌+◌}
 use native.Mathlib.Omega.{arith}
-use borrow.Author.Rules.{rules}
 use Rattle.vectors.specs.Vectors.{wbit, from}
 use Rattle.encoder.proofs.parityrows.Laws.{added_same, put_added, between, between_before, between_here, between_after}
 use Rattle.encoder.proofs.parityrows.put_word.Goals as goal

@@ -1,7 +1,6 @@
 -- `parityrows::write_both` meets its contract: the octets in front, the others behind. Assumes nothing.
 use native.Mathlib.Omega.{arith}
 use lib.ListN.{length-take}
-use borrow.Author.Rules.{rules}
 use Rattle.vectors.specs.Vectors.{wbit, from}
 use Rattle.encoder.proofs.parityrows.Written.{both_put}
 use Rattle.encoder.proofs.parityrows.write_both.Goals as goal

@@ -1,16 +1,10 @@
 -- `wideparity::add_wide` meets its contract: after b passes the rows have the first b blocks. Assumes nothing.
-use mathlib.Core.Path.{◌≡◌, sym, ap, ◌∙◌, subst}
-use Prim.Native.Nat.{ℕ, ◌+◌, ◌-◌, ◌^◌, ◌≤◌, ◌<◌}
-use native.Mathlib.Omega.{arith}
-use borrow.Author.Rules.{rules}
-use Rattle.bits.specs.Bits.{Word, bit, number}
-use Rattle.bits.proofs.Octets.{number_lt}
+use mathlib.Core.Path.{◌≡◌}
+use Prim.Native.Nat.{◌-◌, ◌^◌, ◌≤◌, ◌<◌}
+use Rattle.bits.specs.Bits.{bit, number}
 use Rattle.vectors.specs.Vectors.{wbit, later}
-use Rattle.vectors.proofs.Octets.{fits}
 use Rattle.word.specs.ownparity.Odd.{odd_block}
-use Rattle.word.proofs.ownparity.Words.{number_start, number_more}
-use Rattle.syndromes.specs.Rows.{plus, rowed, wide, spread, doubled, turned, summed}
-use Rattle.syndromes.proofs.Laid.{summed_none, summed_more}
+use Rattle.syndromes.specs.Rows.{rowed, wide, summed}
 use Rattle.encoder.proofs.wideparity.add_wide.Given as goal
 
 abbrev pub invariant-loop-b : goal.invariant-loop-b

@@ -1,7 +1,6 @@
 -- `wideparity::add_wide_block` meets its contract: the block is doubled, and added turned. Assumes nothing.
 use mathlib.Core.Path.{sym, ap, ◌∙◌}
 use Prim.Native.Nat.{ℕ}
-use borrow.Author.Rules.{rules}
 use Rattle.bits.specs.Bits.{Word, bit}
 use Rattle.vectors.specs.Vectors.{wbit, later}
 use Rattle.syndromes.specs.Rows.{plus, rowed, wide, spread, doubled, turned}

@@ -3,7 +3,6 @@ use mathlib.Core.Path.{◌≡◌, refl, sym, ap, ap₂, ◌∙◌}
 use Prim.Native.Nat.{ℕ, ◌-◌}
 use native.Mathlib.Omega.{arith}
 use lib.Dec.{lit≤}
-use borrow.Author.Rules.{rules}
 use Rattle.bits.specs.Bits.{Word, bit, octets, ◌⊕◌}
 use Rattle.rules.specs.Codes.{code, information}
 use Rattle.rules.specs.Encoding.{lifted}

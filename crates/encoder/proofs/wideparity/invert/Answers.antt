@@ -1,7 +1,6 @@
 -- `wideparity::invert` meets its contract: each row by the ones of the blocks that are counted with it. Assumes nothing.
 use mathlib.Core.Path.{ap, ◌∙◌}
 use Prim.Native.Nat.{◌+◌, ◌*◌}
-use borrow.Author.Rules.{rules}
 use Rattle.bits.specs.Bits.{Word}
 use Rattle.vectors.specs.Vectors.{up_to, added}
 use Rattle.word.specs.ownparity.Odd.{odd_together_of}

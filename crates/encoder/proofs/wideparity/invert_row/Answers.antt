@@ -1,12 +1,11 @@
 -- `wideparity::invert_row` meets its contract: the words before word k are inverted. Assumes nothing.
 use mathlib.Core.Path.{◌≡◌, sym, ap, ap₂, ◌∙◌}
 use mathlib.Core.Bool.{Bool, ◌&&◌}
-use Prim.Native.Nat.{ℕ, ◌+◌, ◌-◌, ◌*◌, ◌≤◌}
+use Prim.Native.Nat.{ℕ, ◌+◌, ◌-◌, ◌*◌}
 use native.Mathlib.Omega.{arith}
 use lib.Dec.{ltb, lit≤}
-use borrow.Author.Rules.{rules}
 use Rattle.bits.specs.Bits.{Word}
-use Rattle.vectors.specs.Vectors.{wbit, Holds, up_to, added}
+use Rattle.vectors.specs.Vectors.{wbit, up_to, added}
 use Rattle.bits.proofs.Orders.{ltb_iff}
 use Rattle.vectors.proofs.Spans.{up_to_below}
 use Rattle.encoder.proofs.parityrows.Laws.{added_start, added_append}

@@ -1,7 +1,6 @@
 -- `wideparity::solve_wide` meets its contract: the steps, from the checks that the information breaks, and the inversions. Assumes nothing.
 use mathlib.Core.Path.{refl, sym, ap, ◌∙◌}
 use Prim.Native.Nat.{ℕ}
-use borrow.Author.Rules.{rules}
 use Rattle.bits.specs.Bits.{Word, ◌⊕◌}
 use Rattle.rules.specs.Codes.{code}
 use Rattle.word.specs.ownparity.Odd.{odd_together_of}

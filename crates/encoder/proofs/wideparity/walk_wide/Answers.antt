@@ -1,7 +1,7 @@
 -- `wideparity::walk_wide` meets its contract: after k passes the first k steps are taken. Assumes nothing.
 use mathlib.Core.Path.{◌≡◌, sym, ap, ◌∙◌, subst}
 use mathlib.Core.List.{List, []}
-use Prim.Native.Nat.{ℕ, ◌+◌, ◌-◌, ◌*◌, ◌≤◌, ◌<◌}
+use Prim.Native.Nat.{ℕ, ◌+◌, ◌*◌, ◌<◌}
 use native.Mathlib.Omega.{arith}
 use lib.Dec.{T}
 use lib.ListN.{get_or}
@@ -10,7 +10,7 @@ use Rattle.bits.specs.Bits.{Word}
 use Rattle.vectors.specs.Vectors.{wbit}
 use Rattle.syndromes.specs.Rows.{wide}
 use Rattle.encoder.specs.steps.Steps.{rows_in, stepped, walked, steps511}
-use Rattle.encoder.specs.parityrows.Rows.{held, Kept, steps_of}
+use Rattle.encoder.specs.parityrows.Rows.{held, steps_of}
 use Rattle.encoder.proofs.parityrows.Laws.{wide_some, held_kept, walked_none, walked_more}
 use Rattle.encoder.proofs.wideparity.walk_wide.Goals as goal
 

@@ -1,7 +1,6 @@
 -- `bounds::ahead` meets its contract, by the tests' answers. Assumes nothing.
 use Prim.Native.Nat.{◌+◌, ◌-◌}
 use native.Mathlib.Omega.{arith}
-use borrow.Author.Rules.{rules}
 use Rattle.bits.proofs.Orders.{ltb_iff}
 use Rattle.flipping.proofs.bounds.ahead.Goals as goal
 

@@ -1,8 +1,7 @@
 -- `bounds::between` meets its contract. Assumes nothing.
 use mathlib.Core.Path.{ap, ap₂, ◌∙◌}
-use mathlib.Core.Bool.{not, ◌&&◌}
+use mathlib.Core.Bool.{◌&&◌}
 use Prim.Native.Nat.{◌+◌}
-use borrow.Author.Rules.{rules}
 use lib.Dec.{ltb}
 use Rattle.bits.specs.Bits.{digit, ◌⊕◌}
 use Rattle.vectors.proofs.Places.{digit_xor}

@@ -1,6 +1,5 @@
 -- `bounds::double_narrow_row` meets its contract: two words of d are the row twice over. Assumes nothing.
 use native.Mathlib.Omega.{arith}
-use borrow.Author.Rules.{rules}
 use lib.ListN.{length-set}
 use Rattle.bits.specs.Bits.{digit}
 use Rattle.flipping.proofs.bounds.Doubled.{placed_number}

@@ -2,7 +2,6 @@
 use mathlib.Core.Path.{ap, ◌∙◌}
 use Prim.Native.Nat.{◌+◌, ◌-◌, ◌*◌}
 use native.Mathlib.Omega.{arith}
-use borrow.Author.Rules.{rules}
 use lib.ListN.{drop, length-take, length-drop}
 use Rattle.vectors.specs.Vectors.{wbit, from, twice}
 use Rattle.vectors.proofs.Filling.{word_holds}

@@ -1,17 +1,12 @@
 -- `bounds::few_met` meets its contract: after e passes, those of which at most so many of the first e checks are met, and those of which
 -- none is. Assumes nothing.
-use mathlib.Core.Path.{◌≡◌, sym, ap, ◌∙◌}
+use mathlib.Core.Path.{◌≡◌}
 use mathlib.Core.Bool.{◌&&◌}
-use Prim.Native.Nat.{ℕ, ◌+◌, ◌-◌, ◌%◌, ◌≤◌, ◌<◌, zero-le}
-use native.Mathlib.Omega.{arith}
-use borrow.Author.Tests.{le-leb}
+use Prim.Native.Nat.{ℕ, ◌+◌, ◌-◌, ◌%◌, ◌≤◌, ◌<◌}
 use lib.Dec.{eqb, leb}
 use Rattle.bits.specs.Bits.{digit}
-use Rattle.bits.proofs.Octets.{digit_zero}
 use Rattle.vectors.specs.Vectors.{wbit}
-use Rattle.planes.proofs.Digits.{ones_at}
 use Rattle.flipping.specs.bounds.Reading.{hits}
-use Rattle.flipping.proofs.bounds.Weights.{and-true, few_found, few_spare, too_few}
 use Rattle.flipping.proofs.bounds.few_met.Given as goal
 
 abbrev pub invariant-loop-e : goal.invariant-loop-e

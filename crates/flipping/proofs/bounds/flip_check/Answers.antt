@@ -1,8 +1,6 @@
 -- `bounds::flip_check` meets its contract, by the test's answer. Assumes nothing.
 use mathlib.Core.Path.{sym, ap, ap₂, ◌∙◌}
 use Prim.Native.Nat.{ℕ, ◌+◌, ◌-◌, ◌%◌}
-use native.Mathlib.Omega.{arith}
-use borrow.Author.Rules.{rules}
 use borrow.Author.Tests.{lt-ltb, le-ltb}
 use Rattle.bits.specs.Bits.{Word, flipped, if◌then◌else◌}
 use Rattle.flipping.proofs.bounds.flip_check.Goals as goal

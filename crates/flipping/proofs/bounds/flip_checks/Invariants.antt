@@ -1,14 +1,11 @@
 -- `bounds::flip_checks` meets its contract: after e passes the checks of the first e starts are flipped. Assumes nothing.
-use mathlib.Core.Path.{◌≡◌, refl, ap, ◌∙◌}
+use mathlib.Core.Path.{◌≡◌}
 use Prim.Native.Nat.{ℕ, ◌+◌, ◌-◌, ◌≤◌}
-use native.Mathlib.Omega.{arith}
-use borrow.Author.Rules.{rules}
 use lib.Dec.{eqb}
 use lib.ListN.{length, get_or}
 use Rattle.bits.specs.Bits.{sum, ◌⊕◌}
 use Rattle.vectors.specs.Vectors.{wbit}
 use Rattle.flipping.specs.bounds.Reading.{other}
-use Rattle.flipping.proofs.bounds.Flipped.{flipped_none, flipped_more}
 use Rattle.flipping.proofs.bounds.flip_checks.Given as goal
 
 abbrev pub invariant-loop-e : goal.invariant-loop-e

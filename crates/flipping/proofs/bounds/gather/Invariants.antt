@@ -1,11 +1,8 @@
 -- `bounds::gather` meets its contract: after r passes the starts are those of the first r rows. Assumes nothing.
-use mathlib.Core.Path.{◌≡◌, refl, ◌∙◌, subst}
+use mathlib.Core.Path.{◌≡◌}
 use Prim.Native.Nat.{ℕ, ◌+◌, ◌-◌, ◌*◌, ◌≤◌, ◌<◌}
-use native.Mathlib.Omega.{arith}
-use borrow.Author.Rules.{rules}
 use lib.ListN.{length, get_or}
 use Rattle.flipping.specs.bounds.Reading.{Listed, asked}
-use Rattle.flipping.proofs.bounds.Entries.{listed_none}
 use Rattle.flipping.proofs.bounds.gather.Given as goal
 
 abbrev pub invariant-loop-r : goal.invariant-loop-r

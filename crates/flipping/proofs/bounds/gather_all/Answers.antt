@@ -1,10 +1,8 @@
 -- `bounds::gather_all` meets its contract: after b passes the starts of the first b blocks are there. Assumes nothing.
-use mathlib.Core.Path.{◌≡◌, ◌∙◌}
-use Prim.Native.Nat.{◌-◌, ◌≤◌}
+use mathlib.Core.Path.{◌∙◌}
 use native.Mathlib.Omega.{arith}
 use borrow.Author.Rules.{rules}
-use lib.ListN.{length, length-set}
-use Rattle.flipping.specs.bounds.Reading.{Gathered}
+use lib.ListN.{length-set}
 use Rattle.flipping.proofs.bounds.Entries.{gathered_more}
 use Rattle.flipping.proofs.bounds.gather_all.Goals as goal
 

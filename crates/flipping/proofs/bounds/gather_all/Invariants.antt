@@ -1,11 +1,8 @@
 -- `bounds::gather_all` meets its contract: after b passes the starts of the first b blocks are there. Assumes nothing.
-use mathlib.Core.Path.{◌≡◌, ◌∙◌}
+use mathlib.Core.Path.{◌≡◌}
 use Prim.Native.Nat.{◌-◌, ◌≤◌}
-use native.Mathlib.Omega.{arith}
-use borrow.Author.Rules.{rules}
-use lib.ListN.{length, length-set}
+use lib.ListN.{length}
 use Rattle.flipping.specs.bounds.Reading.{Gathered}
-use Rattle.flipping.proofs.bounds.Entries.{gathered_more}
 use Rattle.flipping.proofs.bounds.gather_all.Given as goal
 
 abbrev pub invariant-loop-b : goal.invariant-loop-b

@@ -1,6 +1,6 @@
 -- `bounds::many_broken` meets its contract: after e passes, the counts and what they carried over. Assumes nothing.
 use mathlib.Core.Path.{◌≡◌, ap, ◌∙◌}
-use Prim.Native.Nat.{ℕ, ◌+◌, ◌-◌, ◌*◌, ◌≤◌, ◌<◌}
+use Prim.Native.Nat.{◌+◌}
 use native.Mathlib.Omega.{arith}
 use lib.Dec.{leb}
 use Rattle.bits.specs.Bits.{digit, tally}

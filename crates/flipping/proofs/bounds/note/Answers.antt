@@ -1,6 +1,5 @@
 -- `bounds::note` meets its contract, by the test's answer. Assumes nothing.
 use native.Mathlib.Omega.{arith}
-use borrow.Author.Rules.{rules}
 use lib.ListN.{get_or}
 use Rattle.layout.proofs.Lending.{read_any}
 use Rattle.flipping.proofs.bounds.Entries.{noted, unnoted}

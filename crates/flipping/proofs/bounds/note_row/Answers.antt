@@ -1,8 +1,7 @@
 -- `bounds::note_row` meets its contract. Assumes nothing.
-use mathlib.Core.Path.{◌≡◌, ◌∙◌}
-use Prim.Native.Nat.{ℕ, ◌+◌, ◌*◌, ◌≤◌, ◌<◌}
+use mathlib.Core.Path.{◌∙◌}
+use Prim.Native.Nat.{◌+◌}
 use native.Mathlib.Omega.{arith}
-use borrow.Author.Rules.{rules}
 use Rattle.flipping.proofs.bounds.Entries.{within, noted_le, noted_ge, noted_before, gathered_row}
 use Rattle.flipping.proofs.bounds.note_row.Goals as goal
 

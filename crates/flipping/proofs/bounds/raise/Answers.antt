@@ -1,9 +1,8 @@
 -- `bounds::raise` meets its contract: the first b numbers are so many fewer. Assumes nothing.
-use mathlib.Core.Path.{◌≡◌, refl, ap, ◌∙◌}
-use Prim.Native.Nat.{ℕ, ◌-◌, ◌≤◌, ◌<◌}
+use mathlib.Core.Path.{refl, ap, ◌∙◌}
+use Prim.Native.Nat.{◌-◌}
 use native.Mathlib.Omega.{arith}
-use borrow.Author.Rules.{rules}
-use lib.ListN.{length, get_or, length-set}
+use lib.ListN.{get_or, length-set}
 use Rattle.flipping.proofs.bounds.Weights.{set_more, set_rest}
 use Rattle.flipping.proofs.bounds.raise.Goals as goal
 

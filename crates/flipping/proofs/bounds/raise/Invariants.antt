@@ -1,10 +1,7 @@
 -- `bounds::raise` meets its contract: the first b numbers are so many fewer. Assumes nothing.
-use mathlib.Core.Path.{◌≡◌, refl, ap, ◌∙◌}
+use mathlib.Core.Path.{◌≡◌}
 use Prim.Native.Nat.{ℕ, ◌-◌, ◌≤◌, ◌<◌}
-use native.Mathlib.Omega.{arith}
-use borrow.Author.Rules.{rules}
-use lib.ListN.{length, get_or, length-set}
-use Rattle.flipping.proofs.bounds.Weights.{set_more, set_rest}
+use lib.ListN.{length, get_or}
 use Rattle.flipping.proofs.bounds.raise.Given as goal
 
 abbrev pub invariant-loop-b : goal.invariant-loop-b

@@ -1,11 +1,7 @@
 -- `choice::first_at` meets its contract: no bound of the first b blocks is as great any more. Assumes nothing.
-use Prim.Native.Nat.{ℕ, ◌-◌, ◌≤◌, ◌<◌}
 use native.Mathlib.Nat.{mul-le-mul_right}
 use native.Mathlib.Omega.{arith}
-use borrow.Author.Rules.{rules}
 use Rattle.vectors.specs.Vectors.{wbit}
-use Rattle.flipping.specs.bounds.Keeping.{bound}
-use Rattle.flipping.specs.choice.Searching.{Lowered}
 use Rattle.flipping.proofs.choice.Searches.{lowered_more, still_le, lt_more, found_here}
 use Rattle.flipping.proofs.choice.first_at.Goals as goal
 

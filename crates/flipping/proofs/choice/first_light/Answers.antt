@@ -1,7 +1,6 @@
 -- `choice::first_light` meets its contract, by the test's answer. Assumes nothing.
 use mathlib.Core.Path.{sym, ap, ◌∙◌}
 use Prim.Native.Nat.{◌*◌}
-use borrow.Author.Rules.{rules}
 use Rattle.bits.specs.Bits.{least}
 use Rattle.vectors.specs.Vectors.{wbit}
 use Rattle.flipping.specs.bounds.Reading.{light}

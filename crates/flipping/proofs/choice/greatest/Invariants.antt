@@ -1,11 +1,7 @@
 -- `choice::greatest` meets its contract: the greatest bound of the first b blocks. Assumes nothing.
-use mathlib.Core.Path.{◌≡◌, ap, ap₂, ◌∙◌}
-use Prim.Native.Nat.{ℕ, ◌-◌, ◌≤◌}
-use native.Mathlib.Omega.{arith}
-use lib.Dec.{ltb}
-use Rattle.bits.specs.Bits.{if◌then◌else◌}
+use mathlib.Core.Path.{◌≡◌}
+use Prim.Native.Nat.{◌-◌, ◌≤◌}
 use Rattle.flipping.specs.choice.Searching.{highest}
-use Rattle.flipping.proofs.choice.Searches.{highest_none, highest_more}
 use Rattle.flipping.proofs.choice.greatest.Given as goal
 
 abbrev pub invariant-loop-b : goal.invariant-loop-b

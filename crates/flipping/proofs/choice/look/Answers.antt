@@ -1,12 +1,7 @@
 -- `choice::look` meets its contract, by the tests' answers. Assumes nothing.
-use mathlib.Core.Path.{sym, ap, ◌∙◌}
-use Prim.Native.Nat.{◌*◌}
+use mathlib.Core.Path.{sym, ◌∙◌}
 use native.Mathlib.Omega.{arith}
-use borrow.Author.Rules.{rules}
-use lib.ListN.{get_or}
-use Rattle.bits.specs.Bits.{least}
 use Rattle.vectors.specs.Vectors.{wbit}
-use Rattle.flipping.specs.bounds.Reading.{light}
 use Rattle.flipping.proofs.choice.Searches.{looked_past, looked_found, looked_missed}
 use Rattle.flipping.proofs.choice.look.Goals as goal
 

@@ -8,7 +8,6 @@ use Rattle.vectors.specs.Vectors.{wbit}
 use Rattle.catalogue.proofs.offer.Offers.{small, is_offered}
 use Rattle.refusals.proofs.Admitted.{unsent_is, bits_are}
 use Rattle.flipping.proofs.endings.Counted.{sent_differ}
-use borrow.Author.Rules.{rules}
 use Rattle.flipping.proofs.endings.unlike_after.Goals as goal
 
 pub returns-then-flips-le1 : goal.returns-then-flips-le1

@@ -1,13 +1,9 @@
 -- `narrow::begin`: after r passes the first r rows stand there. Assumes nothing.
-use mathlib.Core.Path.{◌≡◌}
-use Prim.Native.Nat.{ℕ, ◌+◌, ◌-◌, ◌*◌, ◌≤◌, ◌<◌}
+use Prim.Native.Nat.{◌+◌, ◌*◌}
 use native.Mathlib.Omega.{arith}
-use lib.ListN.{length, get_or, length-set}
-use Rattle.bits.specs.Bits.{Word}
-use Rattle.rules.specs.Codes.{Code}
+use lib.ListN.{length-set}
 use Rattle.rules.specs.Checks.{check}
-use Rattle.vectors.specs.Vectors.{wbit, Holds}
-use Rattle.layout.specs.Lent.{laid}
+use Rattle.vectors.specs.Vectors.{Holds}
 use Rattle.flipping.specs.narrow.Weighing.{around}
 use Rattle.flipping.proofs.narrow.Blocks.{laid_row, set_rows}
 use Rattle.flipping.proofs.narrow.begin.Goals as goal

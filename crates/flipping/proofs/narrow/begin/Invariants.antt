@@ -1,15 +1,13 @@
 -- `narrow::begin`: after r passes the first r rows stand there. Assumes nothing.
 use mathlib.Core.Path.{◌≡◌}
 use Prim.Native.Nat.{ℕ, ◌+◌, ◌-◌, ◌*◌, ◌≤◌, ◌<◌}
-use native.Mathlib.Omega.{arith}
-use lib.ListN.{length, get_or, length-set}
+use lib.ListN.{length, get_or}
 use Rattle.bits.specs.Bits.{Word}
 use Rattle.rules.specs.Codes.{Code}
 use Rattle.rules.specs.Checks.{check}
 use Rattle.vectors.specs.Vectors.{wbit, Holds}
 use Rattle.layout.specs.Lent.{laid}
 use Rattle.flipping.specs.narrow.Weighing.{around}
-use Rattle.flipping.proofs.narrow.Blocks.{laid_row, set_rows}
 use Rattle.flipping.proofs.narrow.begin.Given as goal
 
 abbrev pub invariant-loop-r : goal.invariant-loop-r

@@ -1,5 +1,4 @@
 -- `narrow::choose`: all blocks are weighed, and the best bit is taken. Assumes nothing.
-use borrow.Author.Rules.{rules}
 use Rattle.flipping.proofs.narrow.choose.Goals as goal
 
 pub best_of-requires : goal.best_of-requires

@@ -1,17 +1,11 @@
 -- `narrow::flip_rows`: after r passes the checks of the first r rows are flipped. Assumes nothing.
-use mathlib.Core.Path.{◌≡◌, refl, sym, ◌∙◌, subst}
-use Prim.Native.Nat.{ℕ, ◌+◌, ◌-◌, ◌/◌, ◌%◌, ◌≤◌, ◌<◌}
-use native.Mathlib.Nat.{mod-lt, div-add-mod', div-lt_iff_lt-mul}
-use native.Mathlib.Omega.{arith}
-use borrow.Author.Rules.{rules}
+use mathlib.Core.Path.{◌≡◌}
+use Prim.Native.Nat.{ℕ, ◌+◌, ◌-◌, ◌%◌, ◌≤◌, ◌<◌}
 use lib.Dec.{eqb}
-use lib.ListN.{length, get_or, length-set}
-use lib.Seq.{get_or-set_other}
-use Rattle.bits.specs.Bits.{Word, ◌⊕◌, over, flipped}
+use lib.ListN.{length, get_or}
+use Rattle.bits.specs.Bits.{Word, ◌⊕◌, over}
 use Rattle.vectors.specs.Vectors.{Holds}
 use Rattle.layout.specs.Lent.{shifts_of}
-use Rattle.flipping.specs.narrow.Weighing.{Rows}
-use Rattle.flipping.proofs.narrow.Blocks.{set_rows, first_of_row, row_flipped, place_room}
 use Rattle.flipping.proofs.narrow.flip_rows.Given as goal
 
 abbrev pub invariant-loop-r : goal.invariant-loop-r

@@ -1,12 +1,6 @@
 -- `narrow::greatest`: after b passes it is the greatest of the first b scores. Assumes nothing.
-use mathlib.Core.Path.{◌≡◌, subst}
-use mathlib.Core.Logic.{⊎_elim}
-use Prim.Native.Nat.{◌-◌, ◌≤◌, ◌<◌}
-use native.Mathlib.Omega.{arith}
-use lib.ListN.{get_or}
-use Rattle.bits.proofs.Orders.{le-or-lt}
+use Prim.Native.Nat.{◌-◌, ◌≤◌}
 use Rattle.flipping.specs.narrow.Weighing.{Greatest}
-use Rattle.flipping.proofs.narrow.Blocks.{greatest_none, greatest_more, greatest_kept}
 use Rattle.flipping.proofs.narrow.greatest.Given as goal
 
 abbrev pub invariant-loop-b : goal.invariant-loop-b

@@ -2,7 +2,6 @@
 use mathlib.Core.Path.{subst}
 use Prim.Native.Nat.{◌+◌}
 use native.Mathlib.Omega.{arith}
-use borrow.Author.Rules.{rules}
 use Rattle.vectors.specs.Vectors.{Holds}
 use Rattle.flipping.specs.narrow.Weighing.{lightly}
 use Rattle.flipping.proofs.narrow.Levels.{peaked_at, peaked_none, none_so}

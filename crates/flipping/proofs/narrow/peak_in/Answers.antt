@@ -1,6 +1,5 @@
 -- `narrow::peak_in`: the bits of another score are not looked at. Assumes nothing.
 use mathlib.Core.Path.{refl}
-use borrow.Author.Rules.{rules}
 use Rattle.flipping.proofs.narrow.peak_in.Goals as goal
 
 pub returns-then-score-top : goal.returns-then-score-top

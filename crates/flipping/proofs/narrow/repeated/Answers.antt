@@ -1,12 +1,9 @@
 -- `narrow::repeated`: in each pass the row stands twice as often. Assumes nothing.
-use mathlib.Core.Path.{◌≡◌, ◌∙◌}
-use Prim.Native.Nat.{◌-◌, ◌/◌, ◌%◌, ◌^◌, ◌≤◌, ◌<◌}
+use mathlib.Core.Path.{◌∙◌}
+use Prim.Native.Nat.{◌/◌, ◌^◌}
 use native.Mathlib.Nat.{mod_self, div-le_self, lt_of_le_of_lt}
 use native.Mathlib.Omega.{arith}
-use borrow.Author.Rules.{rules}
 use lib.Bits.{or_lt}
-use Rattle.bits.specs.Bits.{Word}
-use Rattle.vectors.specs.Vectors.{Holds, up_to}
 use Rattle.vectors.proofs.Spans.{up_to_below}
 use Rattle.flipping.specs.narrow.Weighing.{around}
 use Rattle.flipping.proofs.narrow.Around.{once, twice_as_many, whole_twice}

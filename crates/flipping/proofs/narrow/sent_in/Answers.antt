@@ -2,7 +2,6 @@
 use mathlib.Core.Path.{◌≡◌, refl, sym, ap, ap₂, ◌∙◌}
 use mathlib.Core.Bool.{Bool, true, false, not, ◌&&◌}
 use Prim.Native.Nat.{zero-le}
-use borrow.Author.Rules.{rules}
 use borrow.Author.Tests.{le-leb, eq-eqb, ne_eqb}
 use lib.Dec.{leb, ltb}
 use Rattle.bits.specs.Bits.{◌⊕◌, digit, if◌then◌else◌}

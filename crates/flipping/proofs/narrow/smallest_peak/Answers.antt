@@ -1,15 +1,12 @@
 -- `narrow::smallest_peak`: block after block. Assumes nothing.
-use mathlib.Core.Path.{◌≡◌, refl, sym, ap, ◌∙◌, subst}
-use mathlib.Core.Bool.{Bool}
-use Prim.Native.Nat.{ℕ, ◌+◌, ◌-◌, ◌*◌, ◌≤◌, ◌<◌}
+use mathlib.Core.Path.{◌≡◌, ap, ◌∙◌}
+use Prim.Native.Nat.{◌*◌, ◌<◌}
 use native.Mathlib.Nat.{mul-le-mul_right}
 use native.Mathlib.Omega.{arith}
-use borrow.Author.Rules.{rules}
 use lib.Arith.{digits_lt}
-use lib.ListN.{length, get_or}
+use lib.ListN.{get_or}
 use Rattle.magnitudes.specs.Patterns.{smaller}
 use Rattle.magnitudes.specs.Sizes.{smallest}
-use Rattle.flipping.specs.narrow.Weighing.{Marks}
 use Rattle.flipping.proofs.narrow.Peaks.{smallest_none, peak_next, mark_inside}
 use Rattle.flipping.proofs.narrow.smallest_peak.Goals as goal
 

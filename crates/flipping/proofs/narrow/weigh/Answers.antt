@@ -1,15 +1,13 @@
 -- `narrow::weigh`: after r passes the checks of the first r rows are weighed. Assumes nothing.
 use mathlib.Core.Path.{◌≡◌, sym, subst}
-use Prim.Native.Nat.{◌+◌, ◌-◌, ◌*◌, ◌%◌, ◌≤◌}
+use Prim.Native.Nat.{◌+◌, ◌-◌, ◌*◌, ◌%◌}
 use native.Mathlib.Omega.{arith}
 use lib.ListN.{length}
-use Rattle.bits.specs.Bits.{Word, count_of}
-use Rattle.rules.specs.Codes.{Code}
+use Rattle.bits.specs.Bits.{count_of}
 use Rattle.rules.specs.Checks.{check}
-use Rattle.vectors.specs.Vectors.{Holds}
 use Rattle.layout.specs.Lent.{total, shifts_of}
 use Rattle.flipping.proofs.bounds.Entries.{total_more}
-use Rattle.flipping.specs.narrow.Weighing.{Rows, Weighs, broke}
+use Rattle.flipping.specs.narrow.Weighing.{Weighs, broke}
 use Rattle.flipping.proofs.narrow.Levels.{weighs_none, weighs_as}
 use Rattle.flipping.proofs.narrow.Blocks.{total_none, place_room}
 use Rattle.flipping.proofs.narrow.weigh.Goals as goal

@@ -1,13 +1,10 @@
 -- `narrow::weigh_all`: after b passes the first b blocks are weighed. Assumes nothing.
 use mathlib.Core.Path.{◌≡◌, sym, ap, ◌∙◌}
-use Prim.Native.Nat.{◌+◌, ◌-◌, ◌*◌, ◌≤◌, ◌<◌}
+use Prim.Native.Nat.{◌+◌, ◌*◌, ◌<◌}
 use native.Mathlib.Omega.{arith}
-use borrow.Author.Rules.{rules}
 use lib.ListN.{length, length-set}
-use Rattle.bits.specs.Bits.{Word}
-use Rattle.rules.specs.Codes.{Code}
-use Rattle.layout.specs.Lent.{Lent, total, shifts_of, score}
-use Rattle.flipping.specs.narrow.Weighing.{Rows, broke, sent, Weighed}
+use Rattle.layout.specs.Lent.{total, shifts_of, score}
+use Rattle.flipping.specs.narrow.Weighing.{broke, sent}
 use Rattle.flipping.proofs.narrow.Blocks.{score_is, sent_lt, weighed_more}
 use Rattle.flipping.proofs.narrow.weigh_all.Goals as goal
 

@@ -1,14 +1,11 @@
 -- `narrow::weigh_all`: after b passes the first b blocks are weighed. Assumes nothing.
-use mathlib.Core.Path.{◌≡◌, sym, ap, ◌∙◌}
-use Prim.Native.Nat.{◌+◌, ◌-◌, ◌*◌, ◌≤◌, ◌<◌}
-use native.Mathlib.Omega.{arith}
-use borrow.Author.Rules.{rules}
-use lib.ListN.{length, length-set}
+use mathlib.Core.Path.{◌≡◌}
+use Prim.Native.Nat.{◌-◌, ◌≤◌}
+use lib.ListN.{length}
 use Rattle.bits.specs.Bits.{Word}
 use Rattle.rules.specs.Codes.{Code}
-use Rattle.layout.specs.Lent.{Lent, total, shifts_of, score}
-use Rattle.flipping.specs.narrow.Weighing.{Rows, broke, sent, Weighed}
-use Rattle.flipping.proofs.narrow.Blocks.{score_is, sent_lt, weighed_more}
+use Rattle.layout.specs.Lent.{Lent}
+use Rattle.flipping.specs.narrow.Weighing.{Rows, Weighed}
 use Rattle.flipping.proofs.narrow.weigh_all.Given as goal
 
 abbrev pub invariant-loop-b : goal.invariant-loop-b

@@ -1,6 +1,5 @@
 -- `narrow::with_check` meets its contract. Assumes nothing.
 use mathlib.Core.Path.{refl}
-use borrow.Author.Rules.{rules}
 use Rattle.flipping.proofs.narrow.Levels.{weighs_more}
 use Rattle.flipping.proofs.narrow.with_check.Goals as goal
 

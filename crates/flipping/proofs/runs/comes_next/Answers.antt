@@ -1,6 +1,5 @@
 -- `runs::comes_next`: what comes next, from whether a check is broken. Assumes nothing.
 use mathlib.Core.Path.{sym, ◌∙◌}
-use borrow.Author.Rules.{rules}
 use borrow.Author.Tests.{eqb-true, eqb-false}
 use Rattle.rules.specs.Checks.{broken}
 use Rattle.rules.proofs.Choosing.{quiet_next}

@@ -1,6 +1,5 @@
 -- `runs::flip` meets its contract. Assumes nothing.
 use native.Mathlib.Omega.{arith}
-use borrow.Author.Rules.{rules}
 use Rattle.flipping.proofs.runs.flip.Goals as goal
 
 pub flip_bit-requires : goal.flip_bit-requires

@@ -1,19 +1,12 @@
 -- `runs::go_on`: the loop has come to the run's word after so many flips, for every code that is lent. Assumes nothing.
-use mathlib.Core.Path.{◌≡◌, refl, sym, ◌∙◌, subst}
-use Prim.Native.Nat.{◌+◌, ◌-◌, ◌≤◌, ◌<◌}
-use native.Mathlib.Omega.{arith}
-use borrow.Author.Rules.{rules}
-use lib.ListN.{length}
+use mathlib.Core.Path.{◌≡◌}
+use Prim.Native.Nat.{◌-◌, ◌≤◌, ◌<◌}
 use Rattle.rules.specs.Codes.{Code}
-use Rattle.rules.specs.Checks.{broken}
 use Rattle.rules.specs.Flipping.{by_excess}
-use Rattle.rules.proofs.Choosing.{quiet_next}
 use Rattle.vectors.specs.Vectors.{wbit}
 use Rattle.layout.specs.Lent.{Lent, laid}
 use Rattle.flipping.specs.bounds.Keeping.{Ready}
 use Rattle.flipping.specs.runs.Passes.{Going, Carried}
-use Rattle.flipping.proofs.runs.Passing.{going_start, ends_quiet, ends_stuck, ends_limit, goes_on, next_stuck, next_flip, chosen_top}
-use Rattle.flipping.proofs.runs.Passing.{chosen_kept, chosen_met, chosen_left, carried_more, runs_as}
 use Rattle.flipping.proofs.runs.go_on.Given as goal
 
 abbrev pub invariant-loop-left : goal.invariant-loop-left

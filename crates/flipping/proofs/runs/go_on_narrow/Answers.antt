@@ -1,16 +1,14 @@
 -- `runs::go_on_narrow`: the loop has come to the run's word after so many flips, for every code that is lent. Assumes nothing.
 use mathlib.Core.Path.{◌≡◌, refl, sym, ◌∙◌, subst}
-use Prim.Native.Nat.{◌+◌, ◌-◌, ◌*◌, ◌≤◌, ◌<◌}
+use Prim.Native.Nat.{◌+◌}
 use native.Mathlib.Omega.{arith}
 use borrow.Author.Rules.{rules}
-use lib.ListN.{length}
-use Rattle.rules.specs.Codes.{Code}
 use Rattle.rules.specs.Checks.{broken}
 use Rattle.vectors.specs.Vectors.{wbit}
-use Rattle.layout.specs.Lent.{Lent, laid}
+use Rattle.layout.specs.Lent.{laid}
 use Rattle.magnitudes.specs.Patterns.{smaller}
 use Rattle.magnitudes.specs.Sizes.{by_size}
-use Rattle.flipping.specs.runs.Passes.{Going, CarriedNarrow}
+use Rattle.flipping.specs.runs.Passes.{Going}
 use Rattle.flipping.proofs.runs.Passing.{going_start, ends_quiet, ends_stuck, ends_limit, goes_on}
 use Rattle.flipping.proofs.runs.Passing.{some_sent, carried_narrow, runs_as}
 use Rattle.flipping.proofs.runs.Sizes.{sized_quiet, chosen_stuck, chosen_inside, chosen_flip, chosen_left}

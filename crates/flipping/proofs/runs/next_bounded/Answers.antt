@@ -1,6 +1,5 @@
 -- `runs::next_bounded`: what comes next, from the best score. Assumes nothing.
 use mathlib.Core.Path.{sym, ap, ◌∙◌}
-use borrow.Author.Rules.{rules}
 use Rattle.rules.specs.Flipping.{stuck, flip}
 use Rattle.flipping.proofs.runs.Passing.{score_fits, excess_fits, excess_kept, top_lt, top_small, next_stuck, next_flip, chosen_top}
 use Rattle.flipping.proofs.runs.Passing.{begun_kept, begun_ready}

@@ -1,5 +1,5 @@
 -- `runs::next_narrow`: a bit of a score above 8 is to be flipped; where there is none, the bounds say what comes next. Assumes nothing.
-use mathlib.Core.Path.{◌≡◌, refl, sym, ap, ◌∙◌}
+use mathlib.Core.Path.{refl, sym, ap, ◌∙◌}
 use mathlib.Core.List.{[]}
 use native.Mathlib.Omega.{arith}
 use borrow.Author.Rules.{rules}

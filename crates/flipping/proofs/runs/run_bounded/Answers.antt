@@ -1,6 +1,4 @@
 -- `runs::run_bounded`: the state is made, and the run goes on from it. Assumes nothing.
-use borrow.Author.Rules.{rules}
-use Rattle.rules.specs.Checks.{broken}
 use Rattle.vectors.specs.Vectors.{wbit}
 use Rattle.flipping.proofs.runs.Passing.{begun_kept, begun_ready}
 use Rattle.flipping.proofs.runs.run_bounded.Goals as goal

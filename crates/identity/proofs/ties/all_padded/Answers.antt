@@ -1,10 +1,9 @@
 -- `ties::all_padded` meets its contract: the rows passed are padded, so the whole is what is left.
-use mathlib.Core.Path.{◌≡◌, refl, sym, ap, ◌∙◌}
+use mathlib.Core.Path.{refl, sym, ap, ◌∙◌}
 use Prim.Native.Nat.{ℕ, ◌+◌, ◌-◌, ◌*◌, ◌<◌}
 use native.Mathlib.Omega.{arith}
-use lib.ListN.{length}
 use Rattle.rules.specs.Identity.{all_padded_of}
-use Rattle.identity.specs.ties.Flat.{pieces, words, numbers, generator_of}
+use Rattle.identity.specs.ties.Flat.{pieces, words, numbers}
 use Rattle.identity.proofs.ties.Listed.{one_less, pieces_more, pieces_none, stops, goes_on}
 use Rattle.identity.proofs.ties.all_padded.Goals as goal
 use mathlib.Core.Path.{ap}

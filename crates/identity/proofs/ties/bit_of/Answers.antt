@@ -6,7 +6,6 @@ use lib.Dec.{eqb}
 use lib.ListN.{get_or}
 use Rattle.identity.specs.ties.Flat.{joined, words}
 use Rattle.identity.proofs.ties.Numbers.{joined_place}
-use borrow.Author.Rules.{rules}
 use Rattle.identity.proofs.ties.bit_of.Goals as goal
 
 pub returns : goal.returns

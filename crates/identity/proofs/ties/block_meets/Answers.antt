@@ -1,7 +1,6 @@
 -- `ties::block_meets` meets its contract: the sum over three places is that over the block's shifts.
 use Rattle.identity.specs.ties.Flat.{met}
 use Rattle.identity.proofs.ties.Sums.{over_block}
-use borrow.Author.Rules.{rules}
 use Rattle.identity.proofs.ties.block_meets.Goals as goal
 
 pub returns : goal.returns

@@ -1,12 +1,8 @@
 -- `ties::block_tied` meets its contract: the differences passed cancel, so the whole is what is left.
-use mathlib.Core.Path.{◌≡◌, refl, sym, ◌∙◌}
-use mathlib.Core.Bool.{Bool}
-use mathlib.Core.List.{List}
-use Prim.Native.Nat.{ℕ, ◌-◌, ◌≤◌}
+use mathlib.Core.Path.{refl, sym, ◌∙◌}
+use Prim.Native.Nat.{◌-◌}
 use native.Mathlib.Omega.{arith}
-use Rattle.rules.specs.Identity.{cancels}
 use Rattle.bits.specs.Bits.{below}
-use Rattle.identity.specs.ties.Flat.{block, row, numbers}
 use Rattle.identity.proofs.ties.Listed.{stops, goes_on, below_step, below_none}
 use Rattle.identity.proofs.ties.block_tied.Goals as goal
 use Rattle.identity.proofs.ties.block_tied.Invariants.{at-difference}

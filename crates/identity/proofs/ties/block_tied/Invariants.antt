@@ -1,13 +1,11 @@
 -- `ties::block_tied` meets its contract: the differences passed cancel, so the whole is what is left.
-use mathlib.Core.Path.{◌≡◌, refl, sym, ◌∙◌}
+use mathlib.Core.Path.{◌≡◌}
 use mathlib.Core.Bool.{Bool}
 use mathlib.Core.List.{List}
-use Prim.Native.Nat.{ℕ, ◌-◌, ◌≤◌}
-use native.Mathlib.Omega.{arith}
+use Prim.Native.Nat.{ℕ, ◌≤◌}
 use Rattle.rules.specs.Identity.{cancels}
 use Rattle.bits.specs.Bits.{below}
 use Rattle.identity.specs.ties.Flat.{block, row, numbers}
-use Rattle.identity.proofs.ties.Listed.{stops, goes_on, below_step, below_none}
 use Rattle.identity.proofs.ties.block_tied.Given as goal
 
 -- The block's identity, by the difference.

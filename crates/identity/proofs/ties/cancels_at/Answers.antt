@@ -8,7 +8,6 @@ use Rattle.bits.specs.Bits.{◌⊕◌}
 use Rattle.identity.specs.ties.Flat.{block, row, numbers}
 use Rattle.identity.proofs.ties.Sums.{xor_is}
 use Rattle.identity.proofs.ties.Printed.{printed_cancels}
-use borrow.Author.Rules.{rules}
 use Rattle.identity.proofs.ties.cancels_at.Goals as goal
 
 pub returns : goal.returns

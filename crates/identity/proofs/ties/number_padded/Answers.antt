@@ -7,7 +7,6 @@ use lib.ListN.{get_or}
 use lib.Pow.{shr-shr}
 use Rattle.identity.specs.ties.Flat.{joined, words}
 use Rattle.identity.proofs.ties.Numbers.{joined_front, below_power}
-use borrow.Author.Rules.{rules}
 use Rattle.identity.proofs.ties.number_padded.Goals as goal
 
 pub returns : goal.returns

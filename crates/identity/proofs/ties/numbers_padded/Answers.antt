@@ -1,8 +1,7 @@
 -- `ties::numbers_padded` meets its contract: the numbers passed are padded, so the whole is what is left.
-use mathlib.Core.Path.{◌≡◌, refl, sym, ap, ◌∙◌}
-use Prim.Native.Nat.{ℕ, ◌+◌, ◌-◌, ◌*◌, ◌≤◌, ◌<◌}
+use mathlib.Core.Path.{refl, sym, ap, ◌∙◌}
+use Prim.Native.Nat.{ℕ, ◌+◌, ◌-◌, ◌<◌}
 use native.Mathlib.Omega.{arith}
-use lib.ListN.{length}
 use Rattle.rules.specs.Identity.{padded}
 use Rattle.identity.specs.ties.Flat.{joined, words, numbers}
 use Rattle.identity.proofs.ties.Listed.{one_less, pieces_more, pieces_none, stops, goes_on}

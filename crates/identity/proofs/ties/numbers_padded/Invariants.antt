@@ -1,11 +1,9 @@
 -- `ties::numbers_padded` meets its contract: the numbers passed are padded, so the whole is what is left.
-use mathlib.Core.Path.{◌≡◌, refl, sym, ap, ◌∙◌}
-use Prim.Native.Nat.{ℕ, ◌+◌, ◌-◌, ◌*◌, ◌≤◌, ◌<◌}
-use native.Mathlib.Omega.{arith}
+use mathlib.Core.Path.{◌≡◌}
+use Prim.Native.Nat.{◌+◌, ◌*◌, ◌≤◌}
 use lib.ListN.{length}
 use Rattle.rules.specs.Identity.{padded}
-use Rattle.identity.specs.ties.Flat.{joined, words, numbers}
-use Rattle.identity.proofs.ties.Listed.{one_less, pieces_more, pieces_none, stops, goes_on}
+use Rattle.identity.specs.ties.Flat.{words, numbers}
 use Rattle.identity.proofs.ties.numbers_padded.Given as goal
 
 abbrev pub invariant-loop-left : goal.invariant-loop-left

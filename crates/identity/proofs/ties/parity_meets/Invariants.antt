@@ -1,15 +1,11 @@
 -- `ties::parity_meets` meets its contract: the blocks passed are in the sum, and with those left they give the whole.
-use mathlib.Core.Path.{◌≡◌, sym, ap, ap₂, ◌∙◌}
-use mathlib.Core.Bool.{Bool, not, beq}
+use mathlib.Core.Path.{◌≡◌}
+use mathlib.Core.Bool.{Bool}
 use mathlib.Core.List.{List}
-use Prim.Native.Nat.{ℕ, suc, ◌+◌, ◌-◌, ◌*◌, ◌%◌, ◌≤◌, ◌<◌}
-use native.Mathlib.Nat.{add-mul}
-use native.Mathlib.Omega.{arith}
+use Prim.Native.Nat.{ℕ, ◌+◌, ◌-◌, ◌*◌, ◌%◌, ◌≤◌}
 use lib.ListN.{get_or}
-use Rattle.bits.specs.Bits.{◌⊕◌, digit, over, blocks}
-use Rattle.identity.specs.ties.Flat.{pieces, block, row, joined, words, numbers}
-use Rattle.identity.proofs.ties.Sums.{⊕-false}
-use Rattle.identity.proofs.ties.Listed.{more_fits, pieces_at, pieces_none, blocks_step}
+use Rattle.bits.specs.Bits.{◌⊕◌, digit, blocks}
+use Rattle.identity.specs.ties.Flat.{row, words, numbers}
 use Rattle.identity.proofs.ties.parity_meets.Given as goal
 
 -- What a shift of the block of a part meets.

@@ -6,7 +6,6 @@ use lib.ListN.{get_or}
 use Rattle.bits.specs.Bits.{digit}
 use Rattle.identity.specs.ties.Flat.{joined, words, met}
 use Rattle.identity.proofs.ties.Sums.{over-one, over_none}
-use borrow.Author.Rules.{rules}
 use Rattle.identity.proofs.ties.place_meets.Goals as goal
 
 pub returns-then-s-m : goal.returns-then-s-m

@@ -6,7 +6,6 @@ use lib.Dec.{eqb}
 use lib.ListN.{get_or}
 use Rattle.identity.specs.ties.Flat.{own}
 use Rattle.identity.proofs.ties.Sums.{over-one, over_none}
-use borrow.Author.Rules.{rules}
 use Rattle.identity.proofs.ties.place_own.Goals as goal
 
 pub returns-then-s-m : goal.returns-then-s-m

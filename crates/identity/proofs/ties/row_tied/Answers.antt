@@ -2,9 +2,8 @@
 use mathlib.Core.Path.{◌≡◌, refl, sym, ap, ap₂, ◌∙◌}
 use Prim.Native.Nat.{ℕ, ◌+◌, ◌-◌, ◌*◌, ◌<◌}
 use native.Mathlib.Omega.{arith}
-use lib.ListN.{length}
 use Rattle.rules.specs.Identity.{row_tied_of}
-use Rattle.identity.specs.ties.Flat.{pieces, block, row, words, numbers, generator_of}
+use Rattle.identity.specs.ties.Flat.{pieces, block, row, words, numbers}
 use Rattle.identity.proofs.ties.Listed.{one_less, pieces_more, pieces_none, stops, goes_on}
 use Rattle.identity.proofs.ties.row_tied.Goals as goal
 use mathlib.Core.Path.{ap}

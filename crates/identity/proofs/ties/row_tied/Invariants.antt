@@ -1,11 +1,9 @@
 -- `ties::row_tied` meets its contract: the information blocks passed are tied, so the whole is what is left.
-use mathlib.Core.Path.{◌≡◌, refl, sym, ap, ap₂, ◌∙◌}
-use Prim.Native.Nat.{ℕ, ◌+◌, ◌-◌, ◌*◌, ◌<◌}
-use native.Mathlib.Omega.{arith}
+use mathlib.Core.Path.{◌≡◌}
+use Prim.Native.Nat.{◌+◌, ◌*◌}
 use lib.ListN.{length}
 use Rattle.rules.specs.Identity.{row_tied_of}
-use Rattle.identity.specs.ties.Flat.{pieces, block, row, words, numbers, generator_of}
-use Rattle.identity.proofs.ties.Listed.{one_less, pieces_more, pieces_none, stops, goes_on}
+use Rattle.identity.specs.ties.Flat.{pieces, row, words, numbers, generator_of}
 use Rattle.identity.proofs.ties.row_tied.Given as goal
 
 abbrev pub invariant-loop-left : goal.invariant-loop-left

@@ -6,7 +6,7 @@ use Prim.Native.Nat.{ℕ, ◌+◌, ◌-◌, ◌*◌, ◌<◌}
 use native.Mathlib.Omega.{arith}
 use lib.ListN.{length, drop}
 use Rattle.rules.specs.Identity.{row_tied_of, rows_tied_of}
-use Rattle.identity.specs.ties.Flat.{pieces, block, row, words, numbers, parity_of, generator_of}
+use Rattle.identity.specs.ties.Flat.{pieces, block, row, words, numbers, generator_of}
 use Rattle.identity.proofs.ties.Listed.{one_less, pieces_length, pieces_drop, pieces_more, pieces_none, stops, goes_on}
 use Rattle.identity.proofs.ties.rows_tied.Goals as goal
 use mathlib.Core.Path.{ap}

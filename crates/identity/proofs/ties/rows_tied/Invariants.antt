@@ -1,13 +1,9 @@
 -- `ties::rows_tied` meets its contract: the rows passed are tied, so the whole is what is left.
-use mathlib.Core.Path.{◌≡◌, refl, sym, ap, ap₂, ◌∙◌}
-use mathlib.Core.Bool.{◌&&◌}
-use mathlib.Core.List.{List}
-use Prim.Native.Nat.{ℕ, ◌+◌, ◌-◌, ◌*◌, ◌<◌}
-use native.Mathlib.Omega.{arith}
-use lib.ListN.{length, drop}
-use Rattle.rules.specs.Identity.{row_tied_of, rows_tied_of}
-use Rattle.identity.specs.ties.Flat.{pieces, block, row, words, numbers, parity_of, generator_of}
-use Rattle.identity.proofs.ties.Listed.{one_less, pieces_length, pieces_drop, pieces_more, pieces_none, stops, goes_on}
+use mathlib.Core.Path.{◌≡◌}
+use Prim.Native.Nat.{◌+◌, ◌*◌}
+use lib.ListN.{length}
+use Rattle.rules.specs.Identity.{rows_tied_of}
+use Rattle.identity.specs.ties.Flat.{pieces, row, parity_of, generator_of}
 use Rattle.identity.proofs.ties.rows_tied.Given as goal
 
 abbrev pub invariant-loop-left : goal.invariant-loop-left

@@ -6,7 +6,6 @@ use Prim.Native.Nat.{◌+◌, ◌<◌}
 use Rattle.rules.specs.Identity.{all_padded_of}
 use Rattle.identity.specs.ties.Flat.{parity_of, generator_of}
 use Rattle.identity.proofs.ties.Printed.{same_rows}
-use borrow.Author.Rules.{rules}
 use Rattle.identity.proofs.ties.tied.Goals as goal
 
 pub returns-then-rows_tied : goal.returns-then-rows_tied

@@ -4,7 +4,6 @@ use Prim.Native.Nat.{ℕ, ◌+◌, ◌-◌, ◌*◌, ◌%◌, ◌<◌}
 use native.Mathlib.Nat.{mod-eq_of_lt}
 use native.Mathlib.Omega.{arith}
 use lib.Arith.{digits_mod}
-use borrow.Author.Rules.{rules}
 use Rattle.identity.proofs.ties.turned.Goals as goal
 
 pub returns-then-t-m : goal.returns-then-t-m
