@@ -1,6 +1,6 @@
 -- Octets by code number: 0 where the code is not offered, what the table has where it is.
 use mathlib.Core.Path.{◌≡◌, sym, ap}
-use mathlib.Core.Bool.{Bool, true, false}
+use mathlib.Core.Bool.{true, false}
 use Prim.Native.Nat.{ℕ}
 use Rattle.bits.specs.Bits.{if◌then◌else◌}
 use Rattle.rules.specs.Codes.{code, offered}

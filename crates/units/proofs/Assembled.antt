@@ -1,7 +1,7 @@
 -- Parts put in their places.
-use mathlib.Core.Path.{◌≡◌, refl, sym, ap, ap₂, ◌∙◌, subst}
+use mathlib.Core.Path.{◌≡◌, sym, ap, ap₂, ◌∙◌}
 use mathlib.Core.List.{List, ◌++◌, append-nil, append_assoc}
-use Prim.Native.Nat.{ℕ, zero, suc, ◌+◌, ◌-◌, ◌*◌, ◌≤◌, ◌<◌}
+use Prim.Native.Nat.{ℕ, ◌+◌, ◌-◌, ◌*◌, ◌≤◌}
 use native.Mathlib.Nat.{suc-mul}
 use native.Mathlib.Numerals.{add-one}
 use native.Mathlib.Omega.{arith}
@@ -12,7 +12,7 @@ use Rattle.rules.specs.Codes.{code}
 use Rattle.randomiser.specs.Randomiser.{telecommand, randomised}
 use Rattle.randomiser.proofs.Randomising.{length_randomised}
 use Rattle.units.specs.unitrules.Units.{codeblock, codeblocks}
-use Rattle.units.proofs.unitrules.Blocks.{length_codeblocks, length_codeblock, randomised_codeblocks}
+use Rattle.units.proofs.unitrules.Blocks.{length_codeblocks, randomised_codeblocks}
 
 -- a part behind a front that is done
 pub put_behind : (front out₀ new : List ℕ) (at more : ℕ) → length front ≡ at

@@ -2,7 +2,6 @@
 use mathlib.Core.Path.{sym, ◌∙◌}
 use borrow.Author.Tests.{not-true, not-false}
 use Rattle.capi.proofs.Lengths.{information_none, information_some}
-use borrow.Author.Rules.{rules}
 use Rattle.capi.proofs.pandoricchia_information_octets.Goals as goal
 use mathlib.Core.Path.{ap}
 use mathlib.Core.Bool.{not}

@@ -1,7 +1,6 @@
 -- What `open` ensures, read at its two numbers and at the part's length.
 use mathlib.Core.Path.{ap}
 use lib.ListN.{length}
-use borrow.Author.Rules.{rules}
 use Rattle.capi.proofs.pandoricchia_open.Goals as goal
 
 pub returns : goal.returns

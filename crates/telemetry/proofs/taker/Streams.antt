@@ -2,7 +2,7 @@
 use mathlib.Core.Path.{◌≡◌, refl, sym, ap, ap₂, ◌∙◌}
 use mathlib.Core.Bool.{Bool, true, false, ◌&&◌}
 use mathlib.Core.List.{List, [], ◌∷◌, ◌++◌}
-use Prim.Native.Nat.{ℕ, zero, suc, ◌+◌, ◌-◌, ◌≤◌, ◌<◌}
+use Prim.Native.Nat.{ℕ, zero, suc, ◌+◌, ◌≤◌, ◌<◌}
 use native.Mathlib.Nat.{add-zero, zero-add, add-suc, suc-add}
 use native.Mathlib.Omega.{arith}
 use lib.Dec.{leb}
@@ -11,7 +11,7 @@ use lib.Seq.{take_at, drop_at}
 use borrow.Author.Tests.{lt-leb, le-leb, ne_eqb}
 use Rattle.bits.specs.Bits.{if◌then◌else◌}
 use Rattle.randomiser.specs.Randomiser.{Generator}
-use Rattle.telemetry.specs.taker.Stream.{marker, begins, framed, answered, found_from, found}
+use Rattle.telemetry.specs.taker.Stream.{marker, begins, framed, answered, found_from}
 use Rattle.telemetry.proofs.taker.Laws.{if_isnt, four}
 
 and_isnt : (a b : Bool) → b ≡ false → (a && b) ≡ false

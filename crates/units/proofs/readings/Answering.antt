@@ -20,7 +20,7 @@ use Rattle.randomiser.proofs.Randomising.{length_randomised}
 use Rattle.units.specs.unitrules.Units.{unit_code, tail, blocks_in_of, received, Reading, Handed}
 use Rattle.units.specs.unitrules.Units.{with_out, handed_out, handed_last_of, handed_again_of}
 use Rattle.units.specs.unitrules.Units.{read_next_of, read_answer}
-use Rattle.units.proofs.unitrules.Shapes.{both, Sizes, sizes}
+use Rattle.units.proofs.unitrules.Shapes.{both, sizes}
 use Rattle.units.proofs.unitrules.Blocks.{take-replicate}
 use Rattle.units.proofs.unitrules.Answering.{if_is, if_isnt, corrected_at, next_out, next_last}
 use Rattle.units.specs.readings.Handing.{handed_part, handed_on_of}

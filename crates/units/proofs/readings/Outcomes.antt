@@ -5,7 +5,6 @@ use borrow.Fn.World.{ArgsD, ResD}
 use borrow.Fn.Kinds.{ended_of}
 use denote.Triple.Clauses.{AtExit}
 use Rattle.answers.specs.Calls.{Corrected}
-use Rattle.units.specs.unitrules.Units.{Reading, Handed}
 use Rattle.units.specs.contracts.readings.reader as reader
 use Rattle.units.proofs.readings.reader.Kinds as reader_kinds
 use Rattle.units.proofs.readings.reader.Reads as reader_reads

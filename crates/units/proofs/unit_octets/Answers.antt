@@ -1,7 +1,6 @@
 -- `units::unit_octets`: by the record's numbers, and by whether the length fits. Assumes nothing.
-use mathlib.Core.Path.{◌≡◌, refl, sym, ap, ◌∙◌}
+use mathlib.Core.Path.{sym, ◌∙◌}
 use native.Mathlib.Omega.{arith}
-use borrow.Author.Rules.{rules}
 use borrow.Author.Tests.{not-true, not-false}
 use Rattle.units.proofs.Lengths.{octets_other, octets_none, octets_fit, octets_great}
 use Rattle.units.proofs.unitoffers.Offers.{offer_is, steps, long_unit, long_fits}

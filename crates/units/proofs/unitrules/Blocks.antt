@@ -1,7 +1,7 @@
 -- The codeblocks of a unit, one after another.
 use mathlib.Core.Path.{◌≡◌, refl, sym, ap, ap₂, ◌∙◌}
 use mathlib.Core.Bool.{true}
-use mathlib.Core.List.{List, [], ◌∷◌, ◌++◌}
+use mathlib.Core.List.{List, ◌∷◌, ◌++◌}
 use Prim.Native.Nat.{ℕ, zero, suc, ◌+◌, ◌-◌, ◌*◌, ◌≤◌}
 use native.Mathlib.Nat.{suc-mul, zero-add}
 use native.Mathlib.Omega.{arith}
@@ -11,7 +11,7 @@ use Rattle.bits.proofs.Octets.{length_octets}
 use Rattle.rules.specs.Codes.{code, code1, code3}
 use Rattle.rules.specs.Encoding.{lifted, encoded, sent, written}
 use Rattle.randomiser.specs.Randomiser.{telecommand, randomised}
-use Rattle.randomiser.proofs.Randomising.{length_randomised, randomised_append}
+use Rattle.randomiser.proofs.Randomising.{randomised_append}
 use Rattle.units.specs.unitrules.Units.{unit_code, blocks_for, filled, part, codeblock, codeblocks}
 use Rattle.units.proofs.unitrules.Shapes.{both}
 

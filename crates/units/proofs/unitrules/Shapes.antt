@@ -1,15 +1,15 @@
 -- Codes 1 and 3: their lengths, and what follows for units.
-use mathlib.Core.Path.{◌≡◌, refl, sym, ap, ap₂, ◌∙◌, subst}
-use mathlib.Core.Bool.{Bool, true, false, not, ◌&&◌, ◌||◌}
-use mathlib.Core.List.{List, [], ◌∷◌, ◌++◌}
-use Prim.Native.Nat.{ℕ, zero, suc, ◌+◌, ◌-◌, ◌*◌, ◌/◌, ◌%◌, ◌^◌, ◌≤◌, ◌<◌}
+use mathlib.Core.Path.{◌≡◌, refl, sym, ap, ◌∙◌, subst}
+use mathlib.Core.Bool.{true, ◌||◌}
+use mathlib.Core.List.{List, [], ◌∷◌}
+use Prim.Native.Nat.{ℕ, ◌*◌, ◌≤◌}
 use native.Mathlib.Omega.{arith}
 use native.Mathlib.Decide.{ℕ_discrete}
-use lib.Dec.{T, eqb, leb, ltb}
+use lib.Dec.{T, eqb}
 use borrow.Author.Tests.{ne_eqb, eqb-true}
-use lib.ListN.{length, take, drop, replicate}
+use lib.ListN.{length}
 use Rattle.rules.specs.Codes.{code, code1, code3, offered}
-use Rattle.units.specs.unitrules.Units.{unit_code, tail, blocks_for, unit_length, between, blocks_in_of}
+use Rattle.units.specs.unitrules.Units.{unit_code, tail}
 
 -- a unit code that is not 1 is 3
 three : (n : ℕ) → unit_code n ≡ true → (n ≡ 1 → ⊥) → n ≡ 3

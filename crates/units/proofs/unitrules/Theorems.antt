@@ -1,22 +1,20 @@
 -- What units owe, over the definitions' answers.
 use mathlib.Core.Path.{◌≡◌, refl, sym, ap, ap₂, ◌∙◌, subst}
-use mathlib.Core.Bool.{Bool, true, false, not, ◌&&◌}
+use mathlib.Core.Bool.{true, false, not, ◌&&◌}
 use mathlib.Core.List.{List, [], ◌∷◌, ◌++◌}
 use Prim.Native.Nat.{ℕ, zero, suc, ◌+◌, ◌-◌, ◌*◌, ◌/◌, ◌%◌, ◌≤◌, ◌<◌}
-use native.Mathlib.Nat.{zero-lt-suc, mod-lt, div-add-mod', suc-mul}
+use native.Mathlib.Nat.{zero-lt-suc, div-add-mod'}
 use native.Mathlib.Decide.{ℕ_discrete}
 use native.Mathlib.Omega.{arith}
-use lib.Dec.{T, eqb, leb, ltb}
-use lib.ListN.{length, take, drop, get_or, replicate, length-append, length-replicate, length-drop, get_or-append}
-use lib.Seq.{length-take-le, take_at, drop_at, take_all, take-append-le, drop-append-le, drop-append-add, get_or-take, get_or-drop}
-use lib.Seq.{drop-length}
-use lib.Seq.{take-length}
-use borrow.Author.Tests.{eq-eqb, ne_eqb, le-leb, lt-ltb}
-use Rattle.bits.specs.Bits.{Word, bit, digit, octets, flipped, if◌then◌else◌}
+use lib.Dec.{T}
+use lib.ListN.{length, take, drop, replicate, length-append, length-replicate, length-drop}
+use lib.Seq.{length-take-le, drop_at, take_all, take-append-le, drop-append-le, drop-append-add, get_or-take, get_or-drop}
+use borrow.Author.Tests.{eq-eqb, le-leb, lt-ltb}
+use Rattle.bits.specs.Bits.{bit, digit, octets, flipped}
 use Rattle.bits.proofs.Octets.{Octets, length_octets, bit_octets, octets_bit, octets_same, octets_lt}
 use Rattle.rules.specs.Tables.{parity16, parity64, generator16, generator64}
-use Rattle.rules.specs.Codes.{Code, code, code1, code3, bits, information, offered, telecommanded}
-use Rattle.rules.specs.Encoding.{lifted, encoded, sent, written, codeword}
+use Rattle.rules.specs.Codes.{Code, code, code1, code3, bits, information, telecommanded}
+use Rattle.rules.specs.Encoding.{lifted, encoded, sent, codeword}
 use Rattle.rules.proofs.Codewords.{encoded_information, lifted_sent_bit, sent_bit, encoded_codeword}
 use Rattle.rules.proofs.Numbers.{published}
 use Rattle.answers.specs.Calls.{Corrected, refused_correct_of, correct_answer}
@@ -25,13 +23,13 @@ use Rattle.answers.proofs.Corrections.{codeword_back, one_back, one_wrong}
 use Rattle.answers.proofs.Refusals.{telecommand_numbers}
 use Rattle.answers.proofs.Wrong.{two_back, two_wrong}
 use Rattle.randomiser.specs.Randomiser.{telecommand, randomised}
-use Rattle.randomiser.proofs.Randomising.{length_randomised, randomised_append, randomised_twice, randomised_flip}
+use Rattle.randomiser.proofs.Randomising.{length_randomised, randomised_twice, randomised_flip}
 use Rattle.units.specs.unitrules.Units.{unit_code, start, tail, blocks_for, filled, part}
 use Rattle.units.specs.unitrules.Units.{codeblock, codeblocks, unit, unit_length, same, started}
 use Rattle.units.specs.unitrules.Units.{between, blocks_in_of, shaped, received, Reading}
 use Rattle.units.specs.unitrules.Units.{Handed, with_out, reading_from, reader_number_of, reader_answer}
-use Rattle.units.specs.unitrules.Units.{handed_out, handed_last_of, handed_again_of, read_next_of, read_answer}
-use Rattle.units.proofs.unitrules.Shapes.{both, unit_offered, Sizes, sizes}
+use Rattle.units.specs.unitrules.Units.{handed_out, handed_last_of, handed_again_of, read_answer}
+use Rattle.units.proofs.unitrules.Shapes.{both, unit_offered, sizes}
 use Rattle.units.proofs.unitrules.Blocks.{encoded_of, length_codeblock, length_codeblocks, randomised_codeblocks, length-filled}
 use Rattle.units.proofs.unitrules.Compared.{same_refl}
 use Rattle.units.proofs.unitrules.Answering.{number-none, read_three, read_kept, read_none, read_more}

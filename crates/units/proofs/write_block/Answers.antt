@@ -5,11 +5,10 @@ use lib.ListN.{length, replicate}
 use Rattle.rules.specs.Codes.{code}
 use Rattle.units.specs.unitrules.Units.{codeblock}
 use Rattle.units.proofs.unitrules.Blocks.{encoded_of}
-use mathlib.Core.Path.{◌≡◌, refl, sym, ap, ap₂, ◌∙◌, subst}
+use mathlib.Core.Path.{sym, ap, ◌∙◌}
 use native.Mathlib.Omega.{arith}
 use Rattle.randomiser.specs.Randomiser.{telecommand, randomised}
 use Rattle.units.proofs.Parts.{from_fits, part_last, part_whole, lent_rest}
-use borrow.Author.Rules.{rules}
 use Rattle.units.proofs.write_block.Goals as goal
 
 pub overflow_mul-from : goal.overflow_mul-from

@@ -1,17 +1,11 @@
 -- `units::write_blocks`: the codeblocks so far stand in front. Assumes nothing.
-use mathlib.Core.Path.{◌≡◌, refl, sym, ap, ap₂, ◌∙◌, subst}
-use native.Mathlib.Omega.{arith}
+use mathlib.Core.Path.{◌≡◌}
 use Rattle.randomiser.specs.Randomiser.{telecommand, randomised}
-use Prim.Native.Nat.{ℕ, ◌+◌, ◌-◌, ◌*◌, ◌≤◌, ◌<◌}
-use mathlib.Core.List.{List, ◌++◌, append-nil}
-use native.Mathlib.Nat.{suc-mul, zero-mul}
-use native.Mathlib.Numerals.{add-one}
-use lib.ListN.{length, take, drop, length-drop, drop_of_length-le}
-use lib.Seq.{length-take-le}
+use Prim.Native.Nat.{◌-◌, ◌*◌, ◌≤◌}
+use mathlib.Core.List.{◌++◌}
+use lib.ListN.{length, drop}
 use Rattle.rules.specs.Codes.{code as code_of}
 use Rattle.units.specs.unitrules.Units.{blocks_for, codeblocks}
-use Rattle.units.proofs.Parts.{goes, all_there, k_small}
-use Rattle.units.proofs.Assembled.{more_length, more_blocks}
 use Rattle.units.proofs.write_blocks.Given as goal
 
 abbrev pub invariant-loop-at : goal.invariant-loop-at

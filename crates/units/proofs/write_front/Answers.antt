@@ -1,5 +1,5 @@
 -- `units::write_front`: the start, and the codeblocks behind it. Assumes nothing.
-use mathlib.Core.Path.{◌≡◌, refl, sym, ap, ap₂, ◌∙◌}
+use mathlib.Core.Path.{refl, sym, ap₂, ◌∙◌}
 use mathlib.Core.List.{List, ◌++◌}
 use Prim.Native.Nat.{ℕ, ◌-◌}
 use native.Mathlib.Omega.{arith}
@@ -9,7 +9,6 @@ use borrow.Rule.Slice.PartMut.{put_mid}
 use Rattle.randomiser.specs.Randomiser.{telecommand, randomised}
 use Rattle.units.specs.unitrules.Units.{start, blocks_for, codeblocks}
 use Rattle.units.proofs.Assembled.{put_last}
-use borrow.Author.Rules.{rules}
 use Rattle.units.proofs.write_front.Goals as goal
 
 pub slice_bounds-write_start-end-2 : goal.slice_bounds-write_start-end-2

@@ -1,5 +1,5 @@
 -- `units::write_last`: the information that is left, then fill. Assumes nothing.
-use mathlib.Core.Path.{◌≡◌, sym, ap, ap₂, ◌∙◌}
+use mathlib.Core.Path.{sym, ap, ap₂, ◌∙◌}
 use mathlib.Core.List.{◌++◌}
 use Prim.Native.Nat.{ℕ, ◌≤◌}
 use native.Mathlib.Omega.{arith}
@@ -10,7 +10,6 @@ use Rattle.randomiser.specs.Randomiser.{telecommand, randomised}
 use Rattle.units.proofs.unitrules.Shapes.{sizes}
 use Rattle.units.proofs.unitrules.Blocks.{encoded_of}
 use Rattle.units.proofs.Parts.{filled_part, filled_part_length}
-use borrow.Author.Rules.{rules}
 use Rattle.units.proofs.write_last.Goals as goal
 
 pub slice_bounds-part-end : goal.slice_bounds-part-end

@@ -1,10 +1,9 @@
 -- `units::write_number`: refusals in the order of their numbers. Assumes nothing.
-use mathlib.Core.Path.{◌≡◌, sym, ◌∙◌}
+use mathlib.Core.Path.{sym, ◌∙◌}
 use Prim.Native.Nat.{◌<◌, ◌^◌}
 use native.Mathlib.Omega.{arith}
 use borrow.Author.Tests.{not-true, not-false}
 use Rattle.units.proofs.Lengths.{octets_given, octets_some, number_one, number_two, number_three, number-none}
-use borrow.Author.Rules.{rules}
 use Rattle.units.proofs.write_number.Goals as goal
 use mathlib.Core.Path.{ap}
 use mathlib.Core.Bool.{not}

@@ -1,12 +1,11 @@
 -- `units::write_part`: encoded, then randomised. Assumes nothing.
-use mathlib.Core.Path.{◌≡◌, refl, sym, ap, ap₂, ◌∙◌, subst}
+use mathlib.Core.Path.{ap, ◌∙◌}
 use native.Mathlib.Omega.{arith}
 use Rattle.randomiser.specs.Randomiser.{telecommand, randomised}
 use lib.ListN.{length}
 use Rattle.units.proofs.unitrules.Shapes.{sizes}
 use Rattle.units.proofs.unitrules.Blocks.{length_encoded}
 use Rattle.units.proofs.Parts.{encode_part}
-use borrow.Author.Rules.{rules}
 use Rattle.units.proofs.write_part.Goals as goal
 
 pub randomise-requires : goal.randomise-requires

@@ -1,10 +1,9 @@
 -- `units::write_tail`: one code has a tail, and the other none. Assumes nothing.
-use mathlib.Core.Path.{◌≡◌, sym, ap, ◌∙◌}
+use mathlib.Core.Path.{sym, ap, ◌∙◌}
 use lib.ListN.{length}
 use Rattle.units.specs.unitrules.Units.{tail}
 use Rattle.units.proofs.unitrules.Shapes.{none_long}
 use Rattle.units.proofs.unitoffers.Offers.{whole_tail}
-use borrow.Author.Rules.{rules}
 use Rattle.units.proofs.write_tail.Goals as goal
 
 --? slice-aggregate-copy : tie.Need-slice-aggregate-copy

@@ -1,5 +1,5 @@
 -- `units::write_taken`: the tail behind the codeblocks. Assumes nothing.
-use mathlib.Core.Path.{◌≡◌, refl, sym, ap, ap₂, ◌∙◌}
+use mathlib.Core.Path.{◌≡◌, sym, ap, ap₂, ◌∙◌}
 use mathlib.Core.List.{List, ◌++◌, append_assoc}
 use Prim.Native.Nat.{ℕ, ◌+◌, ◌-◌, ◌*◌}
 use native.Mathlib.Omega.{arith}
@@ -12,7 +12,6 @@ use Rattle.randomiser.proofs.Randomising.{length_randomised}
 use Rattle.units.specs.unitrules.Units.{start, tail, blocks_for, codeblocks, unit}
 use Rattle.units.proofs.unitrules.Blocks.{length_codeblocks}
 use Rattle.units.proofs.Assembled.{put_last}
-use borrow.Author.Rules.{rules}
 use Rattle.units.proofs.write_taken.Goals as goal
 
 pub slice_bounds-write_front-end-2 : goal.slice_bounds-write_front-end-2

@@ -1,8 +1,7 @@
 -- `units::write_unit`: its number, and the unit where it is 0. Assumes nothing.
-use mathlib.Core.Path.{◌≡◌, sym, ap, ◌∙◌}
+use mathlib.Core.Path.{sym, ap, ◌∙◌}
 use lib.ListN.{length}
 use Rattle.units.proofs.Lengths.{none_says, write_refused, write_done}
-use borrow.Author.Rules.{rules}
 use Rattle.units.proofs.write_unit.Goals as goal
 
 pub returns-then-number-ne0 : goal.returns-then-number-ne0

@@ -1,9 +1,7 @@
 -- `telemetry::extend`: each octet is the sum of two before it. Assumes nothing.
-use mathlib.Core.Path.{◌≡◌, refl}
-use Prim.Native.Nat.{◌-◌, ◌≤◌}
+use mathlib.Core.Path.{refl}
 use native.Mathlib.Omega.{arith}
-use lib.ListN.{length, length-set}
-use Rattle.telemetry.specs.sequences.Telemetry.{Begins}
+use lib.ListN.{length-set}
 use Rattle.telemetry.proofs.sequences.Second.{one_more}
 use Rattle.telemetry.proofs.sequences.extend.Goals as goal
 

@@ -1,10 +1,8 @@
 -- `telemetry::extend`: each octet is the sum of two before it. Assumes nothing.
-use mathlib.Core.Path.{◌≡◌, refl}
+use mathlib.Core.Path.{◌≡◌}
 use Prim.Native.Nat.{◌-◌, ◌≤◌}
-use native.Mathlib.Omega.{arith}
-use lib.ListN.{length, length-set}
+use lib.ListN.{length}
 use Rattle.telemetry.specs.sequences.Telemetry.{Begins}
-use Rattle.telemetry.proofs.sequences.Second.{one_more}
 use Rattle.telemetry.proofs.sequences.extend.Given as goal
 
 abbrev pub invariant-loop-i : goal.invariant-loop-i

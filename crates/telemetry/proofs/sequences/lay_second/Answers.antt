@@ -6,7 +6,6 @@ use lib.Seq.{get_or-take}
 use Rattle.bits.specs.Bits.{number}
 use Rattle.telemetry.specs.sequences.Telemetry.{second}
 use Rattle.telemetry.proofs.sequences.Second.{start_octet}
-use borrow.Author.Rules.{rules}
 use Rattle.telemetry.proofs.sequences.lay_second.Goals as goal
 
 --? slice-aggregate-lay : tie.Need-slice-aggregate-lay

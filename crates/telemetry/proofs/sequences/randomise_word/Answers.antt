@@ -1,6 +1,5 @@
 -- `telemetry::randomise_word`: the edition's sequence is added. Assumes nothing.
 use mathlib.Core.Path.{sym, ap, ◌∙◌}
-use borrow.Author.Rules.{rules}
 use Rattle.bits.specs.Bits.{if◌then◌else◌}
 use Rattle.randomiser.specs.Randomiser.{randomised}
 use Rattle.telemetry.specs.sequences.Telemetry.{telemetry, second}

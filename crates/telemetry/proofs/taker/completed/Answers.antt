@@ -1,7 +1,6 @@
 -- `taker::completed`: derandomised, corrected into zeros, handed out. Assumes nothing.
 use mathlib.Core.Path.{sym, ap, ap₂, ◌∙◌}
 use mathlib.Core.Bool.{true}
-use borrow.Author.Rules.{rules}
 use Rattle.answers.specs.Calls.{correct_answer}
 use Rattle.telemetry.specs.taker.Stream.{answered}
 use Rattle.telemetry.specs.taker.Taking.{tell, standing}

@@ -1,11 +1,8 @@
 -- `taker::hold`: the octets so far are in their places. Assumes nothing.
-use mathlib.Core.Path.{◌≡◌, refl, sym, ap, ◌∙◌}
-use Prim.Native.Nat.{◌+◌, ◌-◌, ◌≤◌, ◌<◌}
-use native.Mathlib.Numerals.{add-one}
-use native.Mathlib.Omega.{arith}
-use lib.ListN.{length, get_or, take, set, length-set}
-use lib.Seq.{sets, take-suc, take-length, length-take-le}
-use Rattle.telemetry.proofs.taker.Laws.{sets_snoc}
+use mathlib.Core.Path.{◌≡◌}
+use Prim.Native.Nat.{◌-◌, ◌≤◌}
+use lib.ListN.{length, take}
+use lib.Seq.{sets}
 use Rattle.telemetry.proofs.taker.hold.Given as goal
 
 abbrev pub invariant-loop-i : goal.invariant-loop-i

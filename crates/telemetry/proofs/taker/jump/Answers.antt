@@ -1,6 +1,5 @@
 -- `taker::jump`: only a search with nothing matched skips. Assumes nothing.
 use mathlib.Core.Path.{sym, subst}
-use borrow.Author.Rules.{rules}
 use Rattle.telemetry.specs.taker.Taking.{GoesOn}
 use Rattle.telemetry.proofs.taker.jump.Goals as goal
 

@@ -1,14 +1,13 @@
 -- `taker::search`: a call on the whole part goes on as a call on the rest. Assumes nothing.
 use mathlib.Core.Path.{◌≡◌, refl, sym, ap, ap₂, ◌∙◌}
 use mathlib.Core.List.{List}
-use Prim.Native.Nat.{ℕ, suc, ◌+◌, ◌-◌, ◌≤◌, ◌<◌}
+use Prim.Native.Nat.{ℕ, suc, ◌+◌, ◌<◌}
 use native.Mathlib.Numerals.{add-one}
 use native.Mathlib.Omega.{arith}
 use lib.ListN.{length, get_or, drop}
 use lib.Seq.{drop-cons}
 use Rattle.telemetry.specs.taker.Taking.{matched, standing, taken_from, GoesOn}
 use Rattle.telemetry.proofs.taker.Laws.{search_step}
-use borrow.Author.Rules.{rules}
 use Rattle.telemetry.proofs.taker.search.Goals as goal
 
 -- one octet of the search

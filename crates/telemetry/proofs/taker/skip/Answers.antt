@@ -1,11 +1,11 @@
 -- `taker::skip`: an octet that begins no marker leaves the taker as it is. Assumes nothing.
 use mathlib.Core.Path.{refl, sym, ap, ap₂, ◌∙◌}
-use Prim.Native.Nat.{suc, ◌-◌, ◌≤◌, ◌<◌}
+use Prim.Native.Nat.{suc, ◌<◌}
 use native.Mathlib.Numerals.{add-one}
 use native.Mathlib.Omega.{arith}
 use lib.ListN.{length, get_or, drop}
 use lib.Seq.{drop-cons}
-use Rattle.telemetry.specs.taker.Taking.{standing, taken_from, GoesOn}
+use Rattle.telemetry.specs.taker.Taking.{standing, taken_from}
 use Rattle.telemetry.proofs.taker.Laws.{search_step, matched_none}
 use borrow.Author.Rules.{rules}
 use Rattle.telemetry.proofs.taker.skip.Goals as goal

@@ -1,7 +1,6 @@
 -- `taker::waiting`: zeros beside the taker. Assumes nothing.
 use mathlib.Core.Path.{sym, ap₂}
 use mathlib.Core.Bool.{false}
-use borrow.Author.Rules.{rules}
 use Rattle.telemetry.specs.taker.Taking.{tell, standing}
 use Rattle.telemetry.proofs.taker.Laws.{with_word}
 use Rattle.telemetry.proofs.taker.waiting.Goals as goal

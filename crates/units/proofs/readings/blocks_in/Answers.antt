@@ -1,7 +1,6 @@
 -- `readings::blocks_in`: whole codeblocks. Assumes nothing.
-use mathlib.Core.Path.{◌≡◌, ap₂}
+use mathlib.Core.Path.{ap₂}
 use Prim.Native.Nat.{◌/◌}
-use borrow.Author.Rules.{rules}
 use Rattle.units.proofs.readings.blocks_in.Goals as goal
 
 --? div-result : tie.Need-nonzero-div-result

@@ -1,12 +1,11 @@
 -- `readings::correct_part`: corrected over zeros, and its front handed out. Assumes nothing.
-use mathlib.Core.Path.{◌≡◌, sym, ap}
+use mathlib.Core.Path.{sym, ap}
 use native.Mathlib.Omega.{arith}
 use lib.ListN.{length}
 use lib.Seq.{length-take-le}
 use Rattle.flipping.specs.endings.Answers.{as_corrected}
 use Rattle.units.proofs.unitrules.Shapes.{sizes}
 use Rattle.units.proofs.readings.Answering.{mended_room, mended_part_length, part_is}
-use borrow.Author.Rules.{rules}
 use Rattle.units.proofs.readings.correct_part.Goals as goal
 
 pub slice_bounds-mended-end : goal.slice_bounds-mended-end

@@ -1,9 +1,8 @@
 -- `readings::hand_out`: copied if the number is 0. Assumes nothing.
-use mathlib.Core.Path.{◌≡◌, sym, ◌∙◌}
+use mathlib.Core.Path.{sym, ◌∙◌}
 use borrow.Author.Tests.{eq-eqb, ne_eqb}
 use lib.Dec.{eqb}
 use Rattle.units.proofs.unitrules.Answering.{if_is, if_isnt}
-use borrow.Author.Rules.{rules}
 use Rattle.units.proofs.readings.hand_out.Goals as goal
 
 pub returns-then-number-eq0 : goal.returns-then-number-eq0

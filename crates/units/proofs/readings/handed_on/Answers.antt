@@ -1,10 +1,9 @@
 -- `readings::handed_on`: one codeblock on. Assumes nothing.
-use mathlib.Core.Path.{◌≡◌, ap}
+use mathlib.Core.Path.{ap}
 use mathlib.Core.Bool.{false}
 use native.Mathlib.Numerals.{add-one}
 use Rattle.flipping.specs.endings.Answers.{as_corrected}
 use Rattle.units.specs.readings.Answers.{as_reading}
-use borrow.Author.Rules.{rules}
 use Rattle.units.proofs.readings.handed_on.Goals as goal
 
 pub returns : goal.returns

@@ -1,8 +1,6 @@
 -- `readings::is_shaped`: one or more whole codeblocks, and the tail. Assumes nothing.
-use mathlib.Core.Path.{◌≡◌, refl, sym, ap, ap₂, ◌∙◌, subst}
-use native.Mathlib.Omega.{arith}
+use mathlib.Core.Path.{sym, ◌∙◌}
 use Rattle.units.proofs.readings.Compared.{shaped_few, shaped_rest, shaped_tail}
-use borrow.Author.Rules.{rules}
 use Rattle.units.proofs.readings.is_shaped.Goals as goal
 
 pub returns-then-rest-word : goal.returns-then-rest-word

@@ -1,10 +1,9 @@
 -- `readings::is_started`: the first eight octets. Assumes nothing.
-use mathlib.Core.Path.{◌≡◌, refl, sym, ap, ap₂, ◌∙◌, subst}
+use mathlib.Core.Path.{sym}
 use native.Mathlib.Omega.{arith}
 use lib.Seq.{length-take-le}
 use Rattle.units.specs.unitrules.Units.{started}
 use Rattle.units.proofs.readings.Compared.{short_start}
-use borrow.Author.Rules.{rules}
 use Rattle.units.proofs.readings.is_started.Goals as goal
 
 pub returns-then-unit-lt8 : goal.returns-then-unit-lt8

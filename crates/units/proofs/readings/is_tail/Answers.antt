@@ -1,9 +1,8 @@
 -- `readings::is_tail`: one code has a tail, and the other none. Assumes nothing.
-use mathlib.Core.Path.{◌≡◌, sym, ap, ◌∙◌}
+use mathlib.Core.Path.{sym, ap, ◌∙◌}
 use Rattle.units.specs.unitrules.Units.{tail, same as sameOf}
 use Rattle.units.proofs.unitrules.Shapes.{none_long}
 use Rattle.units.proofs.unitoffers.Offers.{whole_tail}
-use borrow.Author.Rules.{rules}
 use Rattle.units.proofs.readings.is_tail.Goals as goal
 
 pub returns-then-tail_octets-ne0 : goal.returns-then-tail_octets-ne0

@@ -1,11 +1,10 @@
 -- `readings::read`: refusals in their order, or what the reading stands at. Assumes nothing.
-use mathlib.Core.Path.{◌≡◌, sym, ap, ◌∙◌}
+use mathlib.Core.Path.{sym, ap, ◌∙◌}
 use mathlib.Core.Bool.{false}
 use borrow.Author.Tests.{not-true, not-false}
 use Rattle.units.specs.unitrules.Units.{with_out, handed_again_of}
 use Rattle.units.proofs.unitrules.Answering.{read_one, read_three}
 use Rattle.units.specs.readings.Answers.{as_reading}
-use borrow.Author.Rules.{rules}
 use Rattle.units.proofs.readings.read.Goals as goal
 use mathlib.Core.Path.{ap}
 use mathlib.Core.Bool.{not}

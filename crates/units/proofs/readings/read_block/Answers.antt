@@ -1,5 +1,5 @@
 -- `readings::read_block`: received, then corrected. Assumes nothing.
-use mathlib.Core.Path.{◌≡◌, sym, ap, ◌∙◌}
+use mathlib.Core.Path.{sym, ap, ◌∙◌}
 use native.Mathlib.Omega.{arith}
 use lib.ListN.{length, replicate}
 use lib.Seq.{length-take-le}
@@ -7,7 +7,6 @@ use Rattle.rules.specs.Codes.{code}
 use Rattle.answers.specs.Calls.{correct_answer}
 use Rattle.units.specs.readings.Handing.{handed_part}
 use Rattle.units.proofs.readings.Answering.{got_room, got_word, got_word_length}
-use borrow.Author.Rules.{rules}
 use Rattle.units.proofs.readings.read_block.Goals as goal
 
 pub slice_bounds-receive-end : goal.slice_bounds-receive-end

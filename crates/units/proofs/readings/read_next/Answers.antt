@@ -1,11 +1,10 @@
 -- `readings::read_next`: refused, or handed out. Assumes nothing.
-use mathlib.Core.Path.{◌≡◌, sym, ap, ◌∙◌}
+use mathlib.Core.Path.{sym, ap, ◌∙◌}
 use native.Mathlib.Omega.{arith}
 use Rattle.flipping.specs.endings.Answers.{as_corrected}
 use Rattle.units.specs.unitrules.Units.{handed_last_of}
 use Rattle.units.specs.readings.Answers.{as_reading}
 use Rattle.units.proofs.readings.Answering.{next_on, next_refused, refused_out, place_fits}
-use borrow.Author.Rules.{rules}
 use Rattle.units.proofs.readings.read_next.Goals as goal
 
 pub returns-then-r-ne0 : goal.returns-then-r-ne0

@@ -1,11 +1,10 @@
 -- `readings::read_on`: the answer that ended it, none, or the next codeblock. Assumes nothing.
-use mathlib.Core.Path.{◌≡◌, sym, ap, ◌∙◌}
+use mathlib.Core.Path.{sym, ap, ◌∙◌}
 use mathlib.Core.Bool.{true}
 use native.Mathlib.Omega.{arith}
 use Rattle.units.specs.unitrules.Units.{with_out, handed_again_of}
 use Rattle.units.proofs.unitrules.Answering.{read_kept, read_none, read_more}
 use Rattle.units.specs.readings.Answers.{as_reading}
-use borrow.Author.Rules.{rules}
 use Rattle.units.proofs.readings.read_on.Goals as goal
 
 pub returns-then-state-ne0 : goal.returns-then-state-ne0

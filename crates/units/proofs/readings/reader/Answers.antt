@@ -1,9 +1,7 @@
 -- `readings::reader`: its number, and the first codeblock. Assumes nothing.
-use mathlib.Core.Path.{◌≡◌, refl, sym, ap, ap₂, ◌∙◌, subst}
-use native.Mathlib.Omega.{arith}
+use mathlib.Core.Path.{ap, ◌∙◌}
 use mathlib.Core.List.{[]}
 use Rattle.answers.specs.Calls.{refused_correct_of}
-use borrow.Author.Rules.{rules}
 use Rattle.units.proofs.readings.reader.Goals as goal
 
 pub returns : goal.returns

@@ -1,9 +1,7 @@
 -- `readings::reader_number`: refusals in the order of their numbers. Assumes nothing.
-use mathlib.Core.Path.{◌≡◌, refl, sym, ap, ap₂, ◌∙◌, subst}
-use native.Mathlib.Omega.{arith}
+use mathlib.Core.Path.{sym, ap, ◌∙◌}
 use borrow.Author.Tests.{not-true, not-false}
 use Rattle.units.proofs.unitrules.Answering.{number_one, number_eleven, number_twelve, number-none}
-use borrow.Author.Rules.{rules}
 use Rattle.units.proofs.readings.reader_number.Goals as goal
 use mathlib.Core.Path.{ap}
 use mathlib.Core.Bool.{not}

@@ -1,11 +1,10 @@
 -- `readings::receive`: copied, then derandomised. Assumes nothing.
-use mathlib.Core.Path.{◌≡◌, refl, sym, ap, ap₂, ◌∙◌, subst}
+use mathlib.Core.Path.{ap, ◌∙◌}
 use native.Mathlib.Omega.{arith}
 use Prim.Native.Nat.{◌+◌, ◌-◌, ◌*◌}
-use lib.ListN.{length, take, drop, length-take}
+use lib.ListN.{length, drop, length-take}
 use Rattle.units.proofs.unitrules.Shapes.{sizes}
 use Rattle.units.proofs.readings.Compared.{block_room, received_is}
-use borrow.Author.Rules.{rules}
 use Rattle.units.proofs.readings.receive.Goals as goal
 
 pub overflow_mul-used : goal.overflow_mul-used

@@ -1,11 +1,8 @@
 -- `readings::same`: what is compared so far is the same. Assumes nothing.
-use mathlib.Core.Path.{◌≡◌, refl, sym, ap, ap₂, ◌∙◌, subst}
-use native.Mathlib.Omega.{arith}
+use mathlib.Core.Path.{◌≡◌}
 use Prim.Native.Nat.{◌-◌, ◌≤◌}
-use native.Mathlib.Numerals.{add-one}
 use lib.ListN.{length, drop}
 use Rattle.units.specs.unitrules.Units.{same as sameOf}
-use Rattle.units.proofs.readings.Compared.{other_length, other_here, same_here, same_past}
 use Rattle.units.proofs.readings.same.Given as goal
 
 abbrev pub invariant-loop-i : goal.invariant-loop-i

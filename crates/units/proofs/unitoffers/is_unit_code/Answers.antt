@@ -1,7 +1,6 @@
 -- `unitoffers::is_unit_code`: what the record says. Assumes nothing.
-use mathlib.Core.Path.{◌≡◌, ap, ◌∙◌}
+use mathlib.Core.Path.{ap, ◌∙◌}
 use Rattle.units.proofs.unitoffers.Offers.{offer_offered}
-use borrow.Author.Rules.{rules}
 use Rattle.units.proofs.unitoffers.is_unit_code.Goals as goal
 
 pub returns : goal.returns

@@ -2,7 +2,6 @@
 use mathlib.Core.Path.{ap, sym, subst}
 use Prim.Native.Nat.{◌≤◌}
 use Rattle.units.proofs.unitoffers.Offers.{offer_room}
-use borrow.Author.Rules.{rules}
 use Rattle.units.proofs.unitoffers.room.Goals as goal
 
 pub returns : goal.returns

@@ -2,7 +2,6 @@
 use native.Mathlib.Omega.{arith}
 use Rattle.units.proofs.unitrules.Shapes.{sizes}
 use Rattle.units.proofs.unitoffers.Offers.{fixed}
-use borrow.Author.Rules.{rules}
 use Rattle.units.proofs.unitoffers.word_octets.Goals as goal
 
 pub returns : goal.returns

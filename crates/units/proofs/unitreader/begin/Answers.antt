@@ -4,7 +4,6 @@ use mathlib.Core.List.{[]}
 use borrow.Author.Tests.{eq-eqb, ne_eqb}
 use Rattle.bits.specs.Bits.{if◌then◌else◌}
 use Rattle.units.specs.unitrules.Units.{reader_number_of}
-use borrow.Author.Rules.{rules}
 use Rattle.units.proofs.unitreader.begin.Goals as goal
 
 pub returns-then-kept-ne0 : goal.returns-then-kept-ne0

@@ -5,7 +5,6 @@ use lib.ListN.{length}
 use lib.Seq.{length-take-le}
 use Rattle.units.specs.readings.Answers.{as_reading, as_handed}
 use Rattle.units.proofs.unitreader.Rooms.{handed_at_lem}
-use borrow.Author.Rules.{rules}
 use Rattle.units.proofs.unitreader.block_at.Goals as goal
 
 pub slice_bounds-octets-end : goal.slice_bounds-octets-end

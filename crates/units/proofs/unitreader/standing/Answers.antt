@@ -1,7 +1,6 @@
 -- `unitreader::standing`: what is kept is the refused form with 0. Assumes nothing.
-use mathlib.Core.Path.{◌≡◌, ap}
+use mathlib.Core.Path.{ap}
 use mathlib.Core.List.{[]}
-use borrow.Author.Rules.{rules}
 use Rattle.units.proofs.unitreader.standing.Goals as goal
 
 pub returns : goal.returns

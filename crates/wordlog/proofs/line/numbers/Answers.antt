@@ -1,7 +1,6 @@
 -- `line::numbers` meets its contract, number by number. Assumes nothing.
 use mathlib.Core.Path.{refl}
 use Rattle.wordlog.proofs.line.Texts.{both}
-use borrow.Author.Rules.{rules}
 use Rattle.wordlog.proofs.line.numbers.Goals as goal
 
 pub returns : goal.returns

@@ -3,7 +3,6 @@ use native.Mathlib.Omega.{arith}
 use lib.ListN.{length-set}
 use Rattle.wordlog.specs.line.Line.{decimal}
 use Rattle.wordlog.proofs.line.Texts.{long64, one_before}
-use borrow.Author.Rules.{rules}
 use Rattle.wordlog.proofs.line.put_field.Goals as goal
 
 pub put-requires : goal.put-requires

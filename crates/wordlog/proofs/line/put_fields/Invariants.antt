@@ -1,13 +1,9 @@
 -- `line::put_fields` meets its contract: after k numbers the text is their fields. Assumes nothing.
-use mathlib.Core.Path.{◌≡◌, refl, sym, ap, ◌∙◌}
-use mathlib.Core.List.{List, ◌++◌, append-nil}
-use Prim.Native.Nat.{ℕ, ◌+◌, ◌-◌, ◌*◌, ◌≤◌, ◌<◌}
-use native.Mathlib.Omega.{arith}
+use mathlib.Core.Path.{◌≡◌}
+use mathlib.Core.List.{◌++◌}
+use Prim.Native.Nat.{◌+◌, ◌-◌, ◌*◌, ◌≤◌}
 use lib.ListN.{length, take}
-use lib.Seq.{take_all}
 use Rattle.wordlog.specs.line.Line.{fields}
-use Rattle.wordlog.proofs.line.Texts.{fields_next}
-use borrow.Author.Rules.{rules}
 use Rattle.wordlog.proofs.line.put_fields.Given as goal
 
 abbrev pub invariant-loop-k : goal.invariant-loop-k

@@ -1,7 +1,6 @@
 -- `line::put_header` meets its contract: the text in the code is the definition's. Assumes nothing.
 use native.Mathlib.Omega.{arith}
 use Rattle.wordlog.specs.line.Line.{ascii, header}
-use borrow.Author.Rules.{rules}
 use Rattle.wordlog.proofs.line.put_header.Goals as goal
 
 --? slice-aggregate-put-text : tie.Need-slice-aggregate-put-text

@@ -1,12 +1,11 @@
 -- `line::put_line` meets its contract: index, numbers, the end of the line. Assumes nothing.
 use mathlib.Core.Path.{sym, ap}
 use mathlib.Core.List.{[]}
-use Prim.Native.Nat.{◌+◌, ◌<◌}
+use Prim.Native.Nat.{◌<◌}
 use native.Mathlib.Omega.{arith}
 use lib.ListN.{length, take, length-set}
 use Rattle.flipping.specs.endings.Answers.{as_corrected}
 use Rattle.wordlog.proofs.line.Texts.{long64, line_whole}
-use borrow.Author.Rules.{rules}
 use Rattle.wordlog.proofs.line.put_line.Goals as goal
 
 pub put-start-requires : goal.put-start-requires

@@ -1,12 +1,11 @@
 -- `line::put_text` meets its contract: after k octets the text ends with the first k. Assumes nothing.
-use mathlib.Core.Path.{◌≡◌, refl, sym, ap, ◌∙◌}
+use mathlib.Core.Path.{refl, sym, ap, ◌∙◌}
 use mathlib.Core.List.{List, ◌++◌, append-nil}
-use Prim.Native.Nat.{ℕ, ◌+◌, ◌-◌, ◌≤◌, ◌<◌}
+use Prim.Native.Nat.{ℕ, ◌<◌}
 use native.Mathlib.Omega.{arith}
 use lib.ListN.{length, get_or, take, length-set}
 use lib.Seq.{take_all}
 use Rattle.wordlog.proofs.line.Texts.{text-more}
-use borrow.Author.Rules.{rules}
 use Rattle.wordlog.proofs.line.put_text.Goals as goal
 
 pub loop-k-init : goal.loop-k-init

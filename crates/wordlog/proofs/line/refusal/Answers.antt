@@ -2,7 +2,6 @@
 use mathlib.Core.Path.{ap}
 use mathlib.Core.List.{[]}
 use Rattle.wordlog.specs.line.Line.{line}
-use borrow.Author.Rules.{rules}
 use Rattle.wordlog.proofs.line.refusal.Goals as goal
 
 pub returns : goal.returns

@@ -6,7 +6,6 @@ use lib.ListN.{take, replicate, length-replicate}
 use Rattle.rules.specs.Codes.{code}
 use Rattle.wordlog.specs.line.Line.{line}
 use Rattle.wordlog.proofs.line.Texts.{same_line}
-use borrow.Author.Rules.{rules}
 use Rattle.wordlog.proofs.line.write_word.Goals as goal
 
 pub returns : goal.returns

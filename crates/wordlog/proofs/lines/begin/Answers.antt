@@ -2,7 +2,6 @@
 use mathlib.Core.Path.{sym, ◌∙◌}
 use native.Mathlib.Omega.{arith}
 use Rattle.wordlog.proofs.lines.Whole.{bad_head, good_head}
-use borrow.Author.Rules.{rules}
 use Rattle.wordlog.proofs.lines.begin.Goals as goal
 
 pub returns-then-is_bad : goal.returns-then-is_bad

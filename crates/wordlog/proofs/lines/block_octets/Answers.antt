@@ -3,7 +3,6 @@ use mathlib.Core.Path.{sym, ap, ◌∙◌}
 use Prim.Native.Nat.{◌*◌, ◌/◌, ◌%◌, ◌<◌}
 use native.Mathlib.Nat.{div-mul-le_self, div-add-mod', mod-lt, mul-mod_left}
 use native.Mathlib.Omega.{arith}
-use borrow.Author.Rules.{rules}
 use Rattle.wordlog.proofs.lines.block_octets.Goals as goal
 
 --? div-result : tie.Need-nonzero-div-result

@@ -2,7 +2,6 @@
 use mathlib.Core.Path.{sym, ◌∙◌}
 use lib.ListN.{take}
 use Rattle.wordlog.proofs.lines.Whole.{numbered, adds}
-use borrow.Author.Rules.{rules}
 use Rattle.wordlog.proofs.lines.go_on.Goals as goal
 
 pub write_words-requires : goal.write_words-requires

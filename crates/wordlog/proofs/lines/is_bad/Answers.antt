@@ -1,6 +1,5 @@
 -- `lines::is_bad` meets its contract. Assumes nothing.
 use borrow.Author.Tests.{lt-ltb, le-ltb}
-use borrow.Author.Rules.{rules}
 use Rattle.wordlog.proofs.lines.is_bad.Goals as goal
 
 pub returns-then-head-lt3 : goal.returns-then-head-lt3

@@ -1,13 +1,12 @@
 -- `lines::write_at` meets its contract: the word, or what is left of it, as a line. Assumes nothing.
 use mathlib.Core.Path.{◌≡◌, ap, ◌∙◌}
 use mathlib.Core.List.{List, ◌++◌}
-use Prim.Native.Nat.{ℕ, ◌+◌, ◌-◌, ◌*◌, ◌≤◌, ◌<◌}
+use Prim.Native.Nat.{ℕ, ◌+◌, ◌-◌, ◌*◌}
 use native.Mathlib.Omega.{arith}
 use lib.ListN.{length, take, drop}
 use Rattle.wordlog.specs.line.Line.{word_line}
 use Rattle.wordlog.specs.lines.Log.{word}
 use Rattle.wordlog.proofs.lines.Pieces.{starts_before, piece}
-use borrow.Author.Rules.{rules}
 use Rattle.wordlog.proofs.lines.write_at.Goals as goal
 
 pub overflow_mul-from : goal.overflow_mul-from

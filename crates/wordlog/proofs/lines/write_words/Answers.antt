@@ -1,11 +1,10 @@
 -- `lines::write_words` meets its contract: after k words the text is the lines of the first k. Assumes nothing.
 use mathlib.Core.Path.{◌≡◌, refl, ap, ◌∙◌}
 use mathlib.Core.List.{List, ◌++◌}
-use Prim.Native.Nat.{ℕ, ◌+◌, ◌-◌, ◌*◌, ◌≤◌, ◌<◌}
+use Prim.Native.Nat.{ℕ, ◌+◌}
 use native.Mathlib.Numerals.{add-one}
 use native.Mathlib.Omega.{arith}
-use borrow.Author.Rules.{rules}
-use lib.ListN.{length, take}
+use lib.ListN.{length}
 use Rattle.wordlog.specs.line.Line.{word_line}
 use Rattle.wordlog.specs.lines.Log.{word, lines}
 use Rattle.wordlog.proofs.lines.Pieces.{starts_before}

@@ -1,6 +1,5 @@
 -- `taker::Taker::told`: an edition that is known, or 19. Assumes nothing.
 use mathlib.Core.Path.{sym, ap, ◌∙◌}
-use borrow.Author.Rules.{rules}
 use Rattle.telemetry.proofs.taker.Editions.{made_known, made_unknown}
 use Rattle.telemetry.proofs.taker.Taker.told.Goals as goal
 
