@@ -153,8 +153,8 @@ fn near_earth_rows<W: Write>(
 ) -> io::Result<()>
     requires { (length information.old ≡ 895) × (length out.old ≡ 128) }
 {
-    for n in (0..7154).step_by(511) {
-        near_earth_row(output, n, information, word, out)?;
+    for block in 0..14usize {
+        near_earth_row(output, 511 * block, information, word, out)?;
     }
     Ok(())
 }
