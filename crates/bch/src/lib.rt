@@ -1,5 +1,8 @@
 // The older BCH words: encoding, and checking in two modes. A word is divided as a whole: each coefficient of the remainder
 // is the sum of the bits at the ones of one row.
+
+#![tactic(auto)]
+
 ghost use Rattle.std.specs.Prelude.{◌≡◌, ◌&&◌, ◌^◌, ◌≤◌, ◌<◌, eqb, ltb, length};
 ghost use Rattle.bits.specs.Bits.{Word, bit, digit, tally, sum};
 ghost use Rattle.vectors.specs.Vectors.{Holds};

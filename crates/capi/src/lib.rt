@@ -1,4 +1,7 @@
 // The calls for C and Rust. A slice is handed over as a pointer and its length; the records are those of the calls.
+
+#![tactic(auto)]
+
 ghost use Rattle.std.specs.Prelude.{◌≡◌, ◌+◌, ◌*◌, length};
 ghost use Rattle.answers.specs.Calls.{word_octets_answer, information_octets_answer, encode_answer, check_answer, open_answer, correct_answer};
 ghost use Rattle.answers.specs.Calls.{step_answer};

@@ -1,4 +1,7 @@
 // The calls. Each takes any code number, any lengths and any contents; what it refuses it refuses by number, and writes nothing.
+
+#![tactic(auto)]
+
 ghost use Rattle.std.specs.Prelude.{◌≡◌, true, false, List, ℕ, ◌<◌, eqb, length};
 ghost use Rattle.bits.specs.Bits.{bit, flipped, if◌then◌else◌};
 ghost use Rattle.rules.specs.Codes.{code as code_of, offered};

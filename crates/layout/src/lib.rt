@@ -1,4 +1,7 @@
 // How a code is handed to the engine: its shape in numbers, and its parity table as one flat list.
+
+#![tactic(auto)]
+
 #[derive(Clone, Copy)]
 pub struct Shape {
     // M, the size of a block

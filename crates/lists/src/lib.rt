@@ -1,4 +1,7 @@
 // The call list: the records of a run go into the caller's table, one by one. It is proved by hand and only stores them.
+
+#![tactic(auto)]
+
 pub mod listing;
 
 ghost use Rattle.std.specs.Prelude.{◌≡◌};

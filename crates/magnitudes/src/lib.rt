@@ -1,5 +1,8 @@
 // Samples by their bit patterns, and the run that chooses by their sizes. A pattern is read and compared as a whole number, so that no mode
 // of the machine's floating point matters.
+
+#![tactic(auto)]
+
 ghost use Rattle.std.specs.Prelude.{◌≡◌, Bool, true, false, ℕ, ◌+◌, ◌*◌, ◌/◌, ◌^◌, ◌<◌, ◌≤◌, eqb, length};
 ghost use Rattle.bits.specs.Bits.{digit, ◌⊕◌, below, if◌then◌else◌};
 ghost use Rattle.vectors.specs.Vectors.{wbit, Holds, up_to, from, joined};

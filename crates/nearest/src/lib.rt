@@ -1,5 +1,8 @@
 // The nearest command of code 1, by plain search: which few bits, flipped, give a codeword. The search carries the broken checks in one
 // word, and a flip adds the bit's column to it.
+
+#![tactic(auto)]
+
 ghost use Rattle.std.specs.Prelude.{◌≡◌, List, ℕ, ◌-◌, ◌<◌, ◌≤◌, length, get_or};
 ghost use Rattle.bits.specs.Bits.{Word, bit};
 ghost use Rattle.vectors.specs.Vectors.{wbit};

@@ -1,4 +1,7 @@
 // 64 small counts side by side in three bit planes.
+
+#![tactic(auto)]
+
 ghost use Rattle.std.specs.Prelude.{◌≡◌, ℕ, ◌+◌, ◌*◌, ◌%◌, ◌<◌, eqb};
 ghost use Rattle.bits.specs.Bits.{digit, tally};
 ghost use Rattle.planes.specs.Counts.{value};

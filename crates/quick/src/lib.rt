@@ -1,5 +1,8 @@
 // A quick no: the checks in order, up to the first group with a broken one. A group is worked out at once; the number reported is the
 // definition's.
+
+#![tactic(auto)]
+
 pub mod groups;
 pub mod lowest_narrow;
 pub mod lowest_wide;

@@ -1,4 +1,7 @@
 // Randomising: the telecommand sequence, added to octets in place.
+
+#![tactic(auto)]
+
 ghost use Rattle.std.specs.Prelude.{◌≡◌, ◌+◌, ◌*◌, ◌/◌, ◌≤◌, length};
 ghost use Rattle.randomiser.specs.Randomiser.{telecommand, randomised, Added};
 

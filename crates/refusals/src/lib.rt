@@ -1,4 +1,7 @@
 // The refusals that all calls share.
+
+#![tactic(auto)]
+
 ghost use Rattle.std.specs.Prelude.{◌≡◌};
 ghost use Rattle.answers.specs.Calls.{refusal as refusalOf};
 

@@ -1,4 +1,7 @@
 // Correct on samples: the run on the bits read from them, which chooses by their sizes. What runs is given samples by their bit patterns.
+
+#![tactic(auto)]
+
 pub mod raising;
 pub mod sizing;
 pub mod smallest;

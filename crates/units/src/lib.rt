@@ -1,4 +1,7 @@
 // Telecommand transmission units of codes 1 and 3, written, and their lengths.
+
+#![tactic(auto)]
+
 pub mod readings;
 pub mod unitoffers;
 pub mod unitreader;

@@ -1,3 +1,6 @@
 // The log: a line of it, and the log of a recording.
+
+#![tactic(auto)]
+
 pub mod line;
 pub mod lines;

@@ -1,0 +1,11 @@
+-- `tables::lend32`: the constant is the published table's places. Assumes nothing.
+use mathlib.Core.Path.{refl}
+use borrow.Author.Rules.{rules}
+use Rattle.rules.specs.Tables.{parity32}
+use Rattle.catalogue.specs.tables.Flat.{pairs, flat8}
+use Rattle.catalogue.proofs.tables.Listed.{flat_as}
+use Rattle.catalogue.proofs.tables.lend32.Goals as goal
+
+pub returns : goal.returns
+unfolding parity32
+returns c = flat_as flat8 (pairs parity32) c.flatten8.ensures refl

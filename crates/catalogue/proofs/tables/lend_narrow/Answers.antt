@@ -1,0 +1,39 @@
+-- `tables::lend_narrow`: each size has its table. Assumes nothing.
+use mathlib.Core.Path.{refl}
+use native.Mathlib.Omega.{arith}
+use Rattle.catalogue.proofs.tables.Lending.{by_size_lem}
+use borrow.Author.Rules.{rules}
+use Rattle.catalogue.proofs.tables.lend_narrow.Goals as goal
+
+pub returns-then-size-eq16 : goal.returns-then-size-eq16
+returns-then-size-eq16 c = (
+  by_size_lem _ _ _ (record {
+    small = λ e. (c.lend16.ensures, refl);
+    middle = λ e. absurd (omega arith);
+    large = λ e. absurd (omega arith);
+    near = λ e. absurd (omega arith);
+  }),
+  omega arith,
+)
+
+pub returns-then-size-eq32 : goal.returns-then-size-eq32
+returns-then-size-eq32 c = (
+  by_size_lem _ _ _ (record {
+    small = λ e. absurd (omega arith);
+    middle = λ e. (c.lend32.ensures, refl);
+    large = λ e. absurd (omega arith);
+    near = λ e. absurd (omega arith);
+  }),
+  omega arith,
+)
+
+pub returns : goal.returns
+returns c = (
+  by_size_lem _ _ _ (record {
+    small = λ e. absurd (omega arith);
+    middle = λ e. absurd (omega arith);
+    large = λ e. (c.lend64.ensures, refl);
+    near = λ e. absurd (c.requires.1 e);
+  }),
+  omega arith,
+)

@@ -1,0 +1,33 @@
+-- `syndromes::add_block` meets its contract: after r passes the first r rows have it. Assumes nothing.
+use Prim.Native.Nat.{◌-◌}
+use native.Mathlib.Omega.{arith}
+use borrow.Author.Rules.{rules}
+use Rattle.vectors.specs.Vectors.{wbit}
+use Rattle.syndromes.specs.Rows.{wide, spread, turned}
+use Rattle.syndromes.proofs.Bounds.{wide_some}
+use Rattle.syndromes.proofs.Rowwise.{Reached, reached_none, reached-more, reached_all}
+use Rattle.syndromes.proofs.add_block.Goals as goal
+
+pub loop-r-init : goal.loop-r-init
+loop-r-init c =
+    let a = c.args in
+    let pre = c.requires in
+    reached_none (wide a.sh) a.sh.rows (wide_some a.h.now a.sh pre.0)
+    (spread a.sh a.h.now a.b (turned (wbit a.d.now))) a.acc.now pre.3
+
+pub loop-r-preserved : goal.loop-r-preserved
+loop-r-preserved c =
+    let a = c.args in
+    let l = c.loop-r in
+    let some = wide_some a.h.now a.sh c.requires.0 in
+    reached-more (wide a.sh) a.sh.rows some (spread a.sh a.h.now a.b (turned (wbit a.d.now))) (wbit a.acc.now)
+    l.acc l.r l.invariant
+    _ (omega arith) (search rules) c.add_row.ensures
+
+pub returns : goal.returns
+returns c =
+    let a = c.args in
+    let l = c.loop-r in
+    let some = wide_some a.h.now a.sh c.requires.0 in
+    reached_all (wide a.sh) a.sh.rows some (spread a.sh a.h.now a.b (turned (wbit a.d.now))) (wbit a.acc.now)
+    l.acc l.r l.invariant (omega arith)

@@ -1,0 +1,15 @@
+-- `syndromes::add_block` meets its contract: after r passes the first r rows have it. Assumes nothing.
+use Prim.Native.Nat.{◌-◌}
+use native.Mathlib.Omega.{arith}
+use borrow.Author.Rules.{rules}
+use Rattle.vectors.specs.Vectors.{wbit}
+use Rattle.syndromes.specs.Rows.{wide, spread, turned}
+use Rattle.syndromes.proofs.Bounds.{wide_some}
+use Rattle.syndromes.proofs.Rowwise.{Reached, reached_none, reached-more, reached_all}
+use Rattle.syndromes.proofs.add_block.Given as goal
+
+abbrev pub invariant-loop-r : goal.invariant-loop-r
+invariant-loop-r l = Reached (wide l.sh) l.sh.rows (spread l.sh l.h l.b (turned (wbit l.d))) (wbit l.initial.acc) l.acc l.r
+
+abbrev pub decreases-loop-r : goal.decreases-loop-r
+decreases-loop-r l = l.sh.rows - l.r

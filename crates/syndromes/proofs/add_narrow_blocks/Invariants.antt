@@ -1,0 +1,21 @@
+-- `syndromes::add_narrow_blocks` meets its contract: after b passes the rows have the first b blocks. Assumes nothing.
+use mathlib.Core.Path.{◌≡◌, ap, ap₂, ◌∙◌}
+use mathlib.Core.Bool.{Bool, ◌&&◌}
+use Prim.Native.Nat.{ℕ, ◌-◌, ◌*◌, ◌≤◌}
+use native.Mathlib.Omega.{arith}
+use lib.Dec.{ltb}
+use lib.ListN.{length}
+use borrow.Author.Rules.{rules}
+use Rattle.bits.specs.Bits.{Word}
+use Rattle.vectors.specs.Vectors.{wbit, Holds, up_to, from}
+use Rattle.syndromes.specs.Rows.{plus, rowed, wide, spread, turned, summed}
+use Rattle.syndromes.proofs.Bounds.{block_room}
+use Rattle.syndromes.proofs.Laid.{summed_none, summed_more}
+use Rattle.syndromes.proofs.add_narrow_blocks.Given as goal
+
+abbrev pub invariant-loop-b : goal.invariant-loop-b
+invariant-loop-b l =
+    (l.b ≤ l.sh.blocks) × (wbit l.acc ≡ rowed (wide l.sh) l.sh.rows (summed l.sh l.h (wbit l.y) l.b))
+
+abbrev pub decreases-loop-b : goal.decreases-loop-b
+decreases-loop-b l = l.sh.blocks - l.b

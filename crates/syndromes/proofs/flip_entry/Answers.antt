@@ -1,0 +1,48 @@
+-- `syndromes::flip_entry` meets its contract: k + M - s, less M where that is M or more. Assumes nothing.
+use mathlib.Core.Path.{◌≡◌, ap, sym, ◌∙◌}
+use mathlib.Core.Logic.{⊎_elim}
+use Prim.Native.Nat.{ℕ, ◌+◌, ◌-◌, ◌*◌, ◌%◌, ◌≤◌, ◌<◌}
+use native.Mathlib.Nat.{mod-lt, mod-eq_of_lt}
+use native.Mathlib.Omega.{arith}
+use lib.Dec.{eqb}
+use Rattle.vectors.specs.Vectors.{wbit, added}
+use Rattle.syndromes.specs.Rows.{wide, covering}
+use Rattle.syndromes.proofs.Shifts.{entry-is, entry-none, once_around, flipped_row}
+use borrow.Author.Rules.{rules}
+use Rattle.syndromes.proofs.flip_entry.Goals as goal
+use Rattle.syndromes.proofs.flip_entry.Goals.{else-i-sh, then-i-sh}
+
+pub overflow_add-sh : goal.overflow_add-sh
+overflow_add-sh c = (elim c.if-i-sh.branch [ then-i-sh w ↦ omega arith | else-i-sh w ↦ omega arith ])
+
+pub flip_bit-requires : goal.flip_bit-requires
+flip_bit-requires c = (elim c.if-i-sh.branch [ then-i-sh w ↦ omega arith | else-i-sh w ↦ omega arith ])
+
+pub returns-after-i-sh : goal.returns-after-i-sh
+returns-after-i-sh c =
+    let a = c.args in
+    let i = c.if-i-sh.i in
+    let M = a.sh.size in
+    let turn = a.k + (M - a.s) in
+    let x = wbit a.z.now in
+    let g = covering M a.k in
+    let from = wide a.sh * a.r in
+    let to = wide a.sh * (a.r + 1) in
+    let l : a.s < M = omega arith in
+    let some : 0 < M = omega arith in
+    let at : i ≡ turn % M =
+    (elim c.if-i-sh.branch [ then-i-sh w ↦ let less : i ≡ turn - M = omega arith in
+    less ∙ sym (once_around M turn (omega arith) (omega arith)) | else-i-sh w ↦ let low : turn < M = omega arith in
+    let same : i ≡ turn = omega arith in
+    same ∙ sym (mod-eq_of_lt low) ]) in
+    c.flip_bit.ensures
+    ∙ flipped_row x from to i (omega (arith, mod-lt turn some))
+    ∙ ap (λ (j : ℕ). added x from to (λ n. eqb n j)) at
+    ∙ ap (added x from to) (entry-is M g a.s l)
+
+pub returns-else-s-sh : goal.returns-else-s-sh
+returns-else-s-sh c =
+    let a = c.args in
+    let w = wide a.sh in
+    let l : a.sh.size ≤ a.s = omega arith in
+    entry-none a.sh.size (covering a.sh.size a.k) a.s (wbit a.z.now) (w * a.r) (w * (a.r + 1)) l

@@ -1,0 +1,32 @@
+-- `syndromes::flip_row` meets its contract: both places of the block, one after the other. Assumes nothing.
+use Prim.Native.Nat.{◌+◌, ◌*◌}
+use borrow.Author.Rules.{rules}
+use Rattle.vectors.specs.Vectors.{wbit}
+use Rattle.syndromes.specs.Rows.{wide, covering}
+use Rattle.syndromes.proofs.Bounds.{row_room}
+use Rattle.syndromes.proofs.Shifts.{added_places}
+use Rattle.syndromes.proofs.flip_row.Goals as goal
+
+pub flip_entry-requires : goal.flip_entry-requires
+flip_entry-requires c =
+    let a = c.args in
+    let room = row_room a.h.now a.sh c.requires.0 a.r
+    c.requires.3 in
+    search rules
+
+pub flip_entry-requires-2 : goal.flip_entry-requires-2
+flip_entry-requires-2 c =
+    let a = c.args in
+    let room = row_room a.h.now a.sh c.requires.0 a.r
+    c.requires.3 in
+    search rules
+
+pub returns : goal.returns
+returns c =
+    let a = c.args in
+    let w = wide a.sh in
+    let p = c.read_places-p in
+    let one = c.flip_entry in
+    let two = c.flip_entry-2 in
+    added_places a.sh a.h.now a.b a.r (covering a.sh.size a.k) (w * a.r) (w * (a.r + 1)) p.result.first
+    p.result.second (wbit a.z.now) _ _ p.ensures.0 p.ensures.1 one.ensures two.ensures

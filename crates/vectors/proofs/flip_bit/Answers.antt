@@ -1,0 +1,7 @@
+-- `vectors::flip_bit` meets its contract. Assumes nothing.
+use borrow.Author.Rules.{rules}
+use Rattle.vectors.proofs.Spans.{flipped_bit}
+use Rattle.vectors.proofs.flip_bit.Goals as goal
+
+pub returns : goal.returns
+returns c = flipped_bit c.args.ws.now c.args.n c.requires

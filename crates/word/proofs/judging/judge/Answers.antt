@@ -1,0 +1,27 @@
+-- `judging::judge`: each number by the tests that led to it. Assumes nothing.
+use mathlib.Core.Path.{sym, ◌∙◌}
+use borrow.Author.Tests.{not-true, not-false}
+use Rattle.vectors.specs.Vectors.{wbit}
+use Rattle.word.proofs.judging.Judging.{judged_other, by_telecommand, by_own, by_other}
+use borrow.Author.Rules.{rules}
+use Rattle.word.proofs.judging.judge.Goals as goal
+
+pub returns-then-number-ne0 : goal.returns-then-number-ne0
+returns-then-number-ne0 c = λ n off is r e w q none. sym e ∙ judged_other n off r (λ z. c.if-number-ne0.true (sym e ∙ z))
+
+pub returns-then-not-o : goal.returns-then-not-o
+returns-then-not-o c =
+    λ n off is r e w q none.
+    by_telecommand n off c.args.o is c.args.number (wbit c.args.y.now) c.if-number-ne0.false r e w q none (not-true _ c.if-not-o.true)
+
+pub returns-then-own_parity : goal.returns-then-own_parity
+returns-then-own_parity c =
+    λ n off is r e w q none.
+    by_own n off c.args.o is c.args.number (wbit c.args.y.now) c.if-number-ne0.false r e w q none
+    (not-false _ c.if-not-o.false) _ c.own_parity.ensures c.if-own_parity.true
+
+pub returns-else-own_parity : goal.returns-else-own_parity
+returns-else-own_parity c =
+    λ n off is r e w q none.
+    by_other n off c.args.o is c.args.number (wbit c.args.y.now) c.if-number-ne0.false r e w q none
+    (not-false _ c.if-not-o.false) _ c.own_parity.ensures c.if-own_parity.false
