@@ -11,7 +11,7 @@ use Rattle.bits.specs.Bits.{Word, flipped, if◌then◌else◌}
 use Rattle.bits.proofs.Orders.{eq_or_not}
 use Rattle.rules.specs.Codes.{code}
 use Rattle.rules.specs.Encoding.{codeword}
-use Rattle.nearest.specs.Nearest.{Found, none, list, chosen, ◌orElse◌, first_list, fewest, flips}
+use Rattle.nearest.specs.Nearest.{Found, none, list, chosen, ◌or_else◌, first_list, fewest, flips}
 use Rattle.nearest.specs.Lists.{Rising, NotAfter, Mends}
 
 -- ---- the order of the search

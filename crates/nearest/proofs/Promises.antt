@@ -12,7 +12,7 @@ use Rattle.bits.proofs.Octets.{Octets, octets_bit, length_octets}
 use Rattle.rules.specs.Codes.{code}
 use Rattle.rules.specs.Encoding.{codeword}
 use Rattle.answers.specs.Calls.{differing}
-use Rattle.nearest.specs.Nearest.{Found, none, list, ◌orElse◌, first_list, fewest, flips, places}
+use Rattle.nearest.specs.Nearest.{Found, none, list, ◌or_else◌, first_list, fewest, flips, places}
 use Rattle.nearest.specs.Nearest.{Reached, refused, found, nearest_answer}
 use Rattle.nearest.specs.Lists.{NotAfter, Mends}
 use Rattle.nearest.proofs.Quiet.{codeword_same}

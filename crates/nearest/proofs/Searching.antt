@@ -12,7 +12,7 @@ use borrow.Author.Tests.{eq-eqb, ne_eqb}
 use Rattle.bits.specs.Bits.{Word, flipped, if◌then◌else◌}
 use Rattle.rules.specs.Codes.{code}
 use Rattle.rules.specs.Encoding.{codeword}
-use Rattle.nearest.specs.Nearest.{Found, none, list, chosen, ◌orElse◌, first_list, fewest, flips, places}
+use Rattle.nearest.specs.Nearest.{Found, none, list, chosen, ◌or_else◌, first_list, fewest, flips, places}
 use Rattle.nearest.specs.Answers.{column_list, Broken, lowest_from, held}
 use Rattle.nearest.specs.declared.Listed.{Listed}
 use Rattle.nearest.proofs.Quiet.{broken_none, broken_column, broken_flipped}

@@ -16,8 +16,8 @@ chosen b none = none
 chosen b (list bits) = list (b ∷ bits)
 
 -- What is found first; where that is nothing, what is found else.
-infixr 2 ◌orElse◌
-abbrev pub ◌orElse◌ : Found → Found → Found
+infixr 2 ◌or_else◌
+abbrev pub ◌or_else◌ : Found → Found → Found
 none or_else f = f
 list bits or_else f = list bits
 

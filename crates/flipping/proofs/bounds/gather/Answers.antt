@@ -1,0 +1,56 @@
+-- `bounds::gather` meets its contract: after r passes the starts are those of the first r rows. Assumes nothing.
+use mathlib.Core.Path.{◌≡◌, refl, ◌∙◌, subst}
+use Prim.Native.Nat.{ℕ, ◌+◌, ◌-◌, ◌*◌, ◌≤◌, ◌<◌}
+use native.Mathlib.Omega.{arith}
+use borrow.Author.Rules.{rules}
+use lib.ListN.{length, get_or}
+use Rattle.flipping.specs.bounds.Reading.{Listed, asked}
+use Rattle.flipping.proofs.bounds.Entries.{listed_none}
+use Rattle.flipping.proofs.bounds.gather.Goals as goal
+
+pub overflow_mul-n : goal.overflow_mul-n
+overflow_mul-n c = omega (arith, c.requires.0.blocks)
+
+pub loop-r-init : goal.loop-r-init
+loop-r-init c =
+    let a = c.args in
+    let none : 0 ≡ 8 * a.b - 8 * a.b = omega arith in (
+      omega arith,
+      omega arith,
+      omega arith,
+      c.requires.2,
+      subst (λ k. Listed a.starts.now (8 * a.b) k (3072 + a.sh.size) (asked a.h.now a.sh a.b 0)) none
+          (listed_none a.starts.now (8 * a.b) (3072 + a.sh.size) a.h.now a.sh a.b),
+      λ e h. refl,
+    )
+
+pub note_row-n-requires : goal.note_row-n-requires
+note_row-n-requires c =
+    (c.requires.0, c.requires.1, search rules, c.loop-r.invariant.3, omega (arith, c.requires.0.blocks, c.requires.0.rows))
+
+pub loop-r-preserved : goal.loop-r-preserved
+loop-r-preserved c =
+    let l = c.loop-r in
+    let row = c.note_row-n in (
+      omega arith,
+      omega (arith, row.ensures.0, l.invariant.1),
+      omega (arith, row.ensures.1, l.invariant.2),
+      search rules,
+      row.ensures.3 (8 * c.args.b) l.invariant.1 l.invariant.4,
+      λ e h. row.ensures.2 e (omega (arith, l.invariant.1)) ∙ l.invariant.5 e h,
+    )
+
+pub overflow_mul-result : goal.overflow_mul-result
+overflow_mul-result c =
+    omega (arith, c.requires.0.blocks)
+
+pub returns : goal.returns
+returns c =
+    let a = c.args in
+    let l = c.loop-r in
+    let all : l.r ≡ a.sh.rows = omega arith in (
+      omega (arith, c.requires.0.rows),
+      subst (λ k. Listed l.starts (8 * a.b) (l.n - 8 * a.b) (3072 + a.sh.size) (asked a.h.now a.sh a.b k)) all
+          l.invariant.4,
+      l.invariant.5,
+    )

@@ -1,0 +1,44 @@
+-- `ties::block_tied` meets its contract: the differences passed cancel, so the whole is what is left.
+use mathlib.Core.Path.{◌≡◌, refl, sym, ◌∙◌}
+use mathlib.Core.Bool.{Bool}
+use mathlib.Core.List.{List}
+use Prim.Native.Nat.{ℕ, ◌-◌, ◌≤◌}
+use native.Mathlib.Omega.{arith}
+use Rattle.rules.specs.Identity.{cancels}
+use Rattle.bits.specs.Bits.{below}
+use Rattle.identity.specs.ties.Flat.{block, row, numbers}
+use Rattle.identity.proofs.ties.Listed.{stops, goes_on, below_step, below_none}
+use Rattle.identity.proofs.ties.block_tied.Goals as goal
+use Rattle.identity.proofs.ties.block_tied.Invariants.{at-difference}
+use mathlib.Core.Path.{ap}
+use mathlib.Core.Bool.{not}
+
+pub loop-above-init : goal.loop-above-init
+loop-above-init c = (omega arith, refl)
+
+pub cancels_at-requires : goal.cancels_at-requires
+cancels_at-requires c = (omega arith, omega arith, omega arith, omega arith, omega arith)
+
+pub returns-then-not-cancels_at : goal.returns-then-not-cancels_at
+returns-then-not-cancels_at c =
+    let a = c.args in
+    let l = c.loop-above in
+    let f = at-difference a.m a.parts a.parity.now a.information a.first a.generator.now a.at in
+    stops (below (l.above - 1) f) l.invariant.1 (below_step l.above f (omega arith)) c.cancels_at.ensures (ap not c.if-not-cancels_at.true)
+
+pub loop-above-preserved : goal.loop-above-preserved
+loop-above-preserved c =
+    let a = c.args in
+    let l = c.loop-above in
+    let f = at-difference a.m a.parts a.parity.now a.information a.first a.generator.now a.at in (
+      omega arith,
+      goes_on (below (l.above - 1) f) l.invariant.1 (below_step l.above f (omega arith)) c.cancels_at.ensures
+          (ap not c.if-not-cancels_at.false),
+    )
+
+pub returns : goal.returns
+returns c =
+    let a = c.args in
+    let l = c.loop-above in
+    let f = at-difference a.m a.parts a.parity.now a.information a.first a.generator.now a.at in
+    below_none l.above f (omega arith) ∙ sym l.invariant.1

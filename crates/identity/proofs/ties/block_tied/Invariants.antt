@@ -1,0 +1,24 @@
+-- `ties::block_tied` meets its contract: the differences passed cancel, so the whole is what is left.
+use mathlib.Core.Path.{◌≡◌, refl, sym, ◌∙◌}
+use mathlib.Core.Bool.{Bool}
+use mathlib.Core.List.{List}
+use Prim.Native.Nat.{ℕ, ◌-◌, ◌≤◌}
+use native.Mathlib.Omega.{arith}
+use Rattle.rules.specs.Identity.{cancels}
+use Rattle.bits.specs.Bits.{below}
+use Rattle.identity.specs.ties.Flat.{block, row, numbers}
+use Rattle.identity.proofs.ties.Listed.{stops, goes_on, below_step, below_none}
+use Rattle.identity.proofs.ties.block_tied.Given as goal
+
+-- The block's identity, by the difference.
+abbrev pub at-difference : ℕ → ℕ → List ℕ → ℕ → ℕ → List ℕ → ℕ → ℕ → Bool
+at-difference m parts parity information first generator at =
+    cancels m m (block m parity information) (row m parts parity first) (numbers m parts generator at)
+
+abbrev pub invariant-loop-above : goal.invariant-loop-above
+invariant-loop-above l =
+    (l.above ≤ l.m) × (below l.m (at-difference l.m l.parts l.parity l.information l.first l.generator l.at) ≡ below l.above
+    (at-difference l.m l.parts l.parity l.information l.first l.generator l.at))
+
+abbrev pub decreases-loop-above : goal.decreases-loop-above
+decreases-loop-above l = l.above

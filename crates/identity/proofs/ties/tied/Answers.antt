@@ -1,0 +1,29 @@
+-- `ties::tied` meets its contract: both parts of the identity.
+use mathlib.Core.Path.{sym, ap, ◌∙◌}
+use mathlib.Core.Bool.{Bool, ◌&&◌}
+use native.Mathlib.Omega.{arith}
+use Prim.Native.Nat.{◌+◌, ◌<◌}
+use Rattle.rules.specs.Identity.{all_padded_of}
+use Rattle.identity.specs.ties.Flat.{parity_of, generator_of}
+use Rattle.identity.proofs.ties.Printed.{same_rows}
+use borrow.Author.Rules.{rules}
+use Rattle.identity.proofs.ties.tied.Goals as goal
+
+pub returns-then-rows_tied : goal.returns-then-rows_tied
+returns-then-rows_tied c printed fits =
+    let a = c.args in
+    let G = generator_of a.m a.count a.parts a.generator.now in
+    let P = parity_of a.m a.rows (a.count + a.parts) a.parity.now in
+    let pos : 0 < a.m = omega arith in
+    c.all_padded.ensures
+    ∙ ap (λ (x : Bool). x && all_padded_of a.m G)
+    (sym (same_rows a.m printed pos fits P G ∙ sym c.rows_tied.ensures ∙ c.if-rows_tied.true))
+
+pub returns : goal.returns
+returns c printed fits =
+    let a = c.args in
+    let G = generator_of a.m a.count a.parts a.generator.now in
+    let P = parity_of a.m a.rows (a.count + a.parts) a.parity.now in
+    let pos : 0 < a.m = omega arith in
+    ap (λ (x : Bool). x && all_padded_of a.m G)
+    (sym (same_rows a.m printed pos fits P G ∙ sym c.rows_tied.ensures ∙ c.if-rows_tied.false))
