@@ -1,5 +1,5 @@
 -- Any two outcomes that the statement of `list` allows are equal: over the contract itself, as the source has it.
-use mathlib.Core.Path.{◌≡◌, refl, sym, ap, ap₂, ◌∙◌}
+use mathlib.Core.Path.{◌≡◌, refl, sym, ap, ◌∙◌}
 use mathlib.Core.List.{List, [], ◌∷◌, map}
 use Prim.Native.Nat.{ℕ}
 use seplogic.Ra.Ura.{Ura}
@@ -10,8 +10,9 @@ use types.Logic.{Logic}
 use contract.Lifetimes.{Lfts}
 use contract.Monad.{Fun, fact}
 use denote.Ref.{Bor}
+use denote.MutBor.{MutBor}
 use Rattle.answers.specs.Lists.{Entry, list_answer}
-use Rattle.lists.specs.listing.Answers.{as_entry, as_entries, as_listed}
+use Rattle.lists.specs.listing.Answers.{as_entries, as_listed}
 use Rattle.lists.specs.declared.listing.FlipRecord.{FlipRecord}
 use Rattle.lists.specs.declared.listing.Listed.{Listed}
 use Rattle.lists.specs.contracts.list as list'
@@ -22,8 +23,8 @@ Says code word limit table r after = as_listed r after ≡ list_answer code word
 
 -- the contract says this and nothing else, and asks nothing
 pub list_says : {M : Type 1} {𝓤 : Ura M} (𝓛 : Logic 𝓤) (mem : Memory → SProp 𝓤) (run : Routine → Fun 𝓤) (κs : Lfts 2)
-    (code : ℕ) (word : Bor (List ℕ)) (limit : ℕ) (table : Bor (List FlipRecord)) (r : Listed) (code' : ℕ) (word' : Bor (List ℕ))
-    (limit' : ℕ) (table' : Bor (List FlipRecord))
+    (code : ℕ) (word : Bor (List ℕ)) (limit : ℕ) (table : MutBor (List FlipRecord)) (r : Listed) (code' : ℕ) (word' : Bor (List ℕ))
+    (limit' : ℕ) (table' : MutBor (List FlipRecord))
     → (list'.clauses 𝓛 mem run κs (code, (word, (limit, (table, tt))))).ensures tt r (code', (word', (limit', (table', tt))))
     ≡ fact 𝓤 (Says code word.now limit table.now r table'.now)
 list_says 𝓛 mem run κs code word limit table r code' word' limit' table' = refl

@@ -1,4 +1,4 @@
-// The call list: the records of a run go into the caller's table, one by one. It is proved by hand and only stores them.
+// The call list: the records of a run go into the caller's table, one by one; `list` only stores them.
 
 #![tactic(auto)]
 

@@ -1,5 +1,5 @@
 -- What the functions speak of between octets and answers, and the call's result as the definition's answer.
-use Rattle.std.specs.Prelude.{◌≡◌, true, false, List, [], ◌∷◌, ℕ, zero, suc, ◌-◌, eqb, length, get_or}
+use Rattle.std.specs.Prelude.{◌≡◌, true, false, List, [], ◌∷◌, ℕ, zero, suc, eqb, length, get_or}
 use Rattle.bits.specs.Bits.{Word, if◌then◌else◌, octets}
 use Rattle.rules.specs.Codes.{code}
 use Rattle.rules.specs.Checks.{check}

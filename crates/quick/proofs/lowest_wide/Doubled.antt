@@ -25,7 +25,7 @@ use Rattle.syndromes.proofs.Bounds.{place_room}
 use Rattle.vectors.specs.Vectors.{wbit, up_to, from, twice, Holds}
 use Rattle.vectors.proofs.Filling.{word_at}
 use Rattle.vectors.proofs.Firsts.{First}
-use Rattle.quick.specs.groups.Groups.{reached, placed, group, Twofold, Full, Begun, behind}
+use Rattle.quick.specs.groups.Groups.{reached, placed, Twofold, Full, Begun, behind}
 use Rattle.quick.proofs.groups.Groups.{reached_twice, group_check}
 
 -- ---- words of a list, and of a part that was put into it

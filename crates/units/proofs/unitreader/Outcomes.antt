@@ -13,6 +13,7 @@ use contract.Monad.{Fun, fact}
 use borrow.Fn.World.{ArgsD, ResD}
 use borrow.Fn.Kinds.{ended_of}
 use denote.Triple.Clauses.{AtExit}
+use denote.MutBor.{MutBor}
 use denote.Ref.{Bor}
 use Rattle.answers.specs.Calls.{Corrected}
 use Rattle.flipping.specs.declared.endings.Corrected.{Corrected as Numbers}
@@ -49,8 +50,8 @@ block_at_outcome κs a r₁ r₂ s₁ s₂ p q = ap block (p ∙ sym q)
 -- ---- the reader that is made: the number, and of the reader the octets that it stands on, its place, code and limit
 
 pub reader_over_says : {M : Type 1} {𝓤 : Ura M} (𝓛 : Logic 𝓤) (mem : Memory → SProp 𝓤) (run : Routine → Fun 𝓤) (κs : Lfts 2)
-    (code : ℕ) (unit : Bor (List ℕ)) (limit : ℕ) (number : Bor ℕ) (r : Reader) (code' : ℕ) (unit' : Bor (List ℕ)) (limit' : ℕ)
-    (number' : Bor ℕ)
+    (code : ℕ) (unit : Bor (List ℕ)) (limit : ℕ) (number : MutBor ℕ) (r : Reader) (code' : ℕ) (unit' : Bor (List ℕ)) (limit' : ℕ)
+    (number' : MutBor ℕ)
     → (over.clauses 𝓛 mem run κs (code, (unit, (limit, (number, tt))))).ensures tt r (code', (unit', (limit', (number', tt))))
     ≡ fact 𝓤 (as_made number'.now r ≡ made_over code unit.now limit)
 reader_over_says 𝓛 mem run κs code unit limit number r code' unit' limit' number' = refl

@@ -1,0 +1,28 @@
+-- `nearest::fewest_of` meets its contract, by the reach. Assumes nothing.
+use mathlib.Core.Path.{sym, ap, ◌∙◌}
+use Prim.Native.Nat.{◌-◌}
+use Rattle.nearest.specs.Nearest.{first_list, fewest}
+use Rattle.nearest.specs.Answers.{held}
+use Rattle.nearest.proofs.Searching.{fewest_none, fewest_more, held_first, held_else}
+use Rattle.nearest.proofs.+fewest_of.Goals as goal
+
+pub returns-then-reach-eq0 : goal.returns-then-reach-eq0
+returns-then-reach-eq0 t c =
+    λ x h. c.search.ensures x h ∙ ap held (fewest_none c.args.reach x c.if-reach-eq0.true)
+
+pub returns-then-r : goal.returns-then-r
+returns-then-r t c =
+    let a = c.args in
+    let r = c.fewest_of-r in
+    λ x h.
+    held_first (fewest (a.reach - 1) x) (first_list a.reach 128 0 x) r.result (r.ensures x h) c.if-r.true
+    ∙ ap held (sym (fewest_more a.reach x c.if-reach-eq0.false))
+
+pub returns : goal.returns
+returns t c =
+    let a = c.args in
+    let r = c.fewest_of-r in
+    λ x h.
+    c.search-2.ensures x h
+    ∙ ap held (sym (fewest_more a.reach x c.if-reach-eq0.false
+    ∙ held_else (fewest (a.reach - 1) x) (first_list a.reach 128 0 x) r.result (r.ensures x h) c.if-r.false))

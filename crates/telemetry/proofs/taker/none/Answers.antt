@@ -1,0 +1,7 @@
+-- `taker::none` meets its contract. Assumes nothing.
+use mathlib.Core.List.{[]}
+use borrow.Author.Rules.{rules}
+use Rattle.telemetry.proofs.taker.none.Goals as goal
+
+pub returns : goal.returns
+returns c = c.refused_correct.ensures []

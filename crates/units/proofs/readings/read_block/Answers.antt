@@ -1,0 +1,58 @@
+-- `readings::read_block`: received, then corrected. Assumes nothing.
+use mathlib.Core.Path.{◌≡◌, sym, ap, ◌∙◌}
+use native.Mathlib.Omega.{arith}
+use lib.ListN.{length, replicate}
+use lib.Seq.{length-take-le}
+use Rattle.rules.specs.Codes.{code}
+use Rattle.answers.specs.Calls.{correct_answer}
+use Rattle.units.specs.readings.Handing.{handed_part}
+use Rattle.units.proofs.readings.Answering.{got_room, got_word, got_word_length}
+use borrow.Author.Rules.{rules}
+use Rattle.units.proofs.readings.read_block.Goals as goal
+
+pub slice_bounds-receive-end : goal.slice_bounds-receive-end
+slice_bounds-receive-end c =
+    sym (length-take-le c.word_octets-size.result c.word_buffer-word.result
+    (omega (arith, ap length c.word_buffer-word.ensures, c.word_octets-size.ensures.2)))
+
+pub receive-requires : goal.receive-requires
+receive-requires c =
+    (
+      c.requires.0,
+      c.requires.1,
+      length-take-le c.word_octets-size.result c.word_buffer-word.result
+          (omega (arith, ap length c.word_buffer-word.ensures, c.word_octets-size.ensures.2))
+          ∙ c.word_octets-size.ensures.0,
+    )
+
+pub slice_bounds-word-end-2 : goal.slice_bounds-word-end-2
+slice_bounds-word-end-2 c =
+    got_room c.args.code c.args.unit.now c.receive.new.word c.word_buffer-word.result c.args.k
+    c.word_octets-size.result c.requires.0
+    c.requires.1 c.word_octets-size.ensures.0 c.receive.ensures
+
+pub slice_bounds-correct_part-end : goal.slice_bounds-correct_part-end
+slice_bounds-correct_part-end c =
+    sym (got_word_length c.args.code c.args.unit.now c.receive.new.word c.word_buffer-word.result c.args.k
+    c.word_octets-size.result c.requires.0
+    c.requires.1 c.word_octets-size.ensures.0 c.receive.ensures)
+
+pub correct_part-requires : goal.correct_part-requires
+correct_part-requires c =
+    (
+      c.requires.0,
+      got_word_length c.args.code c.args.unit.now c.receive.new.word c.word_buffer-word.result c.args.k
+          c.word_octets-size.result c.requires.0
+          c.requires.1 c.word_octets-size.ensures.0 c.receive.ensures
+          ∙ c.word_octets-size.ensures.0,
+      c.requires.2,
+    )
+
+pub returns : goal.returns
+returns c =
+    c.correct_part.ensures
+    ∙ ap (λ w. handed_part c.args.code
+    (correct_answer c.args.code w c.args.limit (replicate (code c.args.code).octets_of_word 0)) c.args.out.now)
+    (got_word c.args.code c.args.unit.now c.receive.new.word c.word_buffer-word.result c.args.k
+    c.word_octets-size.result c.requires.0
+    c.requires.1 c.word_octets-size.ensures.0 c.receive.ensures)

@@ -1,0 +1,54 @@
+-- `readings::receive`: copied, then derandomised. Assumes nothing.
+use mathlib.Core.Path.{◌≡◌, refl, sym, ap, ap₂, ◌∙◌, subst}
+use native.Mathlib.Omega.{arith}
+use Prim.Native.Nat.{◌+◌, ◌-◌, ◌*◌}
+use lib.ListN.{length, take, drop, length-take}
+use Rattle.units.proofs.unitrules.Shapes.{sizes}
+use Rattle.units.proofs.readings.Compared.{block_room, received_is}
+use borrow.Author.Rules.{rules}
+use Rattle.units.proofs.readings.receive.Goals as goal
+
+pub overflow_mul-used : goal.overflow_mul-used
+overflow_mul-used c = omega (
+  arith,
+  block_room c.args.code c.args.unit.now c.args.k
+      (length c.args.word.now) c.requires.0 c.requires.1 c.requires.2,
+)
+
+pub overflow_add-at : goal.overflow_add-at
+overflow_add-at c = omega (
+  arith,
+  block_room c.args.code c.args.unit.now c.args.k
+      (length c.args.word.now) c.requires.0 c.requires.1 c.requires.2,
+)
+
+pub overflow_add-end : goal.overflow_add-end
+overflow_add-end c = omega (
+  arith,
+  block_room c.args.code c.args.unit.now c.args.k
+      (length c.args.word.now) c.requires.0 c.requires.1 c.requires.2,
+)
+
+pub slice_bounds-copy-end : goal.slice_bounds-copy-end
+slice_bounds-copy-end c = block_room c.args.code c.args.unit.now c.args.k (length c.args.word.now)
+    c.requires.0 c.requires.1 c.requires.2
+
+pub randomise-requires : goal.randomise-requires
+randomise-requires c =
+    let z = sizes c.args.code c.requires.0 in
+    let size = length c.args.word.now in
+    omega (
+      arith,
+      ap length c.copy.ensures,
+      length-take
+          (8 + c.args.k * size + size - (8 + c.args.k * size)) (drop (8 + c.args.k * size) c.args.unit.now),
+      z.whole,
+      z.few,
+      c.requires.2,
+    )
+
+pub returns : goal.returns
+returns c =
+    c.randomise.ensures
+    ∙ received_is c.args.code c.args.unit.now c.copy.new.out c.args.k
+    (length c.args.word.now) c.requires.2 c.copy.ensures

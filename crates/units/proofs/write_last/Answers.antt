@@ -1,0 +1,68 @@
+-- `units::write_last`: the information that is left, then fill. Assumes nothing.
+use mathlib.Core.Path.{◌≡◌, sym, ap, ap₂, ◌∙◌}
+use mathlib.Core.List.{◌++◌}
+use Prim.Native.Nat.{ℕ, ◌≤◌}
+use native.Mathlib.Omega.{arith}
+use lib.ListN.{length, drop, replicate, length-append, length-drop}
+use lib.Seq.{length-take-le}
+use Rattle.rules.specs.Codes.{code}
+use Rattle.randomiser.specs.Randomiser.{telecommand, randomised}
+use Rattle.units.proofs.unitrules.Shapes.{sizes}
+use Rattle.units.proofs.unitrules.Blocks.{encoded_of}
+use Rattle.units.proofs.Parts.{filled_part, filled_part_length}
+use borrow.Author.Rules.{rules}
+use Rattle.units.proofs.write_last.Goals as goal
+
+pub slice_bounds-part-end : goal.slice_bounds-part-end
+slice_bounds-part-end c =
+    let z = sizes c.args.code c.requires.0 in
+    omega (arith, ap length c.fill-part.ensures, c.requires.2, z.few)
+
+pub slice_bounds-copy-end : goal.slice_bounds-copy-end
+slice_bounds-copy-end c =
+    let z = sizes c.args.code c.requires.0 in
+    sym (length-take-le (length c.args.rest.now) c.fill-part.result (omega (arith, ap length c.fill-part.ensures, c.requires.2, z.few)))
+
+pub copy-requires : goal.copy-requires
+copy-requires c =
+    let z = sizes c.args.code c.requires.0 in
+    sym (length-take-le (length c.args.rest.now) c.fill-part.result (omega (arith, ap length c.fill-part.ensures, c.requires.2, z.few)))
+
+pub slice_bounds-part-end-2 : goal.slice_bounds-part-end-2
+slice_bounds-part-end-2 c =
+    let z = sizes c.args.code c.requires.0 in
+    let e = ap₂ (λ x y. length (x ++ drop (length c.args.rest.now) y)) c.copy.ensures (sym c.fill-part.ensures) in
+    omega (
+      arith,
+      e,
+      length-append c.args.rest.now (drop (length c.args.rest.now) (replicate 32 0x55)),
+      length-drop
+          (length c.args.rest.now) (replicate {A = ℕ} 32 0x55),
+      c.requires.1,
+      z.few,
+    )
+
+pub slice_bounds-write_part-end : goal.slice_bounds-write_part-end
+slice_bounds-write_part-end c =
+    let z = sizes c.args.code c.requires.0 in
+    let few : c.args.size ≤ 32 = omega (arith, c.requires.1, z.few) in
+    c.requires.1 ∙ sym (filled_part_length c.args.rest.now c.copy.new.out c.fill-part.result c.args.size
+    (code c.args.code).octets_of_information c.copy.ensures c.fill-part.ensures c.requires.2 c.requires.1 few)
+
+pub write_part-requires : goal.write_part-requires
+write_part-requires c =
+    let z = sizes c.args.code c.requires.0 in
+    let few : c.args.size ≤ 32 = omega (arith, c.requires.1, z.few) in (
+      c.requires.0,
+      filled_part_length c.args.rest.now c.copy.new.out c.fill-part.result c.args.size
+          (code c.args.code).octets_of_information c.copy.ensures c.fill-part.ensures c.requires.2 c.requires.1 few,
+      c.requires.3,
+    )
+
+pub returns : goal.returns
+returns c =
+    let z = sizes c.args.code c.requires.0 in
+    let few : c.args.size ≤ 32 = omega (arith, c.requires.1, z.few) in
+    c.write_part.ensures ∙ ap (λ z. randomised telecommand c.args.used (encoded_of c.args.code z))
+    (filled_part c.args.rest.now c.copy.new.out c.fill-part.result c.args.size
+    (code c.args.code).octets_of_information c.copy.ensures c.fill-part.ensures c.requires.2 c.requires.1 few)
