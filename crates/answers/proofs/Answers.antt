@@ -5,13 +5,13 @@ use mathlib.Core.List.{List, []}
 use Prim.Native.Nat.{ℕ, suc}
 use native.Mathlib.Omega.{arith}
 use lib.Dec.{T, eqb}
-use lib.ListN.{length, take}
+use lib.ListN.{length}
 use borrow.Author.Tests.{eqb-true, eq-eqb, ne_eqb}
 use Rattle.bits.specs.Bits.{bit, if◌then◌else◌}
 use Rattle.rules.specs.Codes.{code, code1, offered}
-use Rattle.rules.specs.Checks.{broken}
-use Rattle.rules.specs.Encoding.{lifted, encoded, codeword, written}
-use Rattle.answers.specs.Calls.{refusal, unless, six_set_of, Encoded, refused_encode, encoded_from, encode_answer, refused_check_of, checked_from}
+use Rattle.rules.specs.Encoding.{lifted, encoded, written}
+use Rattle.answers.specs.Calls.{refusal, unless, six_set_of, Encoded, refused_encode, encoded_from, encode_answer, refused_check_of}
+use Rattle.answers.specs.Calls.{checked_from}
 use Rattle.answers.specs.Calls.{check_answer, Opened, refused_open, opened_from, open_answer, Corrected, refused_correct_of, ran_from}
 use Rattle.answers.specs.Calls.{correct_answer, Stepped, refused_step_of, stepped_from, step_answer}
 
@@ -86,18 +86,21 @@ module _ (n : ℕ) (word : List ℕ) (limit : ℕ) (out : List ℕ) where
       → (T (offered n) → length word ≡ (code n).octets_of_word → length out ≡ (code n).octets_of_word → P (ran_from n word limit out))
       → P (correct_answer n word limit out)
   unfolding correct_answer
-  correct_cases P = unless_cases (offered n) (length word) (code n).octets_of_word (length out) (code n).octets_of_word P (refused_correct_of out)
+  correct_cases P = unless_cases (offered n) (length word) (code n).octets_of_word (length out) (code n).octets_of_word P
+      (refused_correct_of out)
       (ran_from n word limit out)
 
   pub correct_taken : T (offered n) → length word ≡ (code n).octets_of_word → length out ≡ (code n).octets_of_word
       → correct_answer n word limit out ≡ ran_from n word limit out
   unfolding correct_answer
   correct_taken t lw lo =
-      unless_taken (refused_correct_of out) (ran_from n word limit out) (refusal (offered n) (length word) (code n).octets_of_word (length out)
+      unless_taken (refused_correct_of out) (ran_from n word limit out)
+      (refusal (offered n) (length word) (code n).octets_of_word (length out)
       (code n).octets_of_word)
       (refusal_not (offered n) (length word) (code n).octets_of_word (length out) (code n).octets_of_word t lw lo)
 
-  pub correct_refused : (k : ℕ) → k ≡ refusal (offered n) (length word) (code n).octets_of_word (length out) (code n).octets_of_word → (k ≡ 0 → ⊥)
+  pub correct_refused : (k : ℕ) → k ≡ refusal (offered n) (length word) (code n).octets_of_word (length out) (code n).octets_of_word
+      → (k ≡ 0 → ⊥)
       → correct_answer n word limit out ≡ refused_correct_of out k
   unfolding correct_answer
   correct_refused k e d = ap (λ z. unless z (refused_correct_of out) (ran_from n word limit out)) (sym e)
@@ -107,7 +110,8 @@ module _ (n : ℕ) (word : List ℕ) (limit : ℕ) (out : List ℕ) where
 
 module _ (n : ℕ) (word out : List ℕ) where
   pub step_cases : (P : Stepped → Type 0) → P (refused_step_of out 1) → P (refused_step_of out 2) → P (refused_step_of out 3)
-      → (T (offered n && not (eqb n 5)) → length word ≡ (code n).octets_of_word → length out ≡ (code n).octets_of_word → P (stepped_from n word out))
+      → (T (offered n && not (eqb n 5)) → length word ≡ (code n).octets_of_word → length out ≡ (code n).octets_of_word
+      → P (stepped_from n word out))
       → P (step_answer n word out)
   unfolding step_answer
   step_cases P = unless_cases (offered n && not (eqb n 5)) (length word) (code n).octets_of_word (length out) (code n).octets_of_word P
@@ -117,7 +121,8 @@ module _ (n : ℕ) (word out : List ℕ) where
       → step_answer n word out ≡ stepped_from n word out
   unfolding step_answer
   step_taken t lw lo =
-      unless_taken (refused_step_of out) (stepped_from n word out) (refusal (offered n && not (eqb n 5)) (length word) (code n).octets_of_word
+      unless_taken (refused_step_of out) (stepped_from n word out)
+      (refusal (offered n && not (eqb n 5)) (length word) (code n).octets_of_word
       (length out) (code n).octets_of_word)
       (refusal_not (offered n && not (eqb n 5)) (length word) (code n).octets_of_word (length out) (code n).octets_of_word t lw lo)
 
@@ -162,7 +167,8 @@ module _ (n : ℕ) (information out : List ℕ) where
         out = written (code n) (encoded (code n) (lifted (code n) (bit information)));
       }) six
 
-  pub encode_refused : (k : ℕ) → k ≡ refusal (offered n) (length information) (code n).octets_of_information (length out) (code n).octets_of_word
+  pub encode_refused : (k : ℕ)
+      → k ≡ refusal (offered n) (length information) (code n).octets_of_information (length out) (code n).octets_of_word
       → (k ≡ 0 → ⊥)
       → encode_answer n information out ≡ refused_encode out k
   unfolding encode_answer
@@ -171,12 +177,14 @@ module _ (n : ℕ) (information out : List ℕ) where
 
   -- an encoding that is not refused is that of its information
   pub encode_cases : (P : Encoded → Type 0) → ((k : ℕ) → P (record { number = suc k; out = out }))
-      → (T (offered n) → length information ≡ (code n).octets_of_information → length out ≡ (code n).octets_of_word → six_set_of n information ≡ false
+      → (T (offered n) → length information ≡ (code n).octets_of_information → length out ≡ (code n).octets_of_word
+      → six_set_of n information ≡ false
       → P (record { number = 0; out = written (code n) (encoded (code n) (lifted (code n) (bit information))) }))
       → P (encode_answer n information out)
   unfolding encode_answer
   encode_cases P p taken =
-      unless_cases (offered n) (length information) (code n).octets_of_information (length out) (code n).octets_of_word P (refused_encode out)
+      unless_cases (offered n) (length information) (code n).octets_of_information (length out) (code n).octets_of_word P
+      (refused_encode out)
       (encoded_from n information out)
       (p 0) (p 1) (p 2) (λ t li lo. go (six_set_of n information) refl t li lo)
     where
@@ -198,7 +206,8 @@ module _ (n : ℕ) (word : List ℕ) where
   pub check_refused : (k : ℕ) → k ≡ refusal (offered n) (length word) (code n).octets_of_word 0 0 → (k ≡ 0 → ⊥)
       → check_answer n word ≡ refused_check_of k
   unfolding check_answer
-  check_refused k e d = ap (λ z. unless z refused_check_of (checked_from n word)) (sym e) ∙ unless_refused refused_check_of (checked_from n word) k d
+  check_refused k e d = ap (λ z. unless z refused_check_of (checked_from n word)) (sym e)
+      ∙ unless_refused refused_check_of (checked_from n word) k d
 
   -- an open by the refusals, or by what is wrong with the word
   pub open_cases : (P : Opened → Type 0) → P (refused_open 1) → P (refused_open 2) → P (refused_open 3)

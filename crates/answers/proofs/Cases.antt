@@ -68,7 +68,10 @@ Corrects n word limit number flips first last =
     × ((correct_answer n word limit out).first ≡ first) × ((correct_answer n word limit out).last ≡ last)
 
 abbrev pub Holds : Case → Type 0
-Holds (encodes n info word) = (out : List ℕ) → length out ≡ (code n).octets_of_word → encode_answer n info out ≡ record { number = 0; out = word }
+Holds (encodes n info word) = (out : List ℕ) → length out ≡ (code n).octets_of_word → encode_answer n info out ≡ record {
+  number = 0;
+  out = word;
+}
 Holds (breaks n word ks) =
     Breaks n word ks × (check_answer n word ≡ record { number = 0; broken = length ks; lowest = get_or ks 0 (checks (code n)) })
 Holds (steps n word k ex after) =
@@ -179,7 +182,8 @@ module _ (n : ℕ) (t : T (offered n && not (eqb n 5))) where
   zeros_codeword : codeword (code n) (bit (replicate (code n).octets_of_word 0)) ≡ true
   unfolding sent
   zeros_codeword =
-      ap (codeword (code n)) (fun_ext (λ k. bit_zeros (code n).octets_of_word k ∙ sym (and-false (ltb k (bits (code n) - (code n).unsent)))))
+      ap (codeword (code n)) (fun_ext (λ k. bit_zeros (code n).octets_of_word k
+      ∙ sym (and-false (ltb k (bits (code n) - (code n).unsent)))))
       ∙ own_codeword (code n) (published n off) none none_own (λ k h. refl)
 
   -- a word with one bit set is the word of zeros with one wrong bit
@@ -218,7 +222,8 @@ counted n word m ks t lw h many before is =
     (least_found (checks c) f m h (is m h ∙ ap (λ b. b || among m ks) (eq-eqb m m refl)) (λ k l.
     is k (omega arith) ∙ not-true (among k (m ∷ ks)) (below_at m (λ k. not (among k (m ∷ ks))) before k l)))
 
-none_broken : (n : ℕ) (word : List ℕ) → T (offered n) → length word ≡ (code n).octets_of_word → broken (code n) (lifted (code n) (bit word)) ≡ 0
+none_broken : (n : ℕ) (word : List ℕ) → T (offered n) → length word ≡ (code n).octets_of_word
+    → broken (code n) (lifted (code n) (bit word)) ≡ 0
     → Holds (breaks n word [])
 unfolding broken
 none_broken n word t lw e =
@@ -325,7 +330,8 @@ block_met = four_quiet block_bits (λ b. eqb b 0) (λ p h. at p h (dec_lt p 511)
 
 breaks8 : Holds (breaks 4 (octets 1022 block_bits) [])
 unfolding code
-breaks8 = none_broken 4 (octets 1022 block_bits) tt (length_octets 1022 block_bits ∙ near_long) (ap (broken code4) block_bits_lem ∙ block_met)
+breaks8 = none_broken 4 (octets 1022 block_bits) tt (length_octets 1022 block_bits ∙ near_long) (ap (broken code4) block_bits_lem
+    ∙ block_met)
 
 block_no_codeword : codeword code4 (sent code4 block_bits) ≡ false
 unfolding code4 parity511 generator511

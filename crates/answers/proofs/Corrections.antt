@@ -158,7 +158,8 @@ module _ (n : ℕ) (word : List ℕ) (limit : ℕ) (out : List ℕ) where
       correct_cases n word limit out (λ r. r.flips ≤ limit) zero-le zero-le zero-le
       (λ t lw lo. ran_within_limit (code n) (chooses n t) (lifted (code n) (bit word)) limit out)
 
-  pub flips_fall : (correct_answer n word limit out).flips + (correct_answer n word limit out).last ≤ (correct_answer n word limit out).first
+  pub flips_fall : (correct_answer n word limit out).flips + (correct_answer n word limit out).last ≤
+      (correct_answer n word limit out).first
   flips_fall =
       correct_cases n word limit out (λ r. r.flips + r.last ≤ r.first) zero-le zero-le zero-le
       (λ t lw lo. ran_fall (code n) (chooses n t) (lifted (code n) (bit word)) limit out)
@@ -264,7 +265,8 @@ bit_one_wrong c word b lw h = fun_ext (λ i. bit_octets c.octets_of_word (flippe
         ap (λ z. z && flipped (bit word) b i) (le-ltb i (8 * c.octets_of_word) (omega (arith, lt_of_not-le g)))
         ∙ sym (ap₂ (λ a d. a ⊕ d) (bit_past word i (omega (arith, lt_of_not-le g, lw))) (ne_eqb i b (λ q. omega (arith, lt_of_not-le g))))
 
-module _ (n : ℕ) (off : T (offered n)) (word out : List ℕ) (lw : length word ≡ (code n).octets_of_word) (lo : length out ≡ (code n).octets_of_word)
+module _ (n : ℕ) (off : T (offered n)) (word out : List ℕ) (lw : length word ≡ (code n).octets_of_word)
+    (lo : length out ≡ (code n).octets_of_word)
     (oct : Octets word) (is : codeword (code n) (bit word) ≡ true) where
   pub met : broken (code n) (lifted (code n) (bit word)) ≡ 0
   met = codeword_quiet (code n) (published n off) (bit word) is

@@ -1,27 +1,21 @@
 -- The demands, over the calls' answers: for every code number, every length and every content.
-use mathlib.Core.Path.{◌≡◌, refl, sym, ap, ◌∙◌, fun_ext}
-use mathlib.Core.Bool.{Bool, true, false, not, ◌&&◌}
+use mathlib.Core.Path.{◌≡◌, refl, sym, ap, ◌∙◌}
+use mathlib.Core.Bool.{false}
 use mathlib.Core.List.{List}
-use Prim.Native.Nat.{ℕ, zero, suc, ◌+◌, ◌-◌, ◌*◌, ◌/◌, ◌≤◌, ◌<◌}
-use native.Mathlib.Nat.{lt_of_not-le, add-zero}
-use native.Mathlib.Decide.{dec_lt}
+use Prim.Native.Nat.{ℕ}
 use native.Mathlib.Omega.{arith}
-use lib.Dec.{T, eqb, leb, leb→le}
+use lib.Dec.{T}
 use lib.ListN.{length, take, length-take}
-use Rattle.bits.specs.Bits.{Word, bit, ◌⊕◌}
-use Rattle.rules.specs.Codes.{Code, code, code1, code2, code3, code4, bits, checks, offered, telecommanded}
-use Rattle.rules.specs.Checks.{broken}
-use Rattle.rules.specs.Encoding.{parity_bit, encoded, lifted, sent, codeword, written, OwnParity}
+use Rattle.bits.specs.Bits.{bit}
+use Rattle.rules.specs.Codes.{code, checks, offered, telecommanded}
+use Rattle.rules.specs.Encoding.{encoded, lifted, sent, written}
 use Rattle.answers.specs.Calls.{six_set_of, encode_answer, check_answer}
-use Rattle.rules.specs.Tables.{parity16, parity32, parity64, parity511, generator511}
-use Rattle.bits.proofs.Sums.{and_l, and_r}
-use Rattle.bits.proofs.Octets.{Octets, length_octets, bit_past}
-use Rattle.rules.proofs.Published.{Published, met_own1, met_own2, met_own3, near_inverted, near_inverted_lem, inverted_near}
-use Rattle.rules.proofs.Codewords.{encoded_own, own_encoded, own_codeword, codeword_quiet, codeword_encoded, encoded_codeword}
-use Rattle.rules.proofs.Codewords.{lifted_unsent, lifted_sent_bit, sent_bit, sent_fill}
+use Rattle.bits.proofs.Octets.{Octets, length_octets}
+use Rattle.rules.proofs.Published.{Published}
+use Rattle.rules.proofs.Codewords.{codeword_quiet, codeword_encoded, encoded_codeword}
 use Rattle.answers.proofs.Opening.{quiet_checked}
 use Rattle.answers.proofs.Answers.{encode_taken, encode_cases, check_taken}
-use Rattle.rules.proofs.Numbers.{five, published, telecommand_offered, met_codeword, three}
+use Rattle.rules.proofs.Numbers.{published, telecommand_offered, met_codeword, three}
 
 -- ---- demand 2: every encoded word meets every check
 

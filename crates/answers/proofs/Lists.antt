@@ -4,19 +4,19 @@ use mathlib.Core.Bool.{Bool, true, false, not}
 use mathlib.Core.List.{List, [], ◌∷◌, ◌++◌}
 use Prim.Native.Nat.{ℕ, zero, suc, ◌+◌, ◌-◌, ◌*◌, ◌≤◌, ◌<◌}
 use native.Mathlib.Nat.{lt_of_not-le}
-use native.Mathlib.Decide.{dec_lt, ℕ_discrete}
+use native.Mathlib.Decide.{dec_lt}
 use native.Mathlib.Omega.{arith}
 use lib.Dec.{T, eqb, ltb, nltb→le, lit≤}
 use lib.IntN.{ℤ, pos, negsuc, sub_ℕ}
 use lib.Signed.{lt_z}
 use lib.ListN.{length, get_or, take, drop}
-use borrow.Author.Tests.{eq-eqb, ne_eqb, eqb-true, le-ltb, lt-ltb, ltb-true}
+use borrow.Author.Tests.{eq-eqb, ne_eqb, le-ltb, lt-ltb, ltb-true}
 use Rattle.bits.specs.Bits.{Word, bit, count, flipped, if◌then◌else◌}
 use Rattle.rules.specs.Codes.{Code, code, code1, code2, code3, code4, code5, bits, checks, offered, telecommanded}
 use Rattle.rules.specs.Tables.{parity16, parity32, parity64, parity511}
 use Rattle.rules.specs.Checks.{check, broken, excess, broken_of, met_of}
 use Rattle.rules.specs.Encoding.{lifted, sent, codeword, written}
-use Rattle.rules.specs.Flipping.{Next, quiet, stuck, flip, Way, greatest_sent, by_excess, Flip, Run, run, ended}
+use Rattle.rules.specs.Flipping.{stuck, Way, greatest_sent, by_excess, Flip, Run, run, ended}
 use Rattle.answers.specs.Calls.{refusal, unless, judged, Corrected, refused_correct_of, ran_correct, ran_from, correct_answer}
 use Rattle.answers.specs.Lists.{Entry, entries, entered_in, reason, Listed, listed_by, refused_list, ran_list, listed_from, list_answer}
 use Rattle.bits.proofs.Counting.{count-le}
@@ -189,7 +189,8 @@ take-front [] m (suc k) e = absurd (omega arith)
 take-front (y ∷ l) m zero e = absurd (omega arith)
 take-front (y ∷ l) m (suc k) e = ap (λ z. y ∷ z) (take-front l m k (omega arith))
 
-behind : {A : Type 0} (l t : List A) (k : ℕ) (d : A) → length l ≤ k → length l ≤ length t → get_or (l ++ drop (length l) t) k d ≡ get_or t k d
+behind : {A : Type 0} (l t : List A) (k : ℕ) (d : A) → length l ≤ k → length l ≤ length t
+    → get_or (l ++ drop (length l) t) k d ≡ get_or t k d
 behind [] t k d h m = refl
 behind (y ∷ l) [] k d h m = absurd (omega arith)
 behind (y ∷ l) (z ∷ t) zero d h m = absurd (omega arith)

@@ -14,12 +14,12 @@ use Rattle.bits.proofs.Sums.{and_l}
 use Rattle.rules.specs.Codes.{code, code5, checks, offered, telecommanded}
 use Rattle.rules.specs.Tables.{parity511}
 use Rattle.rules.specs.Checks.{check, broken, lowest}
-use Rattle.rules.specs.Encoding.{lifted, sent, encoded, codeword}
+use Rattle.rules.specs.Encoding.{lifted, encoded, codeword}
 use Rattle.rules.proofs.Lowest.{lowest_broken, below_lowest, lowest_quiet, quiet_lowest}
 use Rattle.rules.proofs.Codewords.{codeword_quiet, codeword_bit, sent_fill}
 use Rattle.rules.proofs.Published.{published5}
 use Rattle.rules.proofs.Numbers.{published, three, met_codeword}
-use Rattle.answers.specs.Calls.{Checked, checked_from, check_answer, Opened, refused_open, last_two_set, fault, opened_from, open_answer}
+use Rattle.answers.specs.Calls.{Checked, checked_from, check_answer, Opened, last_two_set, fault, open_answer}
 use Rattle.answers.proofs.Answers.{check_taken, open-from, open_cases}
 
 -- ---- check

@@ -11,7 +11,7 @@ use lib.ListN.{length}
 use Rattle.bits.specs.Bits.{Word, bit, over, count_of, below, ◌⊕◌, flipped, if◌then◌else◌}
 use Rattle.rules.specs.Tables.{parity16}
 use Rattle.rules.specs.Codes.{code, code1, bits}
-use Rattle.rules.specs.Checks.{covers, broken, excess}
+use Rattle.rules.specs.Checks.{covers, excess}
 use Rattle.rules.specs.Encoding.{lifted, codeword}
 use Rattle.rules.specs.Flipping.{flip, stuck, by_excess, Run, run}
 use Rattle.answers.specs.Calls.{judged, ran_correct, correct_answer}

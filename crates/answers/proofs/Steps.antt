@@ -2,7 +2,7 @@
 use mathlib.Core.Path.{◌≡◌, refl, sym, ap, ap₂, ◌∙◌, subst}
 use mathlib.Core.Bool.{Bool, true, false, not, ◌&&◌}
 use mathlib.Core.List.{List}
-use Prim.Native.Nat.{ℕ, zero, suc, ◌-◌, ◌*◌, ◌<◌}
+use Prim.Native.Nat.{ℕ, zero, suc, ◌*◌, ◌<◌}
 use native.Mathlib.Omega.{arith}
 use lib.Dec.{T, eqb, ltb}
 use lib.IntN.{ℤ}
@@ -51,7 +51,8 @@ module _ (n : ℕ) (t : T (stepped n)) (word : List ℕ) (lw : length word ≡ (
 
 -- a step that is neither quiet nor refused changes exactly one bit, the one that it names
 pub step_one : (n : ℕ) (word out : List ℕ) → (step_answer n word out).number ≡ 0 → (step_answer n word out).quiet ≡ false
-    → ((step_answer n word out).bit < 8 * length word) × (bit (step_answer n word out).out ≡ flipped (bit word) (step_answer n word out).bit)
+    → ((step_answer n word out).bit < 8 * length word)
+    × (bit (step_answer n word out).out ≡ flipped (bit word) (step_answer n word out).bit)
 unfolding next_step
 step_one n word out =
     step_cases n word out (λ r. r.number ≡ 0 → r.quiet ≡ false → (r.bit < 8 * length word)

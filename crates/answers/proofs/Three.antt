@@ -4,7 +4,7 @@
 use mathlib.Core.Path.{◌≡◌, refl, sym, ap, ap₂, ◌∙◌, fun_ext, subst}
 use mathlib.Core.Bool.{Bool, true, false, true≢false, not, ◌&&◌, ◌||◌, and-false}
 use mathlib.Core.List.{List, [], ◌∷◌}
-use Prim.Native.Nat.{ℕ, zero, suc, ◌+◌, ◌-◌, ◌*◌, ◌/◌, ◌%◌, ◌≤◌, ◌<◌, zero-le}
+use Prim.Native.Nat.{ℕ, zero, suc, ◌+◌, ◌*◌, ◌/◌, ◌%◌, ◌≤◌, ◌<◌, zero-le}
 use native.Mathlib.Nat.{lt_of_not-le, zero-add}
 use native.Mathlib.Decide.{ℕ_discrete, dec_lt}
 use native.Mathlib.Omega.{arith}
@@ -134,7 +134,8 @@ module _ (c : Code) where
               (subst (λ b. T (if b then ltb (2 * hits m + deg m₀) (2 * hits m₀ + deg m) else leb (2 * hits m + deg m₀)
               (2 * hits m₀ + deg m))) (lt-ltb m m₀ l) (tested m (omega arith))) in
               excess_order c (wrong_bits bs) m m₀
-              ∙ lt-ltb (broken_of c (wrong_bits bs) m + met_of c (wrong_bits bs) m₀) (broken_of c (wrong_bits bs) m₀ + met_of c (wrong_bits bs) m)
+              ∙ lt-ltb (broken_of c (wrong_bits bs) m + met_of c (wrong_bits bs) m₀)
+              (broken_of c (wrong_bits bs) m₀ + met_of c (wrong_bits bs) m)
               (omega (arith, t, all m (omega arith), all m₀ h, broken_hits m, broken_hits m₀))
 
           more : (m : ℕ) → m < bits c → lt_z (excess c (wrong_bits bs) m₀) (excess c (wrong_bits bs) m) ≡ false
@@ -146,13 +147,15 @@ module _ (c : Code) where
                   let t = ltb→lt (2 * hits m + deg m₀) (2 * hits m₀ + deg m)
                   (subst (λ b. T (if b then ltb (2 * hits m + deg m₀) (2 * hits m₀ + deg m) else leb (2 * hits m + deg m₀)
                   (2 * hits m₀ + deg m))) (lt-ltb m m₀ e) (tested m l)) in
-                  le-ltb (broken_of c (wrong_bits bs) m₀ + met_of c (wrong_bits bs) m) (broken_of c (wrong_bits bs) m + met_of c (wrong_bits bs) m₀)
+                  le-ltb (broken_of c (wrong_bits bs) m₀ + met_of c (wrong_bits bs) m)
+                  (broken_of c (wrong_bits bs) m + met_of c (wrong_bits bs) m₀)
                   (omega (arith, t, all m l, all m₀ h, broken_hits m, broken_hits m₀))
               by (no d) =
                   let t = leb→le (2 * hits m + deg m₀) (2 * hits m₀ + deg m)
                   (subst (λ b. T (if b then ltb (2 * hits m + deg m₀) (2 * hits m₀ + deg m) else leb (2 * hits m + deg m₀)
                   (2 * hits m₀ + deg m))) (le-ltb m m₀ (omega (arith, lt_of_not-le d))) (tested m l)) in
-                  le-ltb (broken_of c (wrong_bits bs) m₀ + met_of c (wrong_bits bs) m) (broken_of c (wrong_bits bs) m + met_of c (wrong_bits bs) m₀)
+                  le-ltb (broken_of c (wrong_bits bs) m₀ + met_of c (wrong_bits bs) m)
+                  (broken_of c (wrong_bits bs) m + met_of c (wrong_bits bs) m₀)
                   (omega (arith, t, all m l, all m₀ h, broken_hits m, broken_hits m₀))
 
       -- no excess above 0: stuck
@@ -256,10 +259,12 @@ module _ (n : ℕ) (off : T (offered n)) (a b d : ℕ) (ha : a < 8 * (code n).oc
       (length_octets (code n).octets_of_word (flipped (bit (one_wrong (code n) (replicate (code n).octets_of_word 0) a)) b)) hd
       ∙ ap (λ y. flipped y d) (bit_one_wrong (code n) (one_wrong (code n) (replicate (code n).octets_of_word 0) a) b
       (length_octets (code n).octets_of_word (flipped (bit (replicate (code n).octets_of_word 0)) a)) hb
-      ∙ ap (λ y. flipped y b) (bit_one_wrong (code n) (replicate (code n).octets_of_word 0) a (length-replicate (code n).octets_of_word 0) ha
+      ∙ ap (λ y. flipped y b)
+      (bit_one_wrong (code n) (replicate (code n).octets_of_word 0) a (length-replicate (code n).octets_of_word 0) ha
       ∙ ap (λ y. flipped y a) zeros)))
       ∙ lifted_flip (code n) (flipped (flipped (wrong_bits []) a) b) d ∙ ap (λ y. flipped y (d + (code n).unsent))
-      (lifted_flip (code n) (flipped (wrong_bits []) a) b ∙ ap (λ y. flipped y (b + (code n).unsent)) (lifted_flip (code n) (wrong_bits []) a
+      (lifted_flip (code n) (flipped (wrong_bits []) a) b
+      ∙ ap (λ y. flipped y (b + (code n).unsent)) (lifted_flip (code n) (wrong_bits []) a
       ∙ ap (λ y. flipped y (a + (code n).unsent)) none))
 
   not-zero : ((limit : ℕ) → (run (by_excess (code n)) limit
@@ -268,7 +273,8 @@ module _ (n : ℕ) (off : T (offered n)) (a b d : ℕ) (ha : a < 8 * (code n).oc
       → (correct_answer n (three_wrong (code n) (replicate (code n).octets_of_word 0) a b d) limit out).number ≡ 0 → ⊥
   unfolding ran_correct
   not-zero ran limit out lo e =
-      let r : Run = run (by_excess (code n)) limit (lifted (code n) (bit (three_wrong (code n) (replicate (code n).octets_of_word 0) a b d))) in
+      let r : Run = run (by_excess (code n)) limit
+      (lifted (code n) (bit (three_wrong (code n) (replicate (code n).octets_of_word 0) a b d))) in
       let z : r.number ≡ 0 → ⊥ = λ q. ran limit (ap (λ y. (run (by_excess (code n)) limit y).number) (sym lifted_three) ∙ q) in
       let is : judged (code n) r ≡ 0 =
       sym (ap (λ a. a.number) (correct_taken n (three_wrong (code n) (replicate (code n).octets_of_word 0) a b d) limit out off

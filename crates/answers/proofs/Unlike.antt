@@ -8,11 +8,11 @@ use native.Mathlib.Omega.{arith}
 use lib.Dec.{T}
 use lib.ListN.{length}
 use borrow.Author.Tests.{eq-eqb, lt-ltb}
-use Rattle.bits.specs.Bits.{Word, bit, octets, count, tally, ◌⊕◌, flipped, if◌then◌else◌}
+use Rattle.bits.specs.Bits.{Word, bit, count, tally, ◌⊕◌, if◌then◌else◌}
 use Rattle.rules.specs.Codes.{Code, code, bits, offered}
 use Rattle.rules.specs.Encoding.{lifted, sent, codeword, written}
 use Rattle.rules.specs.Flipping.{Way, by_excess, Run, run}
-use Rattle.answers.specs.Calls.{Corrected, judged, differing, ran_correct, correct_answer}
+use Rattle.answers.specs.Calls.{judged, differing, ran_correct, correct_answer}
 use Rattle.bits.proofs.Counting.{count_none, count_same, count_add}
 use Rattle.bits.proofs.Octets.{Octets, bit_octets}
 use Rattle.rules.proofs.Runs.{every_run}
@@ -107,7 +107,8 @@ unlike_places n word limit out =
     (sym (eq-eqb (judged (code n) r) 0 q)))
 
 -- a codeword: 0; one wrong covered bit: 1
-module _ (n : ℕ) (off : T (offered n)) (word out : List ℕ) (lw : length word ≡ (code n).octets_of_word) (lo : length out ≡ (code n).octets_of_word)
+module _ (n : ℕ) (off : T (offered n)) (word out : List ℕ) (lw : length word ≡ (code n).octets_of_word)
+    (lo : length out ≡ (code n).octets_of_word)
     (oct : Octets word) (is : codeword (code n) (bit word) ≡ true) (limit : ℕ) where
   pub codeword_unlike : (correct_answer n word limit out).unlike ≡ 0
   codeword_unlike = ap (λ r. r.unlike) (codeword_back n off word out lw lo oct is limit)

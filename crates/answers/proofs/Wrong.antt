@@ -142,7 +142,8 @@ first_unsent : (code 1).unsent ≡ 0
 unfolding code code1
 first_unsent = refl
 
-moved_pair : (P : ℕ → ℕ → Bool) (n b d : ℕ) → T (not (eqb n 1 && P b d)) → T (not (eqb n 1 && P (b + (code n).unsent) (d + (code n).unsent)))
+moved_pair : (P : ℕ → ℕ → Bool) (n b d : ℕ) → T (not (eqb n 1 && P b d))
+    → T (not (eqb n 1 && P (b + (code n).unsent) (d + (code n).unsent)))
 moved_pair P n b d t = go (ℕ_discrete n 1)
   where
     go : Dec (n ≡ 1) → T (not (eqb n 1 && P (b + (code n).unsent) (d + (code n).unsent)))
@@ -162,7 +163,8 @@ two_wrong c word b d = one_wrong c (one_wrong c word b) d
 abbrev pub three_wrong : Code → List ℕ → ℕ → ℕ → ℕ → List ℕ
 three_wrong c word b d e = one_wrong c (two_wrong c word b d) e
 
-module _ (n : ℕ) (off : T (offered n)) (word out : List ℕ) (lw : length word ≡ (code n).octets_of_word) (lo : length out ≡ (code n).octets_of_word)
+module _ (n : ℕ) (off : T (offered n)) (word out : List ℕ) (lw : length word ≡ (code n).octets_of_word)
+    (lo : length out ≡ (code n).octets_of_word)
     (oct : Octets word) (is : codeword (code n) (bit word) ≡ true) where
   -- the word that was sent
   abbrev x : Word
@@ -221,12 +223,14 @@ module _ (n : ℕ) (off : T (offered n)) (word out : List ℕ) (lw : length word
       → lifted (code n) (bit (two_wrong (code n) word b d))
       ≡ flipped (flipped (lifted (code n) (bit word)) (b + (code n).unsent)) (d + (code n).unsent)
   two_lifted b d hb hd =
-      ap (lifted (code n)) (bit_one_wrong (code n) (one_wrong (code n) word b) d (length_octets (code n).octets_of_word (flipped (bit word) b))
+      ap (lifted (code n))
+      (bit_one_wrong (code n) (one_wrong (code n) word b) d (length_octets (code n).octets_of_word (flipped (bit word) b))
       (lt_of_lt_of_le hd (published n off).fits)
       ∙ ap (λ y. flipped y d) (bit_one_wrong (code n) word b lw (lt_of_lt_of_le hb (published n off).fits)))
       ∙ lifted_flip (code n) (flipped (bit word) b) d ∙ ap (λ y. flipped y (d + (code n).unsent)) (lifted_flip (code n) (bit word) b)
 
-  three_lifted : (b d e : ℕ) → b < bits (code n) - (code n).unsent → d < bits (code n) - (code n).unsent → e < bits (code n) - (code n).unsent
+  three_lifted : (b d e : ℕ) → b < bits (code n) - (code n).unsent → d < bits (code n) - (code n).unsent
+      → e < bits (code n) - (code n).unsent
       → lifted (code n) (bit (three_wrong (code n) word b d e))
       ≡ flipped (flipped (flipped (lifted (code n) (bit word)) (b + (code n).unsent)) (d + (code n).unsent)) (e + (code n).unsent)
   three_lifted b d e hb hd he =
@@ -278,7 +282,8 @@ module _ (n : ℕ) (off : T (offered n)) (word out : List ℕ) (lw : length word
         (λ q. de (omega arith)) free
         ∙ ap (λ y. mended_by n 3 y word) (sym (three_lifted b d e hb hd he))
 
-    with_limit : with_one (code n) (b + (code n).unsent) (d + (code n).unsent) (e + (code n).unsent) ≡ 0 → (limit : ℕ) → limit_for_three ≤ limit
+    with_limit : with_one (code n) (b + (code n).unsent) (d + (code n).unsent) (e + (code n).unsent) ≡ 0 → (limit : ℕ)
+        → limit_for_three ≤ limit
         → correct_answer n (three_wrong (code n) word b d e) limit out ≡ mended_by n 3 (got_three b d e) word
     with_limit free limit enough =
         let is : limit ≡ suc (suc (suc (limit - 3))) = omega arith in
@@ -310,7 +315,8 @@ wrong_alone c e = octets c.octets_of_word e
 -- For every code and every limit the flips of a codeword with some wrong bits are those of the zero word with the same wrong bits, and so
 -- are
 -- the checks broken at the start and at the end.
-module _ (n : ℕ) (off : T (offered n)) (word : List ℕ) (lw : length word ≡ (code n).octets_of_word) (is : codeword (code n) (bit word) ≡ true)
+module _ (n : ℕ) (off : T (offered n)) (word : List ℕ) (lw : length word ≡ (code n).octets_of_word)
+    (is : codeword (code n) (bit word) ≡ true)
     (e : Word) where
   abbrev c : Code
   c = code n

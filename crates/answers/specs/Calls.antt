@@ -1,5 +1,5 @@
 -- The calls: for every input, every number returned and the output octets afterwards.
-use Rattle.std.specs.Prelude.{Bool, true, false, not, ◌&&◌, ◌||◌, List, [], ℕ, ◌%◌, eqb, leb, ltb, length, get_or, take, ℤ, pos}
+use Rattle.std.specs.Prelude.{Bool, true, false, not, ◌&&◌, ◌||◌, List, [], ℕ, ◌%◌, eqb, ltb, length, get_or, take, ℤ, pos}
 use Rattle.bits.specs.Bits.{Word, bit, count, ◌⊕◌, flipped, if◌then◌else◌}
 use Rattle.rules.specs.Codes.{Code, bits, code, offered}
 use Rattle.rules.specs.Checks.{broken, lowest}
@@ -153,7 +153,8 @@ ran_from n word limit out =
 unfoldable pub correct_answer : ℕ → List ℕ → ℕ → List ℕ → Corrected
 correct_answer n word limit out =
     let c = code n in
-    unless (refusal (offered n) (length word) c.octets_of_word (length out) c.octets_of_word) (refused_correct_of out) (ran_from n word limit out)
+    unless (refusal (offered n) (length word) c.octets_of_word (length out) c.octets_of_word) (refused_correct_of out)
+    (ran_from n word limit out)
 
 -- Step: one flip of the run into an output word, with the bit's number and excess; or quiet and marked so, in which case
 -- the word is copied and both numbers are 0; or refusal 5. A refused step returns 0 for both, and is not marked quiet.

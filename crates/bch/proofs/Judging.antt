@@ -153,7 +153,8 @@ module _ (x : Word) (v r m : ℕ) (small : m < 2 ^ 64) (h : Holds v x) (e : r �
   mends i l = k i l ∙ ap (λ p. ltb i 63 && p) (ap (λ z. eqb z (alone i)) e ∙ sym (codeword_flipped x i))
 
   pub none_near : m ≡ 0 → 63 ≤ wrong_bit x
-  none_near z = ⊎_elim (λ l. l) (λ l. absurd (true≢false (sym (set l) ∙ ap (λ n. digit 64 n (wrong_bit x)) z ∙ digit_zero 64 (wrong_bit x))))
+  none_near z = ⊎_elim (λ l. l) (λ l. absurd (true≢false (sym (set l) ∙ ap (λ n. digit 64 n (wrong_bit x)) z
+      ∙ digit_zero 64 (wrong_bit x))))
       (le-or-lt 63 (wrong_bit x))
     where
       set : wrong_bit x < 63 → digit 64 m (wrong_bit x) ≡ true

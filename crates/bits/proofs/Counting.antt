@@ -2,7 +2,7 @@
 use mathlib.Core.Path.{◌≡◌, refl, sym, ap, ap₂, ◌∙◌, fun_ext}
 use mathlib.Core.Bool.{Bool, true, false, not, ◌&&◌}
 use mathlib.Core.List.{List, [], ◌∷◌}
-use Prim.Native.Nat.{ℕ, zero, suc, ◌+◌, ◌-◌, ◌*◌, ◌/◌, ◌%◌, ◌≤◌, ◌<◌, zero-le}
+use Prim.Native.Nat.{ℕ, zero, suc, ◌+◌, ◌*◌, ◌/◌, ◌%◌, ◌≤◌, ◌<◌, zero-le}
 use native.Mathlib.Nat.{le_step, lt-suc_self, le_refl, add-zero, add-suc, zero-add, add_comm, add_assoc, suc-mul, zero-mul, not-suc-le-zero}
 use native.Mathlib.Nat.{zero-lt-suc, add-div_left, add-mod_left, mod-eq_of_lt}
 use native.Mathlib.Numerals.{add-one}

@@ -1,9 +1,9 @@
 -- The lowest number of which something holds. Assumes nothing.
-use mathlib.Core.Path.{◌≡◌, refl, sym, ap, ◌∙◌, subst}
-use mathlib.Core.Bool.{Bool, true, false, true≢false}
+use mathlib.Core.Path.{◌≡◌, refl, ap, ◌∙◌}
+use mathlib.Core.Bool.{Bool, true, false}
 use Prim.Native.Nat.{ℕ, zero, suc, ◌≤◌, ◌<◌}
 use native.Mathlib.Omega.{arith}
-use Rattle.bits.specs.Bits.{count, least, tally, if◌then◌else◌}
+use Rattle.bits.specs.Bits.{count, least, if◌then◌else◌}
 use Rattle.bits.proofs.Counting.{count_none, none_counted}
 
 abbrev next : (ℕ → Bool) → ℕ → Bool

@@ -39,7 +39,11 @@ module _ (octets out : List ℕ) where
   import_whole w = simp w
 
   pub import_fault : whole_blocks (length octets) ≡ true → eqb (first_fault_of n 0 octets).number 0 ≡ false
-      → import_answer octets out ≡ record { number = (first_fault_of n 0 octets).number; block = (first_fault_of n 0 octets).block; out = out }
+      → import_answer octets out ≡ record {
+        number = (first_fault_of n 0 octets).number;
+        block = (first_fault_of n 0 octets).block;
+        out = out;
+      }
   unfolding import_answer
   import_fault w f = simp (w, f)
 

@@ -14,7 +14,8 @@ use borrow.Author.Tests.{eq-eqb, ne_eqb}
 use Rattle.bits.proofs.Sums.{eqb_iff, and_l, and_r}
 use Rattle.blocks.specs.framecheck.FrameCheck.{sound}
 use Rattle.blocks.proofs.Lists.{put, placed}
-use Rattle.blocks.specs.Blocks.{front, number_in, used_in, data_in, count_right_of, clear, filling_in, fault, Fault, first_fault_of, imported}
+use Rattle.blocks.specs.Blocks.{front, number_in, used_in, data_in, count_right_of, clear, filling_in, fault, Fault, first_fault_of}
+use Rattle.blocks.specs.Blocks.{imported}
 
 -- a block's data is what was put there
 pub data_back : data_in (front 0 (1 ∷ 2 ∷ [])) ≡ 1 ∷ 2 ∷ []
@@ -35,12 +36,14 @@ module _ (place : ℕ) (last : Bool) (b : List ℕ) where
   unfolding fault
   fault_count s n u = simp (s, n, u)
 
-  pub fault_filling : sound 510 b ≡ true → eqb (number_in b) place ≡ true → count_right_of last (used_in b) ≡ true → clear (filling_in b) ≡ false
+  pub fault_filling : sound 510 b ≡ true → eqb (number_in b) place ≡ true → count_right_of last (used_in b) ≡ true
+      → clear (filling_in b) ≡ false
       → fault place last b ≡ 23
   unfolding fault
   fault_filling s n u f = simp (s, n, u, f)
 
-  pub fault_none : sound 510 b ≡ true → eqb (number_in b) place ≡ true → count_right_of last (used_in b) ≡ true → clear (filling_in b) ≡ true
+  pub fault_none : sound 510 b ≡ true → eqb (number_in b) place ≡ true → count_right_of last (used_in b) ≡ true
+      → clear (filling_in b) ≡ true
       → fault place last b ≡ 0
   unfolding fault
   fault_none s n u f = simp (s, n, u, f)
@@ -109,7 +112,8 @@ module _ (blocks : List ℕ) (n k f : ℕ) (h : k < n) (is : f ≡ fault k (eqb 
       ap (λ z. first_fault_of z k (drop (512 * k) blocks)) left
       ∙ simp (sym here, ne_eqb f 0 d)
 
-  pub fault_on : f ≡ 0 → first_fault_of (n - (k + 1)) (k + 1) (drop (512 * (k + 1)) blocks) ≡ first_fault_of (n - k) k (drop (512 * k) blocks)
+  pub fault_on : f ≡ 0
+      → first_fault_of (n - (k + 1)) (k + 1) (drop (512 * (k + 1)) blocks) ≡ first_fault_of (n - k) k (drop (512 * k) blocks)
   unfolding first_fault_of m
   fault_on e =
       ap₂ (λ a b. first_fault_of a b (drop (512 * (k + 1)) blocks)) less (add-one k)
@@ -200,11 +204,17 @@ module _ (n : ℕ) (l : List ℕ) (long : length l ≡ 512 * n) (e : (first_faul
 
   pub data_long : (k : ℕ) → k < n → length (data_in (block_at k l)) ≡ used_in (block_at k l)
   data_long k h =
-      length-take-le (used_in (block_at k l)) (drop 6 (block_at k l)) (omega (arith, length-drop 6 (block_at k l), block_long k h, used_le k h))
+      length-take-le (used_in (block_at k l)) (drop 6 (block_at k l)) (omega (
+        arith,
+        length-drop 6 (block_at k l),
+        block_long k h,
+        used_le k h,
+      ))
 
   pub used_full : (k : ℕ) → suc k < n → used_in (block_at k l) ≡ 504
   used_full k h =
-      count_full (used_in (block_at k l)) (subst (λ z. count_right_of z (used_in (block_at k l)) ≡ true) (ne_eqb (n - suc k) 0 (λ q. omega arith))
+      count_full (used_in (block_at k l))
+      (subst (λ z. count_right_of z (used_in (block_at k l)) ≡ true) (ne_eqb (n - suc k) 0 (λ q. omega arith))
       (block_sound k (omega arith)).count)
 
   -- the octets so far: 504 for each block before the last

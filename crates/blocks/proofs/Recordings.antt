@@ -20,7 +20,8 @@ use Rattle.blocks.specs.framecheck.FrameCheck.{frame_check, framed, sound}
 use Rattle.blocks.proofs.framecheck.Frames.{sound_framed, framed_sound}
 use Rattle.blocks.proofs.framecheck.Noticed.{burst_noticed, one_noticed, two_noticed}
 use Rattle.blocks.specs.Blocks.{two, four, front, block, exported, blocks_for, Exported, export_answer, number_in, used_in, data_in}
-use Rattle.blocks.specs.Blocks.{count_right_of, clear, filling_in, fault, Fault, first_fault_of, imported, whole_blocks, Imported, import_answer}
+use Rattle.blocks.specs.Blocks.{count_right_of, clear, filling_in, fault, Fault, first_fault_of, imported, whole_blocks, Imported}
+use Rattle.blocks.specs.Blocks.{import_answer}
 use Rattle.blocks.proofs.Writing.{front_long, block_long, exported_long}
 use Rattle.blocks.proofs.Reading.{Sound, sound_block, fault_none, fault_check, count-le, count_full, count_some, block_at}
 use Rattle.blocks.proofs.Reading.{block_sound, room_is}
@@ -471,7 +472,8 @@ module _ (l out b : List ℕ) (k : ℕ) (all : Octets l) (whole : whole_blocks (
   two_refused i j q r e = refused (two_noticed 510 b (block_at k l) octets spoiled_octets long spoiled_long check (omega arith) i j q r e)
 
   -- a burst: nothing differs before place a nor from place a + 16 on, and the bit at i does
-  pub burst_refused : (a i : ℕ) → ((j : ℕ) → j < a → bit (block_at k l) j ≡ bit b j) → ((j : ℕ) → a + 16 ≤ j → bit (block_at k l) j ≡ bit b j)
+  pub burst_refused : (a i : ℕ) → ((j : ℕ) → j < a → bit (block_at k l) j ≡ bit b j)
+      → ((j : ℕ) → a + 16 ≤ j → bit (block_at k l) j ≡ bit b j)
       → i < 4096 → (bit (block_at k l) i ≡ bit b i → ⊥) → import_answer l out ≡ record { number = 21; block = k; out = out }
   burst_refused a i near far q differs = refused (burst_noticed 510 b
       (block_at k l) octets spoiled_octets long spoiled_long check a i near far q differs)

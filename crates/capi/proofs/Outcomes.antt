@@ -92,7 +92,8 @@ pub word_octets_outcome : (κs : Lfts 0) (a : ArgsD word_octets_lem.signature κ
     → word_octets_reads.Post κs a r₁ s₁ → word_octets_reads.Post κs a r₂ s₂ → r₁ ≡ r₂
 word_octets_outcome κs a r₁ r₂ s₁ s₂ p q = p ∙ sym q
 
-pub information_octets_outcome : (κs : Lfts 0) (a : ArgsD information_octets_lem.signature κs) (r₁ r₂ : ResD information_octets_lem.signature κs)
+pub information_octets_outcome : (κs : Lfts 0) (a : ArgsD information_octets_lem.signature κs)
+    (r₁ r₂ : ResD information_octets_lem.signature κs)
     (s₁ s₂ : AtExit (ended_of 0 information_octets_kinds.ps information_octets_kinds.r) κs)
     → information_octets_reads.Post κs a r₁ s₁ → information_octets_reads.Post κs a r₂ s₂ → r₁ ≡ r₂
 information_octets_outcome κs a r₁ r₂ s₁ s₂ p q = p ∙ sym q

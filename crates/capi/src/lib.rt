@@ -3,7 +3,8 @@
 #![tactic(auto)]
 
 ghost use Rattle.std.specs.Prelude.{◌≡◌, ◌+◌, ◌*◌, length};
-ghost use Rattle.answers.specs.Calls.{word_octets_answer, information_octets_answer, encode_answer, check_answer, open_answer, correct_answer};
+ghost use Rattle.answers.specs.Calls.{word_octets_answer, information_octets_answer, encode_answer, check_answer, open_answer};
+ghost use Rattle.answers.specs.Calls.{correct_answer};
 ghost use Rattle.answers.specs.Calls.{step_answer};
 ghost use Rattle.answers.specs.Lists.{list_answer};
 ghost use Rattle.lists.specs.listing.Answers.{as_entries, as_listed};

@@ -33,7 +33,8 @@ pub six_is : (n : ℕ) → offered n ≡ true → {o : Offer} → o ≡ offer_of
 six_is n off {o} is info =
     ap (λ z. not (eqb (get_or info (z.information - 1) 0 % z.multiple) 0)) is
     ∙ five (λ k. not (eqb (get_or info ((offer_of k).information - 1) 0 % (offer_of k).multiple) 0) ≡ six_set_of k info)
-    (one_divides (get_or info 7 0)) (one_divides (get_or info 15 0)) (one_divides (get_or info 31 0)) refl (one_divides (get_or info 891 0)) n
+    (one_divides (get_or info 7 0)) (one_divides (get_or info 15 0)) (one_divides (get_or info 31 0)) refl
+    (one_divides (get_or info 891 0)) n
     (is_offered n off)
 
 -- ---- the information's octets hold the information bits and no more

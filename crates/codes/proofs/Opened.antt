@@ -23,4 +23,5 @@ module _ (n : ℕ) (word : List ℕ) {number low : ℕ} (found : (number ≡ fau
     opened_other d = sym (ap (λ b. opened number low (if b then take (code n).octets_of_information word else [])) (ne_eqb number 0 d)) ∙ is
 
     pub opened_codeword : number ≡ 0 → opened number low (take (code n).octets_of_information word) ≡ opened_from n word
-    opened_codeword e = sym (ap (λ b. opened number low (if b then take (code n).octets_of_information word else [])) (eq-eqb number 0 e)) ∙ is
+    opened_codeword e = sym (ap (λ b. opened number low (if b then take (code n).octets_of_information word else [])) (eq-eqb number 0 e))
+        ∙ is

@@ -8,12 +8,13 @@ use native.Mathlib.Nat.{le_trans, le_of_eq}
 use lib.Arith.{digits_div, digits_mod, digits_lt}
 use lib.Dec.{T, eqb, leb, ltb, eqb→eq, leb→le, ltb→lt}
 use lib.ListN.{length, get_or}
-use Rattle.bits.specs.Bits.{Word, ◌⊕◌, sum, flipped, below, over, blocks, count_of}
+use Rattle.bits.specs.Bits.{Word, ◌⊕◌, sum, flipped, below, over, count_of}
 use Rattle.rules.specs.Codes.{Code, bits}
 use Rattle.rules.specs.Checks.{one_at, check, broken_of, degree_of}
 use Rattle.bits.proofs.Sums.{and_l, and_r, below_at, sum_same, pick, blocks_sum}
 use Rattle.bits.proofs.Counting.{each}
-use Rattle.rules.proofs.Blocks.{blk, check_in, broken_in, degree, distinct, shaped, Row, shaped_at, at_shift, one_sum, with_tables, check_in_lem}
+use Rattle.rules.proofs.Blocks.{blk, check_in, broken_in, degree, distinct, shaped, Row, shaped_at, at_shift, one_sum, with_tables}
+use Rattle.rules.proofs.Blocks.{check_in_lem}
 use Rattle.rules.proofs.Blocks.{broken_in_lem, degree_in}
 use Rattle.rules.proofs.Flips.{check_flip}
 use Rattle.layout.specs.declared.Shape.{Shape}
@@ -39,7 +40,8 @@ abbrev pub shape_of : ℕ → ℕ → ℕ → List (List (List ℕ)) → Shape
 shape_of m words B H = record { size = suc m; words = words; blocks = B; rows = length H }
 
 abbrev pub same_table : ℕ → ℕ → ℕ → List (List (List ℕ)) → List ℕ → Bool
-same_table m words B H h = below (length H) (λ r. below B (λ b. same_list (shifts_of (shape_of m words B H) h r b) (get_or (get_or H r []) b [])))
+same_table m words B H h = below (length H)
+    (λ r. below B (λ b. same_list (shifts_of (shape_of m words B H) h r b) (get_or (get_or H r []) b [])))
 
 -- what is read does not depend on what stands past the end
 pub read_any : (h : List ℕ) (n d e : ℕ) → n < length h → get_or h n d ≡ get_or h n e
@@ -71,7 +73,8 @@ over_low M (s ∷ S) f g t h =
     ap₂ (λ a b. a ⊕ b) (h s (ltb→lt s M (and_l (ltb s M) (not (one_at M S 0 s) && distinct M S) t)))
     (over_low M S f g (and_r (not (one_at M S 0 s)) (distinct M S) (and_r (ltb s M) (not (one_at M S 0 s) && distinct M S) t)) h)
 
-module _ (octets_of_word octets_of_information unsent m : ℕ) (H : List (List (List ℕ))) (gs : List (List ℕ)) (printed B words : ℕ) (h : List ℕ)
+module _ (octets_of_word octets_of_information unsent m : ℕ) (H : List (List (List ℕ))) (gs : List (List ℕ)) (printed B words : ℕ)
+    (h : List ℕ)
     (shape : T (shaped (suc m) B H)) (wide : length (get_or H 0 []) ≡ B) (same : T (same_table m words B H h))
     (low : T (below B (λ b. leb (degree H b) 6))) where
   abbrev c : Code

@@ -57,7 +57,8 @@ pub struct Listing {
 
 // What a refused list gives besides its number.
 fn refused(number: u8) -> Listing
-    ensures { (result.goes ≡ false) × (result.place ≡ 0) × ((table : List Entry) → listed_as result.answer table ≡ refused_list table number) }
+    ensures { (result.goes ≡ false) × (result.place ≡ 0)
+        × ((table : List Entry) → listed_as result.answer table ≡ refused_list table number) }
 {
     Listing {
         goes: false,

@@ -112,7 +112,8 @@ module _ (less : ℕ → ℕ → Bool) (first : ℕ) where
 
             go : First 64 v (count_leading_zeros 64 v) → count_leading_zeros 64 v ≡ i
             go f = ⊎_elim (λ (g : i ≤ count_leading_zeros 64 v). ⊎_elim (λ (u : count_leading_zeros 64 v ≤ i). omega arith)
-                (λ (u : i < count_leading_zeros 64 v). absurd (true≢false (sym here ∙ f.clear i u))) (le-or-lt (count_leading_zeros 64 v) i))
+                (λ (u : i < count_leading_zeros 64 v). absurd (true≢false (sym here
+                ∙ f.clear i u))) (le-or-lt (count_leading_zeros 64 v) i))
                 (λ (g : count_leading_zeros 64 v < i). absurd (true≢false (sym f.here ∙ clear (count_leading_zeros 64 v) g)))
                 (le-or-lt i (count_leading_zeros 64 v))
 

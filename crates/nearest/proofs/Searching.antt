@@ -39,7 +39,8 @@ pub lowest_pass : (n z : ℕ) → n < 128 → lowest_from (128 - n) n z
 unfolding lowest_from
 lowest_pass n z h =
     let e : 128 - n ≡ suc (128 - (n + 1)) = omega arith in
-    ap (λ k. lowest_from k n z) e ∙ ap (λ m. if eqb (get_or column_list n 0) z then n else lowest_from (128 - (n + 1)) m z) (sym (add-one n))
+    ap (λ k. lowest_from k n z) e
+    ∙ ap (λ m. if eqb (get_or column_list n 0) z then n else lowest_from (128 - (n + 1)) m z) (sym (add-one n))
 
 pub lowest_end : (n z : ℕ) → n ≡ 128 → 128 ≡ lowest_from (128 - n) n z
 unfolding lowest_from
@@ -227,7 +228,8 @@ module _ (cs : List ℕ) (n z : ℕ) (e : cs ≡ column_list) (h : n < 128) wher
   pub lowest_here : get_or cs n 0 ≡ z → lowest_from (128 - n) n z ≡ n
   lowest_here q =
       lowest_pass n z h
-      ∙ ap (λ t. if t then n else lowest_from (128 - (n + 1)) (n + 1) z) (eq-eqb (get_or column_list n 0) z (ap (λ w. get_or w n 0) (sym e) ∙ q))
+      ∙ ap (λ t. if t then n else lowest_from (128 - (n + 1)) (n + 1) z) (eq-eqb (get_or column_list n 0) z (ap (λ w. get_or w n 0) (sym e)
+      ∙ q))
 
   pub lowest_later : (get_or cs n 0 ≡ z → ⊥) → lowest_from (128 - n) n z ≡ lowest_from (128 - (n + 1)) (n + 1) z
   lowest_later d =

@@ -169,7 +169,12 @@ module _ (word out : List ℕ) (lw : length word ≡ 16) (lo : length out ≡ 16
 
   module _ (reach b : ℕ) (some : 1 ≤ reach) (few : reach ≤ 3) (hb : b < 128) where
     -- A codeword with one wrong bit and a reach of at least 1: that bit alone, and the codeword.
-    pub one_found : nearest_answer (one_wrong (code 1) word b) reach out ≡ record { number = 0; least = 1; bits = b ∷ 0 ∷ 0 ∷ []; out = word }
+    pub one_found : nearest_answer (one_wrong (code 1) word b) reach out ≡ record {
+      number = 0;
+      least = 1;
+      bits = b ∷ 0 ∷ 0 ∷ [];
+      out = word;
+    }
     unfolding found flips
     one_found =
         nearest_searched (one_wrong (code 1) word b) reach out (one_long b) lo few

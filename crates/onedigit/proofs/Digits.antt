@@ -21,7 +21,8 @@ another_digit k front digit behind x hd hx hb =
     (xor_zero_r behind)
 
 -- From any digit to any other there is such an x from 1 to 15, and only to another one.
-pub every_other : below 16 (λ d. below 16 (λ e. eqb d e || (ltb 0 (bit_xor d e) && ltb (bit_xor d e) 16 && eqb (bit_xor d (bit_xor d e)) e)))
+pub every_other : below 16
+    (λ d. below 16 (λ e. eqb d e || (ltb 0 (bit_xor d e) && ltb (bit_xor d e) 16 && eqb (bit_xor d (bit_xor d e)) e)))
     ≡ true
 every_other = refl
 

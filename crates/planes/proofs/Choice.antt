@@ -28,7 +28,8 @@ pub raised_lt : (a b k : ℕ) → lt_z (sub_ℕ a k) (sub_ℕ b k) ≡ ltb a b
 raised_lt a b k = go (dec_lt a k) (dec_lt b k)
   where
     go : Dec (a < k) → Dec (b < k) → lt_z (sub_ℕ a k) (sub_ℕ b k) ≡ ltb a b
-    go (yes p) (yes q) = ap₂ lt_z (less_is a k p) (less_is b k q) ∙ ltb_iff (k - suc b) (k - suc a) a b (λ l. omega arith) (λ l. omega arith)
+    go (yes p) (yes q) = ap₂ lt_z (less_is a k p) (less_is b k q)
+        ∙ ltb_iff (k - suc b) (k - suc a) a b (λ l. omega arith) (λ l. omega arith)
     go (yes p) (no q) =
         let u : k ≤ b = omega (arith, lt_of_not-le q) in
         ap₂ lt_z (less_is a k p) (more-is b k u) ∙ sym (lt-ltb a b (omega arith))

@@ -25,7 +25,8 @@ module _ (c : Code) (x : Word) where
   unfolding lowest
   found_all = read_all (checks c) (check c x)
 
-  pub found_quiet : ((read (checks c) (check c x)).yes ≡ true → broken c x ≡ 0) × (broken c x ≡ 0 → (read (checks c) (check c x)).yes ≡ true)
+  pub found_quiet : ((read (checks c) (check c x)).yes ≡ true → broken c x ≡ 0)
+      × (broken c x ≡ 0 → (read (checks c) (check c x)).yes ≡ true)
   unfolding broken
   found_quiet = read_quiet (checks c) (check c x)
 

@@ -203,4 +203,5 @@ telecommand_mod n = number_same 8 (λ k. sequence telecommand (8 * (n % 255) + k
 
 -- the octet i places on from a place within the 255
 pub telecommand_place : (n i : ℕ) → sequence_octet telecommand (n % 255 + i) ≡ sequence_octet telecommand (n + i)
-telecommand_place n i = sym (telecommand_mod (n % 255 + i)) ∙ ap (sequence_octet telecommand) (mod-add-mod n 255 i) ∙ telecommand_mod (n + i)
+telecommand_place n i = sym (telecommand_mod (n % 255 + i)) ∙ ap (sequence_octet telecommand) (mod-add-mod n 255 i)
+    ∙ telecommand_mod (n + i)

@@ -5,13 +5,12 @@ use mathlib.Core.Bool.{Bool, true, false, true≢false, not, ◌&&◌}
 use Prim.Native.Nat.{ℕ, zero, suc, ◌+◌, ◌*◌, ◌≤◌, ◌<◌, zero-le, suc-le-suc}
 use native.Mathlib.Decide.{ℕ_discrete}
 use native.Mathlib.Omega.{arith}
-use lib.ListN.{length}
 use lib.Signed.{lt_z}
 use borrow.Author.Tests.{lt-ltb}
 use Rattle.bits.specs.Bits.{Word, ◌⊕◌, count, flipped}
 use Rattle.rules.specs.Codes.{Code, bits, checks}
 use Rattle.rules.specs.Checks.{covers, check, broken, excess, broken_of, met_of, degree_of}
-use Rattle.rules.specs.Flipping.{Way, Run, run, after}
+use Rattle.rules.specs.Flipping.{Way, run, after}
 use Rattle.bits.proofs.Sums.{⊕-assoc, and-⊕}
 use Rattle.bits.proofs.Counting.{count_same, count_xor, count_split, none_counted}
 use Rattle.rules.proofs.Flips.{broken_met, excess_order, check_flip, flip_back}

@@ -159,7 +159,8 @@ module _ (m : ℕ) where
       (λ k l. ap tally (sym (and-true (one_at (suc m) (s ∷ S) i k)))
       ∙ tally_apart (eqb ((i + s) % suc m) k) (one_at (suc m) S i k) true (λ e.
       ap (one_at (suc m) S i) (sym (eqb→eq ((i + s) % suc m) k (subst T (sym e) tt))) ∙ one_elsewhere S i s (low s S t) (alone s S t))
-      ∙ ap₂ (λ a b. tally (a && true) + tally b) (eqb_iff ((i + s) % suc m) k k ((i + s) % suc m) sym sym) (and-true (one_at (suc m) S i k)))
+      ∙ ap₂ (λ a b. tally (a && true) + tally b) (eqb_iff ((i + s) % suc m) k k ((i + s) % suc m) sym sym)
+      (and-true (one_at (suc m) S i k)))
       ∙ ap₂ (λ a b. a + b) (count_pick (suc m) ((i + s) % suc m) (λ k. true) (mod-lt (i + s) (zero-lt-suc m))) (one_wide S i (rest s S t))
       ∙ one-add (length S)
 
@@ -197,7 +198,8 @@ module _ (octets_of_word octets_of_information unsent m : ℕ) (H : List (List (
   row_of k h = (div-lt_iff_lt-mul (zero-lt-suc m)).1 h
 
   -- a check, by the shifts of its row
-  pub check_in_lem : (x : Word) (k : ℕ) → k < checks c → check c x k ≡ check_in (suc m) (get_or H (k / suc m) []) (blk (suc m) x) (k % suc m)
+  pub check_in_lem : (x : Word) (k : ℕ) → k < checks c
+      → check c x k ≡ check_in (suc m) (get_or H (k / suc m) []) (blk (suc m) x) (k % suc m)
   unfolding check
   check_in_lem x k h =
       let row = get_or H (k / suc m) [] in
@@ -207,7 +209,8 @@ module _ (octets_of_word octets_of_information unsent m : ℕ) (H : List (List (
       ∙ sum_blocks B (suc m) (λ n. covers c k n && x n)
       ∙ sum_same B _ (λ b. over (get_or (get_or H (k / suc m) []) b []) (λ s. blk (suc m) x (0 + b) ((k % suc m + s) % suc m))) (λ b l.
       sum_same (suc m) _ (λ t. one_at (suc m) (get_or (get_or H (k / suc m) []) b []) (k % suc m) t && x (b * suc m + t)) (λ t l'.
-      ap₂ (λ q r. one_at (suc m) (get_or (get_or H (k / suc m) []) q []) (k % suc m) r && x (b * suc m + t)) (digits_div b l') (digits_mod b l'))
+      ap₂ (λ q r. one_at (suc m) (get_or (get_or H (k / suc m) []) q []) (k % suc m) r && x (b * suc m + t)) (digits_div b l')
+      (digits_mod b l'))
       ∙ one_sum m (get_or (get_or H (k / suc m) []) b []) (k % suc m) (λ t. x (b * suc m + t)) (here.apart b l)
       ∙ ap (λ z. over (get_or (get_or H (k / suc m) []) b []) (λ s. x (z * suc m + (k % suc m + s) % suc m))) (sym (zero-add b)))
       ∙ ap (λ z. sum z (λ b. over (get_or (get_or H (k / suc m) []) b []) (λ s. blk (suc m) x (0 + b) ((k % suc m + s) % suc m))))

@@ -319,7 +319,8 @@ module _ (octets_of_word octets_of_information unsent m : ℕ) (H : List (List (
           ub))))) (k % suc m) (a % suc m) t ka in
           from_sa sn s.shift pn s.place s.holds
 
-      from_none : T (every (get_or (get_or H (k / suc m) []) (n / suc m) []) (λ sn. every (get_or (get_or H (k / suc m) []) (a / suc m) []) (λ
+      from_none : T
+          (every (get_or (get_or H (k / suc m) []) (n / suc m) []) (λ sn. every (get_or (get_or H (k / suc m) []) (a / suc m) []) (λ
           sa. every (get_or (get_or H (l / suc m) []) (n / suc m) []) (λ tn. every (get_or (get_or H (l / suc m) []) (b / suc m)
           []) (λ tb. every (get_or (get_or H (j / suc m) []) (a / suc m) []) (λ ua. every (get_or (get_or H (j / suc m) []) (b /
           suc m) []) (λ ub. fits k l j sn sa tn tb ua ub))))))) → Corner a b n

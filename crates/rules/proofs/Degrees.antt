@@ -7,7 +7,7 @@ use Prim.Native.Nat.{ℕ, suc, ◌+◌, ◌*◌, ◌/◌, ◌%◌, ◌≤◌, �
 use native.Mathlib.Nat.{zero-lt-suc, div-lt_iff_lt-mul, le-div_iff_mul-le, le_trans, le_of_eq}
 use native.Mathlib.Omega.{arith}
 use lib.Dec.{T, eqb, ltb, eqb→eq, lit≤}
-use lib.IntN.{ℤ, pos, negsuc, sub_ℕ}
+use lib.IntN.{pos, negsuc, sub_ℕ}
 use lib.ListN.{length, get_or}
 use lib.Signed.{lt_z, ◌≤ℤ◌, lt_z_no}
 use borrow.Author.Tests.{le-ltb, ltb-false}

@@ -175,7 +175,8 @@ module _ (x : Word) (first second : Bool) where
   four_meet = four_quiet (four_word x first second) (λ b. if eqb b 0 then first else second) (λ p h. at p h (dec_lt p 511))
     where
       at : (p : ℕ) → p < 1022 → Dec (p < 511)
-          → four_word x first second (7154 + p) ≡ parity_bit code4 (four_word x first second) p ⊕ (if eqb (p / 511) 0 then first else second)
+          → four_word x first second (7154 + p) ≡ parity_bit code4 (four_word x first second) p ⊕
+          (if eqb (p / 511) 0 then first else second)
       at p h (yes l) =
           let q : p / 511 ≡ 0 = omega arith in
           in_first (7154 + p) (omega arith) (omega arith)

@@ -1,7 +1,7 @@
 -- Two wrong bits of each code: where a third bit may have the greatest excess. By a computed test of the telecommand tables.
-use mathlib.Core.Path.{◌≡◌, refl, sym, ap, ◌∙◌, subst}
-use mathlib.Core.Bool.{Bool, true, false, not, ◌&&◌, ◌||◌}
-use Prim.Native.Nat.{ℕ, ◌+◌, ◌*◌, ◌/◌, ◌%◌, ◌≤◌, ◌<◌}
+use mathlib.Core.Path.{◌≡◌, sym, ap, ◌∙◌, subst}
+use mathlib.Core.Bool.{Bool, false, not, ◌&&◌, ◌||◌}
+use Prim.Native.Nat.{ℕ, ◌+◌, ◌/◌, ◌%◌, ◌≤◌, ◌<◌}
 use native.Mathlib.Nat.{lt_of_not-le}
 use native.Mathlib.Decide.{dec_lt}
 use native.Mathlib.Omega.{arith}
@@ -11,14 +11,12 @@ use lib.Signed.{lt_z}
 use Rattle.bits.specs.Bits.{Word, flipped}
 use Rattle.rules.specs.Tables.{parity16, parity32, parity64, generator16, generator32, generator64}
 use Rattle.rules.specs.Codes.{Code, code, code1, code2, code3, code4, code5, bits, offered}
-use Rattle.rules.specs.Checks.{broken, excess, degree_of}
+use Rattle.rules.specs.Checks.{broken, excess}
 use Rattle.rules.specs.Flipping.{flip, by_excess}
-use Rattle.bits.proofs.Sums.{and_l, and_r}
 use Rattle.rules.proofs.Ways.{Girth}
-use Rattle.rules.proofs.Greatest.{Greatest}
-use Rattle.rules.proofs.Choosing.{Flips, chosen, next_flip, chosen_greatest}
+use Rattle.rules.proofs.Choosing.{chosen, next_flip, chosen_greatest}
 use Rattle.rules.proofs.Two.{Tied, tied_first, tied_second}
-use Rattle.rules.proofs.Corners.{Allowed, corners_allowed, Corner, corner}
+use Rattle.rules.proofs.Corners.{Allowed, corners_allowed, corner}
 use Rattle.rules.proofs.Published.{tests1, tests2, tests3, near_four}
 use Rattle.rules.proofs.Numbers.{five}
 

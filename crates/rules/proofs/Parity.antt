@@ -121,7 +121,8 @@ module _ (octets_of_word octets_of_information unsent m : ℕ) (H : List (List (
       ∙ ap (λ z. z ⊕ inverted x (p / suc m)) (sym (parity_in_lem x p))
 
   -- and each such word meets every check
-  pub inverted_met : T (rows_tied_of (suc m) printed H gs) → T (sized C (drops (length gs) H)) → T (evens (drops (length gs) H)) → (x f : Word)
+  pub inverted_met : T (rows_tied_of (suc m) printed H gs) → T (sized C (drops (length gs) H)) → T (evens (drops (length gs) H))
+      → (x f : Word)
       → ((p : ℕ) → p < bits c - information c → x (information c + p) ≡ parity_bit c x p ⊕ f (p / suc m)) → broken c x ≡ 0
   unfolding differ
   inverted_met tied size ev x f h =

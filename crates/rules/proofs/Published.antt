@@ -94,7 +94,8 @@ rows511 : T (rows_tied_of 511 512 parity511 generator511)
 unfolding parity511 generator511
 rows511 = tt
 
-pub near_tests : (octets_of_word octets_of_information unsent : ℕ) → Tests octets_of_word octets_of_information unsent 510 parity511 generator511 512 16 2
+pub near_tests : (octets_of_word octets_of_information unsent : ℕ)
+    → Tests octets_of_word octets_of_information unsent 510 parity511 generator511 512 16 2
 unfolding parity511 generator511
 near_tests octets_of_word octets_of_information unsent = record {
   shape = tt;
@@ -244,7 +245,8 @@ module _ (octets_of_word octets_of_information unsent : ℕ) where
   pub near_four : (n : ℕ) → n < bits near → degree_of near n ≡ 4
   unfolding parity511 generator511
   near_four n h =
-      tested_degree octets_of_word octets_of_information unsent 510 parity511 generator511 512 16 2 (near_tests octets_of_word octets_of_information unsent)
+      tested_degree octets_of_word octets_of_information unsent 510 parity511 generator511 512 16 2
+      (near_tests octets_of_word octets_of_information unsent)
       n h
       ∙ eqb→eq (degree parity511 (n / 511)) 4 (below_at 16 (λ b. eqb (degree parity511 b) 4) fours511 (n / 511)
       ((div-lt_iff_lt-mul (zero-lt-suc 510)).1 h))
@@ -258,7 +260,8 @@ module _ (octets_of_word octets_of_information unsent : ℕ) where
       → x (information near + p) ≡ parity_bit near x p ⊕ near_inverted x (p / 511)
   unfolding near_inverted
   near_inverted_lem = met_inverted octets_of_word octets_of_information unsent 510 parity511 generator511 512 16 2
-      (near_tests octets_of_word octets_of_information unsent).shape (near_tests octets_of_word octets_of_information unsent).room inverse511
+      (near_tests octets_of_word octets_of_information unsent).shape
+      (near_tests octets_of_word octets_of_information unsent).room inverse511
       inverse511_test
 
   pub inverted_near : (x f : Word)

@@ -75,7 +75,8 @@ module _ (m printed : ℕ) where
   -- one information block and what it adds to the parity blocks
   one : (P : List (List ℕ)) (S : List ℕ) (g : List ℕ) (u : ℕ → Bool) (i : ℕ)
       → T (below (suc m) (cancels (suc m) printed S P g))
-      → over S (λ s. u ((i + s) % suc m)) ⊕ blocks P 0 (λ c s. shifted_sum (suc m) (drawn (suc m) printed (get_or g c 0)) u ((i + s) % suc m))
+      → over S (λ s. u ((i + s) % suc m)) ⊕ blocks P 0
+      (λ c s. shifted_sum (suc m) (drawn (suc m) printed (get_or g c 0)) u ((i + s) % suc m))
       ≡ false
   one P S g u i t' =
       ap₂ (λ x y. x ⊕ y)
@@ -133,7 +134,8 @@ module _ (m printed : ℕ) where
 
   -- the same for all rows of the table
   pub reduce_all : (H : List (List (List ℕ))) (gs : List (List ℕ)) (w : ℕ → ℕ → Bool) → T (rows_tied_of (suc m) printed H gs)
-      → (r i : ℕ) → r < length H → check_in (suc m) (get_or H r []) w i ≡ check_in (suc m) (get_or (drops (length gs) H) r []) (differ gs w) i
+      → (r i : ℕ) → r < length H
+      → check_in (suc m) (get_or H r []) w i ≡ check_in (suc m) (get_or (drops (length gs) H) r []) (differ gs w) i
   reduce_all [] gs w t r i h = absurd (not-suc-le-zero h)
   reduce_all (row ∷ H) gs w t zero i h =
       reduce row gs w (and_l (row_tied_of (suc m) printed (drop (length gs) row) row gs) (rows_tied_of (suc m) printed H gs) t) i

@@ -113,7 +113,8 @@ module _ (m : ℕ) where
       omega (arith, one_few S₀ (aparts (suc m) S S₀ rest) k k₀ s hk hk₀, block_few S S₀ rest k k₀ hk hk₀)
 
   rows_few : (H : List (List (List ℕ))) (b b₀ k k₀ : ℕ) → k < suc m → k₀ < suc m
-      → each H (λ row. count_of (get_or row b []) (λ s. one_at (suc m) (get_or row b₀ []) ((k + (suc m - s)) % suc m) k₀)) ≤ occurs (gap k k₀)
+      → each H (λ row. count_of (get_or row b []) (λ s. one_at (suc m) (get_or row b₀ []) ((k + (suc m - s)) % suc m) k₀)) ≤ occurs
+      (gap k k₀)
       (differences (suc m) H b b₀)
   rows_few [] b b₀ k k₀ hk hk₀ = zero-le
   rows_few (row ∷ H) b b₀ k k₀ hk hk₀ =

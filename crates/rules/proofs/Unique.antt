@@ -90,7 +90,8 @@ module _ (m printed : ℕ) where
           ∙ ap (over (get_or P c [])) (fun_ext (λ s.
           ap (sum (suc m)) (fun_ext (λ i. ap (λ z. r z && v c ((i + s) % suc m)) (sym (back i s x))))
           ∙ turn m s (λ n. r (((n + x) % suc m + s * (suc m - 1)) % suc m) && v c n)))
-          ∙ swap (over (get_or P c [])) (over_linear (get_or P c [])) (suc m) (λ s n. r (((n + x) % suc m + s * (suc m - 1)) % suc m) && v c n)
+          ∙ swap (over (get_or P c [])) (over_linear (get_or P c [])) (suc m)
+          (λ s n. r (((n + x) % suc m + s * (suc m - 1)) % suc m) && v c n)
           ∙ ap (sum (suc m)) (fun_ext (λ n.
           ap (over (get_or P c [])) (fun_ext (λ s. and_comm (r (((n + x) % suc m + s * (suc m - 1)) % suc m)) (v c n)))
           ∙ into (over (get_or P c [])) (over_linear (get_or P c [])) (v c n) (λ s. r (((n + x) % suc m + s * (suc m - 1)) % suc m))))
@@ -107,7 +108,8 @@ module _ (m printed : ℕ) where
   combined C (r ∷ rs) (P ∷ Ps) v x len met =
       ap (sum C) (fun_ext (λ c.
       ap (sum (suc m)) (fun_ext (λ n. and-⊕ (v c n)
-      (over (get_or P c []) (λ s. digit (suc m) r (((n + x) % suc m + s * (suc m - 1)) % suc m))) (column (suc m) rs Ps c ((n + x) % suc m))))
+      (over (get_or P c []) (λ s. digit (suc m) r (((n + x) % suc m + s * (suc m - 1)) % suc m)))
+      (column (suc m) rs Ps c ((n + x) % suc m))))
       ∙ (sum_linear (suc m)).plus (λ n. v c n && over (get_or P c []) (λ s. digit (suc m) r (((n + x) % suc m + s * (suc m - 1)) % suc m)))
       (λ n. v c n && column (suc m) rs Ps c ((n + x) % suc m))))
       ∙ (sum_linear C).plus
@@ -162,7 +164,8 @@ module _ (m printed : ℕ) where
       (and_l (inverse_row (suc m) C e Ps j rs) (inverse_test (suc m) C e Ps (suc j) R) t)
   inverse_at C e Ps j (rs ∷ R) t (suc b) h =
       subst (λ z. T (inverse_row (suc m) C e Ps z (get_or R b []))) (suc-add j b ∙ sym (add-suc j b))
-      (inverse_at C e Ps (suc j) R (and_r (inverse_row (suc m) C e Ps j rs) (inverse_test (suc m) C e Ps (suc j) R) t) b (le_of_suc-le-suc h))
+      (inverse_at C e Ps (suc j) R (and_r (inverse_row (suc m) C e Ps j rs) (inverse_test (suc m) C e Ps (suc j) R) t) b
+      (le_of_suc-le-suc h))
 
   -- the tests of one code: its tables, and the inverse of its parity part up to e
   pub record Invertible (C : ℕ) (e : ℕ → Bool) (H : List (List (List ℕ))) (gs R : List (List ℕ)) : Type 0 where

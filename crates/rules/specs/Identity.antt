@@ -1,5 +1,5 @@
 -- The identity that ties a parity table to a generator table: what one wrong digit in either breaks.
-use Rattle.std.specs.Prelude.{Bool, true, false, not, ◌&&◌, List, [], ◌∷◌, ℕ, zero, suc, ◌+◌, ◌-◌, ◌%◌, ◌^◌, eqb, ltb, length, get_or, drop}
+use Rattle.std.specs.Prelude.{Bool, true, false, not, ◌&&◌, List, [], ◌∷◌, ℕ, ◌+◌, ◌-◌, ◌%◌, ◌^◌, eqb, ltb, length, get_or, drop}
 use Rattle.bits.specs.Bits.{digit, ◌⊕◌, below, over, blocks}
 use Rattle.rules.specs.Codes.{Code}
 

@@ -21,7 +21,8 @@ module _ (n : ℕ) (samples : List Float) (limit : ℕ) (out : List ℕ) where
       → P (samples_answer n samples limit out)
   unfolding samples_answer
   samples_cases P p1 p2 p3 p16 p =
-      unless_cases (offered n && not (eqb n 5)) (length samples) (bits (code n)) (length out) (code n).octets_of_word P (refused_correct_of out)
+      unless_cases (offered n && not (eqb n 5)) (length samples) (bits (code n)) (length out) (code n).octets_of_word P
+      (refused_correct_of out)
       (finite_from n samples limit out) p1 p2 p3
       (λ t ls lo. go (all_finite samples) (p t ls lo))
     where

@@ -27,7 +27,8 @@ use Rattle.rules.proofs.Two.{Tied, tied_first}
 use Rattle.rules.proofs.Apart.{with_one, none_shared, all_shared}
 use Rattle.rules.proofs.Numbers.{published, whole, lifted_whole}
 use Rattle.answers.proofs.Answers.{refusal_cases, correct_taken}
-use Rattle.answers.proofs.Corrections.{ran_within_limit, ran_fall, ran_enough, ran_unchanged, ran_within_half, ran_half_enough, near_earthed}
+use Rattle.answers.proofs.Corrections.{ran_within_limit, ran_fall, ran_enough, ran_unchanged, ran_within_half, ran_half_enough}
+use Rattle.answers.proofs.Corrections.{near_earthed}
 use Rattle.answers.proofs.Corrections.{near_degree, ran_back, ran_one_back, ran_codeword, met}
 use Rattle.answers.proofs.Unlike.{ran_unlike, ran_parity}
 use Rattle.answers.proofs.Refusals.{few_numbers, never_seven}
@@ -75,7 +76,8 @@ module _ (n : ℕ) (samples : List Float) (limit : ℕ) (out : List ℕ) where
   unfolding samples_answer
   limit_unchanged more no6 =
       refusal_cases (sampled n) (length samples) (bits (code n)) (length out) (code n).octets_of_word
-      (λ k. ((all k (all_finite samples) limit).number ≡ 6 → ⊥) → all k (all_finite samples) (limit + more) ≡ all k (all_finite samples) limit)
+      (λ k. ((all k (all_finite samples) limit).number ≡ 6 → ⊥)
+      → all k (all_finite samples) (limit + more) ≡ all k (all_finite samples) limit)
       (λ h. refl) (λ h. refl) (λ h. refl)
       (λ right h. go (all_finite samples) right.offers h) no6
     where
@@ -137,7 +139,8 @@ module _ (n : ℕ) (samples : List Float) (limit : ℕ) (out : List ℕ) where
 -- ---- codewords, and codewords with one wrong bit: whatever the magnitudes
 
 module _ (n : ℕ) (t : T (sampled n)) (samples : List Float) (ls : length samples ≡ bits (code n)) (finite : all_finite samples ≡ true)
-    (out : List ℕ) (lo : length out ≡ (code n).octets_of_word) (word : List ℕ) (lw : length word ≡ (code n).octets_of_word) (oct : Octets word)
+    (out : List ℕ) (lo : length out ≡ (code n).octets_of_word) (word : List ℕ) (lw : length word ≡ (code n).octets_of_word)
+    (oct : Octets word)
     (is : codeword (code n) (bit word) ≡ true) where
   off : T (offered n)
   off = and_l (offered n) (not (eqb n 5)) t
@@ -246,7 +249,8 @@ module _ (n : ℕ) (t : T (sampled n)) (samples : List Float) (ls : length sampl
     three_back p q = by_three (none_shared (code n) b d f p q)
 
     pub three_in_one_back : (k : ℕ) → k < checks (code n) → covers (code n) k b ≡ true → covers (code n) k d ≡ true
-        → covers (code n) k f ≡ true → samples_answer n samples limit out ≡ mended_by n 3 (flipped (flipped (flipped (bit word) b) d) f) word
+        → covers (code n) k f ≡ true
+        → samples_answer n samples limit out ≡ mended_by n 3 (flipped (flipped (flipped (bit word) b) d) f) word
     three_in_one_back k l eb ed ef = by_three (all_shared (code n) b d f (published n off).girth hb hd hf bd bf k l eb ed ef)
 
 -- ---- what is flipped
@@ -295,7 +299,8 @@ module _ (n : ℕ) (t : T (sampled n)) (samples : List Float) (ls : length sampl
       ∙ ap (λ way. ran_correct (code n) (read samples) (run way limit (read samples)) out) (equal_sizes (smaller samples) none (code n))
       ∙ ap (λ x. ran_correct (code n) x (run (by_excess (code n)) limit x) out)
       (sym (lifted_whole (code n) (whole n t) (bit octets_read) ∙ read_back))
-      ∙ sym (correct_taken n octets_read limit out (and_l (offered n) (not (eqb n 5)) t) (length_octets (code n).octets_of_word (read samples))
+      ∙ sym (correct_taken n octets_read limit out (and_l (offered n) (not (eqb n 5)) t)
+      (length_octets (code n).octets_of_word (read samples))
       lo)
 
 -- ---- comparisons are all that it asks of the samples

@@ -18,7 +18,6 @@ use Rattle.layout.specs.declared.Shape.{Shape}
 use Rattle.layout.specs.Lent.{Fit, Lent, laid}
 use Rattle.layout.proofs.Laying.{laid_at}
 use Rattle.syndromes.specs.Rows.{wide}
-use Rattle.syndromes.proofs.Bounds.{wide_some}
 
 module _ (h : List ℕ) (sh : Shape) (fit : Fit h sh) (c : Code) (lent : Lent c h sh) (x : Word) where
   abbrev place : ℕ

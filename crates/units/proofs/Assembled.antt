@@ -23,7 +23,8 @@ put_behind front out₀ new at more e =
     ∙ sym (append_assoc front new (drop (at + more) out₀))
 
 -- one codeblock more
-pub more_blocks : (n : ℕ) (information out out₀ new : List ℕ) (k at word : ℕ) → word ≡ (code n).octets_of_word → at ≡ k * (code n).octets_of_word
+pub more_blocks : (n : ℕ) (information out out₀ new : List ℕ) (k at word : ℕ) → word ≡ (code n).octets_of_word
+    → at ≡ k * (code n).octets_of_word
     → out ≡ randomised telecommand 0 (codeblocks n information k) ++ drop at out₀
     → new ≡ randomised telecommand at (codeblock n information k)
     → put_mid at (at + word - at) out new ≡ randomised telecommand 0 (codeblocks n information (k + 1)) ++ drop (at + word) out₀
@@ -37,7 +38,8 @@ more_blocks n information out out₀ new k at word ew ea eo en =
     ap (λ z. front ++ z) (en ∙ ap (λ z. randomised telecommand z (codeblock n information k)) ea)
     ∙ sym (randomised_codeblocks n information k) ∙ ap (λ z. randomised telecommand 0 (codeblocks n information z)) (sym (add-one k)))
 
-pub more_length : (n : ℕ) (information out out₀ new : List ℕ) (k at word : ℕ) → word ≡ (code n).octets_of_word → at ≡ k * (code n).octets_of_word
+pub more_length : (n : ℕ) (information out out₀ new : List ℕ) (k at word : ℕ) → word ≡ (code n).octets_of_word
+    → at ≡ k * (code n).octets_of_word
     → at + word ≤ length out₀
     → out ≡ randomised telecommand 0 (codeblocks n information k) ++ drop at out₀
     → new ≡ randomised telecommand at (codeblock n information k)

@@ -39,10 +39,13 @@ from_fits n information k size e h = subst (λ z. k * z < length information) (s
 
 room : (long k n : ℕ) → unit_code n ≡ true → k * (code n).octets_of_information < long
     → long - k * (code n).octets_of_information < (code n).octets_of_information
-    → (code n).octets_of_information - (long - k * (code n).octets_of_information) ≤ blocks_for n long * (code n).octets_of_information - long
+    → (code n).octets_of_information - (long - k * (code n).octets_of_information) ≤ blocks_for n long *
+    (code n).octets_of_information - long
 unfolding code code1 code3
-room long k = both (λ n. k * (code n).octets_of_information < long → long - k * (code n).octets_of_information < (code n).octets_of_information
-    → (code n).octets_of_information - (long - k * (code n).octets_of_information) ≤ blocks_for n long * (code n).octets_of_information - long)
+room long k = both (λ n. k * (code n).octets_of_information < long
+    → long - k * (code n).octets_of_information < (code n).octets_of_information
+    → (code n).octets_of_information - (long - k * (code n).octets_of_information) ≤ blocks_for n long *
+    (code n).octets_of_information - long)
     (λ h s. omega arith) (λ h s. omega arith)
 
 module _ (n : ℕ) (u : unit_code n ≡ true) (information : List ℕ) (k size : ℕ) (e : size ≡ (code n).octets_of_information)
@@ -66,10 +69,12 @@ module _ (n : ℕ) (u : unit_code n ≡ true) (information : List ℕ) (k size :
       (omega (arith, room (length information) k n u h short, long)))
 
   pub part_last : length information - k * size < size
-      → part n information k ≡ drop (k * size) information ++ replicate ((code n).octets_of_information - length (drop (k * size) information))
+      → part n information k ≡ drop (k * size) information ++ replicate
+      ((code n).octets_of_information - length (drop (k * size) information))
       0x55
   part_last = subst (λ z. length information - k * z < z
-      → part n information k ≡ drop (k * z) information ++ replicate ((code n).octets_of_information - length (drop (k * z) information)) 0x55)
+      → part n information k ≡ drop (k * z) information ++ replicate
+      ((code n).octets_of_information - length (drop (k * z) information)) 0x55)
       (sym e) last_part
 
   pub part_whole : size ≤ length information - k * size
@@ -121,14 +126,17 @@ pub goes : (long k n at word room : ℕ) → unit_code n ≡ true → word ≡ (
 goes long k n at word room u ew ea er h =
     subst (λ w. Goes long k at w room (blocks_for n long) (code n).octets_of_information) (sym ew)
     (subst (λ a. Goes long k a (code n).octets_of_word room (blocks_for n long) (code n).octets_of_information) (sym ea)
-    (subst (λ r. Goes long k (k * (code n).octets_of_word) (code n).octets_of_word r (blocks_for n long) (code n).octets_of_information) (sym er)
+    (subst (λ r. Goes long k (k * (code n).octets_of_word) (code n).octets_of_word r (blocks_for n long) (code n).octets_of_information)
+    (sym er)
     (goes_at long k n u (subst (λ r. k * (code n).octets_of_word < r) er (subst (λ a. a < room) ea h)))))
 
 -- at the end every codeblock is there
-pub all_there : (n long k at room : ℕ) → unit_code n ≡ true → at ≡ k * (code n).octets_of_word → room ≡ blocks_for n long * (code n).octets_of_word
+pub all_there : (n long k at room : ℕ) → unit_code n ≡ true → at ≡ k * (code n).octets_of_word
+    → room ≡ blocks_for n long * (code n).octets_of_word
     → k ≤ blocks_for n long → room ≤ at → k ≡ blocks_for n long
 unfolding code code1 code3
-all_there n long k at room = both (λ n. at ≡ k * (code n).octets_of_word → room ≡ blocks_for n long * (code n).octets_of_word → k ≤ blocks_for n long
+all_there n long k at room = both (λ n. at ≡ k * (code n).octets_of_word → room ≡ blocks_for n long * (code n).octets_of_word
+    → k ≤ blocks_for n long
     → room ≤ at → k ≡ blocks_for n long)
     (λ a b c d. omega arith) (λ a b c d. omega arith) n
 

@@ -28,7 +28,8 @@ module _ (v d : List ℕ) (n t k a u : ℕ) (was : Doubled v n t k d) (inside : 
       go : Dec (j ≡ k) → (get_or (set (set d k a) (n + k) u) j 0 ≡ get_or v j 0)
           × Holds (get_or (set (set d k a) (n + k) u) (n + j) 0) (from (64 * j + t) (wbit v))
       go (yes e) = (
-        front j (omega arith) ∙ ap (λ q. get_or (set d k a) q 0) e ∙ get_or-set_same d k a 0 (omega arith) ∙ ea ∙ ap (λ q. get_or v q 0) (sym e),
+        front j (omega arith) ∙ ap (λ q. get_or (set d k a) q 0) e ∙ get_or-set_same d k a 0 (omega arith) ∙ ea
+            ∙ ap (λ q. get_or v q 0) (sym e),
         λ i hi.
             ap (λ q. digit 64 (get_or (set (set d k a) (n + k) u) (n + q) 0) i) e
             ∙ ap (λ w. digit 64 w i) (get_or-set_same (set d k a) (n + k) u 0 (omega (arith, length-set d k a)))

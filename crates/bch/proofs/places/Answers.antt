@@ -19,8 +19,10 @@ loop-j-preserved c =
     let at = ap (λ (n : ℕ). r / 2 ^ n % 2) e in (
       omega arith,
       (elim c.if-r-j-eq1.branch [
-        | then-r-j-eq1 w ↦ like_set r l.j l.m c.if-r-j-eq1.m w.m-is h (eq-eqb (r / 2 ^ (7 - suc l.j) % 2) 1 (at ∙ w.if-r-j-eq1.true)) l.invariant.1
-        | else-r-j-eq1 w ↦ like_clear r l.j l.m c.if-r-j-eq1.m w.m-is h (ne_eqb (r / 2 ^ (7 - suc l.j) % 2) 1 (λ q. w.if-r-j-eq1.false (sym at ∙ q)))
+        | then-r-j-eq1 w ↦ like_set r l.j l.m c.if-r-j-eq1.m w.m-is h (eq-eqb (r / 2 ^ (7 - suc l.j) % 2) 1 (at
+            ∙ w.if-r-j-eq1.true)) l.invariant.1
+        | else-r-j-eq1 w ↦ like_clear r l.j l.m c.if-r-j-eq1.m w.m-is h
+            (ne_eqb (r / 2 ^ (7 - suc l.j) % 2) 1 (λ q. w.if-r-j-eq1.false (sym at ∙ q)))
             l.invariant.1
       ]),
     )

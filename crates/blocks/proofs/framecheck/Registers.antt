@@ -214,7 +214,8 @@ index-lt r o h k = xor_lt 8 (r / 256) o (omega arith) k
 pub check_step : (octets t : List ℕ) (r i o e : ℕ) → t ≡ table → i < length octets → r < 65536 → o < 256 → o ≡ get_or octets i 0
     → e ≡ get_or t (bit_xor (r / 256) o) 0 → check_from (bit_xor ((r % 256) * 256) e) (drop (i + 1) octets) ≡ check_from r (drop i octets)
 check_step octets t r i o e lent at low small read held =
-    ap₂ (λ a b. check_from (bit_xor ((r % 256) * 256) a) (drop b octets)) (held ∙ ap (λ l. get_or l (bit_xor (r / 256) o) 0) lent) (add-one i)
+    ap₂ (λ a b. check_from (bit_xor ((r % 256) * 256) a) (drop b octets)) (held
+    ∙ ap (λ l. get_or l (bit_xor (r / 256) o) 0) lent) (add-one i)
     ∙ check_goes r o (drop (suc i) octets) (index-lt r o low small)
     ∙ ap (check_from r) (ap (λ z. z ∷ drop (suc i) octets) read ∙ sym (drop-cons octets i 0 at))
 

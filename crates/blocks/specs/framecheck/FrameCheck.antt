@@ -1,5 +1,6 @@
 -- The CCSDS frame check: a division of polynomials modulo 2.
-use Rattle.std.specs.Prelude.{Bool, true, false, List, [], ◌∷◌, ◌++◌, ℕ, zero, suc, ◌+◌, ◌*◌, ◌/◌, ◌%◌, eqb, length, get_or, take, replicate}
+use Rattle.std.specs.Prelude.{Bool, true, false, List, [], ◌∷◌, ◌++◌, ℕ, zero, suc, ◌+◌, ◌*◌, ◌/◌, ◌%◌, eqb, length, get_or, take}
+use Rattle.std.specs.Prelude.{replicate}
 use Rattle.bits.specs.Bits.{Word, bit, number, ◌⊕◌}
 
 -- A polynomial modulo 2 is the list of its coefficients, the highest power first: here those that the first n bits of a word are.

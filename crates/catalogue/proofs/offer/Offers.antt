@@ -1,14 +1,13 @@
 -- What a code number fixes is what the definitions say of the code.
 use mathlib.Core.Path.{◌≡◌, refl, sym, ap, ap₂, ◌∙◌, subst}
 use mathlib.Core.Bool.{Bool, true, false, not, ◌&&◌}
-use mathlib.Core.List.{List}
 use Prim.Native.Nat.{ℕ, zero, suc, ◌+◌, ◌-◌, ◌*◌, ◌/◌, ◌≤◌, ◌<◌}
 use native.Mathlib.Omega.{arith}
 use lib.Dec.{T, eqb, leb, lit≤, lit<, leb→le}
-use borrow.Author.Tests.{eq-eqb, ne_eqb, lt-leb}
+use borrow.Author.Tests.{ne_eqb, lt-leb}
 use Rattle.bits.specs.Bits.{if◌then◌else◌}
-use Rattle.rules.specs.Codes.{code, code1, code2, code3, code4, code5, bits, information, offered, telecommanded}
-use Rattle.rules.specs.Tables.{parity16, parity32, parity64, parity511, generator16, generator32, generator64, generator511}
+use Rattle.rules.specs.Codes.{code, code1, code2, code3, code4, code5, bits, offered, telecommanded}
+use Rattle.rules.specs.Tables.{parity16, parity32, parity64, parity511}
 use Rattle.bits.proofs.Sums.{and_l, and_r}
 use Rattle.rules.proofs.Numbers.{five}
 use Rattle.catalogue.specs.declared.offer.Offer.{Offer}

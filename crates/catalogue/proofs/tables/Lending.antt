@@ -2,8 +2,7 @@
 use mathlib.Core.Path.{◌≡◌, refl, sym, subst}
 use mathlib.Core.Bool.{true}
 use mathlib.Core.List.{List}
-use Prim.Native.Nat.{ℕ, ◌≤◌, ◌<◌}
-use native.Mathlib.Decide.{ℕ_discrete}
+use Prim.Native.Nat.{ℕ}
 use native.Mathlib.Omega.{arith}
 use lib.Dec.{lit<, lit≤}
 use Rattle.rules.specs.Tables.{parity16, parity32, parity64, parity511, generator16, generator32, generator64, generator511}
@@ -104,7 +103,8 @@ pub record Chosen (size : ℕ) (h : List ℕ) (sh : Shape) : Type 0 where
 abbrev Given : ℕ → List ℕ → Shape → Type 0
 Given n h sh = (sh ≡ (offer_of n).shape) × Lends n h sh
 
-given : (n : ℕ) {h : List ℕ} {sh : Shape} (h' : List ℕ) → (h ≡ h') × (sh ≡ (offer_of n).shape) → Lends n h' (offer_of n).shape → Given n h sh
+given : (n : ℕ) {h : List ℕ} {sh : Shape} (h' : List ℕ) → (h ≡ h') × (sh ≡ (offer_of n).shape) → Lends n h' (offer_of n).shape
+    → Given n h sh
 given n {h} {sh} h' p l = (p.1, subst (λ z. Lends n h z) (sym p.1) (subst (λ z. Lends n z (offer_of n).shape) (sym p.0) l))
 
 pub by_size_lem : (size : ℕ) (h : List ℕ) (sh : Shape) → Chosen size h sh → (n : ℕ) → offered n ≡ true → size ≡ (offer_of n).shape.size

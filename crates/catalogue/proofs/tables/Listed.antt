@@ -15,7 +15,8 @@ use Rattle.catalogue.specs.tables.Flat.{listed, place_at, row_place, RowLaid}
 block_place : (nested : List (List ℕ)) (b k i : ℕ) → b ≡ i / 2 → k ≡ i % 2 → get_or (get_or nested b []) k 0 ≡ row_place nested i
 block_place nested b k i eb ek = ap₂ (λ x y. get_or (get_or nested x []) y 0) eb ek
 
-pub row_place_lem : (h : List (List (List ℕ))) (r q b k j : ℕ) → q ≡ r → b ≡ j / 2 → k ≡ j % 2 → row_place (get_or h r []) j ≡ place_at h q b k
+pub row_place_lem : (h : List (List (List ℕ))) (r q b k j : ℕ) → q ≡ r → b ≡ j / 2 → k ≡ j % 2
+    → row_place (get_or h r []) j ≡ place_at h q b k
 row_place_lem h r q b k j eq eb ek = sym (ap (λ x. place_at h x b k) eq ∙ block_place (get_or h r []) b k j eb ek)
 
 -- nothing of a row is laid

@@ -25,5 +25,6 @@ run-ended-requires c =
 pub returns : goal.returns
 returns c n off is =
     let e = c.measure-sh.ensures.1 n off is in
-    let ends = c.run-ended.ensures (code n) (begins n _ _ _ _ _ e c.broken-first.result c.broken-first.ensures _ (sym (unsent_is n is off))) in
+    let ends = c.run-ended.ensures (code n)
+    (begins n _ _ _ _ _ e c.broken-first.result c.broken-first.ensures _ (sym (unsent_is n is off))) in
     run_ends n _ _ _ _ _ e _ _ _ _ ends.0 c.broken-first.ensures ends.1 c.lowest-lowest.ensures

@@ -9,13 +9,12 @@ use borrow.Author.Rules.{rules}
 use Rattle.codes.proofs.write_flipped.Goals as goal
 
 pub write-requires : goal.write-requires
-write-requires c =
-    (
-      (small c.requires.0).unsent,
-      omega (arith, c.requires.2, (small c.requires.0).word),
-      λ h. (small c.requires.0).plain (omega (arith, h, c.requires.2)),
-      omega (arith, c.requires.2, (small c.requires.0).ends),
-    )
+write-requires c = (
+  (small c.requires.0).unsent,
+  omega (arith, c.requires.2, (small c.requires.0).word),
+  λ h. (small c.requires.0).plain (omega (arith, h, c.requires.2)),
+  omega (arith, c.requires.2, (small c.requires.0).ends),
+)
 
 pub returns : goal.returns
 returns c n off is =

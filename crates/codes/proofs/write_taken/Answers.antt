@@ -8,13 +8,12 @@ use borrow.Author.Rules.{rules}
 use Rattle.codes.proofs.write_taken.Goals as goal
 
 pub write-requires : goal.write-requires
-write-requires c =
-    (
-      (small c.requires.0).unsent,
-      omega (arith, c.requires.1, (small c.requires.0).word),
-      λ h. (small c.requires.0).plain (omega (arith, h, c.requires.1)),
-      omega (arith, c.requires.1, (small c.requires.0).ends),
-    )
+write-requires c = (
+  (small c.requires.0).unsent,
+  omega (arith, c.requires.1, (small c.requires.0).word),
+  λ h. (small c.requires.0).plain (omega (arith, h, c.requires.1)),
+  omega (arith, c.requires.1, (small c.requires.0).ends),
+)
 
 pub returns-then-number-eq0 : goal.returns-then-number-eq0
 returns-then-number-eq0 c n off is =

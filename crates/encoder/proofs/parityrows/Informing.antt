@@ -82,7 +82,8 @@ laid_informed n sh h J x lends l none =
     ∙ laid_summed h sh lends.fit (code n) lends.lent x
 
 -- the near-Earth table, as it is lent
-pub wide_lends : (n : ℕ) (h : List ℕ) → h ≡ flat16 (pairs parity511) → offered n ≡ true → wide_shape ≡ (offer_of n).shape → Lends n h wide_shape
+pub wide_lends : (n : ℕ) (h : List ℕ) → h ≡ flat16 (pairs parity511) → offered n ≡ true → wide_shape ≡ (offer_of n).shape
+    → Lends n h wide_shape
 wide_lends n h e off is = (by_size_lem 511 h wide_shape (record {
   small = λ z. absurd (omega arith);
   middle = λ z. absurd (omega arith);

@@ -156,7 +156,8 @@ abbrev pub Summed : ℕ → List ℕ → Word → ℕ → ℕ → Type 0
 Summed M step d v k = (i : ℕ) → i < 64 → digit 64 v i ⊕ rest M step d k i ≡ copies M step d i
 
 module _ (M : ℕ) (step : List ℕ) (d : Word) (v k : ℕ) (so_far : Summed M step d v k) where
-  pub summed_more : (u : ℕ) → k < length step → get_or step k 0 < M → Holds u (from (get_or step k 0) d) → Summed M step d (bit_xor v u) (k + 1)
+  pub summed_more : (u : ℕ) → k < length step → get_or step k 0 < M → Holds u (from (get_or step k 0) d)
+      → Summed M step d (bit_xor v u) (k + 1)
   summed_more u h l e i hi =
       ap (λ z. z ⊕ rest M step d (k + 1) i) (digit_xor 64 v u i ∙ ap (λ z. digit 64 v i ⊕ z) (e i hi))
       ∙ ⊕-assoc (digit 64 v i) (from (get_or step k 0) d i) (rest M step d (k + 1) i)
@@ -414,7 +415,8 @@ module _ (sh : Shape) (some : 1 ≤ sh.size) (first : ℕ) (f : ℕ → Word) (a
       next = omega (arith, add-mul a 1 M)
 
       front : (n : ℕ) → n < start → added y start (start + M) row n ≡ up_to end whole n
-      front n h = added_before y row start (start + M) n h ∙ up_to_below start n whole h ∙ sym (up_to_below end n whole (omega (arith, next)))
+      front n h = added_before y row start (start + M) n h ∙ up_to_below start n whole h
+          ∙ sym (up_to_below end n whole (omega (arith, next)))
 
       here : (n : ℕ) → start ≤ n → n < start + M → row (n - start) ≡ whole n
       here n h l =

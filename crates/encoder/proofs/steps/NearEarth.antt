@@ -63,7 +63,8 @@ module _ (octets_of_word octets_of_information unsent : ℕ) (y : Word) (short :
       ap₂ (λ u v. u ⊕ v)
       (ending_parity octets_of_word octets_of_information unsent 510 parity511 generator511 512 14 1 0 others steps511
       (near_tests octets_of_word octets_of_information unsent).shape refl refl tt facts511 y short weighs
-      (near_inverted octets_of_word octets_of_information unsent whole) p (near_inverted_lem octets_of_word octets_of_information unsent whole met p l))
+      (near_inverted octets_of_word octets_of_information unsent whole) p
+      (near_inverted_lem octets_of_word octets_of_information unsent whole met p l))
       (ap (odd_together_of y) (ap (λ z. z % 2) (add-zero b) ∙ mod-eq_of_lt hb)
       ∙ sym (ap (sum 16) (fun_ext (λ j. ap (λ z. digit 16 (get_or counted b 0) j && z)
       (finished_odd octets_of_word octets_of_information unsent 510 parity511 generator511 512 14 1 0 others steps511

@@ -54,7 +54,8 @@ module _ (m : ℕ) (v : Word) (i : ℕ) (h : i < suc m) where
       ∙ ap₂ (λ a b. a ⊕ b) (ap (sum (suc m)) (fun_ext (λ k. ap (λ z. v (z % suc m)) (add_comm i k))) ∙ turn m i v ∙ even) by_itself
 
 -- J information blocks and R = q + 1 parity blocks; parity block a ends in row (a + first) mod R
-module _ (octets_of_word octets_of_information unsent m : ℕ) (H : List (List (List ℕ))) (gs : List (List ℕ)) (printed J q first : ℕ) (e : Word)
+module _ (octets_of_word octets_of_information unsent m : ℕ) (H : List (List (List ℕ))) (gs : List (List ℕ)) (printed J q first : ℕ)
+    (e : Word)
     (steps : List (List ℕ))
     (shape : T (shaped (suc m) (J + suc q) H)) (long : length H ≡ suc q) (informs : length gs ≡ J)
     (bounds : T (below 15 (λ k. rows_in (suc q) (get_or steps k []))))

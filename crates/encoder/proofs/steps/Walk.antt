@@ -117,7 +117,8 @@ module _ (m : ℕ) where
       from_row = ltb→lt from R (and_r (ltb to R) (ltb from R) t)
 
   -- and a walk
-  pub walk_back : (R : ℕ) (steps : List (List ℕ)) (n : ℕ) → ((k : ℕ) → k < n → T (rows_in R (get_or steps k []))) → (w rows : ℕ → Word) (i : ℕ)
+  pub walk_back : (R : ℕ) (steps : List (List ℕ)) (n : ℕ) → ((k : ℕ) → k < n → T (rows_in R (get_or steps k [])))
+      → (w rows : ℕ → Word) (i : ℕ)
       → weighted_rows (suc m) R w (walked (suc m) steps n rows) i ≡ weighted_rows (suc m) R (backs m steps n w) rows i
   unfolding walked backs
   walk_back R steps zero t w rows i = refl

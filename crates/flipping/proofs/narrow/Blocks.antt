@@ -293,7 +293,8 @@ module _ (c : Code) (h : List ℕ) (sh : Shape) (fit : Fit h sh) (narrow : sh.si
 
   -- A bit is chosen that is the smallest of those that have this score.
   pub chosen : (samples : List ℕ) (bit : ℕ)
-      → (8 < top → bit ≡ smallest (smaller samples) (λ n. leb top (score c x n)) (block * sh.size + count_leading_zeros 64 (get_or masks block 0))
+      → (8 < top
+      → bit ≡ smallest (smaller samples) (λ n. leb top (score c x n)) (block * sh.size + count_leading_zeros 64 (get_or masks block 0))
       from (sh.blocks * sh.size - from))
       → Chosen c sh from x samples (record { score = top; bit = bit })
   chosen samples bit e = record { most = most_in; low = _; top = top_in; bit = e }

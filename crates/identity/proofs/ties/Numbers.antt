@@ -50,7 +50,8 @@ module _ (words : List ℕ) (at : ℕ) (small : (i : ℕ) → get_or words i 0 <
           last_word (joined w words at) y k l ∙ ap (λ (n : ℕ). get_or words n 0 / 2 ^ k % 2) e
           ∙ ap (λ (n : ℕ). get_or words (at + (suc w - 1) - k / 64) 0 / 2 ^ n % 2) r
 
-      front : ((k - 64) / 64 < w → joined w words at / 2 ^ (k - 64) % 2 ≡ get_or words (at + (w - 1) - (k - 64) / 64) 0 / 2 ^ ((k - 64) % 64)
+      front : ((k - 64) / 64 < w
+          → joined w words at / 2 ^ (k - 64) % 2 ≡ get_or words (at + (w - 1) - (k - 64) / 64) 0 / 2 ^ ((k - 64) % 64)
           % 2)
           → 64 ≤ k → (joined w words at * 2 ^ 64 + y) / 2 ^ k % 2 ≡ get_or words (at + (suc w - 1) - k / 64) 0 / 2 ^ (k % 64) % 2
       front before l =

@@ -316,7 +316,8 @@ module _ (n : ℕ) (word : List ℕ) (limit room : ℕ) (l : Listing) (flips : �
             (subst (λ u. Going (by_excess (code n)) (code n) l.offer.shape limit (word_of n word) (u + 1) (wbit y') (wbit z')) (sym at)
             (goes_on (by_excess (code n)) (code n) _ limit (word_of n word) flips (wbit y) (wbit z) st.going k ex e q (wbit y') (wbit z')
             here held));
-        list = subst (λ u. list_of n word limit ≡ take (u + 1) (list_of n word limit) ++ rest (u + 1)) (sym at) (split (as_entry l'.record)).1;
+        list = subst (λ u. list_of n word limit ≡ take (u + 1) (list_of n word limit) ++ rest (u + 1)) (sym at)
+            (split (as_entry l'.record)).1;
         serves = st.serves;
       };
       record_is = λ _ d. ap (λ u. get_or (list_of n word limit) u d) at ∙ (split d).0

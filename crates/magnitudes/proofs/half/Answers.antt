@@ -1,13 +1,12 @@
 -- `magnitudes::half`: the bits of the first i samples are marked, and these are finite or not. Assumes nothing.
 use mathlib.Core.Path.{◌≡◌, refl, sym, ap, ap₂, ◌∙◌}
 use mathlib.Core.Bool.{◌&&◌}
-use Prim.Native.Nat.{ℕ, suc, ◌+◌, ◌-◌, ◌≤◌, ◌<◌}
+use Prim.Native.Nat.{suc, ◌+◌}
 use native.Mathlib.Omega.{arith}
-use Rattle.bits.specs.Bits.{digit, below}
+use Rattle.bits.specs.Bits.{below}
 use Rattle.vectors.specs.Vectors.{up_to, from}
 use Rattle.magnitudes.specs.Patterns.{read, pattern_of, is_finite}
 use Rattle.magnitudes.proofs.Reading.{marked_more, marked_none}
-use borrow.Author.Rules.{rules}
 use Rattle.magnitudes.proofs.half.Goals as goal
 
 pub loop-i-init : goal.loop-i-init
@@ -24,7 +23,8 @@ loop-i-preserved c =
       omega arith,
       marked_more x l.bits l.i c.mark-bits.result (omega arith) l.invariant.1
           (unfold read in c.mark-bits.ensures),
-      ap₂ (λ p q. p && q) c.is_finite-finite.ensures l.invariant.2 ∙ ap (λ k. below k (λ j. is_finite (pattern_of a.samples.now (a.at + j))))
+      ap₂ (λ p q. p && q) c.is_finite-finite.ensures l.invariant.2
+          ∙ ap (λ k. below k (λ j. is_finite (pattern_of a.samples.now (a.at + j))))
           (sym one),
     )
 

@@ -1,13 +1,9 @@
 -- `magnitudes::half`: the bits of the first i samples are marked, and these are finite or not. Assumes nothing.
-use mathlib.Core.Path.{◌≡◌, refl, sym, ap, ap₂, ◌∙◌}
-use mathlib.Core.Bool.{◌&&◌}
-use Prim.Native.Nat.{ℕ, suc, ◌+◌, ◌-◌, ◌≤◌, ◌<◌}
-use native.Mathlib.Omega.{arith}
+use mathlib.Core.Path.{◌≡◌}
+use Prim.Native.Nat.{ℕ, ◌+◌, ◌-◌, ◌≤◌, ◌<◌}
 use Rattle.bits.specs.Bits.{digit, below}
 use Rattle.vectors.specs.Vectors.{up_to, from}
 use Rattle.magnitudes.specs.Patterns.{read, pattern_of, is_finite}
-use Rattle.magnitudes.proofs.Reading.{marked_more, marked_none}
-use borrow.Author.Rules.{rules}
 use Rattle.magnitudes.proofs.half.Given as goal
 
 abbrev pub invariant-loop-i : goal.invariant-loop-i

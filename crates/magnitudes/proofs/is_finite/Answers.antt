@@ -3,7 +3,6 @@ use mathlib.Core.Path.{ap}
 use mathlib.Core.Bool.{not}
 use Prim.Native.Nat.{◌/◌}
 use lib.Dec.{eqb}
-use borrow.Author.Rules.{rules}
 use Rattle.magnitudes.proofs.is_finite.Goals as goal
 
 pub returns : goal.returns

@@ -2,7 +2,6 @@
 use mathlib.Core.Path.{ap, sym, ◌∙◌}
 use Prim.Native.Nat.{◌^◌}
 use Rattle.bits.specs.Bits.{if◌then◌else◌}
-use borrow.Author.Rules.{rules}
 use Rattle.magnitudes.proofs.Reading.{raised}
 use Rattle.magnitudes.proofs.mark.Goals as goal
 

@@ -11,7 +11,6 @@ use Rattle.vectors.proofs.Filling.{word_stored}
 use Rattle.magnitudes.specs.Patterns.{read, pattern_of, is_finite, all_finite}
 use Rattle.magnitudes.proofs.Patterns.{past_read}
 use Rattle.magnitudes.proofs.Reading.{rest_held, below_more}
-use borrow.Author.Rules.{rules}
 use Rattle.magnitudes.proofs.read.Goals as goal
 
 pub returns : goal.returns

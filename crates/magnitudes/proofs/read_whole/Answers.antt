@@ -1,12 +1,12 @@
 -- `magnitudes::read_whole`: after k passes the first k words have the samples' bits. Assumes nothing.
 use mathlib.Core.Path.{◌≡◌, refl, sym, ap, ap₂, ◌∙◌}
 use mathlib.Core.Bool.{◌&&◌}
-use Prim.Native.Nat.{ℕ, ◌+◌, ◌-◌, ◌*◌, ◌/◌, ◌≤◌}
+use Prim.Native.Nat.{ℕ, ◌+◌, ◌*◌, ◌/◌}
 use native.Mathlib.Omega.{arith}
 use lib.ListN.{length}
 use Rattle.bits.specs.Bits.{below}
 use Rattle.vectors.specs.Vectors.{wbit, joined}
-use Rattle.vectors.proofs.Filling.{Filled, filled_start, filled_more}
+use Rattle.vectors.proofs.Filling.{filled_start, filled_more}
 use Rattle.magnitudes.specs.Patterns.{read, pattern_of, is_finite}
 use Rattle.magnitudes.proofs.Reading.{below_more, all_held}
 use Rattle.magnitudes.proofs.read_whole.Goals as goal

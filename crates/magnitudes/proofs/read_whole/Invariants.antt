@@ -1,19 +1,16 @@
 -- `magnitudes::read_whole`: after k passes the first k words have the samples' bits. Assumes nothing.
-use mathlib.Core.Path.{◌≡◌, refl, sym, ap, ap₂, ◌∙◌}
-use mathlib.Core.Bool.{◌&&◌}
-use Prim.Native.Nat.{ℕ, ◌+◌, ◌-◌, ◌*◌, ◌/◌, ◌≤◌}
-use native.Mathlib.Omega.{arith}
+use mathlib.Core.Path.{◌≡◌}
+use Prim.Native.Nat.{◌-◌, ◌*◌, ◌/◌, ◌≤◌}
 use lib.ListN.{length}
 use Rattle.bits.specs.Bits.{below}
-use Rattle.vectors.specs.Vectors.{wbit, joined}
-use Rattle.vectors.proofs.Filling.{Filled, filled_start, filled_more}
+use Rattle.vectors.proofs.Filling.{Filled}
 use Rattle.magnitudes.specs.Patterns.{read, pattern_of, is_finite}
-use Rattle.magnitudes.proofs.Reading.{below_more, all_held}
 use Rattle.magnitudes.proofs.read_whole.Given as goal
 
 abbrev pub invariant-loop-k : goal.invariant-loop-k
 invariant-loop-k l =
-    (l.k ≤ length l.samples / 64) × Filled l.initial.y (read l.samples) l.y l.k × (l.finite ≡ below (64 * l.k) (λ i. is_finite (pattern_of l.samples i)))
+    (l.k ≤ length l.samples / 64) × Filled l.initial.y (read l.samples) l.y l.k
+    × (l.finite ≡ below (64 * l.k) (λ i. is_finite (pattern_of l.samples i)))
 
 abbrev pub decreases-loop-k : goal.decreases-loop-k
 decreases-loop-k l = l.whole - l.k

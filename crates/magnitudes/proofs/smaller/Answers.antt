@@ -4,7 +4,6 @@ use lib.Dec.{ltb}
 use borrow.Author.Tests.{lt-ltb, le-ltb}
 use Rattle.bits.specs.Bits.{if◌then◌else◌}
 use Rattle.magnitudes.specs.Patterns.{smaller}
-use borrow.Author.Rules.{rules}
 use Rattle.magnitudes.proofs.smaller.Goals as goal
 
 pub returns-then-unsigned : goal.returns-then-unsigned

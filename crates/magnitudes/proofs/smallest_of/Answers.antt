@@ -1,15 +1,11 @@
 -- `magnitudes::smallest_of`: what is left of the mask gives, from the best so far, what all of it gives. Assumes nothing.
-use mathlib.Core.Path.{◌≡◌, refl, sym, ◌∙◌, subst}
-use mathlib.Core.Bool.{true}
-use Prim.Native.Nat.{ℕ, ◌+◌, ◌-◌, ◌^◌, ◌<◌}
+use mathlib.Core.Path.{refl, sym, ◌∙◌, subst}
+use Prim.Native.Nat.{◌+◌, ◌<◌}
 use native.Mathlib.Nat.{pos_of_ne-zero}
 use native.Mathlib.Omega.{arith}
-use lib.Count.{count_leading_zeros}
 use lib.ListN.{length}
-use Rattle.bits.specs.Bits.{digit}
 use Rattle.magnitudes.specs.Patterns.{smaller}
-use Rattle.magnitudes.specs.Sizes.{smallest}
-use Rattle.magnitudes.proofs.Masks.{marks, masked, masked_none, masked_more, left_less, left_set, smaller_in}
+use Rattle.magnitudes.proofs.Masks.{masked, masked_none, masked_more, left_less, left_set, smaller_in}
 use borrow.Author.Rules.{rules}
 use Rattle.magnitudes.proofs.smallest_of.Goals as goal
 

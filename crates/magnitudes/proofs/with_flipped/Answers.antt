@@ -3,7 +3,6 @@ use mathlib.Core.Path.{ap, ◌∙◌}
 use Rattle.bits.specs.Bits.{digit, ◌⊕◌}
 use Rattle.vectors.proofs.Places.{digit_xor}
 use Rattle.magnitudes.proofs.Masks.{one_bit}
-use borrow.Author.Rules.{rules}
 use Rattle.magnitudes.proofs.with_flipped.Goals as goal
 
 pub returns : goal.returns

@@ -10,7 +10,8 @@ use Rattle.nearest.proofs.flip_listed.Given as goal
 
 abbrev pub invariant-loop-k : goal.invariant-loop-k
 invariant-loop-k l =
-    (l.k ≤ l.l.count) × (length l.y ≡ 3) × ((bits' : List ℕ) → l.l ≡ held (list bits') → flips bits' (wbit l.initial.y) ≡ flips (drop l.k bits') (wbit l.y))
+    (l.k ≤ l.l.count) × (length l.y ≡ 3)
+    × ((bits' : List ℕ) → l.l ≡ held (list bits') → flips bits' (wbit l.initial.y) ≡ flips (drop l.k bits') (wbit l.y))
 
 abbrev pub decreases-loop-k : goal.decreases-loop-k
 decreases-loop-k l = l.l.count - l.k

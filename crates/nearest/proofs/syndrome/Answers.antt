@@ -24,7 +24,8 @@ loop-n-preserved c =
       (elim c.if-is_set.branch [
         | then-is_set w ↦ subst (λ z. Holds z (Partly x (l.n + 1))) (sym w.z-is)
             (partly_set x l.n l.z h l.invariant.1 c.args.columns.now c.requires.0 (sym set ∙ w.if-is_set.true))
-        | else-is_set w ↦ subst (λ z. Holds z (Partly x (l.n + 1))) (sym w.z-is) (partly_clear x l.n l.z h l.invariant.1 (sym set ∙ w.if-is_set.false))
+        | else-is_set w ↦ subst (λ z. Holds z (Partly x (l.n + 1))) (sym w.z-is) (partly_clear x l.n l.z h l.invariant.1 (sym set
+            ∙ w.if-is_set.false))
       ]),
     )
 

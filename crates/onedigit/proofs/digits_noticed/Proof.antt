@@ -103,5 +103,6 @@ returns c =
     )
 
 pub digits-noticed-spec : {M : Type 1} → statement M
-digits-noticed-spec = tie.close (tie.spec invariant-loop decreases-loop mul-n mul-n-2 loop-holds digit-noticed-requires (λ c κs. tt) add-noticed
+digits-noticed-spec = tie.close (tie.spec invariant-loop decreases-loop mul-n mul-n-2 loop-holds digit-noticed-requires
+    (λ c κs. tt) add-noticed
     (λ c. omega arith) (λ c. omega arith) loop-again same_length returns)

@@ -93,6 +93,7 @@ returns c =
     )
 
 pub entries-noticed-spec : {M : Type 1} → statement M
-entries-noticed-spec = tie.close (tie.spec invariant-loop decreases-loop (λ c. omega arith) mul-n loop-holds (λ c. omega arith) (λ c. omega arith)
+entries-noticed-spec = tie.close (tie.spec invariant-loop decreases-loop (λ c. omega arith) mul-n loop-holds (λ c. omega arith)
+    (λ c. omega arith)
     (λ c. omega arith) (λ c. omega arith) entry-noticed-requires (λ c κs. tt) add-noticed (λ c. omega arith) (λ c. omega arith) loop-again
     same_length returns)

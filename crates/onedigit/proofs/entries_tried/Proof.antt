@@ -62,6 +62,7 @@ returns c =
     l.invariant.3 ∙ ap (λ (x : ℕ). count x (entry_wrong a.m a.parity.now)) e
 
 pub entries-tried-spec : {M : Type 1} → statement M
-entries-tried-spec = tie.close (tie.spec invariant-loop decreases-loop (λ c. omega arith) mul-n loop-holds (λ c. omega arith) (λ c. omega arith)
+entries-tried-spec = tie.close (tie.spec invariant-loop decreases-loop (λ c. omega arith) mul-n loop-holds (λ c. omega arith)
+    (λ c. omega arith)
     (λ c. omega arith) (λ c. omega arith) wrong-entry-requires (λ c κs. tt) add-tried (λ c. omega arith) (λ c. omega arith) loop-again
     returns)

@@ -1,7 +1,6 @@
 -- `planes::all` meets its contract: the three bits of the number, each at every place. Assumes nothing.
 use mathlib.Core.Path.{ap}
 use native.Mathlib.Omega.{arith}
-use borrow.Author.Rules.{rules}
 use Rattle.bits.specs.Bits.{tally}
 use Rattle.planes.specs.Counts.{value}
 use Rattle.planes.proofs.Digits.{three_bits}

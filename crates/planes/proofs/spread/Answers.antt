@@ -1,6 +1,5 @@
 -- `planes::spread` meets its contract: all ones or all zeros. Assumes nothing.
 use mathlib.Core.Path.{sym, ◌∙◌}
-use lib.Dec.{eqb}
 use borrow.Author.Tests.{eq-eqb, ne_eqb}
 use Rattle.bits.proofs.Octets.{digit_zero}
 use Rattle.planes.proofs.Digits.{ones_at}

@@ -15,8 +15,7 @@ loop-i-init c = (omega arith, refl, λ g used known. refl)
 
 pub loop-i-preserved : goal.loop-i-preserved
 loop-i-preserved c =
-    let h = c.loop-i in
-    (
+    let h = c.loop-i in (
       omega arith,
       simp length-set h.invariant.1,
       λ g used known. randomised_more g used c.args.octets.now h.octets h.i

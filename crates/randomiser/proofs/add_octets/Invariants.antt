@@ -12,7 +12,8 @@ use Rattle.randomiser.proofs.add_octets.Given as goal
 abbrev pub invariant-loop-i : goal.invariant-loop-i
 invariant-loop-i l =
     (l.i ≤ length l.initial.octets) × (length l.octets ≡ length l.initial.octets)
-    × ((g : Generator) → (used : ℕ) → ((j : ℕ) → j < length l.initial.octets → get_or l.sequence (l.from + j) 0 ≡ sequence_octet g (used + j)) → l.octets
+    × ((g : Generator) → (used : ℕ)
+    → ((j : ℕ) → j < length l.initial.octets → get_or l.sequence (l.from + j) 0 ≡ sequence_octet g (used + j)) → l.octets
     ≡ randomised g used (take l.i l.initial.octets) ++ drop l.i l.initial.octets)
 
 abbrev pub decreases-loop-i : goal.decreases-loop-i

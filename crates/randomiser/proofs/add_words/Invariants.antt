@@ -13,7 +13,8 @@ use Rattle.randomiser.proofs.add_words.Given as goal
 abbrev pub invariant-loop-at : goal.invariant-loop-at
 invariant-loop-at l =
     (l.at ≡ l.at / 8 * 8) × (l.at ≤ length l.initial.octets) × (length l.octets ≡ length l.initial.octets)
-    × ((g : Generator) → (used : ℕ) → ((j : ℕ) → j < length l.initial.octets → get_or l.sequence (l.from + j) 0 ≡ sequence_octet g (used + j)) → l.octets
+    × ((g : Generator) → (used : ℕ)
+    → ((j : ℕ) → j < length l.initial.octets → get_or l.sequence (l.from + j) 0 ≡ sequence_octet g (used + j)) → l.octets
     ≡ randomised g used (take l.at l.initial.octets) ++ drop l.at l.initial.octets)
 
 abbrev pub decreases-loop-at : goal.decreases-loop-at

@@ -214,7 +214,8 @@ module _ (samples : List ℕ) (sh : Shape) (starts counts met kept : List ℕ) (
     -- the others are seen anew
     seen_anew : (j i : ℕ) → before j i < after j i → raised sh (wbit d') starts counts (8 * b) k N j i ≡ true
     seen_anew j i less =
-        let o = one_counted (get_or counts j 0) (λ e. wbit d (get_or starts (8 * j + e) 0 + i)) (λ e. wbit d' (get_or starts (8 * j + e) 0 + i))
+        let o = one_counted (get_or counts j 0) (λ e. wbit d (get_or starts (8 * j + e) 0 + i))
+        (λ e. wbit d' (get_or starts (8 * j + e) 0 + i))
         less in
         let q = get_or starts (8 * j + o.at) 0 + i in
         let u = unlike_is (wbit d q) (wbit d' q) o.holds in

@@ -310,7 +310,8 @@ module _ (samples : List ℕ) (sh : Shape) (d : Word) (starts counts : List ℕ)
     none = λ u. absurd (omega arith);
     knows = λ was. was;
     leads = λ was g scored lead_was. leads_more g scored (was.block b hb) best z lead_was (λ u. by (was.block b hb) one) (λ u v. lead v)
-        (λ u k l t. ahead_onward (smaller samples) (length samples) (ordered samples (length samples)) z (get_or kept b 0) (b * M + k) u hbit
+        (λ u k l t. ahead_onward (smaller samples) (length samples) (ordered samples (length samples)) z (get_or kept b 0)
+        (b * M + k) u hbit
         (omega (arith, room)) over ((was.block b hb).ahead hbit k l refl t)) (λ u. absurd (omega arith));
   }
     where

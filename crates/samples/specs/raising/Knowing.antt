@@ -1,5 +1,6 @@
 -- What is known of each block, and what a flip makes of it.
-use Rattle.std.specs.Prelude.{◌≡◌, Bool, true, false, ◌&&◌, ◌||◌, List, ℕ, zero, suc, ◌+◌, ◌-◌, ◌*◌, ◌%◌, ◌≤◌, ◌<◌, eqb, ltb, length, get_or}
+use Rattle.std.specs.Prelude.{◌≡◌, Bool, true, false, ◌&&◌, ◌||◌, List, ℕ, zero, suc, ◌+◌, ◌-◌, ◌*◌, ◌%◌, ◌≤◌, ◌<◌, eqb, ltb, length}
+use Rattle.std.specs.Prelude.{get_or}
 use Rattle.bits.specs.Bits.{Word, if◌then◌else◌}
 use Rattle.layout.specs.declared.Shape.{Shape}
 use Rattle.flipping.specs.bounds.Reading.{hits}

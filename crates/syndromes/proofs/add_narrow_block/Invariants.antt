@@ -1,11 +1,8 @@
 -- `syndromes::add_narrow_block` meets its contract: after r passes the first r rows have it. Assumes nothing.
 use Prim.Native.Nat.{◌-◌}
-use native.Mathlib.Omega.{arith}
-use borrow.Author.Rules.{rules}
 use Rattle.vectors.specs.Vectors.{wbit, both}
 use Rattle.syndromes.specs.Rows.{wide, spread, turned}
-use Rattle.syndromes.proofs.Bounds.{wide_some}
-use Rattle.syndromes.proofs.Rowwise.{Reached, reached_none, reached-more, reached_all}
+use Rattle.syndromes.proofs.Rowwise.{Reached}
 use Rattle.syndromes.proofs.add_narrow_block.Given as goal
 
 abbrev pub invariant-loop-r : goal.invariant-loop-r

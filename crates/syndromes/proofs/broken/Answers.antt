@@ -7,7 +7,6 @@ use Rattle.bits.specs.Bits.{count}
 use Rattle.bits.proofs.Counting.{count-le}
 use Rattle.vectors.specs.Vectors.{wbit}
 use Rattle.syndromes.proofs.Laid.{laid_count}
-use borrow.Author.Rules.{rules}
 use Rattle.syndromes.proofs.broken.Goals as goal
 
 pub overflow_cast-result : goal.overflow_cast-result

@@ -1,8 +1,7 @@
 -- `syndromes::double_block` meets its contract. Assumes nothing.
-use mathlib.Core.Path.{◌≡◌, ap, ◌∙◌}
-use native.Mathlib.Omega.{arith}
+use mathlib.Core.Path.{ap, ◌∙◌}
 use borrow.Author.Rules.{rules}
-use Rattle.vectors.specs.Vectors.{wbit, from, twice}
+use Rattle.vectors.specs.Vectors.{twice}
 use Rattle.vectors.proofs.Spans.{up_to_again}
 use Rattle.syndromes.proofs.double_block.Goals as goal
 

@@ -28,5 +28,5 @@ returns c =
           ∙ ap (λ (z : Word). plus z g) e
           ∙ laid_flipped h a.sh pre.0 code lent x (a.n / M) (a.n % M) ((div-lt_iff_lt-mul pre.0.some).1 pre.1)
           (mod-lt a.n pre.0.some)
-          ∙ ap (λ (n : ℕ). laid code a.sh (flipped x n)) (div-add-mod' a.n M)
+          ∙ ap (λ (n : ℕ). laid code a.sh (flipped x n)) (div-add-mod' a.n M);
     }

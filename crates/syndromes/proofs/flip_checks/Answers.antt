@@ -1,11 +1,10 @@
 -- `syndromes::flip_checks` meets its contract: after r passes the first r rows have it. Assumes nothing.
-use Prim.Native.Nat.{◌-◌}
 use native.Mathlib.Omega.{arith}
 use borrow.Author.Rules.{rules}
 use Rattle.vectors.specs.Vectors.{wbit}
 use Rattle.syndromes.specs.Rows.{wide, spread, covering}
 use Rattle.syndromes.proofs.Bounds.{wide_some}
-use Rattle.syndromes.proofs.Rowwise.{Reached, reached_none, reached-more, reached_all}
+use Rattle.syndromes.proofs.Rowwise.{reached_none, reached-more, reached_all}
 use Rattle.syndromes.proofs.flip_checks.Goals as goal
 
 pub loop-r-init : goal.loop-r-init

@@ -1,6 +1,5 @@
 -- `syndromes::flip_entry` meets its contract: k + M - s, less M where that is M or more. Assumes nothing.
 use mathlib.Core.Path.{◌≡◌, ap, sym, ◌∙◌}
-use mathlib.Core.Logic.{⊎_elim}
 use Prim.Native.Nat.{ℕ, ◌+◌, ◌-◌, ◌*◌, ◌%◌, ◌≤◌, ◌<◌}
 use native.Mathlib.Nat.{mod-lt, mod-eq_of_lt}
 use native.Mathlib.Omega.{arith}
@@ -8,7 +7,6 @@ use lib.Dec.{eqb}
 use Rattle.vectors.specs.Vectors.{wbit, added}
 use Rattle.syndromes.specs.Rows.{wide, covering}
 use Rattle.syndromes.proofs.Shifts.{entry-is, entry-none, once_around, flipped_row}
-use borrow.Author.Rules.{rules}
 use Rattle.syndromes.proofs.flip_entry.Goals as goal
 use Rattle.syndromes.proofs.flip_entry.Goals.{else-i-sh, then-i-sh}
 
@@ -31,10 +29,13 @@ returns-after-i-sh c =
     let l : a.s < M = omega arith in
     let some : 0 < M = omega arith in
     let at : i ≡ turn % M =
-    (elim c.if-i-sh.branch [ then-i-sh w ↦ let less : i ≡ turn - M = omega arith in
-    less ∙ sym (once_around M turn (omega arith) (omega arith)) | else-i-sh w ↦ let low : turn < M = omega arith in
-    let same : i ≡ turn = omega arith in
-    same ∙ sym (mod-eq_of_lt low) ]) in
+    (elim c.if-i-sh.branch [
+      | then-i-sh w ↦ let less : i ≡ turn - M = omega arith in
+          less ∙ sym (once_around M turn (omega arith) (omega arith))
+      | else-i-sh w ↦ let low : turn < M = omega arith in
+          let same : i ≡ turn = omega arith in
+          same ∙ sym (mod-eq_of_lt low)
+    ]) in
     c.flip_bit.ensures
     ∙ flipped_row x from to i (omega (arith, mod-lt turn some))
     ∙ ap (λ (j : ℕ). added x from to (λ n. eqb n j)) at

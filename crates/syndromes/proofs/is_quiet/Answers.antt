@@ -8,7 +8,6 @@ use lib.ListN.{length}
 use Rattle.bits.specs.Bits.{count}
 use Rattle.rules.specs.Checks.{broken}
 use Rattle.syndromes.proofs.Laid.{laid_count, none_test}
-use borrow.Author.Rules.{rules}
 use Rattle.syndromes.proofs.is_quiet.Goals as goal
 
 pub returns : goal.returns

@@ -1,7 +1,6 @@
 -- `syndromes::read_places` meets its contract: both places are in the table. Assumes nothing.
-use Prim.Native.Nat.{◌+◌, ◌≤◌, ◌<◌}
+use Prim.Native.Nat.{◌+◌}
 use native.Mathlib.Omega.{arith}
-use lib.ListN.{length}
 use Rattle.layout.specs.Lent.{place_of}
 use Rattle.syndromes.proofs.Bounds.{place_room}
 use Rattle.layout.proofs.Lending.{read_any}

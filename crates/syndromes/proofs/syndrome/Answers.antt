@@ -5,7 +5,6 @@ use Rattle.syndromes.specs.Rows.{within, wide, summed}
 use Rattle.syndromes.proofs.Bounds.{wide_some}
 use Rattle.syndromes.proofs.Trimming.{within_rowed}
 use Rattle.syndromes.proofs.Laid.{laid_summed}
-use borrow.Author.Rules.{rules}
 use Rattle.syndromes.proofs.syndrome.Goals as goal
 
 pub returns : goal.returns

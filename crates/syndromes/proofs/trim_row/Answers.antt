@@ -4,7 +4,6 @@ use Prim.Native.Nat.{◌+◌, ◌-◌, ◌*◌, ◌%◌}
 use native.Mathlib.Omega.{arith}
 use Rattle.syndromes.specs.Rows.{wide}
 use Rattle.syndromes.proofs.Trimming.{within_full, within_more}
-use borrow.Author.Rules.{rules}
 use Rattle.syndromes.proofs.trim_row.Goals as goal
 
 pub returns-then-t-gt0 : goal.returns-then-t-gt0

@@ -177,7 +177,8 @@ module _ (s : Taker) (part : List ℕ) where
   -- the call and what follows it give what the taker gives octet by octet
   pub goes_on : s.place < 1024 → (at : ℕ) (rest : List ℕ)
       → given_from s at (part ++ rest)
-      ≡ words_of (take_answer s part) (at + (take_answer s part).taken) ++ given_from (take_answer s part).next (at + (take_answer s part).taken)
+      ≡ words_of (take_answer s part) (at + (take_answer s part).taken) ++ given_from (take_answer s part).next
+      (at + (take_answer s part).taken)
       (drop (take_answer s part).taken part ++ rest)
   goes_on h at rest =
       ap (λ z. given_from z at (part ++ rest)) (sym (read_is s h)) ∙ took.on at rest
@@ -251,7 +252,8 @@ asked_given (suc n) s at part (more ∷ parts) h few =
         (drop (take_answer s part).taken part ++ (more ++ joined parts)))
         → asked n (take_answer s part).next (at + (take_answer s part).taken) more parts
         ≡ given_from (take_answer s part).next (at + (take_answer s part).taken) (more ++ joined parts)
-        → (if b then asked n (take_answer s part).next (at + (take_answer s part).taken) (drop (take_answer s part).taken part) (more ∷ parts)
+        → (if b then asked n (take_answer s part).next (at + (take_answer s part).taken) (drop (take_answer s part).taken part)
+        (more ∷ parts)
         else asked n (take_answer s part).next (at + (take_answer s part).taken) more parts)
         ≡ given_from (take_answer s part).next (at + (take_answer s part).taken)
         (drop (take_answer s part).taken part ++ (more ++ joined parts))

@@ -89,7 +89,8 @@ module _ (told : Told) where
   less p h = omega arith
 
   pub hold_run : (xs rest : List ℕ) (n p : ℕ) (ys : List ℕ) → 4 ≤ p → p + length xs ≤ 1023
-      → taken_from n (standing p told ys) (xs ++ rest) ≡ taken_from (n + length xs) (standing (p + length xs) told (sets ys (p - 4) xs)) rest
+      → taken_from n (standing p told ys) (xs ++ rest) ≡ taken_from (n + length xs)
+      (standing (p + length xs) told (sets ys (p - 4) xs)) rest
   hold_run [] rest n p ys h h' = ap₂ (λ a b. taken_from a (standing b told ys) rest) (sym (add-zero n)) (sym (add-zero p))
   hold_run (o ∷ xs) rest n p ys h h' =
       hold_step n p ys o (xs ++ rest) h (omega arith)

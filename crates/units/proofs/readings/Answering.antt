@@ -46,7 +46,8 @@ received_length n unit k u h =
     (omega (arith, block_room n unit k (code n).octets_of_word u h refl, length-drop (8 + k * (code n).octets_of_word) unit))
 
 -- a codeblock as it is received in front of a buffer
-module _ (n : ℕ) (unit got buffer : List ℕ) (k size : ℕ) (u : unit_code n ≡ true) (h : k < blocks_in_of n unit) (es : size ≡ (code n).octets_of_word)
+module _ (n : ℕ) (unit got buffer : List ℕ) (k size : ℕ) (u : unit_code n ≡ true) (h : k < blocks_in_of n unit)
+    (es : size ≡ (code n).octets_of_word)
     (eg : got ≡ received n unit k) where
   got_length : length got ≡ size
   got_length = ap length eg ∙ received_length n unit k u h ∙ sym es

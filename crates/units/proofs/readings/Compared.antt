@@ -47,7 +47,8 @@ short_start unit h = other_length (take 8 unit) start (λ e. let l : length (tak
 room_at : (k long n : ℕ) → unit_code n ≡ true → k < (long - 8 - length (tail n)) / (code n).octets_of_word
     → 8 + k * (code n).octets_of_word + (code n).octets_of_word ≤ long
 unfolding code code1 code3 tail
-room_at k long = both (λ n. k < (long - 8 - length (tail n)) / (code n).octets_of_word → 8 + k * (code n).octets_of_word + (code n).octets_of_word ≤ long)
+room_at k long = both (λ n. k < (long - 8 - length (tail n)) / (code n).octets_of_word
+    → 8 + k * (code n).octets_of_word + (code n).octets_of_word ≤ long)
     (λ h. omega arith) (λ h. omega arith)
 
 pub block_room : (n : ℕ) (unit : List ℕ) (k size : ℕ) → unit_code n ≡ true → k < blocks_in_of n unit → size ≡ (code n).octets_of_word

@@ -104,7 +104,8 @@ module _ (s : Reading) (unit out : List ℕ) where
       ∙ if_isnt (eqb r.number 0) (handed_out s r) (handed_last_of s r out) (ne_eqb r.number 0 d)
 
   -- an answer by its ladder
-  pub read_cases : (P : Handed → Type 0) → P (handed_again_of s (refused_correct_of out 1) false) → P (handed_again_of s (refused_correct_of out 3) false)
+  pub read_cases : (P : Handed → Type 0) → P (handed_again_of s (refused_correct_of out 1) false)
+      → P (handed_again_of s (refused_correct_of out 3) false)
       → P (handed_again_of s (with_out s.kept out) false) → P (handed_again_of s (refused_correct_of out 0) true)
       → (unit_code s.code ≡ true → P (handed_out s corrected_at)) → (unit_code s.code ≡ true → P (handed_last_of s corrected_at out))
       → P (read_answer s unit out)

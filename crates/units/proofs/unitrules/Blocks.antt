@@ -36,7 +36,8 @@ module _ (n : ℕ) (information : List ℕ) where
 
   -- one codeblock more goes on with the sequence
   pub randomised_codeblocks : (k : ℕ) → randomised telecommand 0 (codeblocks n information (suc k))
-      ≡ randomised telecommand 0 (codeblocks n information k) ++ randomised telecommand (k * (code n).octets_of_word) (codeblock n information k)
+      ≡ randomised telecommand 0 (codeblocks n information k) ++ randomised telecommand (k * (code n).octets_of_word)
+      (codeblock n information k)
   unfolding codeblocks
   randomised_codeblocks k =
       randomised_append telecommand 0 (codeblocks n information k) (codeblock n information k)
@@ -47,7 +48,8 @@ module _ (n : ℕ) (information : List ℕ) where
   unfolding code code1 code3
   enough = both (λ n. length information ≤ blocks_for n (length information) * (code n).octets_of_information) (omega arith) (omega arith) n
 
-  pub length-filled : unit_code n ≡ true → length (filled n information) ≡ blocks_for n (length information) * (code n).octets_of_information
+  pub length-filled : unit_code n ≡ true
+      → length (filled n information) ≡ blocks_for n (length information) * (code n).octets_of_information
   unfolding filled
   length-filled u =
       length-append information (replicate (blocks_for n (length information) * (code n).octets_of_information - length information) 0x55)

@@ -8,7 +8,8 @@ use native.Mathlib.Decide.{ℕ_discrete}
 use native.Mathlib.Omega.{arith}
 use lib.Dec.{T, eqb, leb, ltb}
 use lib.ListN.{length, take, drop, get_or, replicate, length-append, length-replicate, length-drop, get_or-append}
-use lib.Seq.{length-take-le, take_at, drop_at, take_all, take-append-le, drop-append-le, drop-append-add, get_or-take, get_or-drop, drop-length}
+use lib.Seq.{length-take-le, take_at, drop_at, take_all, take-append-le, drop-append-le, drop-append-add, get_or-take, get_or-drop}
+use lib.Seq.{drop-length}
 use lib.Seq.{take-length}
 use borrow.Author.Tests.{eq-eqb, ne_eqb, le-leb, lt-ltb}
 use Rattle.bits.specs.Bits.{Word, bit, digit, octets, flipped, if◌then◌else◌}
@@ -96,10 +97,12 @@ module _ (n : ℕ) (u : unit_code n ≡ true) (X : List ℕ) (b : ℕ) (lx : len
 
   inside : (k n : ℕ) → unit_code n ≡ true → k < b → k * (code n).octets_of_word + (code n).octets_of_word ≤ b * (code n).octets_of_word
   unfolding code code1 code3
-  inside k = both (λ n. k < b → k * (code n).octets_of_word + (code n).octets_of_word ≤ b * (code n).octets_of_word) (λ h. omega arith) (λ h. omega arith)
+  inside k = both (λ n. k < b
+      → k * (code n).octets_of_word + (code n).octets_of_word ≤ b * (code n).octets_of_word) (λ h. omega arith) (λ h. omega arith)
 
   received_from : (k : ℕ) → k < b
-      → received n U k ≡ randomised telecommand (k * (code n).octets_of_word) (take (code n).octets_of_word (drop (k * (code n).octets_of_word) X))
+      → received n U k ≡ randomised telecommand (k * (code n).octets_of_word)
+      (take (code n).octets_of_word (drop (k * (code n).octets_of_word) X))
   received_from k h =
       let W = (code n).octets_of_word in
       let i = inside k n u h in
@@ -203,7 +206,8 @@ module _ (n : ℕ) (u : unit_code n ≡ true) (info : List ℕ) (oct : Octets in
   part_room : (k b n : ℕ) → unit_code n ≡ true → k < b
       → k * (code n).octets_of_information + (code n).octets_of_information ≤ b * (code n).octets_of_information
   unfolding code code1 code3
-  part_room k b = both (λ n. k < b → k * (code n).octets_of_information + (code n).octets_of_information ≤ b * (code n).octets_of_information)
+  part_room k b = both (λ n. k < b
+      → k * (code n).octets_of_information + (code n).octets_of_information ≤ b * (code n).octets_of_information)
       (λ h. omega arith) (λ h. omega arith)
 
   part_length : (k : ℕ) → k < blocks_for n (length info) → length (part n info k) ≡ (code n).octets_of_information
@@ -217,7 +221,8 @@ module _ (n : ℕ) (u : unit_code n ≡ true) (info : List ℕ) (oct : Octets in
       ))
 
   -- codeblock k of those that are sent
-  block_at : (b k : ℕ) → k < b → take (code n).octets_of_word (drop (k * (code n).octets_of_word) (randomised telecommand 0 (codeblocks n info b)))
+  block_at : (b k : ℕ) → k < b
+      → take (code n).octets_of_word (drop (k * (code n).octets_of_word) (randomised telecommand 0 (codeblocks n info b)))
       ≡ randomised telecommand (k * (code n).octets_of_word) (codeblock n info k)
   block_at zero k h = absurd (omega arith)
   block_at (suc b) k h = ap (λ z. take (code n).octets_of_word (drop (k * (code n).octets_of_word) z)) (randomised_codeblocks n info b)
@@ -239,7 +244,10 @@ module _ (n : ℕ) (u : unit_code n ≡ true) (info : List ℕ) (oct : Octets in
           ap (take (code n).octets_of_word) (drop_at (randomised telecommand 0 (codeblocks n info b))
           (randomised telecommand (b * (code n).octets_of_word) (codeblock n info b)) (k * (code n).octets_of_word) (long
           ∙ ap (λ z. z * (code n).octets_of_word) (sym e)))
-          ∙ take_all (code n).octets_of_word (randomised telecommand (b * (code n).octets_of_word) (codeblock n info b)) (omega (arith, long'))
+          ∙ take_all (code n).octets_of_word (randomised telecommand (b * (code n).octets_of_word) (codeblock n info b)) (omega (
+            arith,
+            long',
+          ))
           ∙ ap (λ z. randomised telecommand (z * (code n).octets_of_word) (codeblock n info z)) (sym e)
       go (no d) ih =
           let i = inside n u (codeblocks n info b) b (length_codeblocks n info b) k n u (omega arith) in
@@ -281,7 +289,8 @@ module _ (n : ℕ) (u : unit_code n ≡ true) (info : List ℕ) (oct : Octets in
         ∙ ap₂ (λ x y. octets x (flipped (bit y) b)) (sent_long k)
         (randomised_twice telecommand (k * (code n).octets_of_word) (codeblock n info k) (block_octets k))
 
-    wrong_word : (k b : ℕ) → got k ≡ one_wrong (code n) (sent_block k) b → randomised telecommand (k * (code n).octets_of_word) (got k) ≡ one_wrong
+    wrong_word : (k b : ℕ) → got k ≡ one_wrong (code n) (sent_block k) b
+        → randomised telecommand (k * (code n).octets_of_word) (got k) ≡ one_wrong
         (code n) (codeblock n info k) b
     wrong_word k b e = ap (randomised telecommand (k * (code n).octets_of_word)) e ∙ one_word k b
 
@@ -301,7 +310,8 @@ module _ (n : ℕ) (u : unit_code n ≡ true) (info : List ℕ) (oct : Octets in
       out : r.out ≡ codeblock n info k
 
     abbrev answer : ℕ → ℕ → Corrected
-    answer k limit = correct_answer n (randomised telecommand (k * (code n).octets_of_word) (got k)) limit (replicate (code n).octets_of_word 0)
+    answer k limit = correct_answer n (randomised telecommand (k * (code n).octets_of_word) (got k)) limit
+        (replicate (code n).octets_of_word 0)
 
     right_mended : (k limit flips : ℕ) → got k ≡ sent_block k → Mended (answer k limit) k flips
     right_mended k limit flips e =

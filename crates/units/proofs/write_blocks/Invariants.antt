@@ -16,7 +16,8 @@ use Rattle.units.proofs.write_blocks.Given as goal
 
 abbrev pub invariant-loop-at : goal.invariant-loop-at
 invariant-loop-at l = (l.at ≡ l.k * (code_of l.code).octets_of_word) × (l.k ≤ blocks_for l.code (length l.information))
-    × (length l.out ≡ length l.initial.out) × (l.out ≡ randomised telecommand 0 (codeblocks l.code l.information l.k) ++ drop l.at l.initial.out)
+    × (length l.out ≡ length l.initial.out)
+    × (l.out ≡ randomised telecommand 0 (codeblocks l.code l.information l.k) ++ drop l.at l.initial.out)
 
 abbrev pub decreases-loop-at : goal.decreases-loop-at
 decreases-loop-at l = length l.initial.out - l.at

@@ -20,12 +20,11 @@ slice_bounds-write_front-end-2 c =
     sym (length-take-le (length c.args.out.now - c.tail_octets.result) c.args.out.now (omega arith))
 
 pub write_front-requires : goal.write_front-requires
-write_front-requires c =
-    (
-      c.requires.0,
-      length-take-le (length c.args.out.now - c.tail_octets.result) c.args.out.now (omega arith)
-          ∙ omega (arith, c.requires.1, c.tail_octets.ensures.0),
-    )
+write_front-requires c = (
+  c.requires.0,
+  length-take-le (length c.args.out.now - c.tail_octets.result) c.args.out.now (omega arith)
+      ∙ omega (arith, c.requires.1, c.tail_octets.ensures.0),
+)
 
 pub returns : goal.returns
 unfolding unit

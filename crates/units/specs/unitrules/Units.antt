@@ -1,5 +1,6 @@
 -- Telecommand transmission units: a start sequence, one or more codeblocks of code 1 or code 3, and a tail.
-use Rattle.std.specs.Prelude.{Bool, true, false, not, ◌&&◌, ◌||◌, List, [], ◌∷◌, ◌++◌, ℕ, zero, suc, ◌+◌, ◌-◌, ◌*◌, ◌/◌, ◌%◌, ◌^◌, eqb, leb, ltb, length, take, drop, replicate}
+use Rattle.std.specs.Prelude.{Bool, true, false, not, ◌&&◌, ◌||◌, List, [], ◌∷◌, ◌++◌, ℕ, zero, suc, ◌+◌, ◌-◌, ◌*◌, ◌/◌, ◌%◌, ◌^◌, eqb, leb}
+use Rattle.std.specs.Prelude.{ltb, length, take, drop, replicate}
 use Rattle.bits.specs.Bits.{bit, if◌then◌else◌}
 use Rattle.rules.specs.Codes.{code}
 use Rattle.rules.specs.Encoding.{lifted, encoded, written}
@@ -26,7 +27,8 @@ blocks_for n long = (long + ((code n).octets_of_information - 1)) / (code n).oct
 
 -- The fill: octets 55 after the information, to a whole number of codeblocks.
 unfoldable pub filled : ℕ → List ℕ → List ℕ
-filled n information = information ++ replicate (blocks_for n (length information) * (code n).octets_of_information - length information) 0x55
+filled n information = information ++ replicate
+    (blocks_for n (length information) * (code n).octets_of_information - length information) 0x55
 
 -- Part k of the information with its fill, and the codeblock that is encoded of it.
 abbrev pub part : ℕ → List ℕ → ℕ → List ℕ
@@ -85,7 +87,8 @@ blocks_in_of n unit = between n unit / (code n).octets_of_word
 
 -- What follows the start is one or more whole codeblocks and the tail.
 unfoldable pub shaped : ℕ → List ℕ → Bool
-shaped n unit = leb 1 (blocks_in_of n unit) && (eqb (between n unit % (code n).octets_of_word) 0 && same (drop (8 + between n unit) unit) (tail n))
+shaped n unit = leb 1 (blocks_in_of n unit) && (eqb (between n unit % (code n).octets_of_word) 0 && same (drop (8 + between n unit) unit)
+    (tail n))
 
 -- A reading: its code and limit, how many codeblocks were handed out, and the answer that ended it; number 0 there means that it goes on.
 pub record Reading : Type 0 where
@@ -129,7 +132,8 @@ pub record Handed : Type 0 where
 
 -- Codeblock k of a unit, as it was before it was randomised.
 abbrev pub received : ℕ → List ℕ → ℕ → List ℕ
-received n unit k = randomised telecommand (k * (code n).octets_of_word) (take (code n).octets_of_word (drop (8 + k * (code n).octets_of_word) unit))
+received n unit k = randomised telecommand (k * (code n).octets_of_word)
+    (take (code n).octets_of_word (drop (8 + k * (code n).octets_of_word) unit))
 
 -- A codeblock that is taken is handed out as its information octets, and the reading moves on.
 abbrev pub handed_out : Reading → Corrected → Handed

@@ -1,5 +1,4 @@
 -- `vectors::add_word` meets its contract. Assumes nothing.
-use borrow.Author.Rules.{rules}
 use Rattle.vectors.proofs.Spans.{added_one}
 use Rattle.vectors.proofs.add_word.Goals as goal
 

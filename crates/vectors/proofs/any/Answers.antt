@@ -1,12 +1,12 @@
 -- `vectors::any` meets its contract: v is 0 just if the words so far are. Assumes nothing.
 use mathlib.Core.Path.{◌≡◌, ap, ◌∙◌}
-use Prim.Native.Nat.{ℕ, ◌-◌, ◌*◌, ◌≤◌}
+use Prim.Native.Nat.{ℕ, ◌*◌}
 use native.Mathlib.Omega.{arith}
 use lib.Dec.{ltb}
 use lib.ListN.{length}
 use Rattle.bits.specs.Bits.{count}
 use Rattle.vectors.specs.Vectors.{wbit}
-use Rattle.vectors.proofs.Counts.{Seen, seen_none, seen_more, seen_all}
+use Rattle.vectors.proofs.Counts.{seen_none, seen_more, seen_all}
 use Rattle.vectors.proofs.any.Goals as goal
 
 pub loop-k-init : goal.loop-k-init

@@ -1,12 +1,10 @@
 -- `vectors::cut` meets its contract: after k passes the first k words have the bits, and what is past bit m is cleared at the end. Assumes
 -- nothing.
 use mathlib.Core.Path.{ap, ◌∙◌}
-use Prim.Native.Nat.{◌-◌, ◌*◌}
+use Prim.Native.Nat.{◌*◌}
 use native.Mathlib.Omega.{arith}
-use lib.ListN.{length}
-use borrow.Author.Rules.{rules}
 use Rattle.vectors.specs.Vectors.{wbit, up_to, from}
-use Rattle.vectors.proofs.Filling.{Filled, filled_start, filled_more}
+use Rattle.vectors.proofs.Filling.{filled_start, filled_more}
 use Rattle.vectors.proofs.Spans.{up_to_joined}
 use Rattle.vectors.proofs.cut.Goals as goal
 

@@ -1,5 +1,4 @@
 -- `vectors::double_word` meets its contract. Assumes nothing.
-use borrow.Author.Rules.{rules}
 use Rattle.vectors.proofs.Spans.{word_doubled}
 use Rattle.vectors.proofs.double_word.Goals as goal
 

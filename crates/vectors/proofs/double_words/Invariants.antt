@@ -1,10 +1,8 @@
 -- `vectors::double_words` meets its contract: after k passes k words are doubled, and a is word k of v. Assumes nothing.
-use mathlib.Core.Path.{◌≡◌, refl}
+use mathlib.Core.Path.{◌≡◌}
 use Prim.Native.Nat.{◌+◌, ◌-◌, ◌≤◌}
-use native.Mathlib.Omega.{arith}
-use lib.ListN.{length, get_or, length-set}
+use lib.ListN.{length, get_or}
 use Rattle.vectors.specs.Vectors.{Doubled}
-use Rattle.vectors.proofs.Doubling.{across, doubled_more}
 use Rattle.vectors.proofs.double_words.Given as goal
 
 abbrev pub invariant-loop-k : goal.invariant-loop-k

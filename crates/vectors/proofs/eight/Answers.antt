@@ -1,5 +1,4 @@
 -- `vectors::eight` meets its contract: two halves of four octets. Assumes nothing.
-use borrow.Author.Rules.{rules}
 use Rattle.vectors.proofs.Octets.{two_halves}
 use Rattle.vectors.proofs.eight.Goals as goal
 

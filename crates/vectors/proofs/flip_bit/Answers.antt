@@ -1,5 +1,4 @@
 -- `vectors::flip_bit` meets its contract. Assumes nothing.
-use borrow.Author.Rules.{rules}
 use Rattle.vectors.proofs.Spans.{flipped_bit}
 use Rattle.vectors.proofs.flip_bit.Goals as goal
 

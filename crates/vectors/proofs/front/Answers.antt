@@ -1,7 +1,6 @@
 -- `vectors::front` meets its contract. Assumes nothing.
 use mathlib.Core.Path.{sym}
 use native.Mathlib.Omega.{arith}
-use borrow.Author.Rules.{rules}
 use Rattle.bits.specs.Bits.{digit}
 use Rattle.vectors.proofs.Spans.{first_holds, up_to_below}
 use Rattle.vectors.proofs.front.Goals as goal

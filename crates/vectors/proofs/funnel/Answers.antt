@@ -1,6 +1,5 @@
 -- `vectors::funnel` meets its contract. Assumes nothing.
 use native.Mathlib.Omega.{arith}
-use borrow.Author.Rules.{rules}
 use Rattle.vectors.proofs.Spans.{funnel_none, funnel_holds}
 use Rattle.vectors.proofs.funnel.Goals as goal
 

@@ -1,9 +1,6 @@
 -- `vectors::gathered` meets its contract: after j octets the number has their 8 j bits. Assumes nothing.
-use mathlib.Core.Path.{subst}
-use Prim.Native.Nat.{ℕ, ◌+◌, ◌-◌, ◌*◌, ◌^◌, ◌≤◌, ◌<◌}
-use native.Mathlib.Omega.{arith}
-use lib.Dec.{lit<}
-use Rattle.vectors.proofs.Octets.{Gathered, octet_more, fits}
+use Prim.Native.Nat.{◌-◌, ◌≤◌}
+use Rattle.vectors.proofs.Octets.{Gathered}
 use Rattle.vectors.proofs.gathered.Given as goal
 
 abbrev pub invariant-loop-j : goal.invariant-loop-j

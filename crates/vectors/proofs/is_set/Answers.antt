@@ -1,5 +1,4 @@
 -- `vectors::is_set` meets its contract. Assumes nothing.
-use borrow.Author.Rules.{rules}
 use Rattle.vectors.proofs.Filling.{word_place}
 use Rattle.vectors.proofs.is_set.Goals as goal
 

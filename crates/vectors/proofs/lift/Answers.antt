@@ -1,9 +1,8 @@
 -- `vectors::lift` meets its contract: `before` is the word before word k, as it was. Assumes nothing.
-use Prim.Native.Nat.{◌-◌, ◌*◌}
 use native.Mathlib.Omega.{arith}
-use lib.ListN.{length, get_or}
-use Rattle.vectors.specs.Vectors.{wbit, Holds, from, later}
-use Rattle.vectors.proofs.Filling.{Filled, filled_start, filled_next, filled_more, filled_all}
+use lib.ListN.{get_or}
+use Rattle.vectors.specs.Vectors.{wbit, later}
+use Rattle.vectors.proofs.Filling.{filled_start, filled_next, filled_more, filled_all}
 use Rattle.vectors.proofs.Spans.{later_holds, later_next, later_first, later_past, later_none}
 use Rattle.vectors.proofs.lift.Goals as goal
 

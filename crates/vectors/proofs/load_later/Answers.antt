@@ -3,7 +3,6 @@ use mathlib.Core.Path.{ap, ◌∙◌}
 use Prim.Native.Nat.{◌+◌, ◌*◌, ◌/◌}
 use native.Mathlib.Omega.{arith}
 use lib.ListN.{length, set, length-set}
-use borrow.Author.Rules.{rules}
 use Rattle.bits.specs.Bits.{bit}
 use Rattle.vectors.specs.Vectors.{wbit, Holds, from, later}
 use Rattle.vectors.proofs.Octets.{no_group, later_behind}

@@ -1,11 +1,8 @@
 -- `vectors::load_whole` meets its contract: after k passes the first k words have the octets' bits. Assumes nothing.
-use mathlib.Core.Path.{◌≡◌, ap, ◌∙◌}
-use Prim.Native.Nat.{◌-◌, ◌/◌, ◌≤◌, ◌*◌}
-use native.Mathlib.Omega.{arith}
+use Prim.Native.Nat.{◌-◌, ◌/◌, ◌≤◌}
 use lib.ListN.{length}
 use Rattle.bits.specs.Bits.{bit}
-use Rattle.vectors.specs.Vectors.{wbit, joined}
-use Rattle.vectors.proofs.Filling.{Filled, filled_start, filled_more}
+use Rattle.vectors.proofs.Filling.{Filled}
 use Rattle.vectors.proofs.load_whole.Given as goal
 
 abbrev pub invariant-loop-k : goal.invariant-loop-k

@@ -1,11 +1,11 @@
 -- `vectors::load_whole_later` meets its contract: `before` is the word before word k, as it was. Assumes nothing.
 use mathlib.Core.Path.{◌≡◌, ap, ◌∙◌}
-use Prim.Native.Nat.{ℕ, ◌+◌, ◌-◌, ◌*◌, ◌/◌, ◌≤◌}
+use Prim.Native.Nat.{ℕ, ◌+◌, ◌*◌, ◌/◌}
 use native.Mathlib.Omega.{arith}
 use lib.ListN.{length}
 use Rattle.bits.specs.Bits.{bit}
 use Rattle.vectors.specs.Vectors.{wbit, Holds, from, later, joined}
-use Rattle.vectors.proofs.Filling.{Filled, filled_start, filled_more}
+use Rattle.vectors.proofs.Filling.{filled_start, filled_more}
 use Rattle.vectors.proofs.Spans.{later_holds, later_next, later_first}
 use Rattle.vectors.proofs.load_whole_later.Goals as goal
 

@@ -1,13 +1,9 @@
 -- `vectors::ones` meets its contract: n counts the bits of the first k words. Assumes nothing.
-use mathlib.Core.Path.{◌≡◌, ap, ◌∙◌}
-use Prim.Native.Nat.{ℕ, ◌-◌, ◌*◌, ◌≤◌}
-use native.Mathlib.Omega.{arith}
-use lib.Count.{ones-le}
-use lib.ListN.{length, get_or}
+use mathlib.Core.Path.{◌≡◌}
+use Prim.Native.Nat.{◌-◌, ◌*◌, ◌≤◌}
+use lib.ListN.{length}
 use Rattle.bits.specs.Bits.{count}
 use Rattle.vectors.specs.Vectors.{wbit}
-use Rattle.bits.proofs.Counting.{count-start, count-le}
-use Rattle.vectors.proofs.Counts.{count_word}
 use Rattle.vectors.proofs.ones.Given as goal
 
 abbrev pub invariant-loop-k : goal.invariant-loop-k

@@ -1,9 +1,9 @@
 -- `vectors::put` meets its contract: after j passes the first j octets stand there. Assumes nothing.
 use mathlib.Core.Path.{◌≡◌, refl, sym, ap, ◌∙◌}
-use Prim.Native.Nat.{ℕ, ◌+◌, ◌-◌, ◌*◌, ◌/◌, ◌%◌, ◌^◌, ◌≤◌}
+use Prim.Native.Nat.{ℕ, ◌+◌, ◌-◌, ◌*◌, ◌/◌, ◌%◌, ◌^◌}
 use native.Mathlib.Omega.{arith}
 use lib.Dec.{lit<}
-use lib.ListN.{length, length-set}
+use lib.ListN.{length-set}
 use Rattle.bits.specs.Bits.{Word, bit, digit}
 use Rattle.vectors.specs.Vectors.{joined}
 use Rattle.vectors.proofs.Cells.{stored, joined_start, joined_below, joined_above}

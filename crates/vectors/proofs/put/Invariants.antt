@@ -1,13 +1,10 @@
 -- `vectors::put` meets its contract: after j passes the first j octets stand there. Assumes nothing.
-use mathlib.Core.Path.{◌≡◌, refl, sym, ap, ◌∙◌}
-use Prim.Native.Nat.{ℕ, ◌+◌, ◌-◌, ◌*◌, ◌/◌, ◌%◌, ◌^◌, ◌≤◌}
-use native.Mathlib.Omega.{arith}
-use lib.Dec.{lit<}
-use lib.ListN.{length, length-set}
-use Rattle.bits.specs.Bits.{Word, bit, digit}
+use mathlib.Core.Path.{◌≡◌}
+use Prim.Native.Nat.{◌+◌, ◌-◌, ◌*◌, ◌≤◌}
+use lib.ListN.{length}
+use Rattle.bits.specs.Bits.{bit}
 use Rattle.vectors.specs.Vectors.{joined}
-use Rattle.vectors.proofs.Cells.{stored, joined_start, joined_below, joined_above}
-use Rattle.vectors.proofs.Octets.{after, put_octet}
+use Rattle.vectors.proofs.Octets.{after}
 use Rattle.vectors.proofs.put.Given as goal
 
 abbrev pub invariant-loop-j : goal.invariant-loop-j

@@ -1,10 +1,7 @@
 -- `vectors::skip` meets its contract: no bit of the words so far is set. Assumes nothing.
-use Prim.Native.Nat.{ℕ, ◌-◌, ◌≤◌}
-use native.Mathlib.Omega.{arith}
+use Prim.Native.Nat.{◌-◌, ◌≤◌}
 use lib.ListN.{length}
 use Rattle.vectors.specs.Vectors.{Clear}
-use Rattle.vectors.proofs.Firsts.{clear_four}
-use borrow.Author.Rules.{rules}
 use Rattle.vectors.proofs.skip.Given as goal
 
 abbrev pub invariant-loop-k : goal.invariant-loop-k

@@ -1,6 +1,5 @@
 -- `vectors::span` meets its contract: two neighbours hold what the list holds there. Assumes nothing.
 use mathlib.Core.Path.{◌∙◌}
-use borrow.Author.Rules.{rules}
 use Rattle.vectors.proofs.Spans.{neighbours}
 use Rattle.vectors.proofs.span.Goals as goal
 

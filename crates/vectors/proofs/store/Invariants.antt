@@ -1,13 +1,9 @@
 -- `vectors::store` meets its contract: after k passes the first 8 k octets stand there, and the last few follow. Assumes nothing.
-use mathlib.Core.Path.{◌≡◌, refl, ap, ◌∙◌}
-use Prim.Native.Nat.{ℕ, ◌+◌, ◌-◌, ◌*◌, ◌/◌, ◌%◌, ◌^◌, ◌≤◌, ◌<◌}
-use native.Mathlib.Omega.{arith}
+use mathlib.Core.Path.{◌≡◌}
+use Prim.Native.Nat.{ℕ, ◌-◌, ◌*◌, ◌/◌, ◌^◌, ◌≤◌, ◌<◌}
 use lib.ListN.{length, get_or}
-use borrow.Author.Rules.{rules}
 use Rattle.bits.specs.Bits.{bit}
 use Rattle.vectors.specs.Vectors.{wbit, from, joined}
-use Rattle.vectors.proofs.Cells.{joined_start}
-use Rattle.vectors.proofs.Octets.{put_more, written}
 use Rattle.vectors.proofs.store.Given as goal
 
 abbrev pub invariant-loop-k : goal.invariant-loop-k

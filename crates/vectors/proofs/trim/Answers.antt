@@ -1,10 +1,10 @@
 -- `vectors::trim` meets its contract: the first word may keep some bits, and each later one keeps none. Assumes nothing.
-use mathlib.Core.Path.{◌≡◌, sym}
-use Prim.Native.Nat.{◌-◌, ◌*◌, ◌/◌, ◌≤◌}
+use mathlib.Core.Path.{sym}
+use Prim.Native.Nat.{◌/◌}
 use native.Mathlib.Omega.{arith}
-use lib.ListN.{length, get_or}
+use lib.ListN.{get_or}
 use Rattle.vectors.specs.Vectors.{wbit, up_to}
-use Rattle.vectors.proofs.Filling.{Filled, filled_from, filled_next, filled_more, filled_all}
+use Rattle.vectors.proofs.Filling.{filled_from, filled_next, filled_more, filled_all}
 use Rattle.vectors.proofs.Spans.{up_to_below, up_to_past, front_up_to}
 use Rattle.vectors.proofs.trim.Goals as goal
 

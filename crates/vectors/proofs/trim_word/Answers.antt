@@ -3,7 +3,6 @@ use mathlib.Core.Path.{sym}
 use Prim.Native.Nat.{◌*◌, ◌/◌, ◌%◌}
 use native.Mathlib.Omega.{arith}
 use lib.ListN.{get_or}
-use borrow.Author.Rules.{rules}
 use Rattle.vectors.specs.Vectors.{wbit, up_to}
 use Rattle.vectors.proofs.Cells.{joined_start}
 use Rattle.vectors.proofs.Filling.{word_holds, word_stored}

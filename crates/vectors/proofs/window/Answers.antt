@@ -1,7 +1,6 @@
 -- `vectors::window` meets its contract. Assumes nothing.
 use mathlib.Core.Path.{ap, ◌∙◌}
 use native.Mathlib.Omega.{arith}
-use borrow.Author.Rules.{rules}
 use Rattle.vectors.specs.Vectors.{wbit}
 use Rattle.vectors.proofs.window.Goals as goal
 

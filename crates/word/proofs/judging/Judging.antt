@@ -11,7 +11,6 @@ use lib.ListN.{length}
 use borrow.Author.Tests.{eq-eqb, ne_eqb, eqb-true, le-ltb}
 use Rattle.bits.specs.Bits.{Word, bit, count, tally, if◌then◌else◌}
 use Rattle.rules.specs.Codes.{Code, code, code4, code5, near_earth, bits, information, offered, telecommanded}
-use Rattle.rules.specs.Tables.{parity511}
 use Rattle.rules.specs.Checks.{broken}
 use Rattle.rules.specs.Encoding.{lifted, sent, encoded, codeword, OwnParity}
 use Rattle.rules.specs.Flipping.{Run}
@@ -205,7 +204,11 @@ module _ (n : ℕ) (off : offered n ≡ true) (o : Offer) (is : o ≡ offer_of n
   -- the bits after the parity
   after : (i : ℕ) → y (bits (code n) + i) ≡ bit word (bits (code n) + i - (code n).unsent)
   after i =
-      let e : bits (code n) + i - (code n).unsent + (code n).unsent ≡ bits (code n) + i = omega (arith, (pb n off).before, (pb n off).after) in
+      let e : bits (code n) + i - (code n).unsent + (code n).unsent ≡ bits (code n) + i = omega (
+        arith,
+        (pb n off).before,
+        (pb n off).after,
+      ) in
       ap (λ x. x (bits (code n) + i)) m.bits ∙ ap (lifted (code n) (bit word)) (sym e)
       ∙ lifted_sent_bit (code n) (bit word) (bits (code n) + i - (code n).unsent)
 

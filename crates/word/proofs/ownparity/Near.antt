@@ -46,7 +46,8 @@ row_marked j b hj hb =
     (below_at 2 (marked j) (below_at 14 (λ j. below 2 (marked j)) rows j hj) b hb))
 
 -- the information blocks that are counted with a parity block, and then itself alone
-split : (x : Word) (b : ℕ) → b < 2 → odd_together_of x b ≡ sum 14 (λ j. digit 16 (get_or counted b 0) j && odd_block x j) ⊕ odd_block x (14 + b)
+split : (x : Word) (b : ℕ) → b < 2
+    → odd_together_of x b ≡ sum 14 (λ j. digit 16 (get_or counted b 0) j && odd_block x j) ⊕ odd_block x (14 + b)
 unfolding sum
 split x zero h = ⊕-false (sum 14 (λ j. digit 16 (get_or counted 0 0) j && odd_block x j) ⊕ odd_block x 14)
 split x (suc zero) h = ap (λ z. z ⊕ odd_block x 15) (⊕-false (sum 14 (λ j. digit 16 (get_or counted 1 0) j && odd_block x j)))
@@ -90,5 +91,6 @@ module _ (octets_of_word octets_of_information unsent : ℕ) where
       let hb : b < 2 = (div-lt_iff_lt-mul (zero-lt-suc 510)).1 l in
       near_inverted_lem octets_of_word octets_of_information unsent x e p l
       ∙ ap (λ z. parity_bit c x p ⊕ z)
-      (sym (together_inverted x e b hb) ∙ not-true (odd_together_of x b) (below_at 2 (λ b. not (odd_together_of x b)) (subst T (sym t) tt) b hb))
+      (sym (together_inverted x e b hb)
+      ∙ not-true (odd_together_of x b) (below_at 2 (λ b. not (odd_together_of x b)) (subst T (sym t) tt) b hb))
       ∙ ⊕-false (parity_bit c x p)

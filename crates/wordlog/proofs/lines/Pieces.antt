@@ -18,7 +18,8 @@ use Rattle.catalogue.proofs.offer.Offers.{is_offered}
 -- the shortest words have 16 octets
 pub at_least : (n : ℕ) → offered n ≡ true → 16 ≤ (code n).octets_of_word
 unfolding code code1 code2 code3 code4 code5
-at_least n t = five (λ n. 16 ≤ (code n).octets_of_word) (omega arith) (omega arith) (omega arith) (omega arith) (omega arith) n (is_offered n t)
+at_least n t = five (λ n. 16 ≤ (code n).octets_of_word) (omega arith) (omega arith) (omega arith) (omega arith) (omega arith) n
+    (is_offered n t)
 
 -- every word starts before the end
 pub starts_before : (long size k : ℕ) → 16 ≤ size → k < (long + (size - 1)) / size → (k * size < long) × (16 * k ≤ k * size)

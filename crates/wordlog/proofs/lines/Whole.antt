@@ -87,7 +87,8 @@ whole_sum a b w e f = add-mod a b w ∙ ap₂ (λ x y. (x + y) % w) e f ∙ zero
 -- What a block adds, whatever whole words were read before it: the lines of its words, numbered on.
 pub grows : (h before octets : List ℕ) → length h ≡ 3 → bad h ≡ false → length before % (code (code_in h)).octets_of_word ≡ 0
     → log (h ++ (before ++ octets))
-    ≡ log (h ++ before) ++ lines (code_in h) (limit_in h) (length before / (code (code_in h)).octets_of_word) octets (words (code_in h) octets)
+    ≡ log (h ++ before) ++ lines (code_in h) (limit_in h) (length before / (code (code_in h)).octets_of_word) octets
+    (words (code_in h) octets)
 grows h before octets l e m =
     let n = code_in h in
     let t = (good h e).1 in

@@ -1,7 +1,6 @@
 -- `offer::is_offered`: what the record says. Assumes nothing.
-use mathlib.Core.Path.{◌≡◌, ap, ◌∙◌}
+use mathlib.Core.Path.{ap, ◌∙◌}
 use Rattle.catalogue.proofs.offer.Offers.{offers}
-use borrow.Author.Rules.{rules}
 use Rattle.catalogue.proofs.offer.is_offered.Goals as goal
 
 pub returns : goal.returns

@@ -1,7 +1,6 @@
 -- `offer::of`: each number's record. Assumes nothing.
 use mathlib.Core.Path.{◌∙◌}
 use native.Mathlib.Omega.{arith}
-use borrow.Author.Rules.{rules}
 use Rattle.catalogue.proofs.offer.Offers.{offer_as, offer_none}
 use Rattle.catalogue.proofs.offer.of.Goals as goal
 

@@ -3,7 +3,6 @@ use mathlib.Core.Path.{◌≡◌, ap, ◌∙◌}
 use native.Mathlib.Omega.{arith}
 use Rattle.rules.specs.Codes.{code}
 use Rattle.catalogue.proofs.offer.Offers.{fixed}
-use borrow.Author.Rules.{rules}
 use Rattle.catalogue.proofs.offer.word_octets.Goals as goal
 
 pub returns : goal.returns

@@ -1,9 +1,9 @@
 -- `tables::flatten8`: row after row, the places of the flat list are the entries that they are for. Assumes nothing.
-use Prim.Native.Nat.{◌+◌, ◌-◌, ◌*◌, ◌/◌, ◌%◌}
+use Prim.Native.Nat.{◌+◌, ◌*◌, ◌/◌, ◌%◌}
 use native.Mathlib.Omega.{arith}
 use borrow.Author.Rules.{rules}
 use Rattle.catalogue.specs.tables.Flat.{place_at, flat8}
-use Rattle.catalogue.proofs.tables.Listed.{Filled, filled_row, filled_all, row_place_lem}
+use Rattle.catalogue.proofs.tables.Listed.{filled_row, filled_all, row_place_lem}
 use Rattle.catalogue.proofs.tables.flatten8.Goals as goal
 
 pub loop-r-init : goal.loop-r-init

@@ -1,8 +1,7 @@
 -- `tables::flatten_row`: after each pass two places more of the row are laid. Assumes nothing.
 use mathlib.Core.Path.{◌≡◌, refl, subst}
-use Prim.Native.Nat.{ℕ, ◌-◌, ◌*◌, ◌≤◌}
+use Prim.Native.Nat.{ℕ, ◌*◌}
 use native.Mathlib.Omega.{arith}
-use borrow.Author.Rules.{rules}
 use lib.ListN.{length, length-set}
 use Rattle.catalogue.specs.tables.Flat.{RowLaid}
 use Rattle.catalogue.proofs.tables.Listed.{laid_none, laid_block}

@@ -1,11 +1,8 @@
 -- `tables::flatten_row`: after each pass two places more of the row are laid. Assumes nothing.
-use mathlib.Core.Path.{◌≡◌, refl, subst}
-use Prim.Native.Nat.{ℕ, ◌-◌, ◌*◌, ◌≤◌}
-use native.Mathlib.Omega.{arith}
-use borrow.Author.Rules.{rules}
-use lib.ListN.{length, length-set}
+use mathlib.Core.Path.{◌≡◌}
+use Prim.Native.Nat.{◌-◌, ◌*◌, ◌≤◌}
+use lib.ListN.{length}
 use Rattle.catalogue.specs.tables.Flat.{RowLaid}
-use Rattle.catalogue.proofs.tables.Listed.{laid_none, laid_block}
 use Rattle.catalogue.proofs.tables.flatten_row.Given as goal
 
 abbrev pub invariant-loop-b : goal.invariant-loop-b

@@ -1,6 +1,5 @@
 -- `tables::lend`: each size has its table. Assumes nothing.
 use mathlib.Core.Path.{refl}
-use borrow.Author.Rules.{rules}
 use native.Mathlib.Omega.{arith}
 use Rattle.catalogue.proofs.tables.Lending.{by_size_lem}
 use Rattle.catalogue.proofs.tables.lend.Goals as goal

@@ -1,6 +1,5 @@
 -- `tables::lend511`: the constant is the published table's places. Assumes nothing.
 use mathlib.Core.Path.{refl}
-use borrow.Author.Rules.{rules}
 use Rattle.rules.specs.Tables.{parity511}
 use Rattle.catalogue.specs.tables.Flat.{pairs, flat16}
 use Rattle.catalogue.proofs.tables.Listed.{flat_as}

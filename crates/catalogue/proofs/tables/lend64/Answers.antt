@@ -1,6 +1,5 @@
 -- `tables::lend64`: the constant is the published table's places. Assumes nothing.
 use mathlib.Core.Path.{refl}
-use borrow.Author.Rules.{rules}
 use Rattle.rules.specs.Tables.{parity64}
 use Rattle.catalogue.specs.tables.Flat.{pairs, flat8}
 use Rattle.catalogue.proofs.tables.Listed.{flat_as}

@@ -2,7 +2,6 @@
 use mathlib.Core.Path.{refl}
 use native.Mathlib.Omega.{arith}
 use Rattle.catalogue.proofs.tables.Lending.{by_size_lem}
-use borrow.Author.Rules.{rules}
 use Rattle.catalogue.proofs.tables.lend_narrow.Goals as goal
 
 pub returns-then-size-eq16 : goal.returns-then-size-eq16

@@ -46,4 +46,8 @@ returns c =
     let a = c.args in
     let l = c.loop-b in
     let x = later a.unsent (bit a.octets.now) in
-    let all : l.b ≡ 14 = omega arith in record { odd = (l.invariant.1, l.invariant.2 ∙ ap (λ (n : ℕ). number n (odd_block x)) all); rows = l.invariant.3 ∙ ap (λ (n : ℕ). rowed (wide a.sh) a.sh.rows (summed a.sh a.h.now x n)) all }
+    let all : l.b ≡ 14 = omega arith in
+    record {
+      odd = (l.invariant.1, l.invariant.2 ∙ ap (λ (n : ℕ). number n (odd_block x)) all);
+      rows = l.invariant.3 ∙ ap (λ (n : ℕ). rowed (wide a.sh) a.sh.rows (summed a.sh a.h.now x n)) all;
+    }

@@ -12,6 +12,9 @@ returns c =
     let a = c.args in
     let sh = a.sh in
     let x = later a.unsent (bit a.octets.now) in
-    let block = c.double_block-more in record { odd = block.ensures.odd; rows = c.add_block.ensures
+    let block = c.double_block-more in record {
+      odd = block.ensures.odd;
+      rows = c.add_block.ensures
           ∙ ap (λ (d : Word). plus (wbit a.z.now) (rowed (wide sh) sh.rows (spread sh a.h.now a.b (turned d))))
-          (block.ensures.twofold ∙ ap (λ (m : ℕ). doubled m x a.b) (sym c.requires.1)) }
+          (block.ensures.twofold ∙ ap (λ (m : ℕ). doubled m x a.b) (sym c.requires.1));
+    }

@@ -26,4 +26,8 @@ returns c =
     let x = later a.unsent (bit a.octets.now) in
     let cut = c.cut_block in
     let odd = c.odd_of in
-    let room : 511 ≤ length cut.new.v * 64 = search rules in record { odd = ap (λ (n : ℕ). 2 * a.odd + n) (odd.ensures.1 ∙ cut_odd cut.new.v 511 (from (a.b * 511) x) cut.ensures room); twofold = c.double.ensures ∙ ap (twice 511) cut.ensures }
+    let room : 511 ≤ length cut.new.v * 64 = search rules in
+    record {
+      odd = ap (λ (n : ℕ). 2 * a.odd + n) (odd.ensures.1 ∙ cut_odd cut.new.v 511 (from (a.b * 511) x) cut.ensures room);
+      twofold = c.double.ensures ∙ ap (twice 511) cut.ensures;
+    }

@@ -14,7 +14,8 @@ use Rattle.encoder.proofs.wideparity.invert_row.Given as goal
 
 abbrev pub invariant-loop-k : goal.invariant-loop-k
 invariant-loop-k l =
-    (8 * l.r ≤ l.k) × (l.k ≤ 8 * l.r + 7) × ((b : Bool) → Holds l.v (λ i. b) → wbit l.z ≡ added (wbit l.initial.z) (512 * l.r) (64 * l.k) (up_to 511 (λ i. b)))
+    (8 * l.r ≤ l.k) × (l.k ≤ 8 * l.r + 7)
+    × ((b : Bool) → Holds l.v (λ i. b) → wbit l.z ≡ added (wbit l.initial.z) (512 * l.r) (64 * l.k) (up_to 511 (λ i. b)))
 
 abbrev pub decreases-loop-k : goal.decreases-loop-k
 decreases-loop-k l = 8 * l.r + 7 - l.k

@@ -51,7 +51,10 @@ returns c =
     let sums = summed sh t.new.h (later c.args.unsent (bit c.args.octets.now)) 14 in
     let cut = c.trim_rows.ensures
     ∙ ap (λ (z : Word). within (wide sh) sh.size sh.rows z) added.rows in
-    let some = wide_some sh (ready k.number k.offers sh k.is).fits in record { kept = held_kept sh some sums (wbit c.trim_rows.new.z) (cut ∙ within_rowed (wide sh) sh.size sh.rows some sums); checks = λ n x off is ex short.
+    let some = wide_some sh (ready k.number k.offers sh k.is).fits in
+    record {
+      kept = held_kept sh some sums (wbit c.trim_rows.new.z) (cut ∙ within_rowed (wide sh) sh.size sh.rows some sums);
+      checks = λ n x off is ex short.
           let lends = subst (Lends n t.new.h) (sym wideness) (wide_lends n t.new.h t.ensures off (sym wideness ∙ is)) in
           let bits = (ready n off sh is).informs ∙ ap informed wideness in
           let size = ap (λ z. z.size) wideness in
@@ -63,4 +66,5 @@ returns c =
                 ex)
                 ∙ laid_informed n sh t.new.h 14 x lends (omega (arith, ap (λ z. z.blocks) wideness))
                 (λ i h. none i (omega (arith, bits, size))),
-          ) }
+          );
+    }

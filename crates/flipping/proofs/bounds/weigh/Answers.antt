@@ -13,7 +13,8 @@ pub returns-then-found-eq0 : goal.returns-then-found-eq0
 returns-then-found-eq0 c i hi =
     let a = c.args in
     let counts = leb a.begin (a.at + i) && ltb (a.at + i) a.m in
-    digit_zero 64 i ∙ sym (and_none counts) ∙ ap (λ t. counts && t) (sym (digit_zero 64 i) ∙ ap (λ v. digit 64 v i) (sym c.if-found-eq0.true)
+    digit_zero 64 i ∙ sym (and_none counts)
+    ∙ ap (λ t. counts && t) (sym (digit_zero 64 i) ∙ ap (λ v. digit 64 v i) (sym c.if-found-eq0.true)
     ∙ c.lightest-found.ensures i hi)
 
 pub returns : goal.returns

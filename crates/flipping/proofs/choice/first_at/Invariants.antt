@@ -11,7 +11,8 @@ use Rattle.flipping.proofs.choice.first_at.Given as goal
 
 abbrev pub invariant-loop-b : goal.invariant-loop-b
 invariant-loop-b l =
-    (l.b ≤ l.sh.blocks) × Lowered l.sh l.from (wbit l.d) l.starts l.counts l.initial.met l.met × ((j : ℕ) → j < l.sh.blocks → bound l.counts l.met j ≤ l.top)
+    (l.b ≤ l.sh.blocks) × Lowered l.sh l.from (wbit l.d) l.starts l.counts l.initial.met l.met
+    × ((j : ℕ) → j < l.sh.blocks → bound l.counts l.met j ≤ l.top)
     × ((j : ℕ) → j < l.b → bound l.counts l.met j < l.top)
 
 abbrev pub decreases-loop-b : goal.decreases-loop-b

@@ -45,9 +45,12 @@ returns c =
     let a = c.args in
     let M = a.sh.size in
     let out = c.flip_rows.new.rows in
-    let inside = (div-lt_iff_lt-mul c.requires.0.some).1 c.requires.2 in record { word = c.flip_bit.ensures; checks = λ k x lent is.
+    let inside = (div-lt_iff_lt-mul c.requires.0.some).1 c.requires.2 in record {
+      word = c.flip_bit.ensures;
+      checks = λ k x lent is.
           subst (λ n. Rows k a.sh (flipped x n) out) (div-add-mod' a.bit M)
           (λ q hq.
           row_flipped k a.h.now a.sh lent c.requires.0 x (a.bit / M) (a.bit % M) q (get_or a.rows.now q 0) (get_or out q 0)
           inside (mod-lt a.bit c.requires.0.some) (omega (arith, (c.requires.0.narrow c.requires.1).0)) (is q hq)
-          (c.flip_rows.ensures q hq)) }
+          (c.flip_rows.ensures q hq));
+    }

@@ -15,14 +15,13 @@ use Rattle.flipping.proofs.narrow.Blocks.{set_rows, first_of_row, row_flipped, p
 use Rattle.flipping.proofs.narrow.flip_rows.Goals as goal
 
 pub loop-r-init : goal.loop-r-init
-loop-r-init c =
-    (
-      omega arith,
-      c.requires.2,
-      λ q l. refl,
-      λ q
-          l. absurd (omega arith),
-    )
+loop-r-init c = (
+  omega arith,
+  c.requires.2,
+  λ q l. refl,
+  λ q
+      l. absurd (omega arith),
+)
 
 pub bounds-rows-r : goal.bounds-rows-r
 bounds-rows-r c = omega (arith, c.loop-r.invariant.1)

@@ -16,7 +16,8 @@ use Rattle.flipping.proofs.narrow.smallest_peak.Given as goal
 abbrev pub invariant-loop-b : goal.invariant-loop-b
 invariant-loop-b l =
     (l.b ≤ l.sh.blocks) × (l.best < length l.samples)
-    × ((marked : ℕ → Bool) → Marks marked l.sh l.scores l.masks l.top → l.best ≡ smallest (smaller l.samples) marked l.bit 0 (l.b * l.sh.size))
+    × ((marked : ℕ → Bool) → Marks marked l.sh l.scores l.masks l.top
+    → l.best ≡ smallest (smaller l.samples) marked l.bit 0 (l.b * l.sh.size))
 
 abbrev pub decreases-loop-b : goal.decreases-loop-b
 decreases-loop-b l = l.sh.blocks - l.b

@@ -61,7 +61,8 @@ returns-then-flips-most c k lent u w =
     let next = next_flip lent (wbit l.y) top u
     (λ e. omega (arith, i.1.left_is, e, c.loop-left-test.true))
     c.if-top-le8.false in (
-      runs_as _ _ c.at_end-then-flips-most.ensures.0 c.at_end-then-flips-most.ensures.1 (ends_limit (by_excess k) k a.sh a.limit (wbit a.y.now)
+      runs_as _ _ c.at_end-then-flips-most.ensures.0 c.at_end-then-flips-most.ensures.1
+          (ends_limit (by_excess k) k a.sh a.limit (wbit a.y.now)
           l.flips (wbit l.y) _ i.0 _ _ next c.if-flips-most.true),
       c.at_end-then-flips-most.ensures.2 ∙ i.1.left_is,
     )

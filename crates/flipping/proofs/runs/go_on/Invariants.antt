@@ -18,8 +18,10 @@ use Rattle.flipping.proofs.runs.go_on.Given as goal
 
 abbrev pub invariant-loop-left : goal.invariant-loop-left
 invariant-loop-left l =
-    (l.flips ≤ l.limit) × Ready l.sh l.starts l.counts l.met × ((c : Code) → Lent c l.h l.sh → c.unsent ≡ l.from → Carried c l.sh l.from l.first (wbit l.initial.y) l.initial.d
-    l.counts l.initial.met → Going (by_excess c) c l.sh l.limit (wbit l.initial.y) l.flips (wbit l.y) (laid c l.sh (wbit l.y)) × Carried c l.sh l.from l.left (wbit l.y) l.d l.counts
+    (l.flips ≤ l.limit) × Ready l.sh l.starts l.counts l.met
+    × ((c : Code) → Lent c l.h l.sh → c.unsent ≡ l.from → Carried c l.sh l.from l.first (wbit l.initial.y) l.initial.d
+    l.counts l.initial.met → Going (by_excess c) c l.sh l.limit (wbit l.initial.y) l.flips (wbit l.y) (laid c l.sh (wbit l.y))
+    × Carried c l.sh l.from l.left (wbit l.y) l.d l.counts
     l.met) × (l.limit < 65536)
 
 abbrev pub decreases-loop-left : goal.decreases-loop-left

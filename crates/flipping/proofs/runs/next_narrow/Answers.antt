@@ -9,8 +9,14 @@ use Rattle.flipping.proofs.runs.Sizes.{chosen_inside, chosen_flip, chosen_small,
 use Rattle.flipping.proofs.runs.next_narrow.Goals as goal
 
 pub begin-requires : goal.begin-requires
-begin-requires c =
-    (c.requires.0.some, omega (arith, c.requires.0.held, c.requires.4), c.requires.4, (c.requires.0.narrow c.requires.4).0, search rules, refl)
+begin-requires c = (
+  c.requires.0.some,
+  omega (arith, c.requires.0.held, c.requires.4),
+  c.requires.4,
+  (c.requires.0.narrow c.requires.4).0,
+  search rules,
+  refl,
+)
 
 pub choose-best-requires : goal.choose-best-requires
 choose-best-requires c =

@@ -6,8 +6,14 @@ use Rattle.vectors.specs.Vectors.{wbit}
 use Rattle.flipping.proofs.runs.run_narrow.Goals as goal
 
 pub begin-requires : goal.begin-requires
-begin-requires c =
-    (c.requires.0.some, omega (arith, c.requires.0.held, c.requires.5), c.requires.5, (c.requires.0.narrow c.requires.5).0, search rules, refl)
+begin-requires c = (
+  c.requires.0.some,
+  omega (arith, c.requires.0.held, c.requires.5),
+  c.requires.5,
+  (c.requires.0.narrow c.requires.5).0,
+  search rules,
+  refl,
+)
 
 pub go_on_narrow-requires : goal.go_on_narrow-requires
 go_on_narrow-requires c =

@@ -11,7 +11,8 @@ use Rattle.identity.proofs.ties.all_padded.Given as goal
 abbrev pub invariant-loop-left : goal.invariant-loop-left
 invariant-loop-left l =
     (l.at + l.left * (l.parts * words l.m) ≡ length l.generator)
-    × (all_padded_of l.m (generator_of l.m l.count l.parts l.generator) ≡ all_padded_of l.m (pieces (numbers l.m l.parts l.generator) (l.parts * words l.m) l.at l.left))
+    × (all_padded_of l.m (generator_of l.m l.count l.parts l.generator) ≡ all_padded_of l.m
+    (pieces (numbers l.m l.parts l.generator) (l.parts * words l.m) l.at l.left))
 
 abbrev pub decreases-loop-left : goal.decreases-loop-left
 decreases-loop-left l = l.left

@@ -10,7 +10,8 @@ use Rattle.identity.proofs.ties.numbers_padded.Given as goal
 
 abbrev pub invariant-loop-left : goal.invariant-loop-left
 invariant-loop-left l =
-    (l.number + l.left * words l.m ≤ length l.generator) × (padded l.m (numbers l.m l.parts l.generator l.at) ≡ padded l.m (numbers l.m l.left l.generator l.number))
+    (l.number + l.left * words l.m ≤ length l.generator)
+    × (padded l.m (numbers l.m l.parts l.generator l.at) ≡ padded l.m (numbers l.m l.left l.generator l.number))
 
 abbrev pub decreases-loop-left : goal.decreases-loop-left
 decreases-loop-left l = l.left

@@ -20,7 +20,8 @@ abbrev pub invariant-loop-p : goal.invariant-loop-p
 invariant-loop-p l =
     (l.p ≤ l.parts)
     × (l.number ≡ l.at + l.p * words l.m)
-    × (l.sum ⊕ blocks (row l.m (l.parts - l.p) l.parity (l.place + 3 * l.p)) l.p (meets l.m l.parts l.d l.generator l.at) ≡ blocks (row l.m l.parts l.parity l.place) 0
+    × (l.sum ⊕ blocks (row l.m (l.parts - l.p) l.parity (l.place + 3 * l.p)) l.p (meets l.m l.parts l.d l.generator l.at) ≡ blocks
+    (row l.m l.parts l.parity l.place) 0
     (meets l.m l.parts l.d l.generator l.at))
 
 abbrev pub decreases-loop-p : goal.decreases-loop-p

@@ -12,7 +12,8 @@ abbrev pub invariant-loop-left : goal.invariant-loop-left
 invariant-loop-left l =
     (l.information + 3 * l.left ≡ l.first)
     × (l.at + l.left * (l.parts * words l.m) ≡ length l.generator)
-    × (row_tied_of l.m l.m (row l.m l.parts l.parity l.first) (row l.m (l.count + l.parts) l.parity l.place) (generator_of l.m l.count l.parts l.generator)
+    × (row_tied_of l.m l.m (row l.m l.parts l.parity l.first) (row l.m (l.count + l.parts) l.parity l.place)
+    (generator_of l.m l.count l.parts l.generator)
     ≡ row_tied_of l.m l.m (row l.m l.parts l.parity l.first) (row l.m (l.left + l.parts) l.parity l.information)
     (pieces (numbers l.m l.parts l.generator) (l.parts * words l.m) l.at l.left))
 

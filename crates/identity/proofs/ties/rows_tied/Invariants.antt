@@ -14,7 +14,8 @@ abbrev pub invariant-loop-left : goal.invariant-loop-left
 invariant-loop-left l =
     (l.place + l.left * (3 * (l.count + l.parts)) ≡ length l.parity)
     × (rows_tied_of l.m l.m (parity_of l.m l.rows (l.count + l.parts) l.parity) (generator_of l.m l.count l.parts l.generator)
-    ≡ rows_tied_of l.m l.m (pieces (row l.m (l.count + l.parts) l.parity) (3 * (l.count + l.parts)) l.place l.left) (generator_of l.m l.count l.parts l.generator))
+    ≡ rows_tied_of l.m l.m (pieces (row l.m (l.count + l.parts) l.parity) (3 * (l.count + l.parts)) l.place l.left)
+    (generator_of l.m l.count l.parts l.generator))
 
 abbrev pub decreases-loop-left : goal.decreases-loop-left
 decreases-loop-left l = l.left

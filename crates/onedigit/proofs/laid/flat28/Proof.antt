@@ -30,6 +30,7 @@ unfolding words28
 returns c = filled_all 224 _ c.before.loop.g c.before.loop.i c.before.loop.invariant (omega arith)
 
 pub flat28-spec : {M : Type 1} → statement M
-flat28-spec = tie.close (tie.spec invariant-loop decreases-loop loop-holds (λ c. search rules) (λ c. search rules) (λ c. search rules) (λ c. search rules)
+flat28-spec = tie.close (tie.spec invariant-loop decreases-loop loop-holds (λ c. search rules) (λ c. search rules) (λ c. search rules)
+    (λ c. search rules)
     (λ c. search rules) (λ c. search rules) (λ c. search rules) (λ c. search rules) (λ c. search rules) (λ c. search rules) loop-again
     returns)

@@ -30,5 +30,6 @@ unfolding words4
 returns c = filled_all 16 _ c.before.loop.g c.before.loop.i c.before.loop.invariant (omega arith)
 
 pub flat4-spec : {M : Type 1} → statement M
-flat4-spec = tie.close (tie.spec invariant-loop decreases-loop loop-holds (λ c. search rules) (λ c. search rules) (λ c. search rules) (λ c. search rules)
+flat4-spec = tie.close (tie.spec invariant-loop decreases-loop loop-holds (λ c. search rules) (λ c. search rules) (λ c. search rules)
+    (λ c. search rules)
     (λ c. search rules) (λ c. search rules) (λ c. search rules) (λ c. search rules) loop-again returns)

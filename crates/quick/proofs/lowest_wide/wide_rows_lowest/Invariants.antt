@@ -11,7 +11,8 @@ use Rattle.quick.proofs.lowest_wide.wide_rows_lowest.Given as goal
 
 abbrev pub invariant-loop-row : goal.invariant-loop-row
 invariant-loop-row l = (l.row ≤ l.sh.rows)
-    × ((c : Code) (x : Word) → Lent c l.h l.sh → Twofold l.sh.blocks l.sh.size x l.d → (j : ℕ) → j < l.row * l.sh.size → check c x j ≡ false)
+    × ((c : Code) (x : Word) → Lent c l.h l.sh → Twofold l.sh.blocks l.sh.size x l.d → (j : ℕ) → j < l.row * l.sh.size
+    → check c x j ≡ false)
 
 abbrev pub decreases-loop-row : goal.decreases-loop-row
 decreases-loop-row l = l.sh.rows - l.row

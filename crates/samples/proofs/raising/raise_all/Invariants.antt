@@ -10,8 +10,10 @@ use Rattle.samples.proofs.raising.raise_all.Given as goal
 
 abbrev pub invariant-loop-b : goal.invariant-loop-b
 invariant-loop-b l =
-    (l.b ≤ l.sh.blocks) × Ready l.sh l.starts l.counts l.met × ((seen : ℕ → ℕ → Bool) → Knows l.samples l.sh (wbit l.d) l.starts l.counts seen l.initial.met l.initial.kept
-    → Knows l.samples l.sh (wbit l.d) l.starts l.counts (up_to seen (λ j i. covered l.starts (8 * j) l.sh.size l.p (get_or l.counts j 0) i) l.b) l.met l.kept)
+    (l.b ≤ l.sh.blocks) × Ready l.sh l.starts l.counts l.met
+    × ((seen : ℕ → ℕ → Bool) → Knows l.samples l.sh (wbit l.d) l.starts l.counts seen l.initial.met l.initial.kept
+    → Knows l.samples l.sh (wbit l.d) l.starts l.counts
+    (up_to seen (λ j i. covered l.starts (8 * j) l.sh.size l.p (get_or l.counts j 0) i) l.b) l.met l.kept)
 
 abbrev pub decreases-loop-b : goal.decreases-loop-b
 decreases-loop-b l = l.sh.blocks - l.b

@@ -7,7 +7,8 @@ use Rattle.samples.proofs.raising.raise_in.Given as goal
 
 abbrev pub invariant-loop-e : goal.invariant-loop-e
 invariant-loop-e l =
-    (l.e ≤ l.n) × (l.now.met ≤ l.n) × ((seen : ℕ → Bool) → Known l.samples (wbit l.d) l.starts l.from l.n l.m l.first seen l.initial.now.met l.initial.now.bit
+    (l.e ≤ l.n) × (l.now.met ≤ l.n)
+    × ((seen : ℕ → Bool) → Known l.samples (wbit l.d) l.starts l.from l.n l.m l.first seen l.initial.now.met l.initial.now.bit
     → Known l.samples (wbit l.d) l.starts l.from l.n l.m l.first (λ j. seen j || covered l.starts l.from l.m l.p l.e j) l.now.met l.now.bit)
 
 abbrev pub decreases-loop-e : goal.decreases-loop-e

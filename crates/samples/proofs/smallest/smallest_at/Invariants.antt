@@ -11,7 +11,8 @@ abbrev pub invariant-loop-b : goal.invariant-loop-b
 invariant-loop-b l =
     (l.b ≤ l.sh.blocks) × Ready l.sh l.starts l.counts l.met × ((j : ℕ) → j < l.sh.blocks → bound l.counts l.met j ≤ l.top)
     × (length l.samples ≤ l.best → (j : ℕ) → j < l.b → bound l.counts l.met j < l.top)
-    × (Knows l.samples l.sh (wbit l.d) l.starts l.counts whole l.initial.met l.initial.kept → Knows l.samples l.sh (wbit l.d) l.starts l.counts whole l.met l.kept
+    × (Knows l.samples l.sh (wbit l.d) l.starts l.counts whole l.initial.met l.initial.kept
+    → Knows l.samples l.sh (wbit l.d) l.starts l.counts whole l.met l.kept
     × ((g : ℕ → ℕ) → Scored g l.sh (wbit l.d) l.starts l.counts → Leads l.samples g l.top (l.b * l.sh.size) l.best))
 
 abbrev pub decreases-loop-b : goal.decreases-loop-b

@@ -7,7 +7,8 @@ use Rattle.telemetry.proofs.taker.Laws.{if_is, if_isnt}
 use Rattle.telemetry.proofs.taker.read_place.Goals as goal
 
 pub returns-then-place-lt1024 : goal.returns-then-place-lt1024
-returns-then-place-lt1024 c = let p = c.args.place in (sym (if_is (ltb p 1024) p 0 (lt-ltb p 1024 c.if-place-lt1024.true)), c.if-place-lt1024.true)
+returns-then-place-lt1024 c = let p = c.args.place in
+    (sym (if_is (ltb p 1024) p 0 (lt-ltb p 1024 c.if-place-lt1024.true)), c.if-place-lt1024.true)
 
 pub returns-else-place-lt1024 : goal.returns-else-place-lt1024
 returns-else-place-lt1024 c = let p = c.args.place in (sym (if_isnt (ltb p 1024) p 0 (le-ltb p 1024 c.if-place-lt1024.false)), omega arith)

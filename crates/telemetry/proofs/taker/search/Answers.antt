@@ -28,7 +28,12 @@ pub returns-then-m-gt3 : goal.returns-then-m-gt3
 returns-then-m-gt3 c =
     let part = c.args.part.now in
     let h = c.loop-i in
-    let k = c.matched-m in record { place_bound = (omega (arith, k.ensures.1), omega arith, λ few. absurd (omega arith)); goes_on = λ told octets. h.invariant.2 told octets ∙ one-octet part h.i h.m k.result (omega arith) h.invariant.1 k.ensures.0 told octets }
+    let k = c.matched-m in
+    record {
+      place_bound = (omega (arith, k.ensures.1), omega arith, λ few. absurd (omega arith));
+      goes_on = λ told octets. h.invariant.2 told octets
+          ∙ one-octet part h.i h.m k.result (omega arith) h.invariant.1 k.ensures.0 told octets;
+    }
 
 pub loop-i-smaller : goal.loop-i-smaller
 loop-i-smaller c = omega (arith, c.jump-i-in-loop-i.ensures.lower_bound.0)
@@ -48,4 +53,5 @@ loop-i-preserved c =
     )
 
 pub returns : goal.returns
-returns c = let h = c.loop-i in record { place_bound = (omega (arith, h.invariant.1), h.invariant.0, λ few. omega arith); goes_on = h.invariant.2 }
+returns c = let h = c.loop-i in
+    record { place_bound = (omega (arith, h.invariant.1), h.invariant.0, λ few. omega arith); goes_on = h.invariant.2 }

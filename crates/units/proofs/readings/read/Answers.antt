@@ -29,8 +29,7 @@ returns-then-out-information_octets c =
     (λ q. c.if-out-information_octets.true (q ∙ sym c.information_octets.ensures.0)))
 
 pub read_on-requires : goal.read_on-requires
-read_on-requires c =
-    (
-      sym c.is_unit_code.ensures ∙ not-false _ (ap not c.if-not-is_unit_code.false),
-      c.if-out-information_octets.false ∙ c.information_octets.ensures.0,
-    )
+read_on-requires c = (
+  sym c.is_unit_code.ensures ∙ not-false _ (ap not c.if-not-is_unit_code.false),
+  c.if-out-information_octets.false ∙ c.information_octets.ensures.0,
+)

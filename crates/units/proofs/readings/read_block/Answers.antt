@@ -16,14 +16,13 @@ slice_bounds-receive-end c =
     (omega (arith, ap length c.word_buffer-word.ensures, c.word_octets-size.ensures.2)))
 
 pub receive-requires : goal.receive-requires
-receive-requires c =
-    (
-      c.requires.0,
-      c.requires.1,
-      length-take-le c.word_octets-size.result c.word_buffer-word.result
-          (omega (arith, ap length c.word_buffer-word.ensures, c.word_octets-size.ensures.2))
-          ∙ c.word_octets-size.ensures.0,
-    )
+receive-requires c = (
+  c.requires.0,
+  c.requires.1,
+  length-take-le c.word_octets-size.result c.word_buffer-word.result
+      (omega (arith, ap length c.word_buffer-word.ensures, c.word_octets-size.ensures.2))
+      ∙ c.word_octets-size.ensures.0,
+)
 
 pub slice_bounds-word-end-2 : goal.slice_bounds-word-end-2
 slice_bounds-word-end-2 c =
@@ -38,15 +37,14 @@ slice_bounds-correct_part-end c =
     c.requires.1 c.word_octets-size.ensures.0 c.receive.ensures)
 
 pub correct_part-requires : goal.correct_part-requires
-correct_part-requires c =
-    (
-      c.requires.0,
-      got_word_length c.args.code c.args.unit.now c.receive.new.word c.word_buffer-word.result c.args.k
-          c.word_octets-size.result c.requires.0
-          c.requires.1 c.word_octets-size.ensures.0 c.receive.ensures
-          ∙ c.word_octets-size.ensures.0,
-      c.requires.2,
-    )
+correct_part-requires c = (
+  c.requires.0,
+  got_word_length c.args.code c.args.unit.now c.receive.new.word c.word_buffer-word.result c.args.k
+      c.word_octets-size.result c.requires.0
+      c.requires.1 c.word_octets-size.ensures.0 c.receive.ensures
+      ∙ c.word_octets-size.ensures.0,
+  c.requires.2,
+)
 
 pub returns : goal.returns
 returns c =

@@ -21,8 +21,7 @@ returns-then-a-i c =
 
 pub loop-i-preserved : goal.loop-i-preserved
 loop-i-preserved c =
-    let h = c.loop-i in
-    (
+    let h = c.loop-i in (
       omega arith,
       rw add-one (sym (same_here c.args.a.now c.args.b.now h.i (omega arith) (omega arith) c.if-a-i.false)
           ∙ h.invariant.1),

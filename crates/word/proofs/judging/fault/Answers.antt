@@ -5,7 +5,6 @@ use borrow.Author.Tests.{not-true, not-false}
 use Rattle.vectors.specs.Vectors.{wbit}
 use Rattle.catalogue.proofs.offer.Offers.{small}
 use Rattle.word.proofs.judging.Judging.{finds_broken, finds_telecommand, finds_fill, finds_own, finds_other}
-use borrow.Author.Rules.{rules}
 use Rattle.word.proofs.judging.fault.Goals as goal
 use mathlib.Core.Path.{ap}
 use mathlib.Core.Bool.{not}

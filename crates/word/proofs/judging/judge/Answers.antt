@@ -3,7 +3,6 @@ use mathlib.Core.Path.{sym, ◌∙◌}
 use borrow.Author.Tests.{not-true, not-false}
 use Rattle.vectors.specs.Vectors.{wbit}
 use Rattle.word.proofs.judging.Judging.{judged_other, by_telecommand, by_own, by_other}
-use borrow.Author.Rules.{rules}
 use Rattle.word.proofs.judging.judge.Goals as goal
 
 pub returns-then-number-ne0 : goal.returns-then-number-ne0

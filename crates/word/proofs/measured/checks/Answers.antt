@@ -1,6 +1,5 @@
 -- `measured::checks`: the table lent, and the syndrome by it. Assumes nothing.
 use Rattle.rules.specs.Codes.{code}
-use borrow.Author.Rules.{rules}
 use Rattle.word.proofs.measured.checks.Goals as goal
 
 pub syndrome-requires : goal.syndrome-requires

@@ -2,7 +2,6 @@
 use mathlib.Core.Path.{sym, ap, ◌∙◌}
 use native.Mathlib.Omega.{arith}
 use Rattle.catalogue.proofs.offer.Offers.{small}
-use borrow.Author.Rules.{rules}
 use Rattle.word.proofs.measured.measure.Goals as goal
 
 pub measure_by-requires : goal.measure_by-requires

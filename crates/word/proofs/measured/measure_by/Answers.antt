@@ -2,7 +2,6 @@
 use mathlib.Core.Path.{◌∙◌}
 use Rattle.rules.specs.Codes.{code}
 use Rattle.catalogue.proofs.offer.Offers.{fixed}
-use borrow.Author.Rules.{rules}
 use Rattle.word.proofs.measured.measure_by.Goals as goal
 
 pub returns : goal.returns

@@ -1,9 +1,9 @@
 -- `ownparity::folded` meets its contract: v is the sum of the first k words. Assumes nothing.
 use mathlib.Core.Path.{◌≡◌, ap, ◌∙◌}
-use Prim.Native.Nat.{ℕ, ◌-◌, ◌≤◌}
+use Prim.Native.Nat.{ℕ}
 use native.Mathlib.Omega.{arith}
 use lib.ListN.{length}
-use Rattle.bits.specs.Bits.{digit, sum}
+use Rattle.bits.specs.Bits.{sum}
 use Rattle.word.proofs.ownparity.Words.{odd_word, fold_start, fold_more, fold_all}
 use Rattle.word.proofs.ownparity.folded.Goals as goal
 

@@ -1,13 +1,9 @@
 -- `ownparity::odd_blocks` meets its contract: after j passes v has a bit for each of the first j blocks. Assumes nothing.
-use mathlib.Core.Path.{◌≡◌, sym, ap, ◌∙◌, subst}
-use Prim.Native.Nat.{ℕ, ◌+◌, ◌-◌, ◌*◌, ◌^◌, ◌≤◌, ◌<◌}
-use native.Mathlib.Omega.{arith}
+use mathlib.Core.Path.{◌≡◌}
+use Prim.Native.Nat.{◌-◌, ◌^◌, ◌≤◌, ◌<◌}
 use Rattle.bits.specs.Bits.{number}
 use Rattle.vectors.specs.Vectors.{wbit}
-use Rattle.bits.proofs.Octets.{number_lt}
-use Rattle.vectors.proofs.Octets.{fits}
 use Rattle.word.specs.ownparity.Odd.{odd_block}
-use Rattle.word.proofs.ownparity.Words.{number_start, number_more}
 use Rattle.word.proofs.ownparity.odd_blocks.Given as goal
 
 abbrev pub invariant-loop-j : goal.invariant-loop-j

@@ -1,7 +1,6 @@
 -- `ownparity::odd_together` meets its contract: the blocks that are counted with a parity block are those of its mask. Assumes nothing.
 use lib.Dec.{lit<}
 use lib.ListN.{get_or}
-use borrow.Author.Rules.{rules}
 use Rattle.word.specs.ownparity.Odd.{odd_block, counted}
 use Rattle.word.proofs.ownparity.Words.{shared_odd}
 use Rattle.word.proofs.ownparity.odd_together.Goals as goal

@@ -1,6 +1,5 @@
 -- `ownparity::odd_word` meets its contract. Assumes nothing.
 use native.Mathlib.Omega.{arith}
-use borrow.Author.Rules.{rules}
 use Rattle.word.proofs.ownparity.Words.{ones_odd}
 use Rattle.word.proofs.ownparity.odd_word.Goals as goal
 

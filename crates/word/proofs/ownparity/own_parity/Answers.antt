@@ -3,7 +3,6 @@ use mathlib.Core.Path.{◌≡◌, sym, ap₂, ◌∙◌}
 use Prim.Native.Nat.{ℕ, ◌+◌}
 use native.Mathlib.Omega.{arith}
 use lib.Dec.{eqb}
-use borrow.Author.Rules.{rules}
 use Rattle.bits.proofs.Counting.{tally_le}
 use Rattle.vectors.specs.Vectors.{wbit}
 use Rattle.word.specs.ownparity.Odd.{odd_together_of, even_together}

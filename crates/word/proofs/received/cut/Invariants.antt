@@ -1,13 +1,8 @@
 -- `received::cut` meets its contract: after k passes the first k words have the bits, and the last word follows. Assumes nothing.
-use mathlib.Core.Path.{◌≡◌, sym, ap, ◌∙◌}
-use Prim.Native.Nat.{◌+◌, ◌-◌, ◌*◌, ◌≤◌}
-use native.Mathlib.Omega.{arith}
-use borrow.Author.Rules.{rules}
+use Prim.Native.Nat.{◌-◌, ◌≤◌}
 use Rattle.bits.specs.Bits.{bit}
 use Rattle.vectors.specs.Vectors.{up_to, from}
-use Rattle.vectors.proofs.Filling.{Filled, filled_start, filled_more}
-use Rattle.vectors.proofs.Spans.{up_to_below}
-use Rattle.word.proofs.received.Cutting.{last_cut}
+use Rattle.vectors.proofs.Filling.{Filled}
 use Rattle.word.proofs.received.cut.Given as goal
 
 abbrev pub invariant-loop-k : goal.invariant-loop-k

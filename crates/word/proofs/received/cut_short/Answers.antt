@@ -1,7 +1,6 @@
 -- `received::cut_short` meets its contract. Assumes nothing.
 use mathlib.Core.Path.{ap, ◌∙◌}
 use Prim.Native.Nat.{◌-◌}
-use borrow.Author.Rules.{rules}
 use Rattle.vectors.specs.Vectors.{up_to}
 use Rattle.word.proofs.received.cut_short.Goals as goal
 

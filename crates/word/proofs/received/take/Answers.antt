@@ -3,7 +3,6 @@ use mathlib.Core.Path.{◌∙◌}
 use native.Mathlib.Omega.{arith}
 use Rattle.bits.specs.Bits.{bit}
 use Rattle.word.proofs.received.Handed.{taken_whole, taken_later}
-use borrow.Author.Rules.{rules}
 use Rattle.word.proofs.received.take.Goals as goal
 
 pub returns-then-unsent-gt0 : goal.returns-then-unsent-gt0

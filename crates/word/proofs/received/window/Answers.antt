@@ -1,7 +1,6 @@
 -- `received::window` meets its contract: eight octets, and of the next one the first bits. Assumes nothing.
 use mathlib.Core.Path.{ap, ◌∙◌}
 use native.Mathlib.Omega.{arith}
-use borrow.Author.Rules.{rules}
 use Rattle.bits.specs.Bits.{bit}
 use Rattle.word.proofs.received.Cutting.{across}
 use Rattle.word.proofs.received.window.Goals as goal

@@ -6,7 +6,6 @@ use lib.ListN.{length}
 use Rattle.bits.specs.Bits.{octets}
 use Rattle.vectors.specs.Vectors.{wbit, from}
 use Rattle.word.proofs.received.Handed.{written_trimmed, written_whole}
-use borrow.Author.Rules.{rules}
 use Rattle.word.proofs.received.write.Goals as goal
 
 pub returns-then-bits-out : goal.returns-then-bits-out

@@ -1,12 +1,11 @@
 -- `unlike::apart_whole`: sum counts the first j words.  Assumes nothing.
 use mathlib.Core.Path.{◌≡◌, ap, ◌∙◌, sym}
-use Prim.Native.Nat.{ℕ, ◌+◌, ◌-◌, ◌*◌, ◌≤◌, ◌<◌}
+use Prim.Native.Nat.{ℕ, ◌+◌, ◌*◌}
 use native.Mathlib.Omega.{arith}
 use Rattle.bits.specs.Bits.{Word, bit, count, ◌⊕◌}
 use Rattle.bits.proofs.Counting.{count-start}
-use Rattle.vectors.specs.Vectors.{wbit, Holds, from}
+use Rattle.vectors.specs.Vectors.{wbit}
 use Rattle.word.proofs.unlike.Differing.{apart_more, from_more, place}
-use borrow.Author.Rules.{rules}
 use Rattle.word.proofs.unlike.apart_whole.Goals as goal
 
 pub loop-j-init : goal.loop-j-init

@@ -1,12 +1,8 @@
 -- `unlike::apart_whole`: sum counts the first j words.  Assumes nothing.
-use mathlib.Core.Path.{◌≡◌, ap, ◌∙◌, sym}
-use Prim.Native.Nat.{ℕ, ◌+◌, ◌-◌, ◌*◌, ◌≤◌, ◌<◌}
-use native.Mathlib.Omega.{arith}
-use Rattle.bits.specs.Bits.{Word, bit, count, ◌⊕◌}
-use Rattle.bits.proofs.Counting.{count-start}
-use Rattle.vectors.specs.Vectors.{wbit, Holds, from}
-use Rattle.word.proofs.unlike.Differing.{apart_more, from_more, place}
-use borrow.Author.Rules.{rules}
+use mathlib.Core.Path.{◌≡◌}
+use Prim.Native.Nat.{◌+◌, ◌-◌, ◌*◌, ◌≤◌}
+use Rattle.bits.specs.Bits.{bit, count, ◌⊕◌}
+use Rattle.vectors.specs.Vectors.{wbit}
 use Rattle.word.proofs.unlike.apart_whole.Given as goal
 
 abbrev pub invariant-loop-j : goal.invariant-loop-j

@@ -1,14 +1,13 @@
 -- `unlike::unlike`: whole words, and what is left. Assumes nothing.
 use mathlib.Core.Path.{◌≡◌, sym, ap, ◌∙◌}
 use mathlib.Core.Bool.{◌&&◌}
-use Prim.Native.Nat.{ℕ, ◌+◌, ◌*◌, ◌/◌, ◌%◌, ◌≤◌, ◌<◌}
+use Prim.Native.Nat.{ℕ, ◌+◌, ◌*◌, ◌/◌, ◌%◌}
 use native.Mathlib.Omega.{arith}
 use lib.Dec.{ltb}
 use lib.ListN.{length}
 use Rattle.bits.specs.Bits.{Word, bit, count, ◌⊕◌}
 use Rattle.vectors.specs.Vectors.{wbit}
 use Rattle.word.proofs.unlike.Differing.{apart_rest, place}
-use borrow.Author.Rules.{rules}
 use Rattle.word.proofs.unlike.unlike.Goals as goal
 
 pub returns-then-t-eq0 : goal.returns-then-t-eq0

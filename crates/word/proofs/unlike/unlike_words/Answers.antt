@@ -1,8 +1,7 @@
 -- `unlike::unlike_words`: sum counts the first j words. Assumes nothing.
 use mathlib.Core.Path.{◌≡◌, ap, ◌∙◌, sym}
-use Prim.Native.Nat.{ℕ, ◌+◌, ◌-◌, ◌*◌, ◌≤◌}
+use Prim.Native.Nat.{ℕ, ◌+◌, ◌*◌}
 use native.Mathlib.Omega.{arith}
-use borrow.Author.Rules.{rules}
 use Rattle.bits.specs.Bits.{count, ◌⊕◌}
 use Rattle.bits.proofs.Counting.{count-start}
 use Rattle.vectors.specs.Vectors.{wbit}

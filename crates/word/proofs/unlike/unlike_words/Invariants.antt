@@ -1,13 +1,8 @@
 -- `unlike::unlike_words`: sum counts the first j words. Assumes nothing.
-use mathlib.Core.Path.{◌≡◌, ap, ◌∙◌, sym}
-use Prim.Native.Nat.{ℕ, ◌+◌, ◌-◌, ◌*◌, ◌≤◌}
-use native.Mathlib.Omega.{arith}
-use borrow.Author.Rules.{rules}
+use mathlib.Core.Path.{◌≡◌}
+use Prim.Native.Nat.{◌-◌, ◌*◌, ◌≤◌}
 use Rattle.bits.specs.Bits.{count, ◌⊕◌}
-use Rattle.bits.proofs.Counting.{count-start}
 use Rattle.vectors.specs.Vectors.{wbit}
-use Rattle.vectors.proofs.Filling.{word_holds}
-use Rattle.word.proofs.unlike.Differing.{apart_more}
 use Rattle.word.proofs.unlike.unlike_words.Given as goal
 
 abbrev pub invariant-loop-j : goal.invariant-loop-j

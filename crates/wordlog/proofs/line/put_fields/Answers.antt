@@ -31,5 +31,9 @@ pub returns : goal.returns
 returns c =
     let a = c.args in
     let h = c.loop-k in
-    let e : h.k ≡ length a.numbers.now = omega arith in record { upper_bound = omega arith; text_after = h.invariant.3 ∙ ap (λ (l : List ℕ). take a.at a.text.now ++ fields l)
-          (take_all h.k a.numbers.now (omega arith)) }
+    let e : h.k ≡ length a.numbers.now = omega arith in
+    record {
+      upper_bound = omega arith;
+      text_after = h.invariant.3 ∙ ap (λ (l : List ℕ). take a.at a.text.now ++ fields l)
+          (take_all h.k a.numbers.now (omega arith));
+    }

@@ -12,7 +12,8 @@ use Rattle.wordlog.proofs.line.put_fields.Given as goal
 
 abbrev pub invariant-loop-k : goal.invariant-loop-k
 invariant-loop-k l =
-    (l.k ≤ length l.numbers) × (l.end ≤ l.at + 21 * l.k) × (length l.text ≡ length l.initial.text) × (take l.end l.text ≡ take l.at l.initial.text ++ fields (take l.k l.numbers))
+    (l.k ≤ length l.numbers) × (l.end ≤ l.at + 21 * l.k) × (length l.text ≡ length l.initial.text)
+    × (take l.end l.text ≡ take l.at l.initial.text ++ fields (take l.k l.numbers))
 
 abbrev pub decreases-loop-k : goal.decreases-loop-k
 decreases-loop-k l = length l.numbers - l.k

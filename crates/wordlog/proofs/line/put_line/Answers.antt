@@ -22,10 +22,22 @@ put_fields-end-requires c =
     omega (arith, n, p.ensures.0, long64 c.args.index (omega arith))
 
 pub bounds-text-end : goal.bounds-text-end
-bounds-text-end c = omega (arith, ap length c.numbers-values.ensures, c.put_fields-end.ensures.upper_bound, c.put-start.ensures.0, long64 c.args.index (omega arith))
+bounds-text-end c = omega (
+  arith,
+  ap length c.numbers-values.ensures,
+  c.put_fields-end.ensures.upper_bound,
+  c.put-start.ensures.0,
+  long64 c.args.index (omega arith),
+)
 
 pub overflow_add-result : goal.overflow_add-result
-overflow_add-result c = omega (arith, ap length c.numbers-values.ensures, c.put_fields-end.ensures.upper_bound, c.put-start.ensures.0, long64 c.args.index (omega arith))
+overflow_add-result c = omega (
+  arith,
+  ap length c.numbers-values.ensures,
+  c.put_fields-end.ensures.upper_bound,
+  c.put-start.ensures.0,
+  long64 c.args.index (omega arith),
+)
 
 pub shape_of-text : goal.shape_of-text
 shape_of-text c = simp length-set (omega arith)
@@ -38,8 +50,20 @@ returns c =
     let a = c.args in
     let before = take a.at a.text.now in
     let first = take p.result p.new.text in
-    let e : f.result < length f.new.text = omega (arith, ap length c.numbers-values.ensures, c.put_fields-end.ensures.upper_bound, c.put-start.ensures.0, long64 c.args.index (omega arith)) in (
-      omega (arith, ap length c.numbers-values.ensures, c.put_fields-end.ensures.upper_bound, c.put-start.ensures.0, long64 c.args.index (omega arith)),
+    let e : f.result < length f.new.text = omega (
+      arith,
+      ap length c.numbers-values.ensures,
+      c.put_fields-end.ensures.upper_bound,
+      c.put-start.ensures.0,
+      long64 c.args.index (omega arith),
+    ) in (
+      omega (
+        arith,
+        ap length c.numbers-values.ensures,
+        c.put_fields-end.ensures.upper_bound,
+        c.put-start.ensures.0,
+        long64 c.args.index (omega arith),
+      ),
       line_whole before f.new.text first a.index f.result (as_corrected a.a []) e f.ensures.text_after
           p.ensures.1 ns.ensures,
     )

@@ -28,4 +28,7 @@ pub returns : goal.returns
 returns c =
     let a = c.args in
     let h = c.loop-k in
-    record { value = omega arith; text_after = h.invariant.3 ∙ ap (λ (l : List ℕ). take a.at a.text.now ++ l) (take_all h.k a.octets.now (omega arith)) }
+    record {
+      value = omega arith;
+      text_after = h.invariant.3 ∙ ap (λ (l : List ℕ). take a.at a.text.now ++ l) (take_all h.k a.octets.now (omega arith));
+    }

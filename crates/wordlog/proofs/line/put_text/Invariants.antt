@@ -11,7 +11,8 @@ use Rattle.wordlog.proofs.line.put_text.Given as goal
 
 abbrev pub invariant-loop-k : goal.invariant-loop-k
 invariant-loop-k l =
-    (l.k ≤ length l.octets) × (l.end ≡ l.at + l.k) × (length l.text ≡ length l.initial.text) × (take l.end l.text ≡ take l.at l.initial.text ++ take l.k l.octets)
+    (l.k ≤ length l.octets) × (l.end ≡ l.at + l.k) × (length l.text ≡ length l.initial.text)
+    × (take l.end l.text ≡ take l.at l.initial.text ++ take l.k l.octets)
 
 abbrev pub decreases-loop-k : goal.decreases-loop-k
 decreases-loop-k l = length l.octets - l.k

@@ -15,8 +15,11 @@ returns c =
     let p = c.put_line in
     let g = c.correct-answer in
     let a = c.args in
-    let z : List ℕ = replicate (code a.code).octets_of_word 0 in record { upper_bound = p.ensures.0; text_after = p.ensures.1
+    let z : List ℕ = replicate (code a.code).octets_of_word 0 in record {
+      upper_bound = p.ensures.0;
+      text_after = p.ensures.1
           ∙ ap (λ (l : List ℕ). take a.at a.text.now ++ l) (
           ap (λ r. line a.index r) g.ensures ∙ same_line a.index a.code a.word.now a.limit a.out.now z (c.requires.0
           ∙ sym (length-replicate (code a.code).octets_of_word 0))
-          ) }
+          );
+    }

@@ -11,19 +11,35 @@ use borrow.Author.Rules.{rules}
 use Rattle.wordlog.proofs.lines.write_at.Goals as goal
 
 pub overflow_mul-from : goal.overflow_mul-from
-overflow_mul-from c = omega (arith, (starts_before (length c.args.words.now) c.args.size c.args.k c.requires.numbered.0.1 c.requires.numbered.1).0)
+overflow_mul-from c = omega (
+  arith,
+  (starts_before (length c.args.words.now) c.args.size c.args.k c.requires.numbered.0.1 c.requires.numbered.1).0,
+)
 
 pub overflow_add-from : goal.overflow_add-from
-overflow_add-from c = omega (arith, (starts_before (length c.args.words.now) c.args.size c.args.k c.requires.numbered.0.1 c.requires.numbered.1).0)
+overflow_add-from c = omega (
+  arith,
+  (starts_before (length c.args.words.now) c.args.size c.args.k c.requires.numbered.0.1 c.requires.numbered.1).0,
+)
 
 pub overflow_add-index : goal.overflow_add-index
-overflow_add-index c = omega (arith, (starts_before (length c.args.words.now) c.args.size c.args.k c.requires.numbered.0.1 c.requires.numbered.1).0, (starts_before (length c.args.words.now) c.args.size c.args.k c.requires.numbered.0.1 c.requires.numbered.1).1)
+overflow_add-index c = omega (
+  arith,
+  (starts_before (length c.args.words.now) c.args.size c.args.k c.requires.numbered.0.1 c.requires.numbered.1).0,
+  (starts_before (length c.args.words.now) c.args.size c.args.k c.requires.numbered.0.1 c.requires.numbered.1).1,
+)
 
 pub slice_bounds-write_word-count : goal.slice_bounds-write_word-count
-slice_bounds-write_word-count c = omega (arith, (starts_before (length c.args.words.now) c.args.size c.args.k c.requires.numbered.0.1 c.requires.numbered.1).0)
+slice_bounds-write_word-count c = omega (
+  arith,
+  (starts_before (length c.args.words.now) c.args.size c.args.k c.requires.numbered.0.1 c.requires.numbered.1).0,
+)
 
 pub slice_bounds-write_word-start : goal.slice_bounds-write_word-start
-slice_bounds-write_word-start c = omega (arith, (starts_before (length c.args.words.now) c.args.size c.args.k c.requires.numbered.0.1 c.requires.numbered.1).0)
+slice_bounds-write_word-start c = omega (
+  arith,
+  (starts_before (length c.args.words.now) c.args.size c.args.k c.requires.numbered.0.1 c.requires.numbered.1).0,
+)
 
 pub returns : goal.returns
 returns c =
@@ -33,4 +49,8 @@ returns c =
     let w = c.write_word in
     let from = a.k * a.size in
     let e : take (l.result - from) (drop from ws) ≡ word a.code ws a.k =
-    piece ws from a.size l.result l.ensures ∙ ap (λ m. take m (drop (a.k * m) ws)) c.requires.numbered.0.0 in record { upper_bound = w.ensures.upper_bound; text_after = w.ensures.text_after ∙ ap (λ (o : List ℕ). take a.at a.text.now ++ word_line a.code a.limit (a.index + a.k) o) e }
+    piece ws from a.size l.result l.ensures ∙ ap (λ m. take m (drop (a.k * m) ws)) c.requires.numbered.0.0 in
+    record {
+      upper_bound = w.ensures.upper_bound;
+      text_after = w.ensures.text_after ∙ ap (λ (o : List ℕ). take a.at a.text.now ++ word_line a.code a.limit (a.index + a.k) o) e;
+    }

@@ -18,12 +18,21 @@ loop-k-init c = (omega arith, omega arith, omega arith, refl, refl, refl)
 pub write_at-end-requires : goal.write_at-end-requires
 write_at-end-requires c =
     let h = c.loop-k in
-    let b = (starts_before (length c.args.words.now) c.args.size c.loop-k.k c.requires.numbered.0.1 (omega (arith, c.requires.numbered.1))) in
-    record { numbered = (c.requires.numbered.0, omega (arith, c.requires.numbered.1)); out_len = (h.invariant.3 ∙ c.requires.out_len.0, omega (arith, b.0, b.1)) }
+    let b = (starts_before (length c.args.words.now) c.args.size c.loop-k.k c.requires.numbered.0.1 (omega (
+      arith,
+      c.requires.numbered.1,
+    ))) in
+    record {
+      numbered = (c.requires.numbered.0, omega (arith, c.requires.numbered.1));
+      out_len = (h.invariant.3 ∙ c.requires.out_len.0, omega (arith, b.0, b.1));
+    }
 
 pub overflow_add-k : goal.overflow_add-k
 overflow_add-k c =
-    let b = (starts_before (length c.args.words.now) c.args.size c.loop-k.k c.requires.numbered.0.1 (omega (arith, c.requires.numbered.1))) in
+    let b = (starts_before (length c.args.words.now) c.args.size c.loop-k.k c.requires.numbered.0.1 (omega (
+      arith,
+      c.requires.numbered.1,
+    ))) in
     omega (arith, b.0, b.1)
 
 pub loop-k-preserved : goal.loop-k-preserved
@@ -31,7 +40,10 @@ unfolding lines
 loop-k-preserved c =
     let h = c.loop-k in
     let w = c.write_at-end in
-    let b = (starts_before (length c.args.words.now) c.args.size c.loop-k.k c.requires.numbered.0.1 (omega (arith, c.requires.numbered.1))) in
+    let b = (starts_before (length c.args.words.now) c.args.size c.loop-k.k c.requires.numbered.0.1 (omega (
+      arith,
+      c.requires.numbered.1,
+    ))) in
     let a = c.args in (
       omega arith,
       omega arith,

@@ -16,7 +16,8 @@ use Rattle.wordlog.proofs.lines.write_words.Given as goal
 
 abbrev pub invariant-loop-k : goal.invariant-loop-k
 invariant-loop-k l =
-    (l.k ≤ l.count) × (l.end ≤ 128 * l.k) × (l.end ≤ length l.initial.text) × (length l.out ≡ length l.initial.out) × (length l.text ≡ length l.initial.text)
+    (l.k ≤ l.count) × (l.end ≤ 128 * l.k) × (l.end ≤ length l.initial.text) × (length l.out ≡ length l.initial.out)
+    × (length l.text ≡ length l.initial.text)
     × (take l.end l.text ≡ lines l.code l.limit l.index l.words l.k)
 
 abbrev pub decreases-loop-k : goal.decreases-loop-k
