@@ -1,18 +1,18 @@
 // Runs the paper's cases that are not proved, and every row of the generator tables: a line for each, held to what is printed.
-
 #![tactic(auto)]
 
 ghost use Rattle.std.specs.Prelude.{◌+◌, ◌*◌, ◌≤◌, ◌<◌, ◌≡◌, length};
 
 use flipping::endings;
-use libc::STDOUT_FILENO;
+use std::io;
+use std::io::Write;
 
-fn text(bytes: &[u8]) {
-    io::write_all(STDOUT_FILENO, bytes);
+fn text<W: Write>(output: &mut W, bytes: &[u8]) -> io::Result<()> {
+    output.write_all(bytes)
 }
 
-fn number(n: u64) {
-    io::print_decimal(STDOUT_FILENO, n);
+fn number<W: Write>(output: &mut W, n: u64) -> io::Result<()> {
+    write!(output, "{n}")
 }
 
 fn octet(octets: &[u8], i: usize) -> u8 {
@@ -70,86 +70,120 @@ fn encode_alone(code: u8, n: usize, information: &mut [u8], word: &mut [u8]) -> 
     answer
 }
 
-fn name_row(code: u8, n: usize) {
-    text(b"code ");
-    number(code as u64);
-    text(b", information bit ");
-    number(n as u64);
-    text(b":");
+fn name_row<W: Write>(output: &mut W, code: u8, n: usize) -> io::Result<()> {
+    text(output, b"code ")?;
+    number(output, code as u64)?;
+    text(output, b", information bit ")?;
+    number(output, n as u64)?;
+    text(output, b":")
 }
 
 // A printed row of codes 1 to 3: all of the parity.
-fn telecommand_row(code: u8, n: usize, information: &mut [u8], word: &mut [u8], out: &mut [u8])
+fn telecommand_row<W: Write>(
+    output: &mut W,
+    code: u8,
+    n: usize,
+    information: &mut [u8],
+    word: &mut [u8],
+    out: &mut [u8],
+) -> io::Result<()>
     requires { (n < 8 * length information.old) × (length information.old ≤ 32) × (length out.old ≤ 128) }
 {
     encode_alone(code, n, information, word);
-    name_row(code, n);
+    name_row(output, code, n)?;
     spell(word, 8 * information.len(), out);
-    text(b" ");
-    text(out);
-    text(b"\n");
+    text(output, b" ")?;
+    text(output, out)?;
+    text(output, b"\n")
 }
 
-fn telecommand_rows(code: u8, m: usize, information: &mut [u8], word: &mut [u8], out: &mut [u8])
+fn telecommand_rows<W: Write>(
+    output: &mut W,
+    code: u8,
+    m: usize,
+    information: &mut [u8],
+    word: &mut [u8],
+    out: &mut [u8],
+) -> io::Result<()>
     requires { (4 * m ≡ 8 * length information.old) × (0 < m) × (length information.old ≤ 32) × (length out.old ≤ 128) }
 {
-    telecommand_row(code, 0, information, word, out);
-    telecommand_row(code, m, information, word, out);
-    telecommand_row(code, 2 * m, information, word, out);
-    telecommand_row(code, 3 * m, information, word, out);
+    telecommand_row(output, code, 0, information, word, out)?;
+    telecommand_row(output, code, m, information, word, out)?;
+    telecommand_row(output, code, 2 * m, information, word, out)?;
+    telecommand_row(output, code, 3 * m, information, word, out)
 }
 
 // 511 bits as table 2 prints them, with one zero bit in front.
-fn near_earth_block(word: &[u8], n: usize, out: &mut [u8])
+fn near_earth_block<W: Write>(
+    output: &mut W,
+    word: &[u8],
+    n: usize,
+    out: &mut [u8],
+) -> io::Result<()>
     requires { (0 < n) × (n < 32768) × (length out.old ≡ 128) }
 {
     spell(word, n - 1, out);
     out[0] = glyph(digit(word, n - 1) % 8);
-    text(b" ");
-    text(out);
+    text(output, b" ")?;
+    text(output, out)
 }
 
 // A printed pair of rows.
-fn near_earth_row(n: usize, information: &mut [u8], word: &mut [u8], out: &mut [u8])
+fn near_earth_row<W: Write>(
+    output: &mut W,
+    n: usize,
+    information: &mut [u8],
+    word: &mut [u8],
+    out: &mut [u8],
+) -> io::Result<()>
     requires { (n < 7154) × (length information.old ≡ 895) × (length out.old ≡ 128) }
 {
     encode_alone(4, n, information, word);
-    name_row(4, n);
-    near_earth_block(word, 7154, out);
-    near_earth_block(word, 7665, out);
-    text(b"\n");
+    name_row(output, 4, n)?;
+    near_earth_block(output, word, 7154, out)?;
+    near_earth_block(output, word, 7665, out)?;
+    text(output, b"\n")
 }
 
-fn near_earth_rows(information: &mut [u8], word: &mut [u8], out: &mut [u8])
+fn near_earth_rows<W: Write>(
+    output: &mut W,
+    information: &mut [u8],
+    word: &mut [u8],
+    out: &mut [u8],
+) -> io::Result<()>
     requires { (length information.old ≡ 895) × (length out.old ≡ 128) }
 {
-    let mut n: usize = 0;
-    while n < 7154 {
-        near_earth_row(n, information, word, out);
-        n += 511;
+    for block in 0..14usize {
+        near_earth_row(output, 511 * block, information, word, out)?;
     }
+    Ok(())
 }
 
-fn show(n: u64) {
-    text(b" ");
-    number(n);
+fn show<W: Write>(output: &mut W, n: u64) -> io::Result<()> {
+    text(output, b" ")?;
+    number(output, n)
 }
 
-fn octet_894(value: u8, information: &mut [u8], word: &mut [u8])
+fn octet_894<W: Write>(
+    output: &mut W,
+    value: u8,
+    information: &mut [u8],
+    word: &mut [u8],
+) -> io::Result<()>
     requires { length information.old ≡ 895 }
 {
     information[894] = value;
-    show(codes::encode(4, information, word) as u64);
+    show(output, codes::encode(4, information, word) as u64)?;
     information[894] = 0;
-    text(b"\n");
+    text(output, b"\n")
 }
 
-fn show_corrected(a: endings::Corrected) {
-    show(a.number as u64);
-    show(a.flips as u64);
-    show(a.first as u64);
-    show(a.last as u64);
-    text(b"\n");
+fn show_corrected<W: Write>(output: &mut W, a: endings::Corrected) -> io::Result<()> {
+    show(output, a.number as u64)?;
+    show(output, a.flips as u64)?;
+    show(output, a.first as u64)?;
+    show(output, a.last as u64)?;
+    text(output, b"\n")
 }
 
 // A word of code 4 as code 5 sends it: without its first 18 bits, and with two zeros at the end.
@@ -163,25 +197,34 @@ fn shorten(word: &[u8], sent: &mut [u8])
     }
 }
 
-fn unsent_bit(information: &mut [u8], word: &mut [u8], sent: &mut [u8], out: &mut [u8])
+fn unsent_bit<W: Write>(
+    output: &mut W,
+    information: &mut [u8],
+    word: &mut [u8],
+    sent: &mut [u8],
+    out: &mut [u8],
+) -> io::Result<()>
     requires { (length information.old ≡ 895) × (length sent.old < 65536) }
 {
     encode_alone(4, 0, information, word);
     shorten(word, sent);
-    text(b"code 4's word of information bit 0, sent by code 5, limit 1:");
-    show_corrected(codes::correct(5, sent, 1, out));
+    text(
+        output,
+        b"code 4's word of information bit 0, sent by code 5, limit 1:",
+    )?;
+    show_corrected(output, codes::correct(5, sent, 1, out))
 }
 
-fn one_broken(code: u8, word: &[u8], out: &mut [u8]) {
-    text(b"code ");
-    number(code as u64);
-    text(b", a word with one broken check:");
+fn one_broken<W: Write>(output: &mut W, code: u8, word: &[u8], out: &mut [u8]) -> io::Result<()> {
+    text(output, b"code ")?;
+    number(output, code as u64)?;
+    text(output, b", a word with one broken check:")?;
     let checked = codes::check(code, word);
-    show(checked.broken as u64);
-    text(b", the lowest");
-    show(checked.lowest as u64);
-    text(b";");
-    show_corrected(codes::correct(code, word, 65535, out));
+    show(output, checked.broken as u64)?;
+    text(output, b", the lowest")?;
+    show(output, checked.lowest as u64)?;
+    text(output, b";")?;
+    show_corrected(output, codes::correct(code, word, 65535, out))
 }
 
 // Parity that breaks check 0 alone, after zeros.
@@ -237,32 +280,49 @@ fn digits_space() -> [u8; 128]
     [0; 128]
 }
 
-fn rows() {
-    telecommand_rows(1, 16, &mut [0u8; 8], &mut [0u8; 16], &mut [0u8; 16]);
-    telecommand_rows(2, 32, &mut [0u8; 16], &mut [0u8; 32], &mut [0u8; 32]);
-    telecommand_rows(3, 64, &mut [0u8; 32], &mut [0u8; 64], &mut [0u8; 64]);
+fn rows<W: Write>(output: &mut W) -> io::Result<()> {
+    telecommand_rows(output, 1, 16, &mut [0u8; 8], &mut [0u8; 16], &mut [0u8; 16])?;
+    telecommand_rows(
+        output,
+        2,
+        32,
+        &mut [0u8; 16],
+        &mut [0u8; 32],
+        &mut [0u8; 32],
+    )?;
+    telecommand_rows(
+        output,
+        3,
+        64,
+        &mut [0u8; 32],
+        &mut [0u8; 64],
+        &mut [0u8; 64],
+    )?;
     near_earth_rows(
+        output,
         &mut information_space(),
         &mut word_space(),
         &mut digits_space(),
-    );
+    )
 }
 
-fn main() {
-    rows();
+fn main(rt: HostRuntime) -> io::Result<()> {
+    let output = &mut rt.stdout();
+    rows(output)?;
     let mut information = information_space();
     let mut word = word_space();
-    text(b"code 4, octet 894 equal to 01:");
-    octet_894(0x01, &mut information, &mut word);
-    text(b"code 4, octet 894 equal to 40:");
-    octet_894(0x40, &mut information, &mut word);
+    text(output, b"code 4, octet 894 equal to 01:")?;
+    octet_894(output, 0x01, &mut information, &mut word)?;
+    text(output, b"code 4, octet 894 equal to 40:")?;
+    octet_894(output, 0x40, &mut information, &mut word)?;
     unsent_bit(
+        output,
         &mut information,
         &mut word,
         &mut sent_space(),
         &mut sent_space(),
-    );
-    one_broken(1, &broken_128(), &mut [0u8; 16]);
-    one_broken(2, &broken_256(), &mut [0u8; 32]);
-    one_broken(3, &broken_512(), &mut [0u8; 64]);
+    )?;
+    one_broken(output, 1, &broken_128(), &mut [0u8; 16])?;
+    one_broken(output, 2, &broken_256(), &mut [0u8; 32])?;
+    one_broken(output, 3, &broken_512(), &mut [0u8; 64])
 }

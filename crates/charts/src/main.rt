@@ -1,5 +1,4 @@
 // Prints what the pictures in docs are drawn from: the parity tables as they are lent, and runs on spoiled words, flip by flip.
-
 #![tactic(auto)]
 
 ghost use Rattle.std.specs.Prelude.{◌≡◌, ◌<◌, ◌≤◌, length};
@@ -7,21 +6,22 @@ ghost use Rattle.layout.specs.Rooms.{table_room};
 
 use catalogue::{offer, tables};
 use layout::TABLE;
-use libc::STDOUT_FILENO;
+use std::io;
+use std::io::Write;
 
-fn text(bytes: &[u8]) {
-    io::write_all(STDOUT_FILENO, bytes);
+fn text<W: Write>(output: &mut W, bytes: &[u8]) -> io::Result<()> {
+    output.write_all(bytes)
 }
 
-fn number(n: u64) {
-    text(b" ");
-    io::print_decimal(STDOUT_FILENO, n);
+fn number<W: Write>(output: &mut W, n: u64) -> io::Result<()> {
+    text(output, b" ")?;
+    write!(output, "{n}")
 }
 
 // The first words of a line.
-fn line(name: &[u8], code: u8) {
-    text(name);
-    number(code as u64);
+fn line<W: Write>(output: &mut W, name: &[u8], code: u8) -> io::Result<()> {
+    text(output, name)?;
+    number(output, code as u64)
 }
 
 fn is_entry(shift: u16, size: usize) -> bool {
@@ -29,37 +29,49 @@ fn is_entry(shift: u16, size: usize) -> bool {
 }
 
 // An entry of a parity table: code, M, row, block, shift.
-fn entry(code: u8, size: usize, blocks: usize, place: usize, shift: u16)
+fn entry<W: Write>(
+    output: &mut W,
+    code: u8,
+    size: usize,
+    blocks: usize,
+    place: usize,
+    shift: u16,
+) -> io::Result<()>
     requires { 0 < blocks }
 {
-    line(b"entry", code);
-    number(size as u64);
-    number((place / 2 / blocks) as u64);
-    number((place / 2 % blocks) as u64);
-    number(shift as u64);
-    text(b"\n");
+    line(output, b"entry", code)?;
+    number(output, size as u64)?;
+    number(output, (place / 2 / blocks) as u64)?;
+    number(output, (place / 2 % blocks) as u64)?;
+    number(output, shift as u64)?;
+    text(output, b"\n")
 }
 
-fn entries(code: u8, size: usize, blocks: usize, h: &[u16])
+fn entries<W: Write>(
+    output: &mut W,
+    code: u8,
+    size: usize,
+    blocks: usize,
+    h: &[u16],
+) -> io::Result<()>
     requires { (0 < blocks) × (length h.now ≡ table_room) }
 {
-    let mut i: usize = 0;
-    while i < h.len() {
-        if is_entry(h[i], size) {
-            entry(code, size, blocks, i, h[i]);
+    for (i, shift) in h.iter().enumerate() {
+        if is_entry(*shift, size) {
+            entry(output, code, size, blocks, i, *shift)?;
         }
-        i += 1;
     }
+    Ok(())
 }
 
-fn table(code: u8)
+fn table<W: Write>(output: &mut W, code: u8) -> io::Result<()>
     requires { (1 ≤ code) × (code ≤ 5) }
 {
     let mut h = [0u16; TABLE];
     let o = offer::of(code);
     let sh = o.shape;
     let lent = tables::lend(sh.size, &mut h);
-    entries(code, sh.size, sh.blocks, &h);
+    entries(output, code, sh.size, sh.blocks, &h)
 }
 
 fn is_set(octet: u8, n: u32) -> bool
@@ -68,23 +80,22 @@ fn is_set(octet: u8, n: u32) -> bool
     octet & (128u8 >> n) != 0
 }
 
-fn wrong_bit(code: u8, n: usize) {
-    line(b"wrong", code);
-    number(n as u64);
-    text(b"\n");
+fn wrong_bit<W: Write>(output: &mut W, code: u8, n: usize) -> io::Result<()> {
+    line(output, b"wrong", code)?;
+    number(output, n as u64)?;
+    text(output, b"\n")
 }
 
 // The bits of a word that are 1: what was sent is all zeros, so these are wrong.
-fn wrong(code: u8, word: &[u8])
+fn wrong<W: Write>(output: &mut W, code: u8, word: &[u8]) -> io::Result<()>
     requires { length word.now < 65536 }
 {
-    let mut n: usize = 0;
-    while n < 8 * word.len() {
+    for n in 0..8 * word.len() {
         if is_set(word[n / 8], (n % 8) as u32) {
-            wrong_bit(code, n);
+            wrong_bit(output, code, n)?;
         }
-        n += 1;
     }
+    Ok(())
 }
 
 // A bit that is flipped has an excess of 1 to 5.
@@ -100,52 +111,59 @@ fn above(excess: i8) -> u64 {
 }
 
 // One flip of the run: the bit, its excess, and the checks still broken.
-fn flip(code: u8, word: &[u8], out: &mut [u8]) -> bool {
+fn flip<W: Write>(output: &mut W, code: u8, word: &[u8], out: &mut [u8]) -> io::Result<bool> {
     let s = codes::step(code, word, out);
     if s.number != 0 || s.quiet {
-        return false;
+        return Ok(false);
     }
-    line(b"flip", code);
-    number(s.bit as u64);
-    number(above(s.excess));
-    number(codes::check(code, out).broken as u64);
-    text(b"\n");
-    true
+    line(output, b"flip", code)?;
+    number(output, s.bit as u64)?;
+    number(output, above(s.excess))?;
+    number(output, codes::check(code, out).broken as u64)?;
+    text(output, b"\n")?;
+    Ok(true)
 }
 
 // There and back again.
-fn two_flips(code: u8, word: &mut [u8], other: &mut [u8]) -> bool {
-    flip(code, word, other) && flip(code, other, word)
+fn two_flips<W: Write>(
+    output: &mut W,
+    code: u8,
+    word: &mut [u8],
+    other: &mut [u8],
+) -> io::Result<bool> {
+    Ok(flip(output, code, word, other)? && flip(output, code, other, word)?)
 }
 
-fn flips(code: u8, word: &mut [u8], other: &mut [u8]) {
-    let mut passes: usize = 1022;
-    while 0 < passes && two_flips(code, word, other) {
-        passes -= 1;
+fn flips<W: Write>(output: &mut W, code: u8, word: &mut [u8], other: &mut [u8]) -> io::Result<()> {
+    for _ in 0..1022 {
+        if !two_flips(output, code, word, other)? {
+            return Ok(());
+        }
     }
+    Ok(())
 }
 
 // What a log line would say of the word.
-fn answer(code: u8, word: &[u8], out: &mut [u8]) {
+fn answer<W: Write>(output: &mut W, code: u8, word: &[u8], out: &mut [u8]) -> io::Result<()> {
     let c = codes::correct(code, word, 65535, out);
-    line(b"answer", code);
-    number(c.number as u64);
-    number(c.flips as u64);
-    number(c.first as u64);
-    number(c.last as u64);
-    text(b"\n");
+    line(output, b"answer", code)?;
+    number(output, c.number as u64)?;
+    number(output, c.flips as u64)?;
+    number(output, c.first as u64)?;
+    number(output, c.last as u64)?;
+    text(output, b"\n")
 }
 
 // Answer first, as the flips overwrite the word.
-fn run(code: u8, word: &mut [u8], other: &mut [u8])
+fn run<W: Write>(output: &mut W, code: u8, word: &mut [u8], other: &mut [u8]) -> io::Result<()>
     requires { length word.old < 65536 }
 {
-    line(b"word", code);
-    number(codes::check(code, word).broken as u64);
-    text(b"\n");
-    wrong(code, word);
-    answer(code, word, other);
-    flips(code, word, other);
+    line(output, b"word", code)?;
+    number(output, codes::check(code, word).broken as u64)?;
+    text(output, b"\n")?;
+    wrong(output, code, word)?;
+    answer(output, code, word, other)?;
+    flips(output, code, word, other)
 }
 
 // The first bit of every so many octets is wrong.
@@ -159,30 +177,37 @@ fn spoil(word: &mut [u8], apart: usize)
     }
 }
 
-fn telecommand(word: [u8; 16]) {
+fn telecommand<W: Write>(output: &mut W, word: [u8; 16]) -> io::Result<()> {
     let mut a = word;
     let mut b = [0u8; 16];
-    run(1, &mut a, &mut b);
+    run(output, 1, &mut a, &mut b)
 }
 
-fn near_earth(apart: usize)
+fn near_earth<W: Write>(output: &mut W, apart: usize) -> io::Result<()>
     requires { (0 < apart) × (apart < 65536) }
 {
     let mut a = [0u8; 1022];
     let mut b = [0u8; 1022];
     spoil(&mut a, apart);
-    run(4, &mut a, &mut b);
+    run(output, 4, &mut a, &mut b)
 }
 
-fn main() {
-    table(1);
-    table(2);
-    table(3);
-    table(4);
+fn main(rt: HostRuntime) -> io::Result<()> {
+    let output = &mut rt.stdout();
+    table(output, 1)?;
+    table(output, 2)?;
+    table(output, 3)?;
+    table(output, 4)?;
     // seven wrong bits, mended
-    telecommand([128, 0, 8, 0, 0, 128, 0, 8, 0, 0, 128, 0, 8, 0, 0, 128]);
+    telecommand(
+        output,
+        [128, 0, 8, 0, 0, 128, 0, 8, 0, 0, 128, 0, 8, 0, 0, 128],
+    )?;
     // nine, after which the run ends at another codeword
-    telecommand([64, 0, 0, 1, 32, 0, 0, 0, 0, 128, 0, 32, 16, 64, 1, 8]);
+    telecommand(
+        output,
+        [64, 0, 0, 1, 32, 0, 0, 0, 0, 128, 0, 32, 16, 64, 1, 8],
+    )?;
     // one bit of every 42nd octet
-    near_earth(42);
+    near_earth(output, 42)
 }

@@ -1,52 +1,40 @@
 // Takes the words of code 5 out of a telemetry stream: two octets limit, then the stream to its end. Prints a line for each word.
 // The first argument is the edition; without it the old sequence stays.
-
 #![tactic(auto)]
 
-ghost use Rattle.std.specs.Prelude.{◌+◌, ◌<◌, ◌≤◌, length};
-ghost use Rattle.io.specs.Counts.{IsPrefixLen};
+ghost use Rattle.std.specs.Prelude.{◌≡◌, ◌<◌, ◌≤◌, length, IfOk};
 
 use flipping::endings;
-use libc::{STDERR_FILENO, STDIN_FILENO, STDOUT_FILENO};
+use std::alloc::{AllocError, Global};
+use std::env::FillError;
+use std::io;
+use std::io::{Read, Write};
+use std::process::ExitCode;
+use std::rt::Env;
+use streams::Failure;
 use telemetry::taker::Taker;
 
-// How many octets were read; none where the input has ended, or a read failed, which is said on standard error.
-fn read(part: &mut [u8]) -> usize
-    ensures { IsPrefixLen result part.new }
-{
-    let got = libc::read(STDIN_FILENO, part);
-    if got < 0 {
-        os::fail(b"frames: standard input");
-    }
-    io::count(got, part)
-}
-
 // A number behind a space.
-fn put(n: u64) {
-    io::write_all(STDOUT_FILENO, b" ");
-    io::print_decimal(STDOUT_FILENO, n);
+fn put<W: Write>(output: &mut W, n: u64) -> io::Result<()> {
+    write!(output, " {n}")
 }
 
-// The line of a word: whether it is written.
-fn line(index: u64, offset: u64, r: endings::Corrected) -> bool {
-    io::print_decimal(STDOUT_FILENO, index);
-    put(offset);
-    put(r.number as u64);
-    put(r.flips as u64);
-    put(r.first as u64);
-    put(r.last as u64);
-    put(r.unlike as u64);
-    put(r.lowest as u64);
-    write(b"\n")
-}
-
-// Writes a text whole. If that fails, it is said on standard error.
-fn write(text: &[u8]) -> bool {
-    if io::write_all(STDOUT_FILENO, text) {
-        return true;
-    }
-    os::fail(b"frames: standard output");
-    false
+// The line of a word.
+fn line<W: Write>(
+    output: &mut W,
+    index: u64,
+    offset: u64,
+    r: endings::Corrected,
+) -> io::Result<()> {
+    write!(output, "{index}")?;
+    put(output, offset)?;
+    put(output, r.number as u64)?;
+    put(output, r.flips as u64)?;
+    put(output, r.first as u64)?;
+    put(output, r.last as u64)?;
+    put(output, r.unlike as u64)?;
+    put(output, r.lowest as u64)?;
+    output.write_all(b"\n")
 }
 
 // Where the program stands after a call of the taker: the octets that the call took, whether it goes on, the words and octets so far.
@@ -60,81 +48,87 @@ struct Standing {
 }
 
 // One call of the taker. A complete word has its line; its first octet lies 1020 before the octets taken so far.
-fn take(s: Standing, part: &[u8]) -> Standing
+fn take<W: Write>(output: &mut W, s: Standing, part: &[u8]) -> Result<Standing, Failure>
     requires { 0 < length part.now }
-    ensures { (0 < result.taken) × (result.taken ≤ length part.now) }
+    ensures { IfOk result (λ next. (0 < next.taken) × (next.taken ≤ length part.now)) }
 {
     let taker = s.taker;
     let r = taker.take(part);
     let next = r.next;
     let corrected = r.corrected;
-    let octets = std::num::wrapping_add_u64(s.octets, r.taken as u64);
+    let octets = s.octets.wrapping_add(r.taken as u64);
     if !r.complete {
-        return Standing {
+        return Ok(Standing {
             taker: next,
             taken: r.taken,
             more: s.more,
             words: s.words,
-            octets: octets,
-        };
+            octets,
+        });
     }
-    let more = line(s.words, std::num::wrapping_sub_u64(octets, 1020), corrected);
-    Standing {
+    line(output, s.words, octets.wrapping_sub(1020), corrected).map_err(Failure::Output)?;
+    Ok(Standing {
         taker: next,
         taken: r.taken,
-        more: more,
-        words: std::num::wrapping_add_u64(s.words, 1),
-        octets: octets,
-    }
+        more: true,
+        words: s.words.wrapping_add(1),
+        octets,
+    })
 }
 
 // Call after call until the part is used up; the rest of it is brought again.
-fn take_all(s: Standing, part: &[u8]) -> Standing {
+fn take_all<W: Write>(output: &mut W, s: Standing, part: &[u8]) -> Result<Standing, Failure> {
     let mut now = s;
     let mut at: usize = 0;
     while at < part.len() {
-        if !now.more {
-            return now;
-        }
-        now = take(now, &part[at..]);
+        now = take(output, now, &part[at..])?;
         at += now.taken;
     }
-    now
+    Ok(now)
 }
 
-// The next part of the stream; none ends it.
-fn go_on(s: Standing, part: &mut [u8]) -> Standing {
-    let n = read(part);
+// The next part of the stream, as much as comes; none ends it.
+fn go_on<R: Read, W: Write>(
+    input: &mut R,
+    output: &mut W,
+    s: Standing,
+    part: &mut [u8],
+) -> Result<Standing, Failure> {
+    let n = streams::read(input, part)?;
     if n == 0 {
         let taker = s.taker;
-        return Standing {
-            taker: taker,
+        return Ok(Standing {
+            taker,
             taken: 0,
             more: false,
             words: s.words,
             octets: s.octets,
-        };
+        });
     }
-    take_all(s, &part[..n])
+    take_all(output, s, &part[..n])
 }
 
 // Part after part.
-fn stream(taker: Taker, part: &mut [u8]) {
+fn stream<R: Read, W: Write>(
+    input: &mut R,
+    output: &mut W,
+    taker: Taker,
+    part: &mut [u8],
+) -> Result<(), Failure> {
     let mut s = Standing {
-        taker: taker,
+        taker,
         taken: 0,
         more: true,
         words: 0,
         octets: 0,
     };
-    let mut parts: u64 = 0;
-    while parts < 0x8000000000000000 {
-        s = go_on(s, part);
+    for _ in 0..0x8000000000000000u64 {
+        s = go_on(input, output, s, part)?;
         if !s.more {
-            return;
+            return Ok(());
         }
-        parts += 1;
     }
+    Ok(())
 }
 
 // The limit, high octet first.
@@ -155,41 +149,63 @@ fn edition_of(text: &[u8]) -> u8 {
 }
 
 // The edition of the first argument, 0 where there is none.
-fn edition() -> u8 {
-    if os::arg_count() < 2 {
-        return 0;
-    }
+fn edition<V: Env>(rt: &V) -> u8 {
     let mut text = [0u8; 8];
-    let n = os::arg(1, &mut text);
-    edition_of(&text[..n])
+    match rt.arg(1, &mut text) {
+        Ok(n) => edition_of(&text[..n]),
+        Err(FillError::NotPresent) => 0,
+        Err(FillError::TooLong) => edition_of(b""),
+    }
 }
 
 // Why there is no limit, in one line on standard error.
-fn no_limit() {
-    let mut more = [0u8; 1];
-    if libc::read(STDIN_FILENO, &mut more) < 0 {
-        os::fail(b"frames: standard input");
-        return;
-    }
-    io::write_all(STDERR_FILENO, b"frames: no limit of two octets\n");
+fn no_limit<R: Read, E: Write>(input: &mut R, errors: &mut E) -> Result<(), Failure> {
+    streams::is_ended(input)?;
+    let _ = errors.write_all(b"frames: no limit of two octets\n");
+    Ok(())
 }
 
-fn main() {
+// As much of the stream as one read may bring.
+fn part_buffer(alloc: Global) -> Result<Vec<u8>, AllocError>
+    ensures { IfOk result (λ v. length v.items ≡ 65536) }
+{
+    vec![in alloc; 0; 65536]
+}
+
+// The lines of a stream.
+fn run<R: Read, W: Write, E: Write>(
+    alloc: Global,
+    edition: u8,
+    input: &mut R,
+    output: &mut W,
+    errors: &mut E,
+) -> Result<(), Failure> {
     let mut head = [0u8; 2];
-    let n = io::read_full(STDIN_FILENO, &mut head);
+    let n = streams::fill(input, &mut head)?;
     if n < 2 {
-        no_limit();
-        return;
+        return no_limit(input, errors);
     }
-    let made = Taker::told(edition(), limit_of(head[0], head[1]));
+    let made = Taker::told(edition, limit_of(head[0], head[1]));
     if made.number != 0 {
-        io::write_all(STDERR_FILENO, b"frames: an edition that is not known\n");
-        return;
+        let _ = errors.write_all(b"frames: an edition that is not known\n");
+        return Ok(());
     }
-    if !write(b"word offset answer flips first last unlike lowest\n") {
-        return;
-    }
-    let mut part = io::large_buffer();
+    streams::write(
+        output,
+        b"word offset answer flips first last unlike lowest\n",
+    )?;
+    let mut part = part_buffer(alloc)?;
     let taker = made.taker;
-    stream(taker, &mut part);
+    stream(input, output, taker, &mut part)
+}
+
+fn main(rt: HostRuntime) -> ExitCode {
+    let ran = run(
+        rt.alloc(),
+        edition(&rt),
+        &mut rt.stdin(),
+        &mut rt.stdout(),
+        &mut rt.stderr(),
+    );
+    streams::end(&rt, "frames", ran)
 }

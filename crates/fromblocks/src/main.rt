@@ -1,42 +1,35 @@
 // Reads blocks of the lab's disk from standard input and writes the octets of the recording.
-
 #![tactic(auto)]
 
-ghost use Rattle.std.specs.Prelude.{◌≡◌, ◌-◌, length};
+ghost use Rattle.std.specs.Prelude.{◌≡◌, ◌-◌, length, IfOk};
 
 use blocks::importing;
-use libc::{STDERR_FILENO, STDIN_FILENO, STDOUT_FILENO};
+use std::alloc::{AllocError, Global};
+use std::io::{Read, Write};
+use std::process::ExitCode;
+use streams::Failure;
 
 // One octet more than a recording holds, so that more than fits is seen.
-fn in_buffer() -> [u8; 65537]
-    ensures { 65537 ≡ length result }
+fn in_buffer(alloc: Global) -> Result<Vec<u8>, AllocError>
+    ensures { IfOk result (λ v. length v.items ≡ 65537) }
 {
-    [0; 65537]
+    vec![in alloc; 0; 65537]
 }
 
-fn out_buffer() -> [u8; 64512]
-    ensures { 64512 ≡ length result }
+fn out_buffer(alloc: Global) -> Result<Vec<u8>, AllocError>
+    ensures { IfOk result (λ v. length v.items ≡ 64512) }
 {
-    [0; 64512]
+    vec![in alloc; 0; 64512]
 }
 
-// Whether the input ended; a read that failed is said.
-fn is_ended() -> bool {
-    let mut one = [0u8; 1];
-    let got = libc::read(STDIN_FILENO, &mut one);
-    if got < 0 {
-        os::fail(b"fromblocks: standard input");
-    }
-    got == 0
+// Whether the input ended.
+fn is_ended<R: Read>(input: &mut R) -> Result<bool, Failure> {
+    streams::is_ended(input)
 }
 
 // A line with the number of a refusal and the block at fault.
-fn refuse(number: u8, block: u32) {
-    io::write_all(STDERR_FILENO, b"fromblocks: refused: number ");
-    io::print_decimal(STDERR_FILENO, number as u64);
-    io::write_all(STDERR_FILENO, b" block ");
-    io::print_decimal(STDERR_FILENO, block as u64);
-    io::write_all(STDERR_FILENO, b"\n");
+fn refuse<E: Write>(errors: &mut E, number: u8, block: u32) {
+    let _ = writeln!(errors, "fromblocks: refused: number {number} block {block}");
 }
 
 // The lesser of two numbers.
@@ -47,28 +40,52 @@ fn least(a: usize, b: usize) -> usize
 }
 
 // The octets of the blocks into an output of the right length, and out.
-fn convert(blocks: &[u8], out: &mut [u8]) {
+fn convert<W: Write, E: Write>(
+    output: &mut W,
+    errors: &mut E,
+    blocks: &[u8],
+    out: &mut [u8],
+) -> Result<(), Failure> {
     let answer = importing::import_blocks(blocks, out);
     if answer.number != 0 {
-        refuse(answer.number, answer.block);
-        return;
+        refuse(errors, answer.number, answer.block);
+        return Ok(());
     }
-    if !io::write_all(STDOUT_FILENO, out) {
-        os::fail(b"fromblocks: standard output");
-    }
+    streams::write(output, out)
 }
 
-fn all(blocks: &[u8], out: &mut [u8]) {
+fn all<W: Write, E: Write>(
+    output: &mut W,
+    errors: &mut E,
+    blocks: &[u8],
+    out: &mut [u8],
+) -> Result<(), Failure> {
     let n = least(importing::imported_octets(blocks), out.len());
-    convert(blocks, &mut out[..n]);
+    convert(output, errors, blocks, &mut out[..n])
 }
 
-fn main() {
-    let mut blocks = in_buffer();
-    let mut out = out_buffer();
-    let n = io::read_full(STDIN_FILENO, &mut blocks);
-    if n < 65537 && !is_ended() {
-        return;
+// The octets of the blocks that are read.
+fn run<R: Read, W: Write, E: Write>(
+    alloc: Global,
+    input: &mut R,
+    output: &mut W,
+    errors: &mut E,
+) -> Result<(), Failure> {
+    let mut blocks = in_buffer(alloc)?;
+    let mut out = out_buffer(alloc)?;
+    let n = streams::fill(input, &mut blocks)?;
+    if n < 65537 && !is_ended(input)? {
+        return Ok(());
     }
-    all(&blocks[..n], &mut out);
+    all(output, errors, &blocks[..n], &mut out)
+}
+
+fn main(rt: HostRuntime) -> ExitCode {
+    let ran = run(
+        rt.alloc(),
+        &mut rt.stdin(),
+        &mut rt.stdout(),
+        &mut rt.stderr(),
+    );
+    streams::end(&rt, "fromblocks", ran)
 }

@@ -1,5 +1,4 @@
 // Who would notice one wrong digit in a table? Tries every one, and counts those that break the identity between the two tables.
-
 #![tactic(auto)]
 
 mod laid;
@@ -14,7 +13,8 @@ ghost use Rattle.identity.specs.ties.Flat.{Sizes, flat_tied};
 ghost use Rattle.onedigit.specs.Wrong.{in_block, wrong_entry_of, digit_noticed_of, place_noticed_of, entry_wrong, entry_noticed_of};
 
 use identity::ties;
-use libc::STDOUT_FILENO;
+use std::io;
+use std::io::Write;
 
 // Whether the published tables of codes 1, 2 and 3 are tied.
 fn tied_16() -> bool
@@ -246,34 +246,41 @@ fn entries_noticed(
     noticed
 }
 
-fn text(bytes: &[u8]) {
-    io::write_all(STDOUT_FILENO, bytes);
+fn text<W: Write>(output: &mut W, bytes: &[u8]) -> io::Result<()> {
+    output.write_all(bytes)
 }
 
-fn number(n: usize) {
-    io::print_decimal(STDOUT_FILENO, n as u64);
+fn number<W: Write>(output: &mut W, n: usize) -> io::Result<()> {
+    write!(output, "{n}")
 }
 
-fn shown(tried: usize, noticed: usize) {
-    number(tried);
-    text(b" tried, ");
-    number(noticed);
-    text(b" noticed");
+fn shown<W: Write>(output: &mut W, tried: usize, noticed: usize) -> io::Result<()> {
+    number(output, tried)?;
+    text(output, b" tried, ")?;
+    number(output, noticed)?;
+    text(output, b" noticed")
 }
 
 // The line of a code.
-fn line(n: usize, digits: usize, caught: usize, entries: usize, found: usize)
+fn line<W: Write>(
+    output: &mut W,
+    n: usize,
+    digits: usize,
+    caught: usize,
+    entries: usize,
+    found: usize,
+) -> io::Result<()>
     requires { (digits < 2 ^ 62) × (caught < 2 ^ 62) × (entries < 2 ^ 62) × (found < 2 ^ 62) }
 {
-    text(b"code ");
-    number(n);
-    text(b": generator digits ");
-    shown(digits, caught);
-    text(b"; parity entries ");
-    shown(entries, found);
-    text(b"; in all ");
-    shown(digits + entries, caught + found);
-    text(b"\n");
+    text(output, b"code ")?;
+    number(output, n)?;
+    text(output, b": generator digits ")?;
+    shown(output, digits, caught)?;
+    text(output, b"; parity entries ")?;
+    shown(output, entries, found)?;
+    text(output, b"; in all ")?;
+    shown(output, digits + entries, caught + found)?;
+    text(output, b"\n")
 }
 
 // How many are tried, and how many of them noticed.
@@ -316,7 +323,8 @@ fn try_entries(
     Tried { tried, noticed }
 }
 
-fn try_code(
+fn try_code<W: Write>(
+    output: &mut W,
     n: usize,
     m: usize,
     rows: usize,
@@ -325,47 +333,92 @@ fn try_code(
     digits: usize,
     parity: &mut [u16],
     generator: &mut [u64],
-)
+) -> io::Result<()>
     requires { Sizes m rows count parts parity.old generator.old × (0 < digits) × (digits ≤ 16) × (length parity.old < 65536)
         × (length generator.old < 65536) }
 {
     let d = try_digits(m, rows, count, parts, digits, parity, generator);
     let e = try_entries(m, rows, count, parts, parity, generator);
-    line(n, d.tried, d.noticed, e.tried, e.noticed);
+    line(output, n, d.tried, d.noticed, e.tried, e.noticed)
 }
 
-fn answer(tied: bool) {
+fn answer<W: Write>(output: &mut W, tied: bool) -> io::Result<()> {
     if tied {
-        text(b" yes");
+        text(output, b" yes")
     } else {
-        text(b" no");
+        text(output, b" no")
     }
 }
 
 // Codes 1 to 3 have four rows of four information blocks and four parity blocks.
-fn try_telecommand(n: usize, m: usize, digits: usize, parity: &mut [u16], generator: &mut [u64])
+fn try_telecommand<W: Write>(
+    output: &mut W,
+    n: usize,
+    m: usize,
+    digits: usize,
+    parity: &mut [u16],
+    generator: &mut [u64],
+) -> io::Result<()>
     requires { Sizes m 4 4 4 parity.old generator.old × (0 < digits) × (digits ≤ 16) × (length parity.old < 65536)
         × (length generator.old < 65536) }
 {
-    try_code(n, m, 4, 4, 4, digits, parity, generator);
+    try_code(output, n, m, 4, 4, 4, digits, parity, generator)
 }
 
 // Codes 4 and 5 have two rows of 14 and two.
-fn try_near_earth(n: usize, parity: &mut [u16; 96], generator: &mut [u64; 224]) {
-    try_code(n, 511, 2, 14, 2, 16, parity, generator);
+fn try_near_earth<W: Write>(
+    output: &mut W,
+    n: usize,
+    parity: &mut [u16; 96],
+    generator: &mut [u64; 224],
+) -> io::Result<()> {
+    try_code(output, n, 511, 2, 14, 2, 16, parity, generator)
 }
 
-fn main() {
-    text(b"The published tables of codes 1, 2, 3, 4 and 5 are tied:");
-    answer(tied_16());
-    answer(tied_32());
-    answer(tied_64());
+fn main(rt: HostRuntime) -> io::Result<()> {
+    let output = &mut rt.stdout();
+    text(
+        output,
+        b"The published tables of codes 1, 2, 3, 4 and 5 are tied:",
+    )?;
+    answer(output, tied_16())?;
+    answer(output, tied_32())?;
+    answer(output, tied_64())?;
     let near_earth = tied_511();
-    answer(near_earth);
-    answer(near_earth);
-    text(b"\nOne wrong digit, tried everywhere. Code 5 has the tables of code 4.\n");
-    try_telecommand(1, 16, 4, &mut laid::parity_16(), &mut laid::generator_16());
-    try_telecommand(2, 32, 8, &mut laid::parity_32(), &mut laid::generator_32());
-    try_telecommand(3, 64, 16, &mut laid::parity_64(), &mut laid::generator_64());
-    try_near_earth(4, &mut laid::parity_511(), &mut laid::generator_511());
+    answer(output, near_earth)?;
+    answer(output, near_earth)?;
+    text(
+        output,
+        b"\nOne wrong digit, tried everywhere. Code 5 has the tables of code 4.\n",
+    )?;
+    try_telecommand(
+        output,
+        1,
+        16,
+        4,
+        &mut laid::parity_16(),
+        &mut laid::generator_16(),
+    )?;
+    try_telecommand(
+        output,
+        2,
+        32,
+        8,
+        &mut laid::parity_32(),
+        &mut laid::generator_32(),
+    )?;
+    try_telecommand(
+        output,
+        3,
+        64,
+        16,
+        &mut laid::parity_64(),
+        &mut laid::generator_64(),
+    )?;
+    try_near_earth(
+        output,
+        4,
+        &mut laid::parity_511(),
+        &mut laid::generator_511(),
+    )
 }

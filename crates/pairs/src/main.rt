@@ -1,18 +1,18 @@
 // Tries every pair of wrong bits of codes 1, 2 and 3 on the word of zeros: which are not mended by two flips, and how many are. A run
 // does not depend on the codeword that was sent, so what is found holds for every codeword.
-
 #![tactic(auto)]
 
-ghost use Rattle.std.specs.Prelude.{◌+◌, ◌*◌, ◌≤◌, ◌<◌, ◌≡◌, length};
+ghost use Rattle.std.specs.Prelude.{◌+◌, ◌*◌, ◌≤◌, ◌<◌, ◌≡◌, length, IfOk};
 
-use libc::STDOUT_FILENO;
+use std::io;
+use std::io::Write;
 
-fn text(bytes: &[u8]) {
-    io::write_all(STDOUT_FILENO, bytes);
+fn text<W: Write>(output: &mut W, bytes: &[u8]) -> io::Result<()> {
+    output.write_all(bytes)
 }
 
-fn number(n: u64) {
-    io::print_decimal(STDOUT_FILENO, n);
+fn number<W: Write>(output: &mut W, n: u64) -> io::Result<()> {
+    write!(output, "{n}")
 }
 
 // Flips bit n; bit 0 is the most significant bit of octet 0.
@@ -49,70 +49,82 @@ fn is_mended(code: u8, word: &[u8], out: &mut [u8]) -> bool
     is_zeros(out)
 }
 
-fn show(code: u8, a: usize, b: usize) {
-    text(b"code ");
-    number(code as u64);
-    text(b": bits ");
-    number(a as u64);
-    text(b" and ");
-    number(b as u64);
-    text(b" are not mended\n");
+fn show<W: Write>(output: &mut W, code: u8, a: usize, b: usize) -> io::Result<()> {
+    text(output, b"code ")?;
+    number(output, code as u64)?;
+    text(output, b": bits ")?;
+    number(output, a as u64)?;
+    text(output, b" and ")?;
+    number(output, b as u64)?;
+    text(output, b" are not mended\n")
 }
 
 // One if the word, zeros but for bits a and b, is mended; otherwise it is said.
-fn attempt(code: u8, a: usize, b: usize, word: &[u8], out: &mut [u8]) -> u64
-    ensures { (result ≤ 1) × (length out.new ≡ length out.old) }
+fn attempt<W: Write>(
+    output: &mut W,
+    code: u8,
+    a: usize,
+    b: usize,
+    word: &[u8],
+    out: &mut [u8],
+) -> io::Result<u64>
+    ensures at_most { IfOk result (λ n. n ≤ 1) }
+    ensures kept { length out.new ≡ length out.old }
 {
     if is_mended(code, word, out) {
-        return 1;
+        return Ok(1);
     }
-    show(code, a, b);
-    0
+    show(output, code, a, b)?;
+    Ok(0)
 }
 
 // How many of the pairs of bit a and a later one are mended.
-fn with_later(code: u8, a: usize, word: &mut [u8], out: &mut [u8]) -> u64
+fn with_later<W: Write>(
+    output: &mut W,
+    code: u8,
+    a: usize,
+    word: &mut [u8],
+    out: &mut [u8],
+) -> io::Result<u64>
     requires { (a < 8 * length word.old) × (length word.old ≤ 64) }
-    ensures { (result ≤ 512) × (length word.new ≡ length word.old) }
+    ensures at_most { IfOk result (λ n. n ≤ 512) }
+    ensures kept { length word.new ≡ length word.old }
 {
     let end = 8 * word.len();
     let mut mended: u64 = 0;
-    let mut b = a + 1;
     flip(word, a);
-    while b < end {
+    for b in a + 1..end {
         flip(word, b);
-        mended += attempt(code, a, b, word, out);
+        mended += attempt(output, code, a, b, word, out)?;
         flip(word, b);
-        b += 1;
     }
     flip(word, a);
-    mended
+    Ok(mended)
 }
 
 // All pairs of bits of a word of zeros.
-fn all(code: u8, word: &mut [u8], out: &mut [u8])
+fn all<W: Write>(output: &mut W, code: u8, word: &mut [u8], out: &mut [u8]) -> io::Result<()>
     requires { length word.old ≤ 64 }
 {
     let end = 8 * word.len();
     let mut mended: u64 = 0;
     let mut tried: u64 = 0;
-    let mut a: usize = 0;
-    while a < end {
-        mended += with_later(code, a, word, out);
+    for a in 0..end {
+        mended += with_later(output, code, a, word, out)?;
         tried += (end - a - 1) as u64;
-        a += 1;
     }
-    text(b"code ");
-    number(code as u64);
-    text(b": ");
-    number(tried);
-    text(b" pairs tried, ");
-    number(mended);
-    text(b" mended by two flips\n");
+    text(output, b"code ")?;
+    number(output, code as u64)?;
+    text(output, b": ")?;
+    number(output, tried)?;
+    text(output, b" pairs tried, ")?;
+    number(output, mended)?;
+    text(output, b" mended by two flips\n")
 }
 
-fn main() {
-    all(1, &mut [0u8; 16], &mut [0u8; 16]);
-    all(2, &mut [0u8; 32], &mut [0u8; 32]);
-    all(3, &mut [0u8; 64], &mut [0u8; 64]);
+fn main(rt: HostRuntime) -> io::Result<()> {
+    let output = &mut rt.stdout();
+    all(output, 1, &mut [0u8; 16], &mut [0u8; 16])?;
+    all(output, 2, &mut [0u8; 32], &mut [0u8; 32])?;
+    all(output, 3, &mut [0u8; 64], &mut [0u8; 64])
 }

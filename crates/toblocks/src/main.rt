@@ -1,40 +1,35 @@
 // Reads the octets of a recording from standard input and writes them in blocks of the lab's disk.
-
 #![tactic(auto)]
 
-ghost use Rattle.std.specs.Prelude.{◌≡◌, ◌-◌, length};
+ghost use Rattle.std.specs.Prelude.{◌≡◌, ◌-◌, length, IfOk};
 
 use blocks::exporting;
-use libc::{STDERR_FILENO, STDIN_FILENO, STDOUT_FILENO};
+use std::alloc::{AllocError, Global};
+use std::io::{Read, Write};
+use std::process::ExitCode;
+use streams::Failure;
 
 // More than a recording holds, so that more than fits is seen.
-fn in_buffer() -> [u8; 65537]
-    ensures { 65537 ≡ length result }
+fn in_buffer(alloc: Global) -> Result<Vec<u8>, AllocError>
+    ensures { IfOk result (λ v. length v.items ≡ 65537) }
 {
-    [0; 65537]
+    vec![in alloc; 0; 65537]
 }
 
-fn out_buffer() -> [u8; 65536]
-    ensures { 65536 ≡ length result }
+fn out_buffer(alloc: Global) -> Result<Vec<u8>, AllocError>
+    ensures { IfOk result (λ v. length v.items ≡ 65536) }
 {
-    [0; 65536]
+    vec![in alloc; 0; 65536]
 }
 
-// Whether the input ended; a read that failed is said.
-fn is_ended() -> bool {
-    let mut one = [0u8; 1];
-    let got = libc::read(STDIN_FILENO, &mut one);
-    if got < 0 {
-        os::fail(b"toblocks: standard input");
-    }
-    got == 0
+// Whether the input ended.
+fn is_ended<R: Read>(input: &mut R) -> Result<bool, Failure> {
+    streams::is_ended(input)
 }
 
 // A line with the number of a refusal; there is no block at fault.
-fn refuse(number: u8) {
-    io::write_all(STDERR_FILENO, b"toblocks: refused: number ");
-    io::print_decimal(STDERR_FILENO, number as u64);
-    io::write_all(STDERR_FILENO, b" block 0\n");
+fn refuse<E: Write>(errors: &mut E, number: u8) {
+    let _ = writeln!(errors, "toblocks: refused: number {number} block 0");
 }
 
 // The lesser of two numbers.
@@ -45,28 +40,52 @@ fn least(a: usize, b: usize) -> usize
 }
 
 // The blocks of the octets into an output of the right length, and out.
-fn convert(octets: &[u8], out: &mut [u8]) {
+fn convert<W: Write, E: Write>(
+    output: &mut W,
+    errors: &mut E,
+    octets: &[u8],
+    out: &mut [u8],
+) -> Result<(), Failure> {
     let number = exporting::export_blocks(octets, out);
     if number != 0 {
-        refuse(number);
-        return;
+        refuse(errors, number);
+        return Ok(());
     }
-    if !io::write_all(STDOUT_FILENO, out) {
-        os::fail(b"toblocks: standard output");
-    }
+    streams::write(output, out)
 }
 
-fn all(octets: &[u8], out: &mut [u8]) {
+fn all<W: Write, E: Write>(
+    output: &mut W,
+    errors: &mut E,
+    octets: &[u8],
+    out: &mut [u8],
+) -> Result<(), Failure> {
     let n = least(exporting::exported_octets(octets.len()), out.len());
-    convert(octets, &mut out[..n]);
+    convert(output, errors, octets, &mut out[..n])
 }
 
-fn main() {
-    let mut octets = in_buffer();
-    let mut out = out_buffer();
-    let n = io::read_full(STDIN_FILENO, &mut octets);
-    if n < 65537 && !is_ended() {
-        return;
+// The blocks of the octets that are read.
+fn run<R: Read, W: Write, E: Write>(
+    alloc: Global,
+    input: &mut R,
+    output: &mut W,
+    errors: &mut E,
+) -> Result<(), Failure> {
+    let mut octets = in_buffer(alloc)?;
+    let mut out = out_buffer(alloc)?;
+    let n = streams::fill(input, &mut octets)?;
+    if n < 65537 && !is_ended(input)? {
+        return Ok(());
     }
-    all(&octets[..n], &mut out);
+    all(output, errors, &octets[..n], &mut out)
+}
+
+fn main(rt: HostRuntime) -> ExitCode {
+    let ran = run(
+        rt.alloc(),
+        &mut rt.stdin(),
+        &mut rt.stdout(),
+        &mut rt.stderr(),
+    );
+    streams::end(&rt, "toblocks", ran)
 }

@@ -1,18 +1,21 @@
 // Reads a telecommand transmission unit: one octet code, two octets limit, then the unit. Prints a line for each codeblock.
-
 #![tactic(auto)]
 
-ghost use Rattle.std.specs.Prelude.{◌≡◌, ◌≤◌, ◌<◌, ◌*◌, length};
+ghost use Rattle.std.specs.Prelude.{◌≡◌, ◌≤◌, ◌<◌, ◌*◌, length, IfOk};
 
 use flipping::endings;
-use libc::{STDERR_FILENO, STDIN_FILENO, STDOUT_FILENO};
+use std::alloc::{AllocError, Global};
+use std::io;
+use std::io::{Read, Write};
+use std::process::ExitCode;
+use streams::Failure;
 use units::{readings, unitoffers};
 
 // The longest unit of 64 KiB of information, code 1's.
-fn unit_buffer() -> [u8; 131096]
-    ensures { 131096 ≡ length result }
+fn unit_buffer(alloc: Global) -> Result<Vec<u8>, AllocError>
+    ensures { IfOk result (λ v. length v.items ≡ 131096) }
 {
-    [0; 131096]
+    vec![in alloc; 0; 131096]
 }
 
 fn out_buffer() -> [u8; 32]
@@ -22,27 +25,17 @@ fn out_buffer() -> [u8; 32]
 }
 
 // Whether the input is at its end; if not, why it can't be taken is said.
-fn ended() -> bool {
-    let mut more = [0u8; 1];
-    let got = libc::read(STDIN_FILENO, &mut more);
-    if got < 0 {
-        os::fail(b"unitread: standard input");
-        return false;
+fn ended<R: Read, E: Write>(input: &mut R, errors: &mut E) -> Result<bool, Failure> {
+    if streams::is_ended(input)? {
+        return Ok(true);
     }
-    if got > 0 {
-        io::write_all(
-            STDERR_FILENO,
-            b"unitread: a unit of more than 131096 octets\n",
-        );
-        return false;
-    }
-    true
+    let _ = errors.write_all(b"unitread: a unit of more than 131096 octets\n");
+    Ok(false)
 }
 
 // A number behind a space.
-fn put(n: u64) {
-    io::write_all(STDOUT_FILENO, b" ");
-    io::print_decimal(STDOUT_FILENO, n);
+fn put<W: Write>(output: &mut W, n: u64) -> io::Result<()> {
+    write!(output, " {n}")
 }
 
 fn digit(d: u8) -> u8
@@ -51,64 +44,65 @@ fn digit(d: u8) -> u8
     if d < 10 { 48 + d } else { 55 + d }
 }
 
-fn put_octet(octet: u8) -> bool {
+fn put_octet<W: Write>(output: &mut W, octet: u8) -> io::Result<()> {
     let text = [digit(octet / 16), digit(octet % 16)];
-    io::write_all(STDOUT_FILENO, &text)
+    output.write_all(&text)
 }
 
-fn put_octets(octets: &[u8]) -> bool {
-    let mut i: usize = 0;
-    while i < octets.len() {
-        if !put_octet(octets[i]) {
-            return false;
-        }
-        i += 1;
+fn put_octets<W: Write>(output: &mut W, octets: &[u8]) -> io::Result<()> {
+    for octet in octets {
+        put_octet(output, *octet)?;
     }
-    io::write_all(STDOUT_FILENO, b"\n")
+    output.write_all(b"\n")
 }
 
 // Index and correct's numbers.
-fn put_numbers(index: u64, r: endings::Corrected) {
-    io::print_decimal(STDOUT_FILENO, index);
-    put(r.number as u64);
-    put(r.flips as u64);
-    put(r.first as u64);
-    put(r.last as u64);
-    put(r.unlike as u64);
-    put(r.lowest as u64);
-    io::write_all(STDOUT_FILENO, b" ");
+fn put_numbers<W: Write>(output: &mut W, index: u64, r: endings::Corrected) -> io::Result<()> {
+    write!(output, "{index}")?;
+    put(output, r.number as u64)?;
+    put(output, r.flips as u64)?;
+    put(output, r.first as u64)?;
+    put(output, r.last as u64)?;
+    put(output, r.unlike as u64)?;
+    put(output, r.lowest as u64)?;
+    output.write_all(b" ")
 }
 
-// The line of an asking's answer: whether it is written, and there may be more.
-fn line(index: u64, r: endings::Corrected, out: &[u8]) -> bool {
-    put_numbers(index, r);
+// The line of an asking's answer, and whether there may be more.
+fn line<W: Write>(
+    output: &mut W,
+    index: u64,
+    r: endings::Corrected,
+    out: &[u8],
+) -> io::Result<bool> {
+    put_numbers(output, index, r)?;
     if r.number != 0 {
-        io::write_all(STDOUT_FILENO, b"-\n");
-        return false;
+        output.write_all(b"-\n")?;
+        return Ok(false);
     }
-    if !put_octets(out) {
-        os::fail(b"unitread: standard output");
-        return false;
-    }
-    true
+    put_octets(output, out)?;
+    Ok(true)
 }
 
 // One codeblock after another; no unit that is held has more than 8,192.
-fn lines(first: readings::Reading, unit: &[u8], out: &mut [u8]) {
+fn lines<W: Write>(
+    output: &mut W,
+    first: readings::Reading,
+    unit: &[u8],
+    out: &mut [u8],
+) -> io::Result<()> {
     let mut state = first;
-    let mut index: u64 = 0;
-    while index < 8192 {
+    for index in 0..8192u64 {
         let handed = readings::read(state, unit, out);
         if handed.none {
-            return;
+            return Ok(());
         }
-        let r = handed.corrected;
-        if !line(index, r, out) {
-            return;
+        if !line(output, index, handed.corrected, out)? {
+            return Ok(());
         }
         state = handed.next;
-        index += 1;
     }
+    Ok(())
 }
 
 // The limit, high octet first.
@@ -116,25 +110,46 @@ fn limit_of(high: u8, low: u8) -> u16 {
     256 * high as u16 + low as u16
 }
 
-fn main() {
-    io::write_all(
-        STDOUT_FILENO,
-        b"codeblock answer flips first last unlike lowest information\n",
-    );
-    let mut head = [0u8; 3];
-    io::read_full(STDIN_FILENO, &mut head);
-    let mut unit = unit_buffer();
-    let n = io::read_full(STDIN_FILENO, &mut unit);
-    if !ended() {
-        return;
-    }
-    let state = readings::reader(head[0], &unit[..n], limit_of(head[1], head[2]));
+// The lines of a unit: the refusal's, or the codeblocks'.
+fn put_unit<W: Write>(output: &mut W, code: u8, limit: u16, unit: &[u8]) -> io::Result<()> {
+    let state = readings::reader(code, unit, limit);
     let kept = state.kept;
     if kept.number != 0 {
-        line(0, kept, b"");
-        return;
+        line(output, 0, kept, b"")?;
+        return Ok(());
     }
     let mut out = out_buffer();
-    let size = unitoffers::room(head[0]);
-    lines(state, &unit[..n], &mut out[..size]);
+    let size = unitoffers::room(code);
+    lines(output, state, unit, &mut out[..size])
+}
+
+// The lines of the unit that is read.
+fn run<R: Read, W: Write, E: Write>(
+    alloc: Global,
+    input: &mut R,
+    output: &mut W,
+    errors: &mut E,
+) -> Result<(), Failure> {
+    streams::write(
+        output,
+        b"codeblock answer flips first last unlike lowest information\n",
+    )?;
+    let mut head = [0u8; 3];
+    streams::fill(input, &mut head)?;
+    let mut unit = unit_buffer(alloc)?;
+    let n = streams::fill(input, &mut unit)?;
+    if !ended(input, errors)? {
+        return Ok(());
+    }
+    put_unit(output, head[0], limit_of(head[1], head[2]), &unit[..n]).map_err(Failure::Output)
+}
+
+fn main(rt: HostRuntime) -> ExitCode {
+    let ran = run(
+        rt.alloc(),
+        &mut rt.stdin(),
+        &mut rt.stdout(),
+        &mut rt.stderr(),
+    );
+    streams::end(&rt, "unitread", ran)
 }

@@ -1,64 +1,89 @@
 // Writes a telecommand transmission unit: one octet code, then information to the end; the unit goes to standard output.
-
 #![tactic(auto)]
 
-ghost use Rattle.std.specs.Prelude.{◌≡◌, ◌≤◌, length};
+ghost use Rattle.std.specs.Prelude.{◌≡◌, ◌≤◌, length, IfOk};
 
-use libc::{STDERR_FILENO, STDIN_FILENO, STDOUT_FILENO};
+use std::alloc::{AllocError, Global};
+use std::io::{Read, Write};
+use std::process::ExitCode;
+use streams::Failure;
+
+// The most information, 64 KiB.
+fn information_buffer(alloc: Global) -> Result<Vec<u8>, AllocError>
+    ensures { IfOk result (λ v. length v.items ≡ 65536) }
+{
+    vec![in alloc; 0; 65536]
+}
 
 // The longest unit of 64 KiB of information, code 1's.
-fn unit_buffer() -> [u8; 131096]
-    ensures { 131096 ≡ length result }
+fn unit_buffer(alloc: Global) -> Result<Vec<u8>, AllocError>
+    ensures { IfOk result (λ v. length v.items ≡ 131096) }
 {
-    [0; 131096]
+    vec![in alloc; 0; 131096]
 }
 
 // Whether the input is at its end; if not, why it can't be taken is said.
-fn ended() -> bool {
-    let mut more = [0u8; 1];
-    let got = libc::read(STDIN_FILENO, &mut more);
-    if got < 0 {
-        os::fail(b"unitwrite: standard input");
-        return false;
+fn ended<R: Read, E: Write>(input: &mut R, errors: &mut E) -> Result<bool, Failure> {
+    if streams::is_ended(input)? {
+        return Ok(true);
     }
-    if got > 0 {
-        io::write_all(
-            STDERR_FILENO,
-            b"unitwrite: more than 65536 octets of information\n",
-        );
-        return false;
-    }
-    true
+    let _ = errors.write_all(b"unitwrite: more than 65536 octets of information\n");
+    Ok(false)
 }
 
-fn refused(number: u8) {
-    io::write_all(STDERR_FILENO, b"unitwrite: no unit is written: ");
-    io::print_decimal(STDERR_FILENO, number as u64);
-    io::write_all(STDERR_FILENO, b"\n");
+fn refused<E: Write>(errors: &mut E, number: u8) {
+    let _ = writeln!(errors, "unitwrite: no unit is written: {number}");
 }
 
-fn write(code: u8, information: &[u8], unit: &mut [u8]) {
+fn write<W: Write, E: Write>(
+    output: &mut W,
+    errors: &mut E,
+    code: u8,
+    information: &[u8],
+    unit: &mut [u8],
+) -> Result<(), Failure> {
     let number = units::write_unit(code, information, unit);
     if number != 0 {
-        refused(number);
-        return;
+        refused(errors, number);
+        return Ok(());
     }
-    if !io::write_all(STDOUT_FILENO, unit) {
-        os::fail(b"unitwrite: standard output");
-    }
+    streams::write(output, unit)
 }
 
-fn main() {
+// The unit of what is read, out.
+fn run<R: Read, W: Write, E: Write>(
+    alloc: Global,
+    input: &mut R,
+    output: &mut W,
+    errors: &mut E,
+) -> Result<(), Failure> {
     let mut code = [0u8; 1];
-    io::read_full(STDIN_FILENO, &mut code);
-    let mut information = io::large_buffer();
-    let n = io::read_full(STDIN_FILENO, &mut information);
-    if !ended() {
-        return;
+    streams::fill(input, &mut code)?;
+    let mut information = information_buffer(alloc)?;
+    let n = streams::fill(input, &mut information)?;
+    if !ended(input, errors)? {
+        return Ok(());
     }
-    let mut unit = unit_buffer();
+    let mut unit = unit_buffer(alloc)?;
     let long = units::unit_octets(code[0], n);
     if long <= 131096 {
-        write(code[0], &information[..n], &mut unit[..long]);
+        write(
+            output,
+            errors,
+            code[0],
+            &information[..n],
+            &mut unit[..long],
+        )?;
     }
+    Ok(())
+}
+
+fn main(rt: HostRuntime) -> ExitCode {
+    let ran = run(
+        rt.alloc(),
+        &mut rt.stdin(),
+        &mut rt.stdout(),
+        &mut rt.stderr(),
+    );
+    streams::end(&rt, "unitwrite", ran)
 }
