@@ -7,7 +7,7 @@ use native.Mathlib.Omega.{arith}
 use lib.Dec.{T, eqb}
 use lib.ListN.{length}
 use borrow.Author.Tests.{eqb-true, eq-eqb, ne_eqb}
-use Rattle.bits.specs.Bits.{bit, if◌then◌else◌}
+use Rattle.bits.specs.Bits.{bit, when◌then◌else◌}
 use Rattle.rules.specs.Codes.{code, code1, offered}
 use Rattle.rules.specs.Encoding.{lifted, encoded, written}
 use Rattle.answers.specs.Calls.{refusal, unless, six_set_of, Encoded, refused_encode, encoded_from, encode_answer, refused_check_of}
@@ -19,14 +19,14 @@ use Rattle.answers.specs.Calls.{correct_answer, Stepped, refused_step_of, steppe
 
 module _ {A : Type 0} (refused : ℕ → A) (taken : A) where
   pub unless_refused : (k : ℕ) → (k ≡ 0 → ⊥) → unless k refused taken ≡ refused k
-  unless_refused k d = ap (λ b. if b then taken else refused k) (ne_eqb k 0 d)
+  unless_refused k d = ap (λ b. when b then taken else refused k) (ne_eqb k 0 d)
 
   pub unless_taken : (k : ℕ) → k ≡ 0 → unless k refused taken ≡ taken
-  unless_taken k e = ap (λ b. if b then taken else refused k) (eq-eqb k 0 e)
+  unless_taken k e = ap (λ b. when b then taken else refused k) (eq-eqb k 0 e)
 
 -- the test of the code and those of the lengths
 abbrev step_by : Bool → Bool → Bool → ℕ
-step_by a b d = if not a then 1 else if not b then 2 else if not d then 3 else 0
+step_by a b d = when not a then 1 else when not b then 2 else when not d then 3 else 0
 
 module _ (b : Bool) (input long output room : ℕ) where
   pub refusal_not : T b → input ≡ long → output ≡ room → refusal b input long output room ≡ 0
@@ -152,7 +152,7 @@ module _ (n : ℕ) (information out : List ℕ) where
       }
   encode_taken t li lo six =
       encode_from t li lo
-      ∙ ap (λ b. if b then refused_encode out 4 else record {
+      ∙ ap (λ b. when b then refused_encode out 4 else record {
         number = 0;
         out = written (code n) (encoded (code n) (lifted (code n) (bit information)));
       }) six
@@ -162,7 +162,7 @@ module _ (n : ℕ) (information out : List ℕ) where
       → encode_answer n information out ≡ refused_encode out 4
   encode_four t li lo six =
       encode_from t li lo
-      ∙ ap (λ b. if b then refused_encode out 4 else record {
+      ∙ ap (λ b. when b then refused_encode out 4 else record {
         number = 0;
         out = written (code n) (encoded (code n) (lifted (code n) (bit information)));
       }) six
@@ -193,8 +193,8 @@ module _ (n : ℕ) (information out : List ℕ) where
 
       go : (b : Bool) → six_set_of n information ≡ b → T (offered n) → length information ≡ (code n).octets_of_information
           → length out ≡ (code n).octets_of_word → P (encoded_from n information out)
-      go true e t li lo = subst (λ b. P (if b then refused_encode out 4 else done)) (sym e) (p 3)
-      go false e t li lo = subst (λ b. P (if b then refused_encode out 4 else done)) (sym e) (taken t li lo e)
+      go true e t li lo = subst (λ b. P (when b then refused_encode out 4 else done)) (sym e) (p 3)
+      go false e t li lo = subst (λ b. P (when b then refused_encode out 4 else done)) (sym e) (taken t li lo e)
 
 module _ (n : ℕ) (word : List ℕ) where
   pub check_taken : T (offered n) → length word ≡ (code n).octets_of_word → check_answer n word ≡ checked_from n word

@@ -10,7 +10,7 @@ use lib.Dec.{T, eqb, leb, ltb, lit<, lit≤}
 use lib.IntN.{ℤ, pos}
 use lib.ListN.{length, get_or, replicate, length-replicate}
 use borrow.Author.Tests.{eq-eqb, lt-ltb, le-ltb, le-leb, lt-leb}
-use Rattle.bits.specs.Bits.{Word, digit, bit, number, octets, count, ◌⊕◌, sum, flipped, if◌then◌else◌, below}
+use Rattle.bits.specs.Bits.{Word, digit, bit, number, octets, count, ◌⊕◌, sum, flipped, when◌then◌else◌, below}
 use Rattle.rules.specs.Tables.{parity16, parity511, generator16, generator511}
 use Rattle.rules.specs.Codes.{code, code1, code4, code5, bits, checks, information, offered}
 use Rattle.rules.specs.Checks.{covers, check, broken, lowest, degree_of}
@@ -361,7 +361,7 @@ corrects9 limit out lo =
     ∙ ap (λ x. ran_correct code4 x (run (by_excess code4) limit x) out) block_bits_lem
     ∙ ap (λ r. ran_correct code4 block_bits r out) (run_quiet (by_excess code4) limit block_bits (quiet_next code4 block_bits block_met)) in
     let eight : judged code4 (ended 0 block_bits) ≡ 8 =
-    ap₂ (λ q s. if q then 7 else if not s then 8 else 0) (le-ltb 0 (count code4.unsent block_bits) near_unsent) block_no_codeword in
+    ap₂ (λ q s. when q then 7 else when not s then 8 else 0) (le-ltb 0 (count code4.unsent block_bits) near_unsent) block_no_codeword in
     (ap (λ r. r.number) e ∙ eight, ap (λ r. r.flips) e, ap (λ r. r.first) e ∙ block_met, ap (λ r. r.last) e ∙ block_met)
 
 -- code 1, only bit 0 set: its five checks are broken, and one flip mends it

@@ -10,7 +10,7 @@ use lib.Dec.{T, eqb, leb, ltb, leb→le, nltb→le}
 use lib.IntN.{pos}
 use lib.ListN.{length}
 use borrow.Author.Tests.{eqb-true, eq-eqb, ne_eqb, lt-ltb, le-ltb}
-use Rattle.bits.specs.Bits.{Word, bit, octets, count, ◌⊕◌, flipped, if◌then◌else◌}
+use Rattle.bits.specs.Bits.{Word, bit, octets, count, ◌⊕◌, flipped, when◌then◌else◌}
 use Rattle.rules.specs.Codes.{Code, code, code4, code5, bits, checks, offered}
 use Rattle.rules.specs.Checks.{check, broken, lowest, degree_of}
 use Rattle.rules.specs.Encoding.{lifted, sent, codeword, written}
@@ -40,7 +40,7 @@ module _ (c : Code) (r : Run) where
   -- what is not quiet is not judged again
   pub judged_other : (m : ℕ) → r.number ≡ m → (m ≡ 0 → ⊥) → judged c r ≡ m
   judged_other m e d =
-      ap (λ b. if not b then r.number else if ltb 0 (count c.unsent r.word) then 7 else if not (codeword c (sent c r.word)) then
+      ap (λ b. when not b then r.number else when ltb 0 (count c.unsent r.word) then 7 else when not (codeword c (sent c r.word)) then
       8 else 0)
       (ne_eqb r.number 0 (λ q. d (sym e ∙ q)))
       ∙ e
@@ -50,11 +50,11 @@ module _ (c : Code) (r : Run) where
   judged_limit e = go (eqb r.number 0) (ltb 0 (count c.unsent r.word)) (codeword c (sent c r.word)) refl refl refl
     where
       spelled : (p q s : Bool) → eqb r.number 0 ≡ p → ltb 0 (count c.unsent r.word) ≡ q → codeword c (sent c r.word) ≡ s
-          → (if not p then r.number else if q then 7 else if not s then 8 else 0) ≡ 6
+          → (when not p then r.number else when q then 7 else when not s then 8 else 0) ≡ 6
       spelled p q s f g h =
-          sym (ap (λ p. if not p then r.number else if ltb 0 (count c.unsent r.word) then 7 else if not
+          sym (ap (λ p. when not p then r.number else when ltb 0 (count c.unsent r.word) then 7 else when not
           (codeword c (sent c r.word)) then 8 else 0) f
-          ∙ ap₂ (λ q s. if not p then r.number else if q then 7 else if not s then 8 else 0) g h) ∙ e
+          ∙ ap₂ (λ q s. when not p then r.number else when q then 7 else when not s then 8 else 0) g h) ∙ e
 
       go : (p q s : Bool) → eqb r.number 0 ≡ p → ltb 0 (count c.unsent r.word) ≡ q → codeword c (sent c r.word) ≡ s
           → r.number ≡ 6
@@ -69,11 +69,11 @@ module _ (c : Code) (r : Run) where
   judged_zero e = go (eqb r.number 0) (ltb 0 (count c.unsent r.word)) (codeword c (sent c r.word)) refl refl refl
     where
       spelled : (p q s : Bool) → eqb r.number 0 ≡ p → ltb 0 (count c.unsent r.word) ≡ q → codeword c (sent c r.word) ≡ s
-          → (if not p then r.number else if q then 7 else if not s then 8 else 0) ≡ 0
+          → (when not p then r.number else when q then 7 else when not s then 8 else 0) ≡ 0
       spelled p q s f g h =
-          sym (ap (λ p. if not p then r.number else if ltb 0 (count c.unsent r.word) then 7 else if not
+          sym (ap (λ p. when not p then r.number else when ltb 0 (count c.unsent r.word) then 7 else when not
           (codeword c (sent c r.word)) then 8 else 0) f
-          ∙ ap₂ (λ q s. if not p then r.number else if q then 7 else if not s then 8 else 0) g h) ∙ e
+          ∙ ap₂ (λ q s. when not p then r.number else when q then 7 else when not s then 8 else 0) g h) ∙ e
 
       go : (p q s : Bool) → eqb r.number 0 ≡ p → ltb 0 (count c.unsent r.word) ≡ q → codeword c (sent c r.word) ≡ s
           → (r.number ≡ 0) × ((n : ℕ) → n < c.unsent → r.word n ≡ false) × (codeword c (sent c r.word) ≡ true)
@@ -90,9 +90,9 @@ module _ (c : Code) (r : Run) where
   -- a quiet end whose unsent bits are 0 and whose sent bits are a codeword is taken
   pub judged_done : r.number ≡ 0 → ((n : ℕ) → n < c.unsent → r.word n ≡ false) → codeword c (sent c r.word) ≡ true → judged c r ≡ 0
   judged_done e none is =
-      ap (λ p. if not p then r.number else if ltb 0 (count c.unsent r.word) then 7 else if not (codeword c (sent c r.word)) then
+      ap (λ p. when not p then r.number else when ltb 0 (count c.unsent r.word) then 7 else when not (codeword c (sent c r.word)) then
       8 else 0) (eq-eqb r.number 0 e)
-      ∙ ap₂ (λ q s. if q then 7 else if not s then 8 else 0)
+      ∙ ap₂ (λ q s. when q then 7 else when not s then 8 else 0)
       (le-ltb 0 (count c.unsent r.word) (le_of_eq (count_none c.unsent r.word none))) is
 
 -- where the number is 0 the output octets are a codeword, whatever the run
@@ -100,8 +100,8 @@ pub ran_codeword : (c : Code) → Published c → (x : Word) (r : Run) (out : Li
     → (length (ran_correct c x r out).out ≡ c.octets_of_word) × (codeword c (bit (ran_correct c x r out).out) ≡ true)
 unfolding ran_correct
 ran_codeword c pb x r out e =
-    let w : (if eqb (judged c r) 0 then written c r.word else out) ≡ written c r.word =
-    ap (λ b. if b then written c r.word else out) (eq-eqb (judged c r) 0 e) in (
+    let w : (when eqb (judged c r) 0 then written c r.word else out) ≡ written c r.word =
+    ap (λ b. when b then written c r.word else out) (eq-eqb (judged c r) 0 e) in (
       ap length w ∙ length_octets c.octets_of_word (sent c r.word),
       ap (λ o. codeword c (bit o)) w ∙ ap (codeword c) (bit_written c pb r.word) ∙ (judged_zero c r e).2,
     )
@@ -133,7 +133,7 @@ module _ (c : Code) {way : Way} (ch : Chooses c way) (x : Word) (limit : ℕ) (o
   ran_unchanged more no6 = ap (λ r. ran_correct c x r out) (run_unchanged way more limit x (λ e. no6 (six e)))
     where
       six : (run way limit x).number ≡ 6 → judged c (run way limit x) ≡ 6
-      six e = ap (λ z. if not (eqb z 0) then z else if ltb 0 (count c.unsent (run way limit x).word) then 7 else if not
+      six e = ap (λ z. when not (eqb z 0) then z else when ltb 0 (count c.unsent (run way limit x).word) then 7 else when not
           (codeword c (sent c (run way limit x).word)) then 8 else 0) e
 
   -- where every bit has an even number of checks: never more than half
@@ -296,7 +296,7 @@ module _ (n : ℕ) (off : T (offered n)) (word out : List ℕ) (lw : length word
         last = b;
         unlike = differing (code n) x r.word;
         lowest = lowest (code n) x;
-        out = if eqb a 0 then written (code n) r.word else out;
+        out = when eqb a 0 then written (code n) r.word else out;
       })
       zero_is (ap (broken (code n)) w ∙ met)
       ∙ ap₂ (λ d z. record {

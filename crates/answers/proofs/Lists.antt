@@ -11,7 +11,7 @@ use lib.IntN.{ℤ, pos, negsuc, sub_ℕ}
 use lib.Signed.{lt_z}
 use lib.ListN.{length, get_or, take, drop}
 use borrow.Author.Tests.{eq-eqb, ne_eqb, le-ltb, lt-ltb, ltb-true}
-use Rattle.bits.specs.Bits.{Word, bit, count, flipped, if◌then◌else◌}
+use Rattle.bits.specs.Bits.{Word, bit, count, flipped, when◌then◌else◌}
 use Rattle.rules.specs.Codes.{Code, code, code1, code2, code3, code4, code5, bits, checks, offered, telecommanded}
 use Rattle.rules.specs.Tables.{parity16, parity32, parity64, parity511}
 use Rattle.rules.specs.Checks.{check, broken, excess, broken_of, met_of}
@@ -59,14 +59,14 @@ module _ (c : Code) (x : Word) (r : Run) (table : List Entry) where
   -- 10, where the run has more flips than the table has places
   pub list_short : length table < length r.flips → ran_list c x r table ≡ refused_list table 10
   unfolding ran_list
-  list_short l = ap (λ b. if b then refused_list table 10 else listed_by (ran_correct c x r []) (reason c r)
+  list_short l = ap (λ b. when b then refused_list table 10 else listed_by (ran_correct c x r []) (reason c r)
       (entered_in table (entries c x r.flips))) (lt-ltb (length table) (length r.flips) l)
 
   -- a table with as many places as the run has flips is written
   pub list_fits : length r.flips ≤ length table
       → ran_list c x r table ≡ listed_by (ran_correct c x r []) (reason c r) (entered_in table (entries c x r.flips))
   unfolding ran_list
-  list_fits l = ap (λ b. if b then refused_list table 10 else listed_by (ran_correct c x r []) (reason c r)
+  list_fits l = ap (λ b. when b then refused_list table 10 else listed_by (ran_correct c x r []) (reason c r)
       (entered_in table (entries c x r.flips))) (le-ltb (length table) (length r.flips) l)
 
   pub ran_list_cases : (P : Listed → Type 0) → (length table < length r.flips → P (refused_list table 10))
@@ -94,14 +94,14 @@ list_numbers n word limit table out lo = go (offered n) (eqb (length word) (code
     ran x r = ran_list_cases (code n) x r table (Same (ran_correct (code n) x r out)) (λ l other. absurd (other refl)) (λ l other. refl)
 
     go : (a b : Bool) → Same
-        (unless (if not a then 1 else if not b then 2 else if not (eqb (length out) (code n).octets_of_word) then 3 else 0)
+        (unless (when not a then 1 else when not b then 2 else when not (eqb (length out) (code n).octets_of_word) then 3 else 0)
         (refused_correct_of out) (ran_from n word limit out))
-        (unless (if not a then 1 else if not b then 2 else if not (eqb 0 0) then 3 else 0) (refused_list table)
+        (unless (when not a then 1 else when not b then 2 else when not (eqb 0 0) then 3 else 0) (refused_list table)
         (listed_from n word limit table))
     go false b = λ other. refl
     go true false = λ other. refl
     go true true =
-        subst (λ z. Same (unless (if not z then 3 else 0) (refused_correct_of out) (ran_from n word limit out))
+        subst (λ z. Same (unless (when not z then 3 else 0) (refused_correct_of out) (ran_from n word limit out))
         (listed_from n word limit table)) (sym (eq-eqb (length out) (code n).octets_of_word lo))
         (ran (lifted (code n) (bit word)) (run (by_excess (code n)) limit (lifted (code n) (bit word))))
 
@@ -226,7 +226,7 @@ module _ (n : ℕ) (word : List ℕ) (limit : ℕ) (table : List Entry) (t : T (
   list_written out lo e =
       let c = code n in let r = run (by_excess c) limit (lifted c (bit word)) in
       ap (λ a. a.out) (correct_taken n word limit out t lw lo)
-      ∙ ap (λ b. if b then written c r.word else out)
+      ∙ ap (λ b. when b then written c r.word else out)
       (eq-eqb (judged c r) 0 (sym (ap (λ a. a.number) (correct_taken n word limit out t lw lo)) ∙ e))
       ∙ ap (written c) (sym list_word)
 
@@ -245,14 +245,14 @@ module _ (c : Code) (r : Run) where
   pub reason_none : (r.number ≡ 5 → ⊥) → reason c r ≡ record { bit = 0; excess = pos 0 }
   unfolding reason
   reason_none d =
-      ap (λ b. if b then record { bit = greatest_sent c r.word; excess = excess c r.word (greatest_sent c r.word) } else
+      ap (λ b. when b then record { bit = greatest_sent c r.word; excess = excess c r.word (greatest_sent c r.word) } else
       record { bit = 0; excess = pos 0 }) (ne_eqb r.number 5 d)
 
   pub reason_five : r.number ≡ 5
       → reason c r ≡ record { bit = greatest_sent c r.word; excess = excess c r.word (greatest_sent c r.word) }
   unfolding reason
   reason_five e =
-      ap (λ b. if b then record { bit = greatest_sent c r.word; excess = excess c r.word (greatest_sent c r.word) } else
+      ap (λ b. when b then record { bit = greatest_sent c r.word; excess = excess c r.word (greatest_sent c r.word) } else
       record { bit = 0; excess = pos 0 }) (eq-eqb r.number 5 e)
 
   pub reason_stuck : r.number ≡ 5 → (n : ℕ) (ex : ℤ) → by_excess c r.word ≡ stuck n ex → reason c r ≡ record { bit = n; excess = ex }
@@ -313,11 +313,11 @@ module _ (n : ℕ) (word : List ℕ) (limit : ℕ) (table : List Entry) where
   not_ten c r other e = go (eqb r.number 0) (ltb 0 (count c.unsent r.word)) (codeword c (sent c r.word)) refl refl refl
     where
       spelled : (p q s : Bool) → eqb r.number 0 ≡ p → ltb 0 (count c.unsent r.word) ≡ q → codeword c (sent c r.word) ≡ s
-          → (if not p then r.number else if q then 7 else if not s then 8 else 0) ≡ 10
+          → (when not p then r.number else when q then 7 else when not s then 8 else 0) ≡ 10
       spelled p q s f g h =
-          sym (ap (λ p. if not p then r.number else if ltb 0 (count c.unsent r.word) then 7 else if not
+          sym (ap (λ p. when not p then r.number else when ltb 0 (count c.unsent r.word) then 7 else when not
           (codeword c (sent c r.word)) then 8 else 0) f
-          ∙ ap₂ (λ q s. if not p then r.number else if q then 7 else if not s then 8 else 0) g h) ∙ e
+          ∙ ap₂ (λ q s. when not p then r.number else when q then 7 else when not s then 8 else 0) g h) ∙ e
 
       go : (p q s : Bool) → eqb r.number 0 ≡ p → ltb 0 (count c.unsent r.word) ≡ q → codeword c (sent c r.word) ≡ s → ⊥
       go false q s f g h = other (spelled false q s f g h)

@@ -9,7 +9,7 @@ use native.Mathlib.Omega.{arith}
 use lib.Dec.{T, eqb, lit≤, lit<}
 use lib.ListN.{length, take}
 use borrow.Author.Tests.{eqb-true, eq-eqb, ne_eqb}
-use Rattle.bits.specs.Bits.{bit, if◌then◌else◌}
+use Rattle.bits.specs.Bits.{bit, when◌then◌else◌}
 use Rattle.bits.proofs.Sums.{and_l}
 use Rattle.rules.specs.Codes.{code, code5, checks, offered, telecommanded}
 use Rattle.rules.specs.Tables.{parity511}
@@ -59,13 +59,13 @@ module _ (n : ℕ) (word : List ℕ) where
 
   -- 9 exactly if a check is broken
   pub fault_broken : quiet? ≡ false → fault n word ≡ 9
-  fault_broken e = ap (λ z. if not z then 9 else if last_two_set n word then 14 else if not (codeword (code n) (bit word)) then 15 else 0) e
+  fault_broken e = ap (λ z. when not z then 9 else when last_two_set n word then 14 else when not (codeword (code n) (bit word)) then 15 else 0) e
 
   spelled : (a b d : Bool) → quiet? ≡ a → last_two_set n word ≡ b → codeword (code n) (bit word) ≡ d
-      → fault n word ≡ (if not a then 9 else if b then 14 else if not d then 15 else 0)
+      → fault n word ≡ (when not a then 9 else when b then 14 else when not d then 15 else 0)
   spelled a b d e f g =
-      ap (λ z. if not z then 9 else if last_two_set n word then 14 else if not (codeword (code n) (bit word)) then 15 else 0) e
-      ∙ ap₂ (λ y z. if not a then 9 else if y then 14 else if not z then 15 else 0) f g
+      ap (λ z. when not z then 9 else when last_two_set n word then 14 else when not (codeword (code n) (bit word)) then 15 else 0) e
+      ∙ ap₂ (λ y z. when not a then 9 else when y then 14 else when not z then 15 else 0) f g
 
   -- else 14 exactly if code 5's last two bits are not both 0
   pub fault_two : quiet? ≡ true → last_two_set n word ≡ true → fault n word ≡ 14
@@ -144,7 +144,7 @@ module _ (n : ℕ) (word : List ℕ) where
   codeword_opened t lw is =
       let off : T (offered n) = and_l (offered n) (not (eqb n 4)) t in
       open-from n word t lw
-      ∙ ap₂ (λ k z. record { number = k; lowest = z; part = if eqb k 0 then take (code n).octets_of_information word else [] })
+      ∙ ap₂ (λ k z. record { number = k; lowest = z; part = when eqb k 0 then take (code n).octets_of_information word else [] })
       (codeword_clear n off word is)
       (quiet_lowest (code n) (lifted (code n) (bit word)) (codeword_quiet (code n) (published n off) (bit word) is))
 
@@ -162,7 +162,7 @@ module _ (n : ℕ) (word : List ℕ) where
   unopened t lw other =
       subst Unopened (sym (open-from n word t lw))
       (fault_cases n word (λ k. Unopened
-      (record { number = k; lowest = place; part = if eqb k 0 then take (code n).octets_of_information word else [] }))
+      (record { number = k; lowest = place; part = when eqb k 0 then take (code n).octets_of_information word else [] }))
       (λ e. record {
         nothing = refl;
         place = refl;

@@ -8,7 +8,7 @@ use native.Mathlib.Omega.{arith}
 use lib.Dec.{T, ltb}
 use borrow.Author.Tests.{eq-eqb, le-ltb}
 use Rattle.bits.proofs.Counting.{count_none}
-use Rattle.bits.specs.Bits.{Word, bit, count, if◌then◌else◌}
+use Rattle.bits.specs.Bits.{Word, bit, count, when◌then◌else◌}
 use Rattle.rules.specs.Codes.{Code, code, telecommanded}
 use Rattle.rules.specs.Encoding.{lifted, sent, codeword}
 use Rattle.rules.specs.Flipping.{quiet, Way, Run, run}
@@ -63,11 +63,11 @@ module _ (c : Code) {way : Way} (ch : Chooses c way) (limit : ℕ) (x : Word) (n
       go : End way limit (run way limit x) → ⊥
       go (ends_quiet f w) = by (codeword c (sent c (run way limit x).word)) refl
         where
-          spelled : (b : Bool) → codeword c (sent c (run way limit x).word) ≡ b → ◌≡◌ {A = ℕ} (if not b then 8 else 0) 7
+          spelled : (b : Bool) → codeword c (sent c (run way limit x).word) ≡ b → ◌≡◌ {A = ℕ} (when not b then 8 else 0) 7
           spelled b is =
-              sym (ap (λ p. if not p then (run way limit x).number else if ltb 0 (count c.unsent (run way limit x).word) then 7 else
-              if not (codeword c (sent c (run way limit x).word)) then 8 else 0) (eq-eqb (run way limit x).number 0 f)
-              ∙ ap₂ (λ q s. if q then 7 else if not s then 8 else 0)
+              sym (ap (λ p. when not p then (run way limit x).number else when ltb 0 (count c.unsent (run way limit x).word) then 7 else
+              when not (codeword c (sent c (run way limit x).word)) then 8 else 0) (eq-eqb (run way limit x).number 0 f)
+              ∙ ap₂ (λ q s. when q then 7 else when not s then 8 else 0)
               (le-ltb 0 (count c.unsent (run way limit x).word)
               (le_of_eq (count_none c.unsent (run way limit x).word unsent_stay))) is) ∙ e
 

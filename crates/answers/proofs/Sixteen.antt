@@ -8,7 +8,7 @@ use native.Mathlib.Nat.{mod-lt, zero-lt-suc, div-add-mod'}
 use native.Mathlib.Omega.{arith}
 use lib.Dec.{T, eqb, leb, ltb, ltb→lt, eqb→eq}
 use lib.ListN.{length}
-use Rattle.bits.specs.Bits.{Word, bit, over, count_of, below, ◌⊕◌, flipped, if◌then◌else◌}
+use Rattle.bits.specs.Bits.{Word, bit, over, count_of, below, ◌⊕◌, flipped, when◌then◌else◌}
 use Rattle.rules.specs.Tables.{parity16}
 use Rattle.rules.specs.Codes.{code, code1, bits}
 use Rattle.rules.specs.Checks.{covers, excess}
@@ -45,7 +45,7 @@ lists bs ks m₀ =
 -- bit m₀ has the greatest excess, and that is above 0
 abbrev greatest_at : List ℕ → ℕ → Bool
 greatest_at ks m₀ =
-    ltb m₀ 128 && (ltb (deg m₀) (2 * hits ks m₀) && below 128 (λ m. if ltb m m₀ then ltb (2 * hits ks m + deg m₀) (2 * hits ks m₀ + deg m)
+    ltb m₀ 128 && (ltb (deg m₀) (2 * hits ks m₀) && below 128 (λ m. when ltb m m₀ then ltb (2 * hits ks m + deg m₀) (2 * hits ks m₀ + deg m)
     else leb (2 * hits ks m + deg m₀) (2 * hits ks m₀ + deg m)))
 
 abbrev none_above : List ℕ → Bool
@@ -93,10 +93,10 @@ abbrev before : ℕ → Bool
 before j = ltb (at 64 (j + 11)) (at 64 (j + 13))
 
 abbrev low : ℕ → ℕ
-low j = if before j then at 64 (j + 11) else at 64 (j + 13)
+low j = when before j then at 64 (j + 11) else at 64 (j + 13)
 
 abbrev high : ℕ → ℕ
-high j = if before j then at 64 (j + 13) else at 64 (j + 11)
+high j = when before j then at 64 (j + 13) else at 64 (j + 11)
 
 -- the broken checks, before each flip and at the end
 abbrev four : ℕ → List ℕ
@@ -104,7 +104,7 @@ four j = at 16 (j + 13) ∷ at 32 j ∷ at 48 (j + 13) ∷ at 48 (j + 15) ∷ []
 
 abbrev three : ℕ → List ℕ
 three j =
-    if before j then at 16 (j + 11) ∷ at 16 (j + 13) ∷ at 48 (j + 15) ∷ []
+    when before j then at 16 (j + 11) ∷ at 16 (j + 13) ∷ at 48 (j + 15) ∷ []
     else at 32 j ∷ at 32 (j + 2) ∷ at 48 (j + 13) ∷ []
 
 abbrev two : ℕ → List ℕ

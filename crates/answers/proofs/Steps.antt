@@ -8,7 +8,7 @@ use lib.Dec.{T, eqb, ltb}
 use lib.IntN.{ℤ}
 use lib.ListN.{length}
 use borrow.Author.Tests.{ne_eqb, eqb-true}
-use Rattle.bits.specs.Bits.{Word, bit, count, ◌⊕◌, flipped, if◌then◌else◌}
+use Rattle.bits.specs.Bits.{Word, bit, count, ◌⊕◌, flipped, when◌then◌else◌}
 use Rattle.rules.specs.Codes.{Code, code, bits, offered}
 use Rattle.rules.specs.Encoding.{lifted, sent, codeword, written}
 use Rattle.rules.specs.Flipping.{Next, quiet, stuck, flip, by_excess, Run, run}
@@ -128,7 +128,7 @@ steps_correct n t word oct limit out =
     correct_cases n word limit out (λ r. r.number ≡ 0 → steps n r.flips word ≡ r.out)
     (λ e. absurd (omega arith)) (λ e. absurd (omega arith)) (λ e. absurd (omega arith)) (λ off lw lo e.
     run_steps n t limit (lifted (code n) (bit word)) word lw oct refl (quiet_end e)
-    ∙ sym (ap (λ z. if eqb z 0 then written (code n) (run (by_excess (code n)) limit (lifted (code n) (bit word))).word else out) e))
+    ∙ sym (ap (λ z. when eqb z 0 then written (code n) (run (by_excess (code n)) limit (lifted (code n) (bit word))).word else out) e))
   where
     r : Run
     r = run (by_excess (code n)) limit (lifted (code n) (bit word))
@@ -141,7 +141,7 @@ steps_correct n t word oct limit out =
             → (run (by_excess (code n)) limit (lifted (code n) (bit word))).number ≡ 0
         go true f = eqb-true (run (by_excess (code n)) limit (lifted (code n) (bit word))).number 0 f
         go false f =
-            sym (ap (λ b. if not b then (run (by_excess (code n)) limit (lifted (code n) (bit word))).number
-            else if ltb 0 (count (code n).unsent (run (by_excess (code n)) limit (lifted (code n) (bit word))).word) then 7
-            else if not (codeword (code n) (sent (code n) (run (by_excess (code n)) limit (lifted (code n) (bit word))).word)) then 8 else
+            sym (ap (λ b. when not b then (run (by_excess (code n)) limit (lifted (code n) (bit word))).number
+            else when ltb 0 (count (code n).unsent (run (by_excess (code n)) limit (lifted (code n) (bit word))).word) then 7
+            else when not (codeword (code n) (sent (code n) (run (by_excess (code n)) limit (lifted (code n) (bit word))).word)) then 8 else
             0) f) ∙ e

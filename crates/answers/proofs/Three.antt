@@ -13,7 +13,7 @@ use lib.IntN.{ℤ, pos}
 use lib.ListN.{length, replicate, length-replicate}
 use lib.Signed.{lt_z}
 use borrow.Author.Tests.{ne_eqb, lt-ltb, le-ltb}
-use Rattle.bits.specs.Bits.{Word, digit, bit, count, tally, over, count_of, below, ◌⊕◌, flipped, if◌then◌else◌}
+use Rattle.bits.specs.Bits.{Word, digit, bit, count, tally, over, count_of, below, ◌⊕◌, flipped, when◌then◌else◌}
 use Rattle.rules.specs.Tables.{parity16, parity32, parity64, parity511, generator16, generator32, generator64}
 use Rattle.rules.specs.Codes.{Code, code, code1, code2, code3, code4, code5, bits, checks, offered}
 use Rattle.rules.specs.Checks.{covers, check, broken, excess, broken_of, met_of, degree_of}
@@ -112,7 +112,7 @@ module _ (c : Code) where
 
       -- the greatest excess, the lowest of several: what is flipped
       pub flips : c.unsent ≤ m₀ → m₀ < bits c → T (ltb (deg m₀) (2 * hits m₀))
-          → T (below (bits c) (λ m. if ltb m m₀ then ltb (2 * hits m + deg m₀) (2 * hits m₀ + deg m) else leb (2 * hits m + deg m₀)
+          → T (below (bits c) (λ m. when ltb m m₀ then ltb (2 * hits m + deg m₀) (2 * hits m₀ + deg m) else leb (2 * hits m + deg m₀)
           (2 * hits m₀ + deg m)))
           → by_excess c (wrong_bits bs) ≡ flip m₀ (excess c (wrong_bits bs) m₀)
       flips sent h up top =
@@ -123,15 +123,15 @@ module _ (c : Code) where
           (omega (arith, all m₀ h, broken_hits m₀, ltb→lt (deg m₀) (2 * hits m₀) up)))
           ∙ ap₂ flip at (ap (excess c (wrong_bits bs)) at)
         where
-          tested : (m : ℕ) → m < bits c → T (if ltb m m₀ then ltb (2 * hits m + deg m₀) (2 * hits m₀ + deg m) else leb
+          tested : (m : ℕ) → m < bits c → T (when ltb m m₀ then ltb (2 * hits m + deg m₀) (2 * hits m₀ + deg m) else leb
               (2 * hits m + deg m₀) (2 * hits m₀ + deg m))
-          tested = below_at (bits c) (λ m. if ltb m m₀ then ltb (2 * hits m + deg m₀) (2 * hits m₀ + deg m) else leb (2 * hits m + deg m₀)
+          tested = below_at (bits c) (λ m. when ltb m m₀ then ltb (2 * hits m + deg m₀) (2 * hits m₀ + deg m) else leb (2 * hits m + deg m₀)
               (2 * hits m₀ + deg m)) top
 
           less : (m : ℕ) → m < m₀ → lt_z (excess c (wrong_bits bs) m) (excess c (wrong_bits bs) m₀) ≡ true
           less m l =
               let t = ltb→lt (2 * hits m + deg m₀) (2 * hits m₀ + deg m)
-              (subst (λ b. T (if b then ltb (2 * hits m + deg m₀) (2 * hits m₀ + deg m) else leb (2 * hits m + deg m₀)
+              (subst (λ b. T (when b then ltb (2 * hits m + deg m₀) (2 * hits m₀ + deg m) else leb (2 * hits m + deg m₀)
               (2 * hits m₀ + deg m))) (lt-ltb m m₀ l) (tested m (omega arith))) in
               excess_order c (wrong_bits bs) m m₀
               ∙ lt-ltb (broken_of c (wrong_bits bs) m + met_of c (wrong_bits bs) m₀)
@@ -145,14 +145,14 @@ module _ (c : Code) where
                   (broken_of c (wrong_bits bs) m + met_of c (wrong_bits bs) m₀) ≡ false
               by (yes e) =
                   let t = ltb→lt (2 * hits m + deg m₀) (2 * hits m₀ + deg m)
-                  (subst (λ b. T (if b then ltb (2 * hits m + deg m₀) (2 * hits m₀ + deg m) else leb (2 * hits m + deg m₀)
+                  (subst (λ b. T (when b then ltb (2 * hits m + deg m₀) (2 * hits m₀ + deg m) else leb (2 * hits m + deg m₀)
                   (2 * hits m₀ + deg m))) (lt-ltb m m₀ e) (tested m l)) in
                   le-ltb (broken_of c (wrong_bits bs) m₀ + met_of c (wrong_bits bs) m)
                   (broken_of c (wrong_bits bs) m + met_of c (wrong_bits bs) m₀)
                   (omega (arith, t, all m l, all m₀ h, broken_hits m, broken_hits m₀))
               by (no d) =
                   let t = leb→le (2 * hits m + deg m₀) (2 * hits m₀ + deg m)
-                  (subst (λ b. T (if b then ltb (2 * hits m + deg m₀) (2 * hits m₀ + deg m) else leb (2 * hits m + deg m₀)
+                  (subst (λ b. T (when b then ltb (2 * hits m + deg m₀) (2 * hits m₀ + deg m) else leb (2 * hits m + deg m₀)
                   (2 * hits m₀ + deg m))) (le-ltb m m₀ (omega (arith, lt_of_not-le d))) (tested m l)) in
                   le-ltb (broken_of c (wrong_bits bs) m₀ + met_of c (wrong_bits bs) m)
                   (broken_of c (wrong_bits bs) m + met_of c (wrong_bits bs) m₀)

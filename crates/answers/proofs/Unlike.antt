@@ -8,7 +8,7 @@ use native.Mathlib.Omega.{arith}
 use lib.Dec.{T}
 use lib.ListN.{length}
 use borrow.Author.Tests.{eq-eqb, lt-ltb}
-use Rattle.bits.specs.Bits.{Word, bit, count, tally, ◌⊕◌, if◌then◌else◌}
+use Rattle.bits.specs.Bits.{Word, bit, count, tally, ◌⊕◌, when◌then◌else◌}
 use Rattle.rules.specs.Codes.{Code, code, bits, offered}
 use Rattle.rules.specs.Encoding.{lifted, sent, codeword, written}
 use Rattle.rules.specs.Flipping.{Way, by_excess, Run, run}
@@ -103,7 +103,7 @@ unlike_places n word limit out =
     let x = lifted (code n) (bit word) in
     let r = run (by_excess (code n)) limit x in
     places (code n) (published n t) word r q
-    ∙ ap (λ b. count (bits (code n) - (code n).unsent) (λ i. bit word i ⊕ bit (if b then written (code n) r.word else out) i))
+    ∙ ap (λ b. count (bits (code n) - (code n).unsent) (λ i. bit word i ⊕ bit (when b then written (code n) r.word else out) i))
     (sym (eq-eqb (judged (code n) r) 0 q)))
 
 -- a codeword: 0; one wrong covered bit: 1

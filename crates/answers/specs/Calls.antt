@@ -1,6 +1,6 @@
 -- The calls: for every input, every number returned and the output octets afterwards.
 use Rattle.std.specs.Prelude.{Bool, true, false, not, ◌&&◌, ◌||◌, List, [], ℕ, ◌%◌, eqb, ltb, length, get_or, take, ℤ, pos}
-use Rattle.bits.specs.Bits.{Word, bit, count, ◌⊕◌, flipped, if◌then◌else◌}
+use Rattle.bits.specs.Bits.{Word, bit, count, ◌⊕◌, flipped, when◌then◌else◌}
 use Rattle.rules.specs.Codes.{Code, bits, code, offered}
 use Rattle.rules.specs.Checks.{broken, lowest}
 use Rattle.rules.specs.Encoding.{lifted, sent, encoded, codeword, written}
@@ -10,14 +10,14 @@ use Rattle.rules.specs.Flipping.{Next, quiet, stuck, flip, by_excess, Run, run}
 -- 0 stands for none of these.
 abbrev pub refusal : Bool → ℕ → ℕ → ℕ → ℕ → ℕ
 refusal offered input long output room =
-    if not offered then 1
-    else if not (eqb input long) then 2
-    else if not (eqb output room) then 3
+    when not offered then 1
+    else when not (eqb input long) then 2
+    else when not (eqb output room) then 3
     else 0
 
 -- What a call gives that is refused by a number, or taken where that is 0.
 abbrev pub unless : {A : Type 0} → ℕ → (ℕ → A) → A → A
-unless number refused taken = if eqb number 0 then taken else refused number
+unless number refused taken = when eqb number 0 then taken else refused number
 
 -- Encode: information in, word out.
 pub record Encoded : Type 0 where
@@ -35,7 +35,7 @@ six_set_of n information = eqb n 4 && not (eqb (get_or information 894 0 % 64) 0
 abbrev pub encoded_from : ℕ → List ℕ → List ℕ → Encoded
 encoded_from n information out =
     let c = code n in
-    if six_set_of n information then refused_encode out 4
+    when six_set_of n information then refused_encode out 4
     else record { number = 0; out = written c (encoded c (lifted c (bit information))) }
 
 unfoldable pub encode_answer : ℕ → List ℕ → List ℕ → Encoded
@@ -84,9 +84,9 @@ last_two_set n word = eqb n 5 && (bit word 8158 || bit word 8159)
 abbrev pub fault : ℕ → List ℕ → ℕ
 fault n word =
     let c = code n in
-    if not (eqb (broken c (lifted c (bit word))) 0) then 9
-    else if last_two_set n word then 14
-    else if not (codeword c (bit word)) then 15
+    when not (eqb (broken c (lifted c (bit word))) 0) then 9
+    else when last_two_set n word then 14
+    else when not (codeword c (bit word)) then 15
     else 0
 
 abbrev pub opened_from : ℕ → List ℕ → Opened
@@ -95,7 +95,7 @@ opened_from n word =
     record {
       number = fault n word;
       lowest = lowest c (lifted c (bit word));
-      part = if eqb (fault n word) 0 then take c.octets_of_information word else [];
+      part = when eqb (fault n word) 0 then take c.octets_of_information word else [];
     }
 
 -- Offered by open are all codes but 4.
@@ -117,9 +117,9 @@ pub record Corrected : Type 0 where
 -- After a quiet end: an unsent bit that is 1 gives refusal 7; then parity unlike the encoder's gives refusal 8.
 abbrev pub judged : Code → Run → ℕ
 judged c r =
-    if not (eqb r.number 0) then r.number
-    else if ltb 0 (count c.unsent r.word) then 7
-    else if not (codeword c (sent c r.word)) then 8
+    when not (eqb r.number 0) then r.number
+    else when ltb 0 (count c.unsent r.word) then 7
+    else when not (codeword c (sent c r.word)) then 8
     else 0
 
 -- How many of the bits that the checks are over differ: code 5's unsent bits are counted, its two last bits are not.
@@ -140,7 +140,7 @@ ran_correct c x r out =
       last = broken c r.word;
       unlike = differing c x r.word;
       lowest = lowest c x;
-      out = if eqb (judged c r) 0 then written c r.word else out;
+      out = when eqb (judged c r) 0 then written c r.word else out;
     }
 
 -- The run from a word of the code's length.
@@ -188,7 +188,7 @@ step_answer n word out =
 
 -- The octets of a word, and of its information, as the table of the codes has them; 0 for a code that is not offered.
 unfoldable pub word_octets_answer : ℕ → ℕ
-word_octets_answer n = if offered n then (code n).octets_of_word else 0
+word_octets_answer n = when offered n then (code n).octets_of_word else 0
 
 unfoldable pub information_octets_answer : ℕ → ℕ
-information_octets_answer n = if offered n then (code n).octets_of_information else 0
+information_octets_answer n = when offered n then (code n).octets_of_information else 0

@@ -1,6 +1,6 @@
 -- The list of a run: a record for each flip in the caller's table, correct's numbers, and the reason for a refusal 5.
 use Rattle.std.specs.Prelude.{List, [], ◌∷◌, ◌++◌, ℕ, eqb, ltb, length, drop, ℤ, pos}
-use Rattle.bits.specs.Bits.{Word, bit, flipped, if◌then◌else◌}
+use Rattle.bits.specs.Bits.{Word, bit, flipped, when◌then◌else◌}
 use Rattle.rules.specs.Codes.{Code, code, offered}
 use Rattle.rules.specs.Checks.{broken, excess}
 use Rattle.rules.specs.Encoding.{lifted}
@@ -28,7 +28,7 @@ entered_in table list = list ++ drop (length list) table
 unfoldable pub reason : Code → Run → Flip
 reason c r =
     let n = greatest_sent c r.word in
-    if eqb r.number 5 then record { bit = n; excess = excess c r.word n }
+    when eqb r.number 5 then record { bit = n; excess = excess c r.word n }
     else record { bit = 0; excess = pos 0 }
 
 -- All numbers that correct gives, then bit and excess of the reason, and the table afterwards.
@@ -64,7 +64,7 @@ refused_list table number = listed_by (refused_correct_of [] number) (record { b
 -- 10, in place of any of 0 and 5 to 8, if the run has more flips than the table has places.
 unfoldable pub ran_list : Code → Word → Run → List Entry → Listed
 ran_list c x r table =
-    if ltb (length table) (length r.flips) then refused_list table 10
+    when ltb (length table) (length r.flips) then refused_list table 10
     else listed_by (ran_correct c x r []) (reason c r) (entered_in table (entries c x r.flips))
 
 abbrev pub listed_from : ℕ → List ℕ → ℕ → List Entry → Listed

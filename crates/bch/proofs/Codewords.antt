@@ -6,7 +6,7 @@ use Prim.Native.Nat.{ℕ, suc, ◌+◌, ◌-◌, ◌^◌, ◌≤◌, ◌<◌}
 use native.Mathlib.Omega.{arith}
 use lib.Dec.{eqb, leb, ltb, lit<}
 use borrow.Author.Tests.{lt-ltb, le-ltb, le-leb, lt-leb, eq-eqb, ne_eqb, eqb-true}
-use Rattle.bits.specs.Bits.{Word, digit, ◌⊕◌, sum, flipped, if◌then◌else◌}
+use Rattle.bits.specs.Bits.{Word, digit, ◌⊕◌, sum, flipped, when◌then◌else◌}
 use Rattle.bits.proofs.Orders.{le-or-lt}
 use Rattle.bits.proofs.Sums.{⊕-self, ⊕-eq, ⊕-assoc, ⊕-comm, sum_same, sum_linear, pick}
 use Rattle.bits.proofs.Octets.{digit_zero}
@@ -71,13 +71,13 @@ left_parity x j h =
 
 pub encoded_front : (x : Word) (k : ℕ) → k < 56 → encoded x k ≡ x k
 unfolding encoded
-encoded_front x k l = ap (λ p. if p then x k else if ltb k 63 then not (parity_bit x (k - 56)) else false) (lt-ltb k 56 l)
+encoded_front x k l = ap (λ p. when p then x k else when ltb k 63 then not (parity_bit x (k - 56)) else false) (lt-ltb k 56 l)
 
 pub encoded_parity : (x : Word) (j : ℕ) → j < 7 → encoded x (56 + j) ≡ not (parity_bit x j)
 unfolding encoded
 encoded_parity x j h =
     let e : 56 + j - 56 ≡ j = omega arith in
-    ap₂ (λ p q. if p then x (56 + j) else if q then not (parity_bit x (56 + j - 56)) else false) (le-ltb (56 + j) 56 (omega arith))
+    ap₂ (λ p q. when p then x (56 + j) else when q then not (parity_bit x (56 + j - 56)) else false) (le-ltb (56 + j) 56 (omega arith))
     (lt-ltb (56 + j) 63 (omega arith))
     ∙ ap (λ n. not (parity_bit x n)) e
 

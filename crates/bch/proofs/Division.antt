@@ -9,7 +9,7 @@ use native.Mathlib.Omega.{arith}
 use lib.Bits.{bit_xor, xor_lt}
 use lib.Dec.{eqb, lit<}
 use borrow.Author.Tests.{eq-eqb}
-use Rattle.bits.specs.Bits.{Word, tally, ◌⊕◌, sum, if◌then◌else◌}
+use Rattle.bits.specs.Bits.{Word, tally, ◌⊕◌, sum, when◌then◌else◌}
 use Rattle.bits.proofs.Sums.{⊕-false, ⊕-mid, Linear, swap, into, pick, eqb_iff}
 use Rattle.bits.proofs.Counting.{tally_le}
 use Rattle.bits.proofs.Orders.{le-or-lt}
@@ -39,7 +39,7 @@ place_reduced : (p j : ℕ) → place (reduced p) j ≡ place p j ⊕ (place p 7
 unfolding reduced
 place_reduced p j = go (place p 7)
   where
-    go : (b : Bool) → place (if b then bit_xor p generator else p) j ≡ place p j ⊕ (b && place generator j)
+    go : (b : Bool) → place (when b then bit_xor p generator else p) j ≡ place p j ⊕ (b && place generator j)
     go true = place_xor p generator j
     go false = sym (⊕-false (place p j))
 
@@ -128,7 +128,7 @@ reduced_lt p h = top_clear (reduced p) small (place_reduced p 7 ∙ gone (place 
     small : reduced p < 2 ^ 8
     small = go (place p 7)
       where
-        go : (b : Bool) → (if b then bit_xor p generator else p) < 2 ^ 8
+        go : (b : Bool) → (when b then bit_xor p generator else p) < 2 ^ 8
         go true = xor_lt 8 p generator h (lit< tt)
         go false = h
 

@@ -9,7 +9,7 @@ use lib.Bits.{bit_xor}
 use lib.Dec.{eqb, ltb, lit<}
 use lib.ListN.{length}
 use borrow.Author.Tests.{lt-ltb, le-ltb, eq-eqb, ne_eqb}
-use Rattle.bits.specs.Bits.{Word, digit, bit, octets, ◌⊕◌, flipped, if◌then◌else◌}
+use Rattle.bits.specs.Bits.{Word, digit, bit, octets, ◌⊕◌, flipped, when◌then◌else◌}
 use Rattle.bits.proofs.Orders.{le-or-lt, eq_or_not}
 use Rattle.bits.proofs.Octets.{octets_same, digit_zero}
 use Rattle.vectors.specs.Vectors.{Holds}
@@ -20,11 +20,11 @@ use Rattle.bch.proofs.Codewords.{left, encoded_fill, codeword_flipped, wrong_onc
 
 -- ---- tests of lengths
 
-long : {A : Type 0} (o : List ℕ) (n : ℕ) (a r : A) → length o ≡ n → (if not (eqb (length o) n) then a else r) ≡ r
-long o n a r e = ap (λ b. if not b then a else r) (eq-eqb (length o) n e)
+long : {A : Type 0} (o : List ℕ) (n : ℕ) (a r : A) → length o ≡ n → (when not (eqb (length o) n) then a else r) ≡ r
+long o n a r e = ap (λ b. when not b then a else r) (eq-eqb (length o) n e)
 
-other : {A : Type 0} (o : List ℕ) (n : ℕ) (a r : A) → (length o ≡ n → ⊥) → (if not (eqb (length o) n) then a else r) ≡ a
-other o n a r d = ap (λ b. if not b then a else r) (ne_eqb (length o) n d)
+other : {A : Type 0} (o : List ℕ) (n : ℕ) (a r : A) → (length o ≡ n → ⊥) → (when not (eqb (length o) n) then a else r) ≡ a
+other o n a r d = ap (λ b. when not b then a else r) (ne_eqb (length o) n d)
 
 -- ---- encode
 
@@ -77,27 +77,27 @@ module _ (x : Word) (out : List ℕ) where
 
   pub judged_codeword : (d : Bool) → codeword x ≡ true → judged d x out ≡ whole
   unfolding judged
-  judged_codeword d e = ap (λ b. if b then whole else if d then refused 13 out else if ltb (wrong_bit x) 63 then mended else refused 13 out)
+  judged_codeword d e = ap (λ b. when b then whole else when d then refused 13 out else when ltb (wrong_bit x) 63 then mended else refused 13 out)
       e
 
   pub judged_detected : (d : Bool) → d ≡ true → codeword x ≡ false → judged d x out ≡ refused 13 out
   unfolding judged
-  judged_detected d t e = ap₂ (λ b c. if b then whole else if c then refused 13 out else if ltb (wrong_bit x) 63 then mended else refused 13
+  judged_detected d t e = ap₂ (λ b c. when b then whole else when c then refused 13 out else when ltb (wrong_bit x) 63 then mended else refused 13
       out) e t
 
   pub judged_mended : (d : Bool) → d ≡ false → codeword x ≡ false → wrong_bit x < 63 → judged d x out ≡ mended
   unfolding judged
   judged_mended d t e l =
-      ap₂ (λ b c. if b then whole else if c then refused 13 out else if ltb (wrong_bit x) 63 then mended else refused 13 out) e t
-      ∙ ap (λ b. if b then mended else refused 13 out) (lt-ltb (wrong_bit x) 63 l)
+      ap₂ (λ b c. when b then whole else when c then refused 13 out else when ltb (wrong_bit x) 63 then mended else refused 13 out) e t
+      ∙ ap (λ b. when b then mended else refused 13 out) (lt-ltb (wrong_bit x) 63 l)
 
   pub judged_far : (d : Bool) → codeword x ≡ false → 63 ≤ wrong_bit x → judged d x out ≡ refused 13 out
   unfolding judged
   judged_far d e l =
-      ap₂ (λ b c. if b then whole else if d then refused 13 out else if c then mended else refused 13 out) e (le-ltb (wrong_bit x) 63 l)
+      ap₂ (λ b c. when b then whole else when d then refused 13 out else when c then mended else refused 13 out) e (le-ltb (wrong_bit x) 63 l)
       ∙ either d
     where
-      either : (b : Bool) → (if b then refused 13 out else refused 13 out) ≡ refused 13 out
+      either : (b : Bool) → (when b then refused 13 out else refused 13 out) ≡ refused 13 out
       either true = refl
       either false = refl
 
@@ -111,8 +111,8 @@ lowest_holds (suc n) f l = go (f 0) refl l (lowest_holds n (λ k. f (suc k)))
     later : ℕ
     later = lowest n (λ k. f (suc k))
 
-    go : (b : Bool) → f 0 ≡ b → (if b then 0 else suc later) < suc n → (later < n → f (suc later) ≡ true)
-        → f (if b then 0 else suc later) ≡ true
+    go : (b : Bool) → f 0 ≡ b → (when b then 0 else suc later) < suc n → (later < n → f (suc later) ≡ true)
+        → f (when b then 0 else suc later) ≡ true
     go true e h ih = e
     go false e h ih = ih (omega arith)
 
@@ -124,7 +124,7 @@ lowest_none (suc n) f l i h = go (f 0) refl l (lowest_none n (λ k. f (suc k))) 
     later : ℕ
     later = lowest n (λ k. f (suc k))
 
-    go : (b : Bool) → f 0 ≡ b → suc n ≤ (if b then 0 else suc later) → (n ≤ later → (i : ℕ) → i < n → f (suc i) ≡ false) → (i : ℕ)
+    go : (b : Bool) → f 0 ≡ b → suc n ≤ (when b then 0 else suc later) → (n ≤ later → (i : ℕ) → i < n → f (suc i) ≡ false) → (i : ℕ)
         → i < suc n → f i ≡ false
     go true e k ih i h = absurd (omega arith)
     go false e k ih zero h = e

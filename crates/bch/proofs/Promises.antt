@@ -9,7 +9,7 @@ use native.Mathlib.Omega.{arith}
 use lib.Dec.{eqb, leb, ltb, lit<}
 use lib.ListN.{length, take}
 use borrow.Author.Tests.{lt-ltb, le-ltb, eq-eqb, ne_eqb}
-use Rattle.bits.specs.Bits.{Word, digit, bit, octets, tally, ◌⊕◌, count, flipped, if◌then◌else◌}
+use Rattle.bits.specs.Bits.{Word, digit, bit, octets, tally, ◌⊕◌, count, flipped, when◌then◌else◌}
 use Rattle.bits.proofs.Orders.{le-or-lt, eq_or_not}
 use Rattle.bits.proofs.Sums.{⊕-false, ⊕-self, ⊕-assoc, ⊕-eq}
 use Rattle.bits.proofs.Counting.{none_counted, count_none, count_same, count_pick}
@@ -54,9 +54,9 @@ judged_same d x y out same =
   where
     choose : Bool → ℕ → List ℕ → List ℕ → Mended
     choose b w p q =
-        if b then record { number = 0; mended = 0; out = p }
-        else if d then refused 13 out
-        else if ltb w 63 then record { number = 0; mended = 1; out = q }
+        when b then record { number = 0; mended = 0; out = p }
+        else when d then refused 13 out
+        else when ltb w 63 then record { number = 0; mended = 1; out = q }
         else refused 13 out
 
 -- two words of eight octets that agree in their 63 bits have one answer
@@ -91,7 +91,7 @@ fill_ignored d word out e =
 encoded_same : (x y : Word) → ((k : ℕ) → k < 56 → x k ≡ y k) → (k : ℕ) → encoded x k ≡ encoded y k
 unfolding encoded
 encoded_same x y same k =
-    ap (λ n. if ltb k 56 then x k else if ltb k 63 then not (digit 7 n (k - 56)) else false)
+    ap (λ n. when ltb k 56 then x k else when ltb k 63 then not (digit 7 n (k - 56)) else false)
     (remainder_same 63 (raised x) (raised y) (λ i l. both i))
     ∙ front
   where
@@ -102,14 +102,14 @@ encoded_same x y same k =
         (λ (h : i < 56). ap (λ b. ltb i 56 && b) (same i h))
         (le-or-lt 56 i)
 
-    front : (if ltb k 56 then x k else if ltb k 63 then not (parity_bit y (k - 56)) else false)
-        ≡ (if ltb k 56 then y k else if ltb k 63 then not (parity_bit y (k - 56)) else false)
+    front : (when ltb k 56 then x k else when ltb k 63 then not (parity_bit y (k - 56)) else false)
+        ≡ (when ltb k 56 then y k else when ltb k 63 then not (parity_bit y (k - 56)) else false)
     front =
         ⊎_elim
         (λ (h : 56 ≤ k).
-        ap (λ p. if p then x k else if ltb k 63 then not (parity_bit y (k - 56)) else false) (le-ltb k 56 h)
-        ∙ sym (ap (λ p. if p then y k else if ltb k 63 then not (parity_bit y (k - 56)) else false) (le-ltb k 56 h)))
-        (λ (h : k < 56). ap (λ b. if ltb k 56 then b else if ltb k 63 then not (parity_bit y (k - 56)) else false) (same k h))
+        ap (λ p. when p then x k else when ltb k 63 then not (parity_bit y (k - 56)) else false) (le-ltb k 56 h)
+        ∙ sym (ap (λ p. when p then y k else when ltb k 63 then not (parity_bit y (k - 56)) else false) (le-ltb k 56 h)))
+        (λ (h : k < 56). ap (λ b. when ltb k 56 then b else when ltb k 63 then not (parity_bit y (k - 56)) else false) (same k h))
         (le-or-lt 56 k)
 
 encoded_codeword : (x : Word) → codeword (encoded x) ≡ true

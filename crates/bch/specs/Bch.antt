@@ -1,7 +1,7 @@
 -- The older BCH words, BCH (63,56), by CCSDS 231.0-B: the division, the codewords, and the answers of the two calls.
 use Rattle.std.specs.Prelude.{Bool, false, not, ◌&&◌, List, ℕ, zero, suc, ◌+◌, ◌-◌, ◌*◌, ◌^◌, eqb, ltb, length}
 use Rattle.std.specs.Int.Bits.{bit_xor}
-use Rattle.bits.specs.Bits.{Word, digit, bit, tally, octets, agree, flipped, if◌then◌else◌}
+use Rattle.bits.specs.Bits.{Word, digit, bit, tally, octets, agree, flipped, when◌then◌else◌}
 
 -- Generator x^7+x^6+x^2+1. A polynomial modulo 2 is the number whose binary digits are its coefficients.
 abbrev pub generator : ℕ
@@ -9,7 +9,7 @@ generator = 2 ^ 7 + 2 ^ 6 + 2 ^ 2 + 1
 
 -- A step of long division: where x^7 stands, the generator is taken away, which modulo 2 is to add it, digit by digit.
 unfoldable pub reduced : ℕ → ℕ
-reduced p = if digit 8 p 0 then bit_xor p generator else p
+reduced p = when digit 8 p 0 then bit_xor p generator else p
 
 -- Long division of the polynomial whose n coefficients are the first bits of a word, the highest power first: coefficient
 -- after coefficient is brought down behind what is left of those before it.
@@ -27,8 +27,8 @@ parity_bit x j = digit 7 (remainder 63 (raised x)) j
 -- 56 information bits, seven inverted parity bits, one zero fill bit.
 unfoldable pub encoded : Word → Word
 encoded x k =
-    if ltb k 56 then x k
-    else if ltb k 63 then not (parity_bit x (k - 56))
+    when ltb k 56 then x k
+    else when ltb k 63 then not (parity_bit x (k - 56))
     else false
 
 -- A codeword is a word whose 63 bits the encoder can give: they are what is encoded of the first 56. The fill bit is ignored.
@@ -38,7 +38,7 @@ codeword x = agree 63 x (encoded x)
 -- The lowest number below n of which something holds; n if there is none.
 unfoldable pub lowest : ℕ → (ℕ → Bool) → ℕ
 lowest zero f = 0
-lowest (suc n) f = if f 0 then 0 else suc (lowest n (λ k. f (suc k)))
+lowest (suc n) f = when f 0 then 0 else suc (lowest n (λ k. f (suc k)))
 
 -- The bit of the 63 that was wrong, if one was: with it flipped the word is a codeword. (No second bit does that.)
 abbrev pub wrong_bit : Word → ℕ
@@ -55,8 +55,8 @@ pub record Encoded : Type 0 where
 
 unfoldable pub bch_encode_answer : List ℕ → List ℕ → Encoded
 bch_encode_answer information out =
-    if not (eqb (length information) 7) then record { number = 2; out = out }
-    else if not (eqb (length out) 8) then record { number = 3; out = out }
+    when not (eqb (length information) 7) then record { number = 2; out = out }
+    else when not (eqb (length out) 8) then record { number = 3; out = out }
     else record { number = 0; out = octets 8 (encoded (bit information)) }
 
 -- Check, in two modes, single error correction and detect-only: number, and how many of the 63 bits were mended.
@@ -72,13 +72,13 @@ refused number out = record { number = number; mended = 0; out = out }
 -- otherwise the codeword is written out.
 unfoldable pub judged : Bool → Word → List ℕ → Mended
 judged detect_only x out =
-    if codeword x then record { number = 0; mended = 0; out = written x }
-    else if detect_only then refused 13 out
-    else if ltb (wrong_bit x) 63 then record { number = 0; mended = 1; out = written (flipped x (wrong_bit x)) }
+    when codeword x then record { number = 0; mended = 0; out = written x }
+    else when detect_only then refused 13 out
+    else when ltb (wrong_bit x) 63 then record { number = 0; mended = 1; out = written (flipped x (wrong_bit x)) }
     else refused 13 out
 
 unfoldable pub bch_check_answer : Bool → List ℕ → List ℕ → Mended
 bch_check_answer detect_only word out =
-    if not (eqb (length word) 8) then refused 2 out
-    else if not (eqb (length out) 8) then refused 3 out
+    when not (eqb (length word) 8) then refused 2 out
+    else when not (eqb (length out) 8) then refused 3 out
     else judged detect_only (bit word) out

@@ -3,7 +3,7 @@ use mathlib.Core.Path.{◌≡◌, refl, ap, ◌∙◌}
 use mathlib.Core.Bool.{Bool, true, false}
 use Prim.Native.Nat.{ℕ, zero, suc, ◌≤◌, ◌<◌}
 use native.Mathlib.Omega.{arith}
-use Rattle.bits.specs.Bits.{count, least, if◌then◌else◌}
+use Rattle.bits.specs.Bits.{count, least, when◌then◌else◌}
 use Rattle.bits.proofs.Counting.{count_none, none_counted}
 
 abbrev next : (ℕ → Bool) → ℕ → Bool
@@ -17,11 +17,11 @@ from_zero = refl
 -- one number more, in front
 least_here : (n : ℕ) (f : ℕ → Bool) → f 0 ≡ true → least (suc n) f ≡ 0
 unfolding least
-least_here n f e = ap (λ b. if b then 0 else suc (least n (next f))) e
+least_here n f e = ap (λ b. when b then 0 else suc (least n (next f))) e
 
 least_later : (n : ℕ) (f : ℕ → Bool) → f 0 ≡ false → least (suc n) f ≡ suc (least n (next f))
 unfolding least
-least_later n f e = ap (λ b. if b then 0 else suc (least n (next f))) e
+least_later n f e = ap (λ b. when b then 0 else suc (least n (next f))) e
 
 -- where it holds of m and of no number before it, it is m
 pub least_found : (n : ℕ) (f : ℕ → Bool) (m : ℕ) → m < n → f m ≡ true → ((k : ℕ) → k < m → f k ≡ false) → least n f ≡ m

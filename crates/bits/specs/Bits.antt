@@ -73,12 +73,12 @@ abbrev pub flipped : Word → ℕ → Word
 flipped x n k = x k ⊕ eqb k n
 
 -- A choice between two things.
-infixr 1 if◌then◌else◌
-abbrev pub if◌then◌else◌ : {A : Type 0} → Bool → A → A → A
-if true then a else b = a
-if false then a else b = b
+infixr 1 when◌then◌else◌
+abbrev pub when◌then◌else◌ : {A : Type 0} → Bool → A → A → A
+when true then a else b = a
+when false then a else b = b
 
 -- The lowest number below n of which something holds; n if it holds of none.
 unfoldable pub least : ℕ → (ℕ → Bool) → ℕ
 least zero f = 0
-least (suc n) f = if f 0 then 0 else suc (least n (λ k. f (suc k)))
+least (suc n) f = when f 0 then 0 else suc (least n (λ k. f (suc k)))

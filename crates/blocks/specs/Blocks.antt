@@ -1,7 +1,7 @@
 -- Recordings in blocks: for every input, every number returned and the output octets afterwards.
 use Rattle.std.specs.Prelude.{Bool, true, false, not, ◌&&◌, List, [], ◌∷◌, ◌++◌, ℕ, zero, suc, ◌+◌, ◌-◌, ◌*◌, ◌/◌, ◌%◌, eqb, leb, ltb}
 use Rattle.std.specs.Prelude.{length, get_or, take, drop, replicate}
-use Rattle.bits.specs.Bits.{if◌then◌else◌}
+use Rattle.bits.specs.Bits.{when◌then◌else◌}
 use Rattle.blocks.specs.framecheck.FrameCheck.{framed, sound}
 
 -- Two octets and four octets of a number, high octet first.
@@ -38,13 +38,13 @@ pub record Exported : Type 0 where
 unfoldable pub export_answer : List ℕ → List ℕ → Exported
 export_answer octets out =
     let n = blocks_for (length octets) in
-    if ltb 64512 (length octets) then record { number = 20; out = out }
-    else if not (eqb (length out) (512 * n)) then record { number = 3; out = out }
+    when ltb 64512 (length octets) then record { number = 20; out = out }
+    else when not (eqb (length out) (512 * n)) then record { number = 3; out = out }
     else record { number = 0; out = exported n 0 octets }
 
 -- The room that export needs, 0 where there is none.
 abbrev pub export_room : ℕ → ℕ
-export_room long = if ltb 64512 long then 0 else 512 * blocks_for long
+export_room long = when ltb 64512 long then 0 else 512 * blocks_for long
 
 -- ---- import
 
@@ -75,10 +75,10 @@ filling_in b = take (504 - used_in b) (drop (6 + used_in b) b)
 -- The fault of a block at a place, 0 for none: 21 check, 22 number, 23 count or filling.
 unfoldable pub fault : ℕ → Bool → List ℕ → ℕ
 fault place last b =
-    if not (sound 510 b) then 21
-    else if not (eqb (number_in b) place) then 22
-    else if not (count_right_of last (used_in b)) then 23
-    else if not (clear (filling_in b)) then 23
+    when not (sound 510 b) then 21
+    else when not (eqb (number_in b) place) then 22
+    else when not (count_right_of last (used_in b)) then 23
+    else when not (clear (filling_in b)) then 23
     else 0
 
 -- The fault of the lowest block at fault, and the number of that block by its place; block by block, n of them.
@@ -90,7 +90,7 @@ unfoldable pub first_fault_of : ℕ → ℕ → List ℕ → Fault
 first_fault_of zero place octets = record { number = 0; block = 0 }
 first_fault_of (suc n) place octets =
     let f = fault place (eqb n 0) (take 512 octets) in
-    if eqb f 0 then first_fault_of n (suc place) (drop 512 octets)
+    when eqb f 0 then first_fault_of n (suc place) (drop 512 octets)
     else record { number = f; block = place }
 
 -- The used octets of n blocks, one after another.
@@ -113,15 +113,15 @@ unfoldable pub import_answer : List ℕ → List ℕ → Imported
 import_answer octets out =
     let n = length octets / 512 in
     let f = first_fault_of n 0 octets in
-    if not (whole_blocks (length octets)) then record { number = 20; block = 0; out = out }
-    else if not (eqb f.number 0) then record { number = f.number; block = f.block; out = out }
-    else if not (eqb (length out) (length (imported n octets))) then record { number = 3; block = 0; out = out }
+    when not (whole_blocks (length octets)) then record { number = 20; block = 0; out = out }
+    else when not (eqb f.number 0) then record { number = f.number; block = f.block; out = out }
+    else when not (eqb (length out) (length (imported n octets))) then record { number = 3; block = 0; out = out }
     else record { number = 0; block = 0; out = imported n octets }
 
 -- The room that import needs, 0 where there is none.
 unfoldable pub import_room : List ℕ → ℕ
 import_room octets =
     let n = length octets / 512 in
-    if not (whole_blocks (length octets)) then 0
-    else if not (eqb (first_fault_of n 0 octets).number 0) then 0
+    when not (whole_blocks (length octets)) then 0
+    else when not (eqb (first_fault_of n 0 octets).number 0) then 0
     else length (imported n octets)

@@ -7,7 +7,7 @@ use lib.Dec.{eqb}
 use lib.ListN.{length}
 use native.Mathlib.Omega.{arith}
 use borrow.Author.Tests.{eq-eqb, ne_eqb}
-use Rattle.bits.specs.Bits.{Word, bit, if◌then◌else◌}
+use Rattle.bits.specs.Bits.{Word, bit, when◌then◌else◌}
 use Rattle.rules.specs.Codes.{Code, code, bits}
 use Rattle.rules.specs.Checks.{broken, lowest}
 use Rattle.rules.specs.Encoding.{lifted, written}
@@ -75,13 +75,13 @@ module _ (n : ℕ) (word : List ℕ) (limit : ℕ) (r : Course) (y : Word) (e : 
 
   module _ (number unlike : ℕ) (judge : number ≡ judged (code n) (run_of n word limit))
       (differs : unlike ≡ differing (code n) (lifted (code n) (bit word)) y) (out out' : List ℕ)
-      (wrote : out' ≡ (if eqb number 0 then written (code n) y else out)) where
+      (wrote : out' ≡ (when eqb number 0 then written (code n) y else out)) where
     pub corrected_is : numbers number r.ended.ran.flips r.first r.ended.last unlike r.lowest out' ≡ ran_from n word limit out
     unfolding ran_correct
     corrected_is =
         numbers_same judge e.flips e.first (e.last ∙ ap (broken (code n)) e.word_is)
         (differs ∙ ap (differing (code n) (lifted (code n) (bit word))) e.word_is) e.lowest
-        (wrote ∙ ap₂ (λ k w. if eqb k 0 then written (code n) w else out) judge e.word_is)
+        (wrote ∙ ap₂ (λ k w. when eqb k 0 then written (code n) w else out) judge e.word_is)
 
 -- a bit that is named is one of a word
 pub within_bits : (few : ℕ) (next : Next) → few ≤ 8176 → Within few next → Within 8176 next
@@ -90,8 +90,8 @@ within_bits few (Stuck n e) l w = omega (arith, l, w)
 within_bits few (Flip n e) l w = omega (arith, l, w)
 
 -- the output of a run that was taken, and of one that was refused
-pub wrote_word : (number : ℕ) (w out out' : List ℕ) → number ≡ 0 → out' ≡ w → out' ≡ (if eqb number 0 then w else out)
-wrote_word number w out out' e f = f ∙ sym (ap (λ b. if b then w else out) (eq-eqb number 0 e))
+pub wrote_word : (number : ℕ) (w out out' : List ℕ) → number ≡ 0 → out' ≡ w → out' ≡ (when eqb number 0 then w else out)
+wrote_word number w out out' e f = f ∙ sym (ap (λ b. when b then w else out) (eq-eqb number 0 e))
 
-pub wrote_none : (number : ℕ) (w out : List ℕ) → (number ≡ 0 → ⊥) → out ≡ (if eqb number 0 then w else out)
-wrote_none number w out d = sym (ap (λ b. if b then w else out) (ne_eqb number 0 d))
+pub wrote_none : (number : ℕ) (w out : List ℕ) → (number ≡ 0 → ⊥) → out ≡ (when eqb number 0 then w else out)
+wrote_none number w out d = sym (ap (λ b. when b then w else out) (ne_eqb number 0 d))

@@ -3,7 +3,7 @@
 #![tactic(auto)]
 
 ghost use Rattle.std.specs.Prelude.{◌≡◌, true, false, List, ℕ, ◌<◌, eqb, length};
-ghost use Rattle.bits.specs.Bits.{bit, flipped, if◌then◌else◌};
+ghost use Rattle.bits.specs.Bits.{bit, flipped, when◌then◌else◌};
 ghost use Rattle.rules.specs.Codes.{code as code_of, offered};
 ghost use Rattle.rules.specs.Checks.{lowest};
 ghost use Rattle.rules.specs.Encoding.{lifted, written};
@@ -197,7 +197,7 @@ fn run_taken(
 fn write_taken(o: Offer, number: u8, y: &mut [u64; WORD], out: &mut [u8])
     requires { Known o × (length out.old ≡ o.word) }
     ensures { (n : ℕ) → offered n ≡ true → o ≡ offer_of n
-        → out.new ≡ (if eqb number 0 then written (code_of n) (wbit y.old) else out.old) }
+        → out.new ≡ (when eqb number 0 then written (code_of n) (wbit y.old) else out.old) }
 {
     if number == 0 {
         received::write(y, o.unsent, o.bits, out);

@@ -1,6 +1,6 @@
 // The bit of greatest excess: the blocks of the greatest bound are weighed, and the bound of one that has no such bit goes down.
 ghost use Rattle.std.specs.Prelude.{◌≡◌, ℕ, ◌+◌, ◌*◌, ◌<◌, ◌≤◌, length, get_or, ltb};
-ghost use Rattle.bits.specs.Bits.{least, if◌then◌else◌};
+ghost use Rattle.bits.specs.Bits.{least, when◌then◌else◌};
 ghost use Rattle.vectors.specs.Vectors.{wbit};
 ghost use Rattle.flipping.specs.bounds.Reading.{light};
 ghost use Rattle.flipping.specs.bounds.Keeping.{bound, Ready};
@@ -75,7 +75,7 @@ pub fn bound_of(counts: &[u8], met: &[u8], b: usize) -> u8
 
 // The greater of two.
 fn higher(a: u8, b: u8) -> u8
-    ensures { result ≡ (if ltb a b then b else a) }
+    ensures { result ≡ (when ltb a b then b else a) }
 {
     if a < b {
         return b;

@@ -1,6 +1,6 @@
 -- What is lent to the engine, and how the engine holds a syndrome.
 use Rattle.std.specs.Prelude.{◌≡◌, ◌&&◌, List, [], ◌∷◌, ℕ, zero, suc, ◌+◌, ◌-◌, ◌*◌, ◌/◌, ◌%◌, ◌≤◌, ◌<◌, eqb, ltb, length, get_or}
-use Rattle.bits.specs.Bits.{Word, ◌⊕◌, sum, flipped, if◌then◌else◌, over, count_of}
+use Rattle.bits.specs.Bits.{Word, ◌⊕◌, sum, flipped, when◌then◌else◌, over, count_of}
 use Rattle.rules.specs.Codes.{Code, bits, checks}
 use Rattle.rules.specs.Checks.{check, broken_of, degree_of}
 use Rattle.layout.specs.declared.Shape.{Shape}
@@ -21,7 +21,7 @@ pub record Fit (h : List ℕ) (sh : Shape) : Type 0 where
 
 -- The shifts of a block: what its two places hold, where a number that is M or more is no entry.
 abbrev pub kept : ℕ → ℕ → List ℕ → List ℕ
-kept M s rest = if ltb s M then s ∷ rest else rest
+kept M s rest = when ltb s M then s ∷ rest else rest
 
 abbrev pub entries : ℕ → List ℕ → ℕ → List ℕ
 entries M h at = kept M (get_or h at M) (kept M (get_or h (at + 1) M) [])

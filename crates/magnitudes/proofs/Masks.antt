@@ -10,7 +10,7 @@ use lib.Count.{count_leading_zeros, leading_of_zero}
 use lib.Dec.{eqb}
 use lib.Pow.{pow-lt}
 use borrow.Author.Tests.{lt-ltb, le-ltb, eq-eqb, ne_eqb}
-use Rattle.bits.specs.Bits.{digit, ◌⊕◌, if◌then◌else◌}
+use Rattle.bits.specs.Bits.{digit, ◌⊕◌, when◌then◌else◌}
 use Rattle.bits.proofs.Octets.{digit_zero}
 use Rattle.bits.proofs.Orders.{le-or-lt}
 use Rattle.bits.proofs.Sums.{⊕-false}
@@ -72,7 +72,7 @@ module _ (less : ℕ → ℕ → Bool) (first : ℕ) where
     kept : (k : ℕ) → i < k → k < 64 → digit 64 v' k ≡ digit 64 v k
     kept k g l = rest k l ∙ ap (λ b. digit 64 v k ⊕ b) (ne_eqb k i (λ e. omega arith)) ∙ ⊕-false (digit 64 v k)
 
-    pub masked_more : (bit best : ℕ) → best ≡ (if less (first + i) bit then first + i else bit)
+    pub masked_more : (bit best : ℕ) → best ≡ (when less (first + i) bit then first + i else bit)
         → smallest less (marks v' first) best first 64 ≡ smallest less (marks v first) bit first 64
     unfolding smallest
     masked_more bit best e =
@@ -90,9 +90,9 @@ module _ (less : ℕ → ℕ → Bool) (first : ℕ) where
         place : first + i - first ≡ i
         place = omega arith
 
-        front : smallest less (marks v first) bit first (suc i) ≡ (if less (first + i) bit then first + i else bit)
+        front : smallest less (marks v first) bit first (suc i) ≡ (when less (first + i) bit then first + i else bit)
         front =
-            ap₂ (λ k a. if a && less (first + i) k then first + i else k)
+            ap₂ (λ k a. when a && less (first + i) k then first + i else k)
             (smallest_stays less (marks v first) bit first i (λ k f l m. absurd (true≢false (sym m ∙ clear (k - first) (omega arith)))))
             (ap (digit 64 v) place ∙ here)
 
@@ -125,6 +125,6 @@ module _ (less : ℕ → ℕ → Bool) (first : ℕ) where
             (λ (g : i < count_leading_zeros 64 v'). g) (le-or-lt (count_leading_zeros 64 v') i)
 
 -- one of two numbers
-pub smaller_in : (b : Bool) (n k top : ℕ) → n < top → k < top → (if b then n else k) < top
+pub smaller_in : (b : Bool) (n k top : ℕ) → n < top → k < top → (when b then n else k) < top
 smaller_in true n k top p q = p
 smaller_in false n k top p q = q

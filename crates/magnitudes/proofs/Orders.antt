@@ -11,7 +11,7 @@ use lib.Ieee.{Float, nan, inf, fin, up, down, below, lt, eq, neg, of_bits}
 use lib.Ieee.Positive.{num, den, den_pos, through}
 use lib.ListN.{length, get_or-eq_default}
 use borrow.Author.Tests.{le-ltb, ltb-true, eqb-true}
-use Rattle.bits.specs.Bits.{if◌then◌else◌}
+use Rattle.bits.specs.Bits.{when◌then◌else◌}
 use Rattle.bits.proofs.Sums.{below_at}
 use Rattle.magnitudes.specs.Samples.{isOne, sample_of, read, magnitude, smaller, is_finite, all_finite}
 use Rattle.magnitudes.proofs.Smallest.{Ordered}
@@ -63,7 +63,7 @@ pub unsigned : (s : Bool) (m : ℕ) (e : ℤ) → Unsigned m e (magnitude (fin s
 unfolding lt neg of_bits
 unsigned false m e = record {
   sign = false;
-  is = ap (λ b. if b then fin true m e else fin false m e)
+  is = ap (λ b. when b then fin true m e else fin false m e)
       (le-ltb (m * up e * 1) (0 * 1 * down e) (omega (arith, ap (λ z. z * down e) (zero-mul 1), zero-mul (down e))));
   zero_if = λ f. absurd (true≢false (sym f));
 }
@@ -72,13 +72,13 @@ unsigned true m e = go (isOne (fin true m e)) refl
     go : (b : Bool) → isOne (fin true m e) ≡ b → Unsigned m e (magnitude (fin true m e))
     go true f = record {
       sign = false;
-      is = ap (λ b. if b then fin false m e else fin true m e) f;
+      is = ap (λ b. when b then fin false m e else fin true m e) f;
       zero_if =
           λ g. absurd (true≢false (sym g));
     }
     go false f = record {
       sign = true;
-      is = ap (λ b. if b then fin false m e else fin true m e) f;
+      is = ap (λ b. when b then fin false m e else fin true m e) f;
       zero_if = λ g. omega (arith, nltb→le 0 (m * up e * 1 + 0 * 1 * down e) (subst (λ t. T (not t)) (sym f) tt), mul-one (m * up e));
     }
 

@@ -10,7 +10,7 @@ use lib.Bits.{bit_or}
 use lib.Dec.{ltb, eqb}
 use lib.Pow.{pow-lt}
 use borrow.Author.Tests.{lt-ltb, le-ltb, le-leb, lt-leb, eq-eqb, ne_eqb}
-use Rattle.bits.specs.Bits.{Word, digit, below, if◌then◌else◌}
+use Rattle.bits.specs.Bits.{Word, digit, below, when◌then◌else◌}
 use Rattle.bits.proofs.Octets.{digit_zero}
 use Rattle.bits.proofs.Orders.{le-or-lt}
 use Rattle.vectors.specs.Vectors.{Holds, up_to, from}
@@ -38,12 +38,12 @@ pub raised : (i : ℕ) → i < 32 → (1 * 2 ^ i) % 2 ^ 32 ≡ 2 ^ i
 raised i h = ap (λ z. z % 2 ^ 32) (one-mul (2 ^ i)) ∙ mod-eq_of_lt (pow-lt h)
 
 -- one mark more
-pub marked_more : (x : Word) (v i m : ℕ) → i < 32 → ((j : ℕ) → j < 32 → digit 32 v j ≡ up_to i x j) → m ≡ (if x i then 2 ^ (31 - i) else 0)
+pub marked_more : (x : Word) (v i m : ℕ) → i < 32 → ((j : ℕ) → j < 32 → digit 32 v j ≡ up_to i x j) → m ≡ (when x i then 2 ^ (31 - i) else 0)
     → (j : ℕ) → j < 32 → digit 32 (bit_or v m) j ≡ up_to (i + 1) x j
 marked_more x v i m h d e j l =
     digit_or 32 v m j ∙ ap₂ ◌||◌ (d j l) (ap (λ z. digit 32 z j) e ∙ here (x i)) ∙ go (ℕ_discrete j i) (dec_lt j i)
   where
-    here : (b : Bool) → digit 32 (if b then 2 ^ (31 - i) else 0) j ≡ (b && eqb j i)
+    here : (b : Bool) → digit 32 (when b then 2 ^ (31 - i) else 0) j ≡ (b && eqb j i)
     here true = let p : 31 - i ≡ 32 - suc i = omega arith in ap (λ z. digit 32 (2 ^ z) j) p ∙ digit_power 32 i j h l
     here false = digit_zero 32 j
 

@@ -6,7 +6,7 @@ use Prim.Native.Nat.{ℕ, zero, suc, ◌+◌, ◌≤◌, ◌<◌}
 use native.Mathlib.Nat.{add-zero, add-suc, add_assoc}
 use native.Mathlib.Decide.{ℕ_discrete}
 use native.Mathlib.Omega.{arith}
-use Rattle.bits.specs.Bits.{if◌then◌else◌}
+use Rattle.bits.specs.Bits.{when◌then◌else◌}
 use Rattle.magnitudes.specs.Sizes.{smaller_of, smallest}
 
 -- of two bits of equal size, the lower number
@@ -31,7 +31,7 @@ module _ (less : ℕ → ℕ → Bool) (marked : ℕ → Bool) (bit first : ℕ)
       more k (inr p) = inr (p.0, p.1, omega (arith, p.2))
 
       go : (a b : Bool) → marked (first + n) ≡ a → Is (smallest less marked bit first n) n
-          → Is (if a && b then first + n else smallest less marked bit first n) (suc n)
+          → Is (when a && b then first + n else smallest less marked bit first n) (suc n)
       go true true e i = inr (e, omega arith, omega arith)
       go true false e i = more _ i
       go false b e i = more _ i
@@ -45,9 +45,9 @@ module _ (less : ℕ → ℕ → Bool) (marked : ℕ → Bool) (bit first : ℕ)
       ap (λ k. smaller_of less marked k (first + n)) (smallest_stays n (λ k f l. h k f (omega arith))) ∙ go (marked (first + n)) refl
     where
       go : (a : Bool) → marked (first + n) ≡ a → smaller_of less marked bit (first + n) ≡ bit
-      go true e = ap (λ b. if marked (first + n) && b then first + n else bit) (h (first + n) (omega arith) (omega arith) e)
-          ∙ ap (λ b. if b then first + n else bit) (and-false (marked (first + n)))
-      go false e = ap (λ b. if b && less (first + n) bit then first + n else bit) e
+      go true e = ap (λ b. when marked (first + n) && b then first + n else bit) (h (first + n) (omega arith) (omega arith) e)
+          ∙ ap (λ b. when b then first + n else bit) (and-false (marked (first + n)))
+      go false e = ap (λ b. when b && less (first + n) bit then first + n else bit) e
 
   -- bits in two parts
   pub smallest_parts : (a b : ℕ) → smallest less marked bit first (a + b) ≡ smallest less marked (smallest less marked bit first a)
@@ -65,7 +65,7 @@ pub smallest_same : (less : ℕ → ℕ → Bool) (marked marked' : ℕ → Bool
 unfolding smallest
 smallest_same less marked marked' bit first zero h = refl
 smallest_same less marked marked' bit first (suc n) h =
-    ap₂ (λ k a. if a && less (first + n) k then first + n else k)
+    ap₂ (λ k a. when a && less (first + n) k then first + n else k)
     (smallest_same less marked marked' bit first n (λ k f l. h k f (omega arith))) (h (first + n) (omega arith) (omega arith))
 
 -- and on how the bits below `top` are ordered, if it has no others to choose from
@@ -75,7 +75,7 @@ pub smallest_alike : (less less' : ℕ → ℕ → Bool) (top : ℕ) → ((a b :
 unfolding smallest
 smallest_alike less less' top alike marked bit first zero under room = refl
 smallest_alike less less' top alike marked bit first (suc n) under room =
-    ap (λ a. if marked (first + n) && a then first + n else smallest less marked bit first n)
+    ap (λ a. when marked (first + n) && a then first + n else smallest less marked bit first n)
     (alike (first + n) (smallest less marked bit first n) (omega arith) (inside (smallest_one less marked bit first n)))
     ∙ ap (λ k. smaller_of less' marked k (first + n)) (smallest_alike less less' top alike marked bit first n under (omega arith))
   where
@@ -155,7 +155,7 @@ module _ (less : ℕ → ℕ → Bool) (marked : ℕ → Bool) (bit first top : 
           by k from l m (no d) = ordered.apart now k (omega arith) (omega arith) (over s is f k from (omega arith) m (less now k) refl)
 
       go : (a b : Bool) → marked now ≡ a → less now best ≡ b → Smallest less marked first n best → Is less marked bit first best n
-          → Smallest less marked first (suc n) (if a && b then now else best)
+          → Smallest less marked first (suc n) (when a && b then now else best)
       go true true e f s is = moves s is f
       go true false e f s is = stays s (λ m. f) (not_past is)
       go false b e f s is = stays s (λ m. absurd (true≢false (sym m ∙ e))) (λ m. absurd (true≢false (sym m ∙ e)))

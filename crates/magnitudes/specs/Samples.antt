@@ -2,7 +2,7 @@
 use Rattle.std.specs.Prelude.{Bool, true, false, List, ℕ, Float, length, get_or}
 use Rattle.std.specs.Float.{nan, inf, fin, binary32}
 use Rattle.std.specs.Float.Ieee.{lt, neg, of_bits}
-use Rattle.bits.specs.Bits.{Word, below, if◌then◌else◌}
+use Rattle.bits.specs.Bits.{Word, below, when◌then◌else◌}
 
 -- The bit is 1 if the sample is below 0, so both zeros read as 0.
 abbrev pub isOne : Float → Bool
@@ -17,7 +17,7 @@ read samples n = isOne (sample_of samples n)
 
 -- A sample's magnitude, by comparison and negation only.
 abbrev pub magnitude : Float → Float
-magnitude s = if isOne s then neg s else s
+magnitude s = when isOne s then neg s else s
 
 -- Whether bit n's sample has a smaller magnitude than bit k's.
 unfoldable pub smaller : List Float → ℕ → ℕ → Bool

@@ -1,14 +1,14 @@
 -- The way of choosing by sizes.
 use Rattle.std.specs.Prelude.{Bool, not, ◌&&◌, ℕ, zero, suc, ◌+◌, ◌-◌, ℤ}
 use Rattle.std.specs.Int.Signed.{lt_z}
-use Rattle.bits.specs.Bits.{Word, if◌then◌else◌}
+use Rattle.bits.specs.Bits.{Word, when◌then◌else◌}
 use Rattle.rules.specs.Codes.{Code, bits}
 use Rattle.rules.specs.Checks.{excess}
 use Rattle.rules.specs.Flipping.{Next, quiet, stuck, flip, Way, by_excess}
 
 -- Of two bits, the later one only if it is marked and smaller.
 abbrev pub smaller_of : (ℕ → ℕ → Bool) → (ℕ → Bool) → ℕ → ℕ → ℕ
-smaller_of less marked earlier later = if marked later && less later earlier then later else earlier
+smaller_of less marked earlier later = when marked later && less later earlier then later else earlier
 
 -- Of a bit and those of the n bits from `first` on that are marked, the smallest; of several, the one that comes first.
 unfoldable pub smallest : (ℕ → ℕ → Bool) → (ℕ → Bool) → ℕ → ℕ → ℕ → ℕ

@@ -4,7 +4,7 @@
 #![tactic(auto)]
 
 ghost use Rattle.std.specs.Prelude.{◌≡◌, Bool, true, false, ℕ, ◌+◌, ◌*◌, ◌/◌, ◌^◌, ◌<◌, ◌≤◌, eqb, length};
-ghost use Rattle.bits.specs.Bits.{digit, ◌⊕◌, below, if◌then◌else◌};
+ghost use Rattle.bits.specs.Bits.{digit, ◌⊕◌, below, when◌then◌else◌};
 ghost use Rattle.vectors.specs.Vectors.{wbit, Holds, up_to, from, joined};
 ghost use Rattle.magnitudes.specs.Patterns.{isOne, pattern_of, read as read_of, unsigned as unsignedOf, smaller as smaller_of, is_finite};
 ghost use Rattle.magnitudes.specs.Patterns.{all_finite};
@@ -47,7 +47,7 @@ pub fn is_one(p: u32) -> bool
 // The power of 2, if the sample is read as 1.
 fn mark(p: u32, place: usize) -> u32
     requires { place < 32 }
-    ensures { result ≡ (if isOne p then 2 ^ place else 0) }
+    ensures { result ≡ (when isOne p then 2 ^ place else 0) }
 {
     if is_one(p) { 1 << place } else { 0 }
 }
@@ -130,7 +130,7 @@ pub fn read(samples: &[u32], y: &mut [u64]) -> bool
 // Of two bits, the later one only if its sample is smaller.
 pub fn smaller(samples: &[u32], earlier: usize, later: usize) -> usize
     requires { (earlier < length samples.now) × (later < length samples.now) }
-    ensures { result ≡ (if smaller_of samples.now later earlier then later else earlier) }
+    ensures { result ≡ (when smaller_of samples.now later earlier then later else earlier) }
 {
     if unsigned(samples[later]) < unsigned(samples[earlier]) {
         return later;

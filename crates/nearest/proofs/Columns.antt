@@ -8,7 +8,7 @@ use native.Mathlib.Omega.{arith}
 use lib.Dec.{eqb, ltb}
 use borrow.Author.Tests.{eq-eqb, ne_eqb, lt-ltb}
 use Rattle.bits.proofs.Orders.{le-or-lt}
-use Rattle.bits.specs.Bits.{Word, ◌⊕◌, tally, sum, count, flipped, if◌then◌else◌}
+use Rattle.bits.specs.Bits.{Word, ◌⊕◌, tally, sum, count, flipped, when◌then◌else◌}
 use Rattle.bits.proofs.Sums.{⊕-eq, ⊕-comm, ⊕-assoc, sum_linear, sum_same, sum_none, swap, into, pick}
 use Rattle.bits.proofs.Counting.{count_none, count_same}
 use Rattle.rules.specs.Codes.{code, code1, bits, checks, information}
@@ -70,7 +70,7 @@ lies_odd n h = set (sum 64 (λ k. covers (code 1) k n))
     ∙ ap (λ m. m % 2) (ap (λ m. count m (λ k. covers (code 1) k n)) (sym checks_are) ∙ bit_degree 1 tt n (inside n h))
     ∙ odd (ltb n (information (code 1))))
   where
-    odd : (b : Bool) → (if b then 5 else 3) % 2 ≡ 1
+    odd : (b : Bool) → (when b then 5 else 3) % 2 ≡ 1
     odd true = refl
     odd false = refl
 
@@ -147,7 +147,7 @@ parity_bit_lem b d e f hb hd he hf bd be bf zero_sum = ⊎_elim (λ l. l) inform
     informs : b < 64 → 64 ≤ b
     informs l =
         let five : degree_of (code 1) b ≡ 5 =
-        bit_degree 1 tt b (inside b hb) ∙ ap (λ t. if t then 5 else 3) (lt-ltb b (information (code 1)) (omega (arith, information_are))) in
+        bit_degree 1 tt b (inside b hb) ∙ ap (λ t. when t then 5 else 3) (lt-ltb b (information (code 1)) (omega (arith, information_are))) in
         absurd (omega (
           arith,
           five,

@@ -10,7 +10,7 @@ use native.Mathlib.Omega.{arith}
 use lib.Dec.{eqb}
 use lib.ListN.{length}
 use borrow.Author.Tests.{eq-eqb, ne_eqb, lt-ltb}
-use Rattle.bits.specs.Bits.{Word, bit, octets, ◌⊕◌, tally, count, flipped, if◌then◌else◌}
+use Rattle.bits.specs.Bits.{Word, bit, octets, ◌⊕◌, tally, count, flipped, when◌then◌else◌}
 use Rattle.bits.proofs.Orders.{eq_or_not}
 use Rattle.bits.proofs.Sums.{⊕-false, ⊕-assoc, ⊕-self}
 use Rattle.bits.proofs.Octets.{bit_octets}
@@ -75,14 +75,14 @@ flipped_far bits x r =
 
 unfoldable pub set_from : ℕ → ℕ → Word → List ℕ
 set_from zero b f = []
-set_from (suc n) b f = if f b then b ∷ set_from n (suc b) f else set_from n (suc b) f
+set_from (suc n) b f = when f b then b ∷ set_from n (suc b) f else set_from n (suc b) f
 
 set_rising : (n b e : ℕ) (f : Word) → b + n ≡ e → Rising b e (set_from n b f)
 unfolding set_from
 set_rising zero b e f q = tt
 set_rising (suc n) b e f q = go (f b) (set_rising n (suc b) e f (omega arith))
   where
-    go : (t : Bool) → Rising (suc b) e (set_from n (suc b) f) → Rising b e (if t then b ∷ set_from n (suc b) f else set_from n (suc b) f)
+    go : (t : Bool) → Rising (suc b) e (set_from n (suc b) f) → Rising b e (when t then b ∷ set_from n (suc b) f else set_from n (suc b) f)
     go true r = (le_refl b, omega arith, r)
     go false r = rising_from b e (set_from n (suc b) f) r
 
@@ -103,7 +103,7 @@ set_many (suc n) b f = go (f b) refl (set_many n (suc b) f) ∙ sym (count_front
     rest ih = ih ∙ ap (count n) (fun_ext (λ i. ap f (suc-add b i ∙ sym (add-suc b i))))
 
     go : (t : Bool) → f b ≡ t → length (set_from n (suc b) f) ≡ count n (λ i. f (suc b + i))
-        → length (if t then b ∷ set_from n (suc b) f else set_from n (suc b) f) ≡ tally (f (b + 0)) + count n (λ i. f (b + suc i))
+        → length (when t then b ∷ set_from n (suc b) f else set_from n (suc b) f) ≡ tally (f (b + 0)) + count n (λ i. f (b + suc i))
     go true e ih = sym (one-add (length (set_from n (suc b) f))) ∙ ap₂ (λ p q. tally p + q) (here true e) (rest ih)
     go false e ih = sym (zero-add (length (set_from n (suc b) f))) ∙ ap₂ (λ p q. tally p + q) (here false e) (rest ih)
 
@@ -114,7 +114,7 @@ set_among (suc n) b e f q i l h =
     go (f b) refl (set_rising n (suc b) e f (omega arith)) (set_among n (suc b) e f (omega arith) i) (eq_or_not i b)
   where
     go : (t : Bool) → f b ≡ t → Rising (suc b) e (set_from n (suc b) f) → (suc b ≤ i → i < e → among (set_from n (suc b) f) i ≡ f i)
-        → (i ≡ b) ⊎ (i ≡ b → ⊥) → among (if t then b ∷ set_from n (suc b) f else set_from n (suc b) f) i ≡ f i
+        → (i ≡ b) ⊎ (i ≡ b → ⊥) → among (when t then b ∷ set_from n (suc b) f else set_from n (suc b) f) i ≡ f i
     go true t r ih (inl e') =
         ap₂ (λ p q. p ⊕ q) (eq-eqb i b e') (among_before (suc b) e (set_from n (suc b) f) r i (omega arith)) ∙ sym (ap f e' ∙ t)
     go true t r ih (inr d) = ap (λ p. p ⊕ among (set_from n (suc b) f) i) (ne_eqb i b d) ∙ ih (omega arith) h

@@ -7,7 +7,7 @@ use Prim.Native.Nat.{ℕ, zero, suc, ◌+◌, ◌≤◌, ◌<◌}
 use native.Mathlib.Nat.{le_refl}
 use native.Mathlib.Omega.{arith}
 use lib.ListN.{length, get_or}
-use Rattle.bits.specs.Bits.{Word, flipped, if◌then◌else◌}
+use Rattle.bits.specs.Bits.{Word, flipped, when◌then◌else◌}
 use Rattle.bits.proofs.Orders.{eq_or_not}
 use Rattle.rules.specs.Codes.{code}
 use Rattle.rules.specs.Encoding.{codeword}
@@ -84,7 +84,7 @@ pub says : (k n b e : ℕ) (x : Word) → b + n ≡ e → Says k b e x (first_li
 unfolding first_list flips
 says zero n b e x q = go (codeword (code 1) x) refl
   where
-    go : (c : Bool) → codeword (code 1) x ≡ c → Says 0 b e x (if c then list [] else none)
+    go : (c : Bool) → codeword (code 1) x ≡ c → Says 0 b e x (when c then list [] else none)
     go true is = (record { many = refl; rising = tt; gives = is }, λ others m. tt)
     go false is = empty
       where

@@ -7,7 +7,7 @@ use native.Mathlib.Nat.{zero-add}
 use native.Mathlib.Omega.{arith}
 use lib.ListN.{length}
 use borrow.Author.Tests.{lt-ltb, le-ltb}
-use Rattle.bits.specs.Bits.{Word, bit, if◌then◌else◌}
+use Rattle.bits.specs.Bits.{Word, bit, when◌then◌else◌}
 use Rattle.vectors.specs.Vectors.{from}
 use Rattle.answers.specs.Calls.{refusal, unless}
 use Rattle.answers.proofs.Answers.{Right, unless_refused, unless_taken, unless_cases, refusal_not, refusal_right}
@@ -42,10 +42,10 @@ module _ (word : List ℕ) (reach : ℕ) (out : List ℕ) where
       (p 1 (omega arith)) (p 2 (omega arith)) (p 3 (omega arith)) (λ t e f. subst P (right e f) (q e f))
 
   pub nearest_eighteen : length word ≡ 16 → length out ≡ 16 → 3 < reach → nearest_answer word reach out ≡ refused 18 out
-  nearest_eighteen e f h = right e f ∙ ap (λ b. if b then refused 18 out else searched reach (bit word) out) (lt-ltb 3 reach h)
+  nearest_eighteen e f h = right e f ∙ ap (λ b. when b then refused 18 out else searched reach (bit word) out) (lt-ltb 3 reach h)
 
   pub nearest_searched : length word ≡ 16 → length out ≡ 16 → reach ≤ 3 → nearest_answer word reach out ≡ searched reach (bit word) out
-  nearest_searched e f h = right e f ∙ ap (λ b. if b then refused 18 out else searched reach (bit word) out) (le-ltb 3 reach h)
+  nearest_searched e f h = right e f ∙ ap (λ b. when b then refused 18 out else searched reach (bit word) out) (le-ltb 3 reach h)
 
 -- ---- what was searched
 

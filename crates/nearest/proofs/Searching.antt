@@ -9,7 +9,7 @@ use lib.Bits.{bit_xor}
 use lib.Dec.{eqb, lit<}
 use lib.ListN.{length, get_or, drop}
 use borrow.Author.Tests.{eq-eqb, ne_eqb}
-use Rattle.bits.specs.Bits.{Word, flipped, if◌then◌else◌}
+use Rattle.bits.specs.Bits.{Word, flipped, when◌then◌else◌}
 use Rattle.rules.specs.Codes.{code}
 use Rattle.rules.specs.Encoding.{codeword}
 use Rattle.nearest.specs.Nearest.{Found, none, list, chosen, ◌or_else◌, first_list, fewest, flips, places}
@@ -28,59 +28,59 @@ search_none left z n b x e small h =
     ∙ go (codeword (code 1) x)
     ∙ ap (λ l. held (first_list l n b x)) (sym e)
   where
-    go : (t : Bool) → record { found = t; count = 0; bits = places [] } ≡ held (if t then list [] else none)
+    go : (t : Bool) → record { found = t; count = 0; bits = places [] } ≡ held (when t then list [] else none)
     go true = refl
     go false = refl
 
 -- ---- one bit: the lowest whose column is the broken checks
 
 pub lowest_pass : (n z : ℕ) → n < 128 → lowest_from (128 - n) n z
-    ≡ (if eqb (get_or column_list n 0) z then n else lowest_from (128 - (n + 1)) (n + 1) z)
+    ≡ (when eqb (get_or column_list n 0) z then n else lowest_from (128 - (n + 1)) (n + 1) z)
 unfolding lowest_from
 lowest_pass n z h =
     let e : 128 - n ≡ suc (128 - (n + 1)) = omega arith in
     ap (λ k. lowest_from k n z) e
-    ∙ ap (λ m. if eqb (get_or column_list n 0) z then n else lowest_from (128 - (n + 1)) m z) (sym (add-one n))
+    ∙ ap (λ m. when eqb (get_or column_list n 0) z then n else lowest_from (128 - (n + 1)) m z) (sym (add-one n))
 
 pub lowest_end : (n z : ℕ) → n ≡ 128 → 128 ≡ lowest_from (128 - n) n z
 unfolding lowest_from
 lowest_end n z e = ap (λ k. lowest_from (128 - k) k z) (sym e)
 
 pub one_bit : (n b z : ℕ) (x : Word) → z < 2 ^ 64 → b + n ≡ 128 → Broken z x
-    → first_list 1 n b x ≡ (if eqb (lowest_from n b z) 128 then none else list (lowest_from n b z ∷ []))
+    → first_list 1 n b x ≡ (when eqb (lowest_from n b z) 128 then none else list (lowest_from n b z ∷ []))
 unfolding first_list lowest_from
 one_bit zero b z x small q h =
-    sym (ap (λ t. if t then none else list (b ∷ [])) (eq-eqb b 128 (omega arith)))
+    sym (ap (λ t. when t then none else list (b ∷ [])) (eq-eqb b 128 (omega arith)))
 one_bit (suc n) b z x small q h =
     go (codeword (code 1) (flipped x b)) (broken_column z x h small b (omega arith)) (one_bit n (suc b) z x small (omega arith) h)
   where
     go : (t : Bool) → eqb (get_or column_list b 0) z ≡ t
-        → first_list 1 n (suc b) x ≡ (if eqb (lowest_from n (suc b) z) 128 then none else list (lowest_from n (suc b) z ∷ []))
-        → (chosen b (if t then list [] else none) or_else first_list 1 n (suc b) x)
-        ≡ (if eqb (if eqb (get_or column_list b 0) z then b else lowest_from n (suc b) z) 128 then none
-        else list ((if eqb (get_or column_list b 0) z then b else lowest_from n (suc b) z) ∷ []))
+        → first_list 1 n (suc b) x ≡ (when eqb (lowest_from n (suc b) z) 128 then none else list (lowest_from n (suc b) z ∷ []))
+        → (chosen b (when t then list [] else none) or_else first_list 1 n (suc b) x)
+        ≡ (when eqb (when eqb (get_or column_list b 0) z then b else lowest_from n (suc b) z) 128 then none
+        else list ((when eqb (get_or column_list b 0) z then b else lowest_from n (suc b) z) ∷ []))
     go true e ih =
-        sym (ap (λ t. if eqb (if t then b else lowest_from n (suc b) z) 128 then none else
-        list ((if t then b else lowest_from n (suc b) z) ∷ [])) e
-        ∙ ap (λ t. if t then none else list (b ∷ [])) (ne_eqb b 128 (λ p. omega arith)))
+        sym (ap (λ t. when eqb (when t then b else lowest_from n (suc b) z) 128 then none else
+        list ((when t then b else lowest_from n (suc b) z) ∷ [])) e
+        ∙ ap (λ t. when t then none else list (b ∷ [])) (ne_eqb b 128 (λ p. omega arith)))
     go false e ih =
-        ih ∙ sym (ap (λ t. if eqb (if t then b else lowest_from n (suc b) z) 128 then none else
-        list ((if t then b else lowest_from n (suc b) z) ∷ [])) e)
+        ih ∙ sym (ap (λ t. when eqb (when t then b else lowest_from n (suc b) z) 128 then none else
+        list ((when t then b else lowest_from n (suc b) z) ∷ [])) e)
 
 module _ (left z from n : ℕ) (x : Word) (one : left ≡ 1) (under : from ≤ 128) (small : z < 2 ^ 64)
     (lowest : n ≡ lowest_from (128 - from) from z) (h : Broken z x) where
-  alone : first_list left (128 - from) from x ≡ (if eqb n 128 then none else list (n ∷ []))
+  alone : first_list left (128 - from) from x ≡ (when eqb n 128 then none else list (n ∷ []))
   alone =
       ap (λ l. first_list l (128 - from) from x) one
       ∙ one_bit (128 - from) from z x small (omega arith) h
-      ∙ ap (λ m. if eqb m 128 then none else list (m ∷ [])) (sym lowest)
+      ∙ ap (λ m. when eqb m 128 then none else list (m ∷ [])) (sym lowest)
 
   pub alone_none : n ≡ 128 → held none ≡ held (first_list left (128 - from) from x)
-  alone_none e = ap held (sym (alone ∙ ap (λ t. if t then none else list (n ∷ [])) (eq-eqb n 128 e)))
+  alone_none e = ap held (sym (alone ∙ ap (λ t. when t then none else list (n ∷ [])) (eq-eqb n 128 e)))
 
   pub alone_some : (n ≡ 128 → ⊥) → record { found = true; count = 1; bits = n ∷ 0 ∷ 0 ∷ [] } ≡ held (first_list left (128 - from) from x)
   unfolding held
-  alone_some d = ap held (sym (alone ∙ ap (λ t. if t then none else list (n ∷ [])) (ne_eqb n 128 d)))
+  alone_some d = ap held (sym (alone ∙ ap (λ t. when t then none else list (n ∷ [])) (ne_eqb n 128 d)))
 
 -- ---- a bit chosen, and the rest searched with one flip fewer left
 
@@ -228,13 +228,13 @@ module _ (cs : List ℕ) (n z : ℕ) (e : cs ≡ column_list) (h : n < 128) wher
   pub lowest_here : get_or cs n 0 ≡ z → lowest_from (128 - n) n z ≡ n
   lowest_here q =
       lowest_pass n z h
-      ∙ ap (λ t. if t then n else lowest_from (128 - (n + 1)) (n + 1) z) (eq-eqb (get_or column_list n 0) z (ap (λ w. get_or w n 0) (sym e)
+      ∙ ap (λ t. when t then n else lowest_from (128 - (n + 1)) (n + 1) z) (eq-eqb (get_or column_list n 0) z (ap (λ w. get_or w n 0) (sym e)
       ∙ q))
 
   pub lowest_later : (get_or cs n 0 ≡ z → ⊥) → lowest_from (128 - n) n z ≡ lowest_from (128 - (n + 1)) (n + 1) z
   lowest_later d =
       lowest_pass n z h
-      ∙ ap (λ t. if t then n else lowest_from (128 - (n + 1)) (n + 1) z)
+      ∙ ap (λ t. when t then n else lowest_from (128 - (n + 1)) (n + 1) z)
       (ne_eqb (get_or column_list n 0) z (λ q. d (ap (λ w. get_or w n 0) e ∙ q)))
 
 pub broken_lent : (cs : List ℕ) (z n : ℕ) (x : Word) → cs ≡ column_list → n < 128 → Broken z x

@@ -1,6 +1,6 @@
 -- What the functions speak of between octets and answers, and the call's result as the definition's answer.
 use Rattle.std.specs.Prelude.{◌≡◌, true, false, List, [], ◌∷◌, ℕ, zero, suc, eqb, length, get_or}
-use Rattle.bits.specs.Bits.{Word, if◌then◌else◌, octets}
+use Rattle.bits.specs.Bits.{Word, when◌then◌else◌, octets}
 use Rattle.rules.specs.Codes.{code}
 use Rattle.rules.specs.Checks.{check}
 use Rattle.vectors.specs.Vectors.{Holds}
@@ -51,7 +51,7 @@ Broken z x = Holds z (check (code 1) x)
 -- The lowest of the n bits from bit b on whose column is z; the bit behind them if there is none.
 unfoldable pub lowest_from : ℕ → ℕ → ℕ → ℕ
 lowest_from zero b z = b
-lowest_from (suc n) b z = if eqb (get_or column_list b 0) z then b else lowest_from n (suc b) z
+lowest_from (suc n) b z = when eqb (get_or column_list b 0) z then b else lowest_from n (suc b) z
 
 -- A list as the functions hold it.
 unfoldable pub held : Found → Listed

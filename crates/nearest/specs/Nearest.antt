@@ -1,6 +1,6 @@
 -- The nearest command of code 1, by plain search: the lists of bits, the fewest flips, and the answer of the call.
 use Rattle.std.specs.Prelude.{true, List, [], ◌∷◌, ℕ, zero, suc, ltb, length, get_or}
-use Rattle.bits.specs.Bits.{Word, bit, octets, flipped, if◌then◌else◌}
+use Rattle.bits.specs.Bits.{Word, bit, octets, flipped, when◌then◌else◌}
 use Rattle.rules.specs.Codes.{code}
 use Rattle.rules.specs.Encoding.{codeword}
 use Rattle.answers.specs.Calls.{refusal, unless}
@@ -24,7 +24,7 @@ list bits or_else f = list bits
 -- The search, by choosing a bit and searching the rest with one flip fewer left. Of the lists of just so many bits, in increasing order,
 -- among the n bits from bit b on, the first whose flips give a codeword: those that begin with bit b come before those without it.
 unfoldable pub first_list : ℕ → ℕ → ℕ → Word → Found
-first_list zero n b x = if codeword (code 1) x then list [] else none
+first_list zero n b x = when codeword (code 1) x then list [] else none
 first_list (suc left) zero b x = none
 first_list (suc left) (suc n) b x = chosen b (first_list left n (suc b) (flipped x b)) or_else first_list (suc left) n (suc b) x
 
@@ -64,7 +64,7 @@ searched reach x out = found x out (fewest reach x)
 
 -- Refusals: 2, 3, then 18 for a reach above 3, then 17. The call takes no code number, so none is refused.
 abbrev pub reached : List ℕ → ℕ → List ℕ → Reached
-reached word reach out = if ltb 3 reach then refused 18 out else searched reach (bit word) out
+reached word reach out = when ltb 3 reach then refused 18 out else searched reach (bit word) out
 
 unfoldable pub nearest_answer : List ℕ → ℕ → List ℕ → Reached
 nearest_answer word reach out =

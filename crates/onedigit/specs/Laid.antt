@@ -1,11 +1,11 @@
 -- Tables laid flat: three places for a block, a word for 64 bits of a number.
 use Rattle.std.specs.Prelude.{List, [], ℕ, ◌+◌, ◌*◌, ◌/◌, ◌%◌, eqb, get_or}
-use Rattle.bits.specs.Bits.{if◌then◌else◌}
+use Rattle.bits.specs.Bits.{when◌then◌else◌}
 use Rattle.catalogue.specs.tables.Flat.{listed}
 
 -- Place i of three for each block, where the list has two for each; the third holds no shift.
 abbrev pub third_none : List ℕ → ℕ → ℕ
-third_none h i = if eqb (i % 3) 2 then 65535 else get_or h (i / 3 * 2 + i % 3) 0
+third_none h i = when eqb (i % 3) 2 then 65535 else get_or h (i / 3 * 2 + i % 3) 0
 
 unfoldable pub threes : List ℕ → List ℕ
 threes h = listed 96 (third_none h)

@@ -1,7 +1,7 @@
 -- Tables with one thing wrong, by number.
 use Rattle.std.specs.Prelude.{Bool, not, ◌&&◌, ◌||◌, List, ℕ, ◌+◌, ◌*◌, ◌/◌, ◌%◌, ◌^◌, eqb, ltb, get_or, set}
 use Rattle.std.specs.Int.Bits.{bit_xor}
-use Rattle.bits.specs.Bits.{if◌then◌else◌}
+use Rattle.bits.specs.Bits.{when◌then◌else◌}
 use Rattle.identity.specs.ties.Flat.{flat_tied}
 
 -- One hex digit of one word is another: the digits differ by one of 15 numbers. The digits of a word are counted from the last.
@@ -24,7 +24,7 @@ added M parity place s = eqb (place % 3) 2 && (ltb s M && not (in_block parity (
 -- that the block has already, or the shift left out. Where it has none, one is added.
 abbrev pub wrong_entry_of : ℕ → List ℕ → ℕ → ℕ → Bool
 wrong_entry_of M parity place s =
-    if ltb (get_or parity place 0) M then not (eqb (get_or parity place 0) s) else added M parity place s
+    when ltb (get_or parity place 0) M then not (eqb (get_or parity place 0) s) else added M parity place s
 
 -- What the identity notices: wrong digit t, and wrong entry t.
 abbrev pub digit_noticed_of : ℕ → ℕ → ℕ → ℕ → ℕ → ℕ → List ℕ → List ℕ → ℕ → Bool

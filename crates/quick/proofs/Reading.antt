@@ -5,7 +5,7 @@ use Prim.Native.Nat.{ℕ, zero, suc, ◌<◌}
 use native.Mathlib.Decide.{dec_lt}
 use native.Mathlib.Nat.{lt_of_not-le}
 use native.Mathlib.Omega.{arith}
-use Rattle.bits.specs.Bits.{count, least, if◌then◌else◌}
+use Rattle.bits.specs.Bits.{count, least, when◌then◌else◌}
 use Rattle.bits.proofs.Leasts.{least_le, least_below, least_holds, least_counted}
 use Rattle.quick.specs.Quick.{Read, one_more, read}
 
@@ -19,11 +19,11 @@ next f k = f (suc k)
 
 read_here : (n : ℕ) (f : ℕ → Bool) → f 0 ≡ true → read (suc n) f ≡ record { yes = false; evaluated = 1 }
 unfolding read
-read_here n f e = ap (λ b. if b then record { yes = false; evaluated = 1 } else one_more (read n (next f))) e
+read_here n f e = ap (λ b. when b then record { yes = false; evaluated = 1 } else one_more (read n (next f))) e
 
 read_later : (n : ℕ) (f : ℕ → Bool) → f 0 ≡ false → read (suc n) f ≡ one_more (read n (next f))
 unfolding read
-read_later n f e = ap (λ b. if b then record { yes = false; evaluated = 1 } else one_more (read n (next f))) e
+read_later n f e = ap (λ b. when b then record { yes = false; evaluated = 1 } else one_more (read n (next f))) e
 
 -- where check m is broken and none before it is: no, after m + 1 checks
 pub read_found : (n : ℕ) (f : ℕ → Bool) (m : ℕ) → m < n → f m ≡ true → ((k : ℕ) → k < m → f k ≡ false)

@@ -1,6 +1,6 @@
 -- A quick no: the checks read in order up to the first broken one, and the answer of the call.
 use Rattle.std.specs.Prelude.{Bool, true, false, List, ℕ, zero, suc, length}
-use Rattle.bits.specs.Bits.{bit, if◌then◌else◌}
+use Rattle.bits.specs.Bits.{bit, when◌then◌else◌}
 use Rattle.rules.specs.Codes.{code, checks, offered}
 use Rattle.rules.specs.Checks.{check}
 use Rattle.rules.specs.Encoding.{lifted}
@@ -19,7 +19,7 @@ one_more r = record { yes = r.yes; evaluated = suc r.evaluated }
 unfoldable pub read : ℕ → (ℕ → Bool) → Read
 read zero broken = record { yes = true; evaluated = 0 }
 read (suc n) broken =
-    if broken 0 then record { yes = false; evaluated = 1 }
+    when broken 0 then record { yes = false; evaluated = 1 }
     else one_more (read n (λ k. broken (suc k)))
 
 -- The call gives yes or no, and reports how many checks it evaluated.

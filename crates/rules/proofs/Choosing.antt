@@ -9,7 +9,7 @@ use lib.Dec.{T, eqb}
 use lib.IntN.{ℤ, pos, sub_ℕ}
 use lib.Signed.{lt_z}
 use borrow.Author.Tests.{eq-eqb, ne_eqb, eqb-true, ltb-true, le-ltb}
-use Rattle.bits.specs.Bits.{Word, flipped, if◌then◌else◌}
+use Rattle.bits.specs.Bits.{Word, flipped, when◌then◌else◌}
 use Rattle.rules.specs.Codes.{Code, bits, checks}
 use Rattle.rules.specs.Checks.{covers, check, broken, excess, broken_of, met_of}
 use Rattle.rules.specs.Flipping.{quiet, stuck, flip, greatest, greatest_sent, flip_above, by_excess}
@@ -29,25 +29,25 @@ module _ (c : Code) (x : Word) where
 
   pub quiet_next : broken c x ≡ 0 → by_excess c x ≡ quiet
   unfolding by_excess
-  quiet_next e = ap (λ b. if b then quiet else flip_above chosen (excess c x chosen)) (eq-eqb (broken c x) 0 e)
+  quiet_next e = ap (λ b. when b then quiet else flip_above chosen (excess c x chosen)) (eq-eqb (broken c x) 0 e)
 
   pub flip_next : (broken c x ≡ 0 → ⊥) → lt_z (pos 0) (excess c x chosen) ≡ true → by_excess c x ≡ flip chosen (excess c x chosen)
   unfolding by_excess
   flip_next d e =
-      ap (λ b. if b then quiet else flip_above chosen (excess c x chosen)) (ne_eqb (broken c x) 0 d)
-      ∙ ap (λ b. if b then flip chosen (excess c x chosen) else stuck chosen (excess c x chosen)) e
+      ap (λ b. when b then quiet else flip_above chosen (excess c x chosen)) (ne_eqb (broken c x) 0 d)
+      ∙ ap (λ b. when b then flip chosen (excess c x chosen) else stuck chosen (excess c x chosen)) e
 
   pub stuck_next : (broken c x ≡ 0 → ⊥) → lt_z (pos 0) (excess c x chosen) ≡ false → by_excess c x ≡ stuck chosen (excess c x chosen)
   unfolding by_excess
   stuck_next d e =
-      ap (λ b. if b then quiet else flip_above chosen (excess c x chosen)) (ne_eqb (broken c x) 0 d)
-      ∙ ap (λ b. if b then flip chosen (excess c x chosen) else stuck chosen (excess c x chosen)) e
+      ap (λ b. when b then quiet else flip_above chosen (excess c x chosen)) (ne_eqb (broken c x) 0 d)
+      ∙ ap (λ b. when b then flip chosen (excess c x chosen) else stuck chosen (excess c x chosen)) e
 
   -- and back: what comes next tells the tests
   next_by : (a b : Bool) → eqb (broken c x) 0 ≡ a → lt_z (pos 0) (excess c x chosen) ≡ b
-      → by_excess c x ≡ (if a then quiet else (if b then flip chosen (excess c x chosen) else stuck chosen (excess c x chosen)))
+      → by_excess c x ≡ (when a then quiet else (when b then flip chosen (excess c x chosen) else stuck chosen (excess c x chosen)))
   unfolding by_excess
-  next_by a b e f = ap₂ (λ a b. if a then quiet else (if b then flip chosen (excess c x chosen) else stuck chosen (excess c x chosen))) e f
+  next_by a b e f = ap₂ (λ a b. when a then quiet else (when b then flip chosen (excess c x chosen) else stuck chosen (excess c x chosen))) e f
 
   pub next_quiet : by_excess c x ≡ quiet → broken c x ≡ 0
   next_quiet q = go (eqb (broken c x) 0) (lt_z (pos 0) (excess c x chosen)) refl refl
@@ -155,7 +155,7 @@ module _ (c : Code) (x y : Word) (e : (k : ℕ) → k < checks c → check c x k
   pub next_same : by_excess c x ≡ by_excess c y
   unfolding by_excess greatest_sent
   next_same =
-      ap₂ (λ b f. if eqb b 0 then quiet else flip_above (greatest c.unsent (bits c - c.unsent) f)
+      ap₂ (λ b f. when eqb b 0 then quiet else flip_above (greatest c.unsent (bits c - c.unsent) f)
       (f (greatest c.unsent (bits c - c.unsent) f))) broken_same excess_same
 
 -- ---- where the one wrong bit is not sent the run is stuck

@@ -10,7 +10,7 @@ use lib.Dec.{T, ltb}
 use lib.ListN.{length, take}
 use lib.Seq.{get_or-take}
 use borrow.Author.Tests.{lt-ltb, le-ltb}
-use Rattle.bits.specs.Bits.{Word, digit, bit, octets, ◌⊕◌, agree, if◌then◌else◌}
+use Rattle.bits.specs.Bits.{Word, digit, bit, octets, ◌⊕◌, agree, when◌then◌else◌}
 use Rattle.rules.specs.Codes.{Code, bits, information, code5}
 use Rattle.rules.specs.Checks.{covers, check, broken}
 use Rattle.rules.specs.Encoding.{row_bit, parity_bit, encoded, lifted, sent, codeword, written, OwnParity}
@@ -61,11 +61,11 @@ module _ (c : Code) where
 
   pub encoded_information : (x : Word) (n : ℕ) → n < information c → encoded c x n ≡ x n
   unfolding encoded
-  encoded_information x n h = ap (λ b. if b then x n else parity_bit c x (n - information c)) (lt-ltb n (information c) h)
+  encoded_information x n h = ap (λ b. when b then x n else parity_bit c x (n - information c)) (lt-ltb n (information c) h)
 
   pub encoded_parity : (x : Word) (n : ℕ) → information c ≤ n → encoded c x n ≡ parity_bit c x (n - information c)
   unfolding encoded
-  encoded_parity x n h = ap (λ b. if b then x n else parity_bit c x (n - information c)) (le-ltb n (information c) h)
+  encoded_parity x n h = ap (λ b. when b then x n else parity_bit c x (n - information c)) (le-ltb n (information c) h)
 
   pub encoded_own : (x : Word) → OwnParity c (encoded c x)
   encoded_own x p l =

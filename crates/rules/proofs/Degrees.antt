@@ -11,7 +11,7 @@ use lib.IntN.{pos, negsuc, sub_ℕ}
 use lib.ListN.{length, get_or}
 use lib.Signed.{lt_z, ◌≤ℤ◌, lt_z_no}
 use borrow.Author.Tests.{le-ltb, ltb-false}
-use Rattle.bits.specs.Bits.{Word, count, below, if◌then◌else◌}
+use Rattle.bits.specs.Bits.{Word, count, below, when◌then◌else◌}
 use Rattle.rules.specs.Tables.{parity16, parity32, parity64, parity511, generator16, generator32, generator64, generator511}
 use Rattle.rules.specs.Codes.{Code, code, code1, code2, code3, code4, code5, bits, checks, information, offered, telecommanded}
 use Rattle.rules.specs.Checks.{covers, broken_of, met_of, degree_of, excess}
@@ -30,7 +30,7 @@ abbrev rows_have : ℕ → List (List (List ℕ)) → Bool
 rows_have entries H = below (length H) (λ r. eqb (each (get_or H r []) length) entries)
 
 abbrev blocks_have : ℕ → ℕ → ℕ → ℕ → List (List (List ℕ)) → Bool
-blocks_have B inform own parity H = below B (λ b. eqb (degree H b) (if ltb b inform then own else parity))
+blocks_have B inform own parity H = below B (λ b. eqb (degree H b) (when ltb b inform then own else parity))
 
 module _ (octets_of_word octets_of_information unsent m : ℕ) (H : List (List (List ℕ))) (gs : List (List ℕ)) (printed B C : ℕ)
     (t : Tests octets_of_word octets_of_information unsent m H gs printed B C) where
@@ -44,13 +44,13 @@ module _ (octets_of_word octets_of_information unsent m : ℕ) (H : List (List (
       (below_at (length H) (λ r. eqb (each (get_or H r []) length) entries) u (k / suc m) ((div-lt_iff_lt-mul (zero-lt-suc m)).1 h))
 
   lies : (own parity : ℕ) → T (blocks_have B (length gs) own parity H) → (n : ℕ) → n < bits c
-      → degree_of c n ≡ (if ltb n (information c) then own else parity)
+      → degree_of c n ≡ (when ltb n (information c) then own else parity)
   lies own parity u n h =
       tested_degree octets_of_word octets_of_information unsent m H gs printed B C t n h
-      ∙ eqb→eq (degree H (n / suc m)) (if ltb (n / suc m) (length gs) then own else parity)
-      (below_at B (λ b. eqb (degree H b) (if ltb b (length gs) then own else parity)) u (n / suc m)
+      ∙ eqb→eq (degree H (n / suc m)) (when ltb (n / suc m) (length gs) then own else parity)
+      (below_at B (λ b. eqb (degree H b) (when ltb b (length gs) then own else parity)) u (n / suc m)
       ((div-lt_iff_lt-mul (zero-lt-suc m)).1 (subst (λ z. n < z * suc m) t.wide h)))
-      ∙ ap (λ z. if z then own else parity)
+      ∙ ap (λ z. when z then own else parity)
       (ltb_iff (n / suc m) (length gs) n (length gs * suc m) (div-lt_iff_lt-mul (zero-lt-suc m)).0 (le-div_iff_mul-le (zero-lt-suc m)).0)
 
 -- ---- the excess, for any code
@@ -81,10 +81,10 @@ module _ (c : Code) (x : Word) (n : ℕ) where
 
 -- each check covers 8 bits; of codes 4 and 5, 32
 pub check_covers : (n : ℕ) → T (offered n) → (k : ℕ) → k < checks (code n)
-    → count (bits (code n)) (λ b. covers (code n) k b) ≡ (if telecommanded n then 8 else 32)
+    → count (bits (code n)) (λ b. covers (code n) k b) ≡ (when telecommanded n then 8 else 32)
 unfolding code code1 code2 code3 code4 code5 parity16 parity32 parity64 parity511
 check_covers =
-    five (λ n. (k : ℕ) → k < checks (code n) → count (bits (code n)) (λ b. covers (code n) k b) ≡ (if telecommanded n then 8 else 32))
+    five (λ n. (k : ℕ) → k < checks (code n) → count (bits (code n)) (λ b. covers (code n) k b) ≡ (when telecommanded n then 8 else 32))
     (covered 16 8 0 15 parity16 generator16 16 8 4 tests1 8 tt)
     (covered 32 16 0 31 parity32 generator32 32 8 4 tests2 8 tt)
     (covered 64 32 0 63 parity64 generator64 64 8 4 tests3 8 tt)
@@ -93,7 +93,7 @@ check_covers =
 
 -- an information bit lies in 5 checks, a parity bit in 3; each bit of codes 4 and 5 in 4
 abbrev pub degrees : ℕ → ℕ → ℕ
-degrees n b = if telecommanded n then (if ltb b (information (code n)) then 5 else 3) else 4
+degrees n b = when telecommanded n then (when ltb b (information (code n)) then 5 else 3) else 4
 
 pub bit_degree : (n : ℕ) → T (offered n) → (b : ℕ) → b < bits (code n) → degree_of (code n) b ≡ degrees n b
 unfolding code code1 code2 code3 code4 code5 parity16 parity32 parity64 generator16 generator32 generator64
@@ -105,7 +105,7 @@ bit_degree =
     (near_four 1022 895 0)
     (near_four 1020 892 18)
 
-few : (a b : Bool) → (if a then (if b then 5 else 3) else 4) ≤ 5
+few : (a b : Bool) → (when a then (when b then 5 else 3) else 4) ≤ 5
 few true true = lit≤ tt
 few true false = lit≤ tt
 few false b = lit≤ tt
@@ -124,7 +124,7 @@ excess_some n t x b h =
     excess_odd (code n) x b
     (ap (λ d. d % 2) (bit_degree n (telecommand_offered n t) b h) ∙ odd (telecommanded n) (ltb b (information (code n))) t)
   where
-    odd : (a b : Bool) → T a → (if a then (if b then 5 else 3) else 4) % 2 ≡ 1
+    odd : (a b : Bool) → T a → (when a then (when b then 5 else 3) else 4) % 2 ≡ 1
     odd true true u = refl
     odd true false u = refl
     odd false b u = absurd u

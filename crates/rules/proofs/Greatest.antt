@@ -8,7 +8,7 @@ use native.Mathlib.Omega.{arith}
 use lib.Dec.{T, ltb→lt, lt→ltb, leb→le, le→leb}
 use lib.IntN.{ℤ, pos, negsuc}
 use lib.Signed.{lt_z, le_z, ◌≤ℤ◌, ◌<ℤ◌, lt_z_yes, lt_z_no, ≤ℤ_refl, <ℤ-≤ℤ_trans, clash_ℤ}
-use Rattle.bits.specs.Bits.{if◌then◌else◌}
+use Rattle.bits.specs.Bits.{when◌then◌else◌}
 use Rattle.rules.specs.Flipping.{greatest}
 
 -- ---- the order of signed numbers
@@ -79,7 +79,7 @@ greatest_has first (suc zero) f h = go (lt_z (f first) (f (first + 0)))
       lowest = λ i a l. absurd (omega arith);
     }
 
-    go : (t : Bool) → Greatest first 1 f (if t then first + 0 else first)
+    go : (t : Bool) → Greatest first 1 f (when t then first + 0 else first)
     go true = only (first + 0) (omega arith)
     go false = only first refl
 greatest_has first (suc (suc n)) f h =
@@ -95,7 +95,7 @@ greatest_has first (suc (suc n)) f h =
         pick (no d) = below i a (omega arith)
 
     go : (t : Bool) → lt_z (f (greatest first (suc n) f)) (f (first + suc n)) ≡ t → Greatest first (suc n) f (greatest first (suc n) f)
-        → Greatest first (suc (suc n)) f (if t then first + suc n else greatest first (suc n) f)
+        → Greatest first (suc (suc n)) f (when t then first + suc n else greatest first (suc n) f)
     go true e b =
         let l : f (greatest first (suc n) f) <ℤ f (first + suc n) = lt_z_yes (subst T (sym e) tt) in
         record {

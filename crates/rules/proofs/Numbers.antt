@@ -9,7 +9,7 @@ use native.Mathlib.Omega.{arith}
 use lib.Dec.{T, eqb, leb, ltb, leb→le, lit<, lit≤}
 use borrow.Author.Tests.{eq-eqb, lt-ltb, le-ltb}
 use lib.ListN.{length}
-use Rattle.bits.specs.Bits.{Word, bit, ◌⊕◌, if◌then◌else◌}
+use Rattle.bits.specs.Bits.{Word, bit, ◌⊕◌, when◌then◌else◌}
 use Rattle.rules.specs.Codes.{Code, code, code1, code2, code3, code4, bits, information, offered, telecommanded}
 use Rattle.rules.specs.Checks.{broken}
 use Rattle.rules.specs.Encoding.{parity_bit, encoded, inverted, lifted, sent, codeword, OwnParity}
@@ -148,15 +148,15 @@ four_word x first second = inverted code4 (encoded code4 x) first second
 module _ (x : Word) (first second : Bool) where
   in_first : (n : ℕ) → 7154 ≤ n → n < 7665 → four_word x first second n ≡ encoded code4 x n ⊕ first
   unfolding inverted code4 generator511
-  in_first n l h = ap₂ (λ a b. encoded code4 x n ⊕ (not a && (if b then first else second))) (le-ltb n 7154 l) (lt-ltb n 7665 h)
+  in_first n l h = ap₂ (λ a b. encoded code4 x n ⊕ (not a && (when b then first else second))) (le-ltb n 7154 l) (lt-ltb n 7665 h)
 
   in_second : (n : ℕ) → 7665 ≤ n → four_word x first second n ≡ encoded code4 x n ⊕ second
   unfolding inverted code4 generator511
-  in_second n l = ap₂ (λ a b. encoded code4 x n ⊕ (not a && (if b then first else second))) (le-ltb n 7154 (omega arith)) (le-ltb n 7665 l)
+  in_second n l = ap₂ (λ a b. encoded code4 x n ⊕ (not a && (when b then first else second))) (le-ltb n 7154 (omega arith)) (le-ltb n 7665 l)
 
   inform : (n : ℕ) → n < 7154 → four_word x first second n ≡ encoded code4 x n
   unfolding inverted code4 generator511
-  inform n h = ap (λ b. encoded code4 x n ⊕ (not b && (if ltb n 7665 then first else second))) (lt-ltb n 7154 h)
+  inform n h = ap (λ b. encoded code4 x n ⊕ (not b && (when ltb n 7665 then first else second))) (lt-ltb n 7154 h)
       ∙ ⊕-false (encoded code4 x n)
 
   -- each has the information bits
@@ -172,19 +172,19 @@ module _ (x : Word) (first second : Bool) where
 
   -- each meets every check
   pub four_meet : broken code4 (four_word x first second) ≡ 0
-  four_meet = four_quiet (four_word x first second) (λ b. if eqb b 0 then first else second) (λ p h. at p h (dec_lt p 511))
+  four_meet = four_quiet (four_word x first second) (λ b. when eqb b 0 then first else second) (λ p h. at p h (dec_lt p 511))
     where
       at : (p : ℕ) → p < 1022 → Dec (p < 511)
           → four_word x first second (7154 + p) ≡ parity_bit code4 (four_word x first second) p ⊕
-          (if eqb (p / 511) 0 then first else second)
+          (when eqb (p / 511) 0 then first else second)
       at p h (yes l) =
           let q : p / 511 ≡ 0 = omega arith in
           in_first (7154 + p) (omega arith) (omega arith)
-          ∙ ap₂ (λ a b. a ⊕ (if b then first else second)) (parity_at p) (sym (eq-eqb (p / 511) 0 q))
+          ∙ ap₂ (λ a b. a ⊕ (when b then first else second)) (parity_at p) (sym (eq-eqb (p / 511) 0 q))
       at p h (no g) =
           let q : p / 511 ≡ 1 = omega (arith, lt_of_not-le g) in
           in_second (7154 + p) (omega (arith, lt_of_not-le g))
-          ∙ ap₂ (λ a b. a ⊕ (if b then first else second)) (parity_at p) (sym (ap (λ z. eqb z 0) q))
+          ∙ ap₂ (λ a b. a ⊕ (when b then first else second)) (parity_at p) (sym (ap (λ z. eqb z 0) q))
 
 -- they are different words
 pub four_differ : (x : Word) (a b a' b' : Bool) → ((n : ℕ) → n < 8176 → four_word x a b n ≡ four_word x a' b' n) → (a ≡ a') × (b ≡ b')

@@ -1,6 +1,6 @@
 -- Encoding, and what a codeword is.
 use Rattle.std.specs.Prelude.{Bool, not, ◌&&◌, ◌≡◌, List, [], ℕ, ◌+◌, ◌-◌, ◌*◌, ◌/◌, ◌%◌, ◌<◌, ltb, get_or}
-use Rattle.bits.specs.Bits.{Word, digit, octets, ◌⊕◌, sum, agree, if◌then◌else◌}
+use Rattle.bits.specs.Bits.{Word, digit, octets, ◌⊕◌, sum, agree, when◌then◌else◌}
 use Rattle.rules.specs.Codes.{Code, bits, information}
 
 -- Bit k of a printed row: where its digits carry more than M bits, the one in front is dropped, and the next bit is bit 0 of the row.
@@ -20,11 +20,11 @@ parity_bit c x p = sum (information c) (λ n. x n && row_bit c n p)
 
 -- A word is the information bits, then the parity.
 unfoldable pub encoded : Code → Word → Word
-encoded c x n = if ltb n (information c) then x n else parity_bit c x (n - information c)
+encoded c x n = when ltb n (information c) then x n else parity_bit c x (n - information c)
 
 -- A word with its first parity block inverted or not, and its second.
 unfoldable pub inverted : Code → Word → Bool → Bool → Word
-inverted c x first second n = x n ⊕ (not (ltb n (information c)) && (if ltb n (information c + c.size) then first else second))
+inverted c x first second n = x n ⊕ (not (ltb n (information c)) && (when ltb n (information c + c.size) then first else second))
 
 -- The bits that the checks are over, from those that are sent: the unsent ones in front are 0. What is sent after the parity, the last two
 -- bits of code 5, comes behind the bits that the checks are over: no check and no encoding reads it.

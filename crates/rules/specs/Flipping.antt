@@ -1,7 +1,7 @@
 -- The flipping run.
 use Rattle.std.specs.Prelude.{List, [], ◌∷◌, ℕ, zero, suc, ◌+◌, ◌-◌, eqb, ℤ, pos}
 use Rattle.std.specs.Int.Signed.{lt_z}
-use Rattle.bits.specs.Bits.{Word, flipped, if◌then◌else◌}
+use Rattle.bits.specs.Bits.{Word, flipped, when◌then◌else◌}
 use Rattle.rules.specs.Codes.{Code, bits}
 use Rattle.rules.specs.Checks.{broken, excess}
 
@@ -18,7 +18,7 @@ Way = Word → Next
 
 -- Of two bits, the later one only if it is greater.
 abbrev pub greater : (ℕ → ℤ) → ℕ → ℕ → ℕ
-greater f earlier later = if lt_z (f earlier) (f later) then later else earlier
+greater f earlier later = when lt_z (f earlier) (f later) then later else earlier
 
 -- Of the n numbers from `first` on, the one where f is greatest; of several, the lowest.
 unfoldable pub greatest : ℕ → ℕ → (ℕ → ℤ) → ℕ
@@ -31,12 +31,12 @@ greatest_sent c x = greatest c.unsent (bits c - c.unsent) (excess c x)
 
 -- A flip, if the excess is above 0.
 abbrev pub flip_above : ℕ → ℤ → Next
-flip_above n e = if lt_z (pos 0) e then flip n e else stuck n e
+flip_above n e = when lt_z (pos 0) e then flip n e else stuck n e
 
 -- The way of the flipping run.
 unfoldable pub by_excess : Code → Way
 by_excess c x =
-    if eqb (broken c x) 0 then quiet
+    when eqb (broken c x) 0 then quiet
     else (flip_above (greatest_sent c x) (excess c x (greatest_sent c x)))
 
 pub record Flip : Type 0 where

@@ -6,7 +6,7 @@ use Prim.Native.Nat.{ℕ}
 use lib.Dec.{T, eqb}
 use lib.Ieee.{Float}
 use lib.ListN.{length}
-use Rattle.bits.specs.Bits.{if◌then◌else◌}
+use Rattle.bits.specs.Bits.{when◌then◌else◌}
 use Rattle.rules.specs.Codes.{bits, code, offered}
 use Rattle.answers.specs.Calls.{refusal, unless, Corrected, refused_correct_of}
 use Rattle.answers.proofs.Answers.{unless_cases, unless_taken, unless_refused, refusal_not}
@@ -27,7 +27,7 @@ module _ (n : ℕ) (samples : List Float) (limit : ℕ) (out : List ℕ) where
       (λ t ls lo. go (all_finite samples) (p t ls lo))
     where
       go : (b : Bool) → (b ≡ true → P (ran_samples n samples limit out))
-          → P (if b then ran_samples n samples limit out else refused_correct_of out 16)
+          → P (when b then ran_samples n samples limit out else refused_correct_of out 16)
       go true q = q refl
       go false q = p16
 
@@ -40,11 +40,11 @@ module _ (n : ℕ) (samples : List Float) (limit : ℕ) (out : List ℕ) where
         (refusal_not (offered n && not (eqb n 5)) (length samples) (bits (code n)) (length out) (code n).octets_of_word t ls lo)
 
     pub samples_taken : all_finite samples ≡ true → samples_answer n samples limit out ≡ ran_samples n samples limit out
-    samples_taken f = from_samples ∙ ap (λ b. if b then ran_samples n samples limit out else refused_correct_of out 16) f
+    samples_taken f = from_samples ∙ ap (λ b. when b then ran_samples n samples limit out else refused_correct_of out 16) f
 
     -- an infinite sample, or one that is not a number, is 16
     pub samples_sixteen : all_finite samples ≡ false → samples_answer n samples limit out ≡ refused_correct_of out 16
-    samples_sixteen f = from_samples ∙ ap (λ b. if b then ran_samples n samples limit out else refused_correct_of out 16) f
+    samples_sixteen f = from_samples ∙ ap (λ b. when b then ran_samples n samples limit out else refused_correct_of out 16) f
 
   pub samples_refused : (k : ℕ) → k ≡ refusal (offered n && not (eqb n 5)) (length samples) (bits (code n)) (length out)
       (code n).octets_of_word → (k ≡ 0 → ⊥)

@@ -8,7 +8,7 @@ use lib.Dec.{T, eqb}
 use lib.Ieee.{of_bits, binary32}
 use lib.ListN.{length, length-map}
 use borrow.Author.Tests.{eq-eqb, ne_eqb}
-use Rattle.bits.specs.Bits.{Word, if◌then◌else◌}
+use Rattle.bits.specs.Bits.{Word, when◌then◌else◌}
 use Rattle.rules.specs.Codes.{code, bits, offered}
 use Rattle.rules.specs.Checks.{broken, lowest}
 use Rattle.rules.specs.Encoding.{written}
@@ -87,14 +87,14 @@ module _ (n : ℕ) (t : T (offered n && not (eqb n 5))) (sh : Shape) (samples : 
 
   module _ (first low number : ℕ) (at_first : first ≡ broken (code n) x) (at_lowest : low ≡ lowest (code n) x)
       (judge : number ≡ judged (code n) the_run) (out out' : List ℕ)
-      (wrote : out' ≡ (if eqb number 0 then written (code n) y else out)) where
+      (wrote : out' ≡ (when eqb number 0 then written (code n) y else out)) where
     pub corrected_is : numbers number end.ran.flips first end.last end.unlike low out' ≡ ran_patterns n samples limit out
     unfolding ran_correct
     corrected_is =
         numbers_same judge (to.runs.flips ∙ ap (λ r. length r.flips) same) (at_first ∙ ap (broken (code n)) read_is)
         (to.last ∙ ap (broken (code n)) (sym ran_word)) (to.differs ∙ ap₂ (differing (code n)) read_is (sym ran_word)) (at_lowest
         ∙ ap (lowest (code n)) read_is)
-        (wrote ∙ ap₂ (λ k z. if eqb k 0 then written (code n) z else out) judge (sym ran_word))
+        (wrote ∙ ap₂ (λ k z. when eqb k 0 then written (code n) z else out) judge (sym ran_word))
 
 -- finite samples run as their patterns do
 pub by_patterns : (n : ℕ) → T (offered n && not (eqb n 5)) → (patterns : List ℕ) → length patterns ≡ bits (code n)
@@ -105,8 +105,8 @@ by_patterns n t patterns long finite limit out =
     (sym (way_same patterns finite (code n) (some n t) long))
 
 -- the output of a run that was taken, and of one that was refused
-pub wrote_word : (number : ℕ) (w out out' : List ℕ) → number ≡ 0 → out' ≡ w → out' ≡ (if eqb number 0 then w else out)
-wrote_word number w out out' e f = f ∙ sym (ap (λ b. if b then w else out) (eq-eqb number 0 e))
+pub wrote_word : (number : ℕ) (w out out' : List ℕ) → number ≡ 0 → out' ≡ w → out' ≡ (when eqb number 0 then w else out)
+wrote_word number w out out' e f = f ∙ sym (ap (λ b. when b then w else out) (eq-eqb number 0 e))
 
-pub wrote_none : (number : ℕ) (w out : List ℕ) → (number ≡ 0 → ⊥) → out ≡ (if eqb number 0 then w else out)
-wrote_none number w out d = sym (ap (λ b. if b then w else out) (ne_eqb number 0 d))
+pub wrote_none : (number : ℕ) (w out : List ℕ) → (number ≡ 0 → ⊥) → out ≡ (when eqb number 0 then w else out)
+wrote_none number w out d = sym (ap (λ b. when b then w else out) (ne_eqb number 0 d))

@@ -13,7 +13,7 @@ use lib.IntN.{ℤ}
 use lib.ListN.{length}
 use lib.Signed.{lt_z}
 use borrow.Author.Tests.{lt-ltb, le-ltb}
-use Rattle.bits.specs.Bits.{Word, bit, octets, flipped, if◌then◌else◌}
+use Rattle.bits.specs.Bits.{Word, bit, octets, flipped, when◌then◌else◌}
 use Rattle.rules.specs.Codes.{bits, checks, code, offered, telecommanded}
 use Rattle.rules.specs.Checks.{covers, excess, lowest, degree_of}
 use Rattle.rules.specs.Encoding.{lifted, codeword}
@@ -82,7 +82,7 @@ module _ (n : ℕ) (samples : List Float) (limit : ℕ) (out : List ℕ) where
       (λ right h. go (all_finite samples) right.offers h) no6
     where
       all : ℕ → Bool → ℕ → Corrected
-      all k f l = unless k (refused_correct_of out) (if f then ran_samples n samples l out else refused_correct_of out 16)
+      all k f l = unless k (refused_correct_of out) (when f then ran_samples n samples l out else refused_correct_of out 16)
 
       go : (f : Bool) → T (sampled n) → ((all 0 f limit).number ≡ 6 → ⊥) → all 0 f (limit + more) ≡ all 0 f limit
       go true t h = ran_unchanged (code n) (sizes_choose n t (smaller samples)) (read samples) limit out more h
@@ -319,9 +319,9 @@ pub comparisons_alone : (s s' : List Float) → Alike s s' → (n limit : ℕ) (
 unfolding samples_answer
 comparisons_alone s s' a n limit out =
     ap₂ (λ l f. unless (refusal (sampled n) l (bits (code n)) (length out) (code n).octets_of_word) (refused_correct_of out)
-    (if f then ran_samples n s limit out else refused_correct_of out 16)) a.long a.finite
+    (when f then ran_samples n s limit out else refused_correct_of out 16)) a.long a.finite
     ∙ ap₂ (λ x less. unless (refusal (sampled n) (length s') (bits (code n)) (length out) (code n).octets_of_word) (refused_correct_of out)
-    (if all_finite s' then ran_correct (code n) x (run (by_size less (code n)) limit x) out else refused_correct_of out 16)) (fun_ext reads)
+    (when all_finite s' then ran_correct (code n) x (run (by_size less (code n)) limit x) out else refused_correct_of out 16)) (fun_ext reads)
     (fun_ext (λ i. fun_ext (λ j. less i j)))
   where
     reads : (i : ℕ) → read s i ≡ read s' i

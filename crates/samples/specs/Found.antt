@@ -1,6 +1,6 @@
 -- What a run on samples by their bit patterns finds, before anything is written.
 use Rattle.std.specs.Prelude.{◌≡◌, List, ℕ, eqb}
-use Rattle.bits.specs.Bits.{Word, if◌then◌else◌}
+use Rattle.bits.specs.Bits.{Word, when◌then◌else◌}
 use Rattle.rules.specs.Codes.{code}
 use Rattle.rules.specs.Encoding.{written}
 use Rattle.rules.specs.Flipping.{run}
@@ -19,5 +19,5 @@ ran_patterns n patterns limit out =
 
 -- The numbers r are the answer's, once the word y is written where the first of them is 0.
 pub record Finds (n : ℕ) (patterns : List ℕ) (limit : ℕ) (y : Word) (r : Corrected) : Type 0 where
-  pub answers : (out out' : List ℕ) → out' ≡ (if eqb r.number 0 then written (code n) y else out)
+  pub answers : (out out' : List ℕ) → out' ≡ (when eqb r.number 0 then written (code n) y else out)
       → as_corrected r out' ≡ ran_patterns n patterns limit out

@@ -9,7 +9,7 @@ use native.Mathlib.Omega.{arith}
 use lib.Dec.{ltb, leb, eqb}
 use lib.ListN.{get_or}
 use borrow.Author.Tests.{lt-ltb, le-ltb, ne_eqb}
-use Rattle.bits.specs.Bits.{Word, ◌⊕◌, flipped, if◌then◌else◌, over}
+use Rattle.bits.specs.Bits.{Word, ◌⊕◌, flipped, when◌then◌else◌, over}
 use Rattle.bits.proofs.Sums.{⊕-false, eqb_iff}
 use Rattle.vectors.specs.Vectors.{added, up_to, from}
 use Rattle.bits.proofs.Orders.{le-or-lt}
@@ -37,7 +37,7 @@ module _ (M : ℕ) (g : ℕ → Word) (s : ℕ) where
 over_kept : (M s : ℕ) (rest : List ℕ) (f : ℕ → Bool) → over (kept M s rest) f ≡ (ltb s M && f s) ⊕ over rest f
 over_kept M s rest f = go (ltb s M)
   where
-    go : (b : Bool) → over (if b then s ∷ rest else rest) f ≡ (b && f s) ⊕ over rest f
+    go : (b : Bool) → over (when b then s ∷ rest else rest) f ≡ (b && f s) ⊕ over rest f
     go true = refl
     go false = refl
 

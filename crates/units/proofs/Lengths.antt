@@ -9,7 +9,7 @@ use native.Mathlib.Nat.{lt_of_not-le}
 use lib.Dec.{eqb, ltb}
 use lib.ListN.{length}
 use borrow.Author.Tests.{eq-eqb, ne_eqb, eqb-true, lt-ltb, le-ltb}
-use Rattle.bits.specs.Bits.{if◌then◌else◌}
+use Rattle.bits.specs.Bits.{when◌then◌else◌}
 use Rattle.answers.specs.Calls.{Encoded}
 use Rattle.units.specs.unitrules.Units.{unit_code, unit, unit_length, unit_octets_of, write_answer}
 use Rattle.units.proofs.unitrules.Answering.{if_is, if_isnt, not_is, not_isnt}
@@ -39,7 +39,7 @@ module _ (n long : ℕ) where
 -- ---- the writer's number
 
 abbrev ladder : Bool → Bool → Bool → ℕ
-ladder a b c = if not a then 1 else if b then 2 else if not c then 3 else 0
+ladder a b c = when not a then 1 else when b then 2 else when not c then 3 else 0
 
 module _ (n long room : ℕ) where
   pub number_one : unit_code n ≡ false → write_number_of n long room ≡ 1
@@ -78,15 +78,15 @@ module _ (n long room : ℕ) where
 -- the answer by its number
 module _ (n : ℕ) (information out : List ℕ) where
   abbrev numbered : ℕ → Encoded
-  numbered r = if eqb r 0 then record { number = 0; out = unit n information } else record { number = r; out = out }
+  numbered r = when eqb r 0 then record { number = 0; out = unit n information } else record { number = r; out = out }
 
   write_by : write_answer n information out ≡ numbered (write_number_of n (length information) (length out))
   unfolding write_answer write_number_of
   write_by = by (unit_code n) (eqb (length information) 0) (eqb (length out) (unit_length n (length information)))
     where
-      by : (a b c : Bool) → (if not a then record { number = 1; out = out }
-          else if b then record { number = 2; out = out }
-          else if not c then record { number = 3; out = out }
+      by : (a b c : Bool) → (when not a then record { number = 1; out = out }
+          else when b then record { number = 2; out = out }
+          else when not c then record { number = 3; out = out }
           else record { number = 0; out = unit n information }) ≡ numbered (ladder a b c)
       by true true c = refl
       by true false true = refl

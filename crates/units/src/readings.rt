@@ -1,6 +1,6 @@
 // Telecommand transmission units of codes 1 and 3, read codeblock by codeblock.
 ghost use Rattle.std.specs.Prelude.{◌≡◌, true, List, [], ℕ, ◌+◌, ◌-◌, ◌/◌, ◌^◌, ◌<◌, eqb, length, replicate};
-ghost use Rattle.bits.specs.Bits.{if◌then◌else◌};
+ghost use Rattle.bits.specs.Bits.{when◌then◌else◌};
 ghost use Rattle.rules.specs.Codes.{code as code_of};
 ghost use Rattle.answers.specs.Calls.{refused_correct_of, correct_answer};
 ghost use Rattle.flipping.specs.endings.Answers.{as_corrected};
@@ -163,7 +163,7 @@ fn word_buffer() -> [u8; 64]
 // The information of a word that is taken; of a refused one nothing.
 fn hand_out(number: u8, information: &[u8], out: &mut [u8])
     requires { length information.now ≡ length out.old }
-    ensures { out.new ≡ (if eqb number 0 then information.now else out.old) }
+    ensures { out.new ≡ (when eqb number 0 then information.now else out.old) }
 {
     if number == 0 {
         copying::copy(information, out);

@@ -1,7 +1,7 @@
 // The reader as a struct that holds the unit's slice and a place. Each function over it is proved by hand and only takes it apart or puts
 // it together; `begin` and `block_at` do the work on a plain slice and numbers.
 ghost use Rattle.std.specs.Prelude.{◌≡◌, [], eqb, replicate};
-ghost use Rattle.bits.specs.Bits.{if◌then◌else◌};
+ghost use Rattle.bits.specs.Bits.{when◌then◌else◌};
 ghost use Rattle.units.specs.unitrules.Units.{reader_number_of, reading_from};
 ghost use Rattle.units.specs.readings.Answers.{as_reading};
 ghost use Rattle.units.specs.unitreader.Named.{handed_at, as_block, made_over, as_made, moved_to};
@@ -61,7 +61,7 @@ pub fn block_at(unit: &[u8], place: usize, code: u8, limit: u16) -> Block
 // The number of a reader over a unit, and the octets that it stands on: none where it is refused.
 fn begin<'a>(code: u8, unit: &'a [u8], limit: u16, number: &mut u8) -> &'a [u8]
     ensures { (number.new ≡ reader_number_of code unit.now)
-        × (result.now ≡ (if eqb (reader_number_of code unit.now) 0 then unit.now else [])) }
+        × (result.now ≡ (when eqb (reader_number_of code unit.now) 0 then unit.now else [])) }
 {
     let state = readings::reader(code, unit, limit);
     let kept = state.kept;

@@ -10,7 +10,7 @@ use lib.Arith.{digits_div, digits_mod, lt_of_le-ne}
 use lib.ListN.{get_or, length, set, get_or-eq_default}
 use lib.Seq.{get_or-set_same, get_or-set_other, ext_get_or}
 use borrow.Author.Tests.{lt-ltb, le-ltb}
-use Rattle.bits.specs.Bits.{Word, digit, if◌then◌else◌}
+use Rattle.bits.specs.Bits.{Word, digit, when◌then◌else◌}
 use Rattle.vectors.specs.Vectors.{joined}
 use Rattle.bits.proofs.Orders.{le-or-lt, eq_or_not}
 use Rattle.vectors.proofs.Places.{place_zero, same_digits}
@@ -21,10 +21,10 @@ cell w xs n = digit w (get_or xs (n / w) 0) (n % w)
 
 module _ (m n : ℕ) (x y : Word) where
   pub joined_below : n < m → joined m x y n ≡ x n
-  joined_below h = ap (λ (b : Bool). if b then x n else y n) (lt-ltb n m h)
+  joined_below h = ap (λ (b : Bool). when b then x n else y n) (lt-ltb n m h)
 
   pub joined_above : m ≤ n → joined m x y n ≡ y n
-  joined_above h = ap (λ (b : Bool). if b then x n else y n) (le-ltb n m h)
+  joined_above h = ap (λ (b : Bool). when b then x n else y n) (le-ltb n m h)
 
 -- A loop over part of a list starts with the part before it, and leaves what follows.
 pub joined_start : (m : ℕ) (x y : Word) → ((n : ℕ) → n < m → y n ≡ x n) → y ≡ joined m x y

@@ -1,6 +1,6 @@
 -- Vectors of bits in words of 64, and what is made of a word's bits.
 use Rattle.std.specs.Prelude.{◌≡◌, false, not, ◌&&◌, List, [], ◌∷◌, ℕ, ◌+◌, ◌-◌, ◌*◌, ◌/◌, ◌%◌, ◌<◌, leb, ltb, get_or}
-use Rattle.bits.specs.Bits.{Word, digit, ◌⊕◌, if◌then◌else◌}
+use Rattle.bits.specs.Bits.{Word, digit, ◌⊕◌, when◌then◌else◌}
 use Rattle.vectors.specs.declared.Pair.{Pair}
 
 -- Bit n stands in word n / 64, and bit 0 is the most significant bit of word 0. Past the last word every bit is 0.
@@ -29,7 +29,7 @@ later u x n = not (ltb n u) && x (n - u)
 
 -- The bits of one word below m, and of another from there on.
 abbrev pub joined : ℕ → Word → Word → Word
-joined m x y n = if ltb n m then x n else y n
+joined m x y n = when ltb n m then x n else y n
 
 -- The first m bits, and then all from the first on again.
 abbrev pub twice : ℕ → Word → Word

@@ -5,7 +5,7 @@ use Prim.Native.Nat.{ℕ, zero, suc, ◌+◌, ◌-◌, ◌*◌, ◌/◌, ◌≤�
 use native.Mathlib.Omega.{arith}
 use lib.Dec.{T, eqb, leb, lit≤, lit<, leb→le}
 use borrow.Author.Tests.{ne_eqb, lt-leb}
-use Rattle.bits.specs.Bits.{if◌then◌else◌}
+use Rattle.bits.specs.Bits.{when◌then◌else◌}
 use Rattle.rules.specs.Codes.{code, code1, code2, code3, code4, code5, bits, offered, telecommanded}
 use Rattle.rules.specs.Tables.{parity16, parity32, parity64, parity511}
 use Rattle.bits.proofs.Sums.{and_l, and_r}
@@ -24,11 +24,11 @@ offer_none n d1 d2 d3 d4 d5 = sym (go (eqb n 1) (eqb n 2) (eqb n 3) (eqb n 4) (e
   where
     chosen : Bool → Bool → Bool → Bool → Bool → Offer
     chosen a b d e f =
-        if a then telecommand_offer 16 8 128 16
-        else if b then telecommand_offer 32 16 256 32
-        else if d then telecommand_offer 64 32 512 64
-        else if e then near_earth_offer true 1022 895 64 0 0
-        else if f then near_earth_offer false 1020 892 1 18 2
+        when a then telecommand_offer 16 8 128 16
+        else when b then telecommand_offer 32 16 256 32
+        else when d then telecommand_offer 64 32 512 64
+        else when e then near_earth_offer true 1022 895 64 0 0
+        else when f then near_earth_offer false 1020 892 1 18 2
         else offer_of 0
 
     go : (a b d e f : Bool) → a ≡ false → b ≡ false → d ≡ false → e ≡ false → f ≡ false → chosen a b d e f ≡ offer_of 0

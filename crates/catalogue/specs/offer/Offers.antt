@@ -1,6 +1,6 @@
 -- What a code number fixes, as a table.
 use Rattle.std.specs.Prelude.{◌≡◌, Bool, true, false, not, ℕ, eqb}
-use Rattle.bits.specs.Bits.{if◌then◌else◌}
+use Rattle.bits.specs.Bits.{when◌then◌else◌}
 use Rattle.rules.specs.Codes.{offered}
 use Rattle.catalogue.specs.declared.offer.Offer.{Offer}
 
@@ -36,11 +36,11 @@ near_earth_offer whole word information multiple unsent fill = record {
 
 abbrev pub offer_of : ℕ → Offer
 offer_of n =
-    if eqb n 1 then telecommand_offer 16 8 128 16
-    else if eqb n 2 then telecommand_offer 32 16 256 32
-    else if eqb n 3 then telecommand_offer 64 32 512 64
-    else if eqb n 4 then near_earth_offer true 1022 895 64 0 0
-    else if eqb n 5 then near_earth_offer false 1020 892 1 18 2
+    when eqb n 1 then telecommand_offer 16 8 128 16
+    else when eqb n 2 then telecommand_offer 32 16 256 32
+    else when eqb n 3 then telecommand_offer 64 32 512 64
+    else when eqb n 4 then near_earth_offer true 1022 895 64 0 0
+    else when eqb n 5 then near_earth_offer false 1020 892 1 18 2
     else record {
       offered = false;
       opens = false;

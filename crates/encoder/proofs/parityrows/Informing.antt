@@ -7,7 +7,7 @@ use Prim.Native.Nat.{ℕ, zero, suc, ◌+◌, ◌-◌, ◌*◌, ◌≤◌, ◌<�
 use native.Mathlib.Nat.{mul-le-mul_right}
 use native.Mathlib.Omega.{arith}
 use lib.Dec.{ltb}
-use Rattle.bits.specs.Bits.{Word, tally, number, sum, over, ◌⊕◌, if◌then◌else◌}
+use Rattle.bits.specs.Bits.{Word, tally, number, sum, over, ◌⊕◌, when◌then◌else◌}
 use Rattle.bits.proofs.Orders.{le-or-lt}
 use Rattle.bits.proofs.Sums.{⊕-false, sum_none, over_linear}
 use Rattle.rules.specs.Codes.{code, offered}
@@ -45,7 +45,7 @@ zeros_twice M y i none = go (ltb i M)
     cut : (n : ℕ) → up_to M y n ≡ false
     cut n = ap (λ z. ltb n M && z) (none n) ∙ and-false (ltb n M)
 
-    go : (b : Bool) → (if b then up_to M y i else up_to M y (i - M)) ≡ false
+    go : (b : Bool) → (when b then up_to M y i else up_to M y (i - M)) ≡ false
     go true = cut i
     go false = cut (i - M)
 

@@ -12,7 +12,7 @@ use lib.Dec.{T, eqb, ltb, leb, ltb→lt, lit<}
 use lib.ListN.{length, get_or, drop, take, length-take, length-drop}
 use lib.Seq.{drop-cons, get_or-take, get_or-drop, length-take-le}
 use borrow.Author.Tests.{lt-ltb, le-ltb, eq-eqb, ne_eqb}
-use Rattle.bits.specs.Bits.{Word, digit, tally, ◌⊕◌, below, over, if◌then◌else◌}
+use Rattle.bits.specs.Bits.{Word, digit, tally, ◌⊕◌, below, over, when◌then◌else◌}
 use Rattle.bits.proofs.Sums.{⊕-false, ⊕-assoc, and_l, and_r, below_at}
 use Rattle.bits.proofs.Orders.{le-or-lt, eq_or_not}
 use Rattle.vectors.specs.Vectors.{wbit, Holds, up_to, from, joined, twice, added}
@@ -36,7 +36,7 @@ rest_ended M [] f g h = refl
 rest_ended M (s ∷ l) f g h = go (ltb s M) refl (rest_ended M l f g h)
   where
     go : (b : Bool) → ltb s M ≡ b → over (ended M l) f ≡ over (ended M l) g
-        → over (if b then s ∷ ended M l else []) f ≡ over (if b then s ∷ ended M l else []) g
+        → over (when b then s ∷ ended M l else []) f ≡ over (when b then s ∷ ended M l else []) g
     go true e ih = ap₂ (λ a b. a ⊕ b) (h s (ltb→lt s M (subst T (sym e) tt))) ih
     go false e ih = refl
 
@@ -48,13 +48,13 @@ module _ (M : ℕ) (step : List ℕ) (d : Word) (k : ℕ) where
   pub rest_more : k < length step → get_or step k 0 < M → rest M step d k ≡ (λ i. from (get_or step k 0) d i ⊕ rest M step d (k + 1) i)
   rest_more h l = fun_ext (λ i.
       ap (λ p. over (ended M p) (λ s. from s d i)) (drop-cons step k 0 h)
-      ∙ ap (λ b. over (if b then get_or step k 0 ∷ ended M (drop (suc k) step) else []) (λ s. from s d i)) (lt-ltb (get_or step k 0) M l)
+      ∙ ap (λ b. over (when b then get_or step k 0 ∷ ended M (drop (suc k) step) else []) (λ s. from s d i)) (lt-ltb (get_or step k 0) M l)
       ∙ ap (λ n. from (get_or step k 0) d i ⊕ rest M step d n i) (sym (add-one k)))
 
   pub rest_none : k < length step → M ≤ get_or step k 0 → rest M step d k ≡ (λ i. false)
   rest_none h l = fun_ext (λ i.
       ap (λ p. over (ended M p) (λ s. from s d i)) (drop-cons step k 0 h)
-      ∙ ap (λ b. over (if b then get_or step k 0 ∷ ended M (drop (suc k) step) else []) (λ s. from s d i)) (le-ltb (get_or step k 0) M l))
+      ∙ ap (λ b. over (when b then get_or step k 0 ∷ ended M (drop (suc k) step) else []) (λ s. from s d i)) (le-ltb (get_or step k 0) M l))
 
 drop_all : (l : List ℕ) (k : ℕ) → length l ≤ k → drop k l ≡ []
 drop_all [] zero h = refl

@@ -1,6 +1,6 @@
 -- Rows of M bits as they are held in words, and how they are put behind the information.
 use Rattle.std.specs.Prelude.{◌≡◌, true, List, [], ℕ, ◌+◌, ◌-◌, ◌*◌, ◌/◌, ◌%◌, ◌≤◌, ◌<◌, T, eqb, get_or}
-use Rattle.bits.specs.Bits.{Word, bit, over, if◌then◌else◌}
+use Rattle.bits.specs.Bits.{Word, bit, over, when◌then◌else◌}
 use Rattle.rules.specs.Codes.{code, information, offered}
 use Rattle.rules.specs.Encoding.{lifted, encoded, written}
 use Rattle.vectors.specs.Vectors.{up_to, from, joined}
@@ -49,7 +49,7 @@ copies M step d i = over (shifts M step) (λ s. from s d i)
 
 -- The list of steps for M.
 unfoldable pub steps_of : ℕ → List (List ℕ)
-steps_of M = if eqb M 16 then steps16 else if eqb M 32 then steps32 else if eqb M 64 then steps64 else steps511
+steps_of M = when eqb M 16 then steps16 else when eqb M 32 then steps32 else when eqb M 64 then steps64 else steps511
 
 -- The rows after all steps, of a word whose parity is 0.
 abbrev pub end_rows : ℕ → ℕ → Word → ℕ → Word

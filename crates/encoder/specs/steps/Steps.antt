@@ -1,7 +1,7 @@
 -- Steps that add turned copies of one row to another row, and the lists of steps that solve for the parity of a code.
 -- These numbers are derived from the parity tables, not published; that they solve is computed in proofs/Facts.
 use Rattle.std.specs.Prelude.{Bool, ◌&&◌, List, [], ◌∷◌, ℕ, zero, suc, ◌+◌, ◌*◌, ◌%◌, eqb, ltb, get_or, drop}
-use Rattle.bits.specs.Bits.{Word, ◌⊕◌, over, if◌then◌else◌}
+use Rattle.bits.specs.Bits.{Word, ◌⊕◌, over, when◌then◌else◌}
 use Rattle.rules.specs.Codes.{Code}
 use Rattle.rules.specs.Checks.{check}
 
@@ -27,7 +27,7 @@ rows_in R step = ltb (target step) R && ltb (source step) R
 
 abbrev pub ended : ℕ → List ℕ → List ℕ
 ended M [] = []
-ended M (s ∷ places) = if ltb s M then s ∷ ended M places else []
+ended M (s ∷ places) = when ltb s M then s ∷ ended M places else []
 
 abbrev pub shifts : ℕ → List ℕ → List ℕ
 shifts M step = ended M (drop 2 step)

@@ -12,7 +12,7 @@ use borrow.Author.Tests.{lt-ltb, le-ltb}
 use lib.Dec.{ltb}
 use lib.ListN.{get_or, length, set, length-set}
 use lib.Seq.{get_or-set_same, get_or-set_other}
-use Rattle.bits.specs.Bits.{Word, count, tally, if◌then◌else◌, count_of}
+use Rattle.bits.specs.Bits.{Word, count, tally, when◌then◌else◌, count_of}
 use Rattle.bits.proofs.Counting.{count_same, count_next, tally_le}
 use Rattle.layout.specs.declared.Shape.{Shape}
 use Rattle.layout.specs.Lent.{kept, total, place_of, shifts_of}
@@ -31,7 +31,7 @@ module _ (s s' m row : ℕ) (l : List ℕ) (n : ℕ) (same : s ≡ s') where
         long = length-set l n (row + (m - s'));
         many = ap (λ b. n + tally b) (sym t);
         new =
-            ap (λ k. set l n (row + (m - k))) (sym same) ∙ ap (λ b. if b then set l n (row + (m - s)) else l) (sym t);
+            ap (λ k. set l n (row + (m - k))) (sym same) ∙ ap (λ b. when b then set l n (row + (m - s)) else l) (sym t);
       }
 
   pub unnoted : m ≤ s' → Noted s m row l n l n
@@ -41,7 +41,7 @@ module _ (s s' m row : ℕ) (l : List ℕ) (n : ℕ) (same : s ≡ s') where
         long = refl;
         many = sym (add-zero n) ∙ ap (λ b. n + tally b) (sym t);
         new =
-            ap (λ b. if b then set l n (row + (m - s)) else l) (sym t);
+            ap (λ b. when b then set l n (row + (m - s)) else l) (sym t);
       }
 
 pub noted_le : {s m row : ℕ} {l l' : List ℕ} {n n' : ℕ} → Noted s m row l n l' n' → n' ≤ n + 1
@@ -50,7 +50,7 @@ noted_le {s} {m} w = omega (arith, w.many, tally_le (ltb s m))
 kept_count : (m s : ℕ) (rest : List ℕ) (f : Word) → count_of (kept m s rest) f ≡ count_of (kept m s []) f + count_of rest f
 kept_count m s rest f = go (ltb s m)
   where
-    go : (t : Bool) → count_of (if t then s ∷ rest else rest) f ≡ count_of (if t then s ∷ [] else []) f + count_of rest f
+    go : (t : Bool) → count_of (when t then s ∷ rest else rest) f ≡ count_of (when t then s ∷ [] else []) f + count_of rest f
     go true = omega arith
     go false = omega arith
 
@@ -86,8 +86,8 @@ module _ (l l' : List ℕ) (first n n' s m row end : ℕ) (f : Word → ℕ) whe
           pick e h (yes q) = omega (arith, ap (λ k. get_or (set l (first + n) v) (first + k) 0) q, here)
           pick e h (no d) = omega (arith, other e (omega arith), was.near e (omega arith))
 
-      go : (t : Bool) → first + n' ≡ first + n + tally t → l' ≡ (if t then set l (first + n) v else l)
-          → Listed l' first n' end (λ g. f g + count_of (if t then s ∷ [] else []) (λ k. g (row + (m - k))))
+      go : (t : Bool) → first + n' ≡ first + n + tally t → l' ≡ (when t then set l (first + n) v else l)
+          → Listed l' first n' end (λ g. f g + count_of (when t then s ∷ [] else []) (λ k. g (row + (m - k))))
       go true e q = moved (omega arith) q one
       go false e q = moved (omega arith) q (record { near = was.near; each = λ g. was.each g ∙ sym (add-zero (f g)) })
 
@@ -146,7 +146,7 @@ gathered_row h sh b r l l' l'' first n n' n'' end from room fits one two =
 pub noted_before : {s m row : ℕ} {l l' : List ℕ} {n n' : ℕ} → Noted s m row l n l' n' → (e : ℕ) → e < n → get_or l' e 0 ≡ get_or l e 0
 noted_before {s} {m} {row} {l} {l'} {n} w e h = ap (λ k. get_or k e 0) w.new ∙ go (ltb s m)
   where
-    go : (t : Bool) → get_or (if t then set l n (row + (m - s)) else l) e 0 ≡ get_or l e 0
+    go : (t : Bool) → get_or (when t then set l n (row + (m - s)) else l) e 0 ≡ get_or l e 0
     go true = get_or-set_other l n e (row + (m - s)) 0 (λ q. omega arith)
     go false = refl
 

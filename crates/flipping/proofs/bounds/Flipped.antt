@@ -11,7 +11,7 @@ use native.Mathlib.Omega.{arith}
 use borrow.Author.Tests.{lt-ltb, le-ltb, ltb-false, lt-leb, leb-false, eq-eqb, ne_eqb}
 use lib.Dec.{eqb, leb, ltb, lit<}
 use lib.ListN.{get_or, length}
-use Rattle.bits.specs.Bits.{Word, ◌⊕◌, sum, count, tally, flipped, if◌then◌else◌, over, count_of}
+use Rattle.bits.specs.Bits.{Word, ◌⊕◌, sum, count, tally, flipped, when◌then◌else◌, over, count_of}
 use Rattle.bits.proofs.Counting.{none_counted}
 use Rattle.bits.proofs.Sums.{⊕-assoc, ⊕-false, ⊕-comm, sum_same, eqb_iff}
 use Rattle.rules.specs.Codes.{Code, bits}
@@ -115,10 +115,10 @@ module _ (M r i p : ℕ) (some : 1 ≤ M) (small : M ≤ 512) (hi : i < 2 * M) (
       q = p % 1024
 
       is_low : q < M → other M p ≡ p + M
-      is_low l = ap (λ t. if t then p + M else p - M) (lt-ltb q M l)
+      is_low l = ap (λ t. when t then p + M else p - M) (lt-ltb q M l)
 
       is_high : M ≤ q → other M p ≡ p - M
-      is_high l = ap (λ t. if t then p + M else p - M) (le-ltb q M l)
+      is_high l = ap (λ t. when t then p + M else p - M) (le-ltb q M l)
 
       both : (s t : Bool) → (eqb (1024 * r + i) p ≡ s) → (eqb (1024 * r + i) (other M p) ≡ t)
           → eqb (1024 * r + i) p ⊕ eqb (1024 * r + i) (other M p) ≡ s ⊕ t

@@ -9,7 +9,7 @@ use native.Mathlib.Omega.{arith}
 use borrow.Author.Tests.{ltb-true}
 use lib.Dec.{ltb}
 use lib.ListN.{get_or}
-use Rattle.bits.specs.Bits.{Word, count, tally, if◌then◌else◌, count_of}
+use Rattle.bits.specs.Bits.{Word, count, tally, when◌then◌else◌, count_of}
 use Rattle.rules.specs.Codes.{Code}
 use Rattle.rules.specs.Checks.{check, broken_of, degree_of}
 use Rattle.rules.proofs.Blocks.{count_all as entries_all}
@@ -27,7 +27,7 @@ kept_same : (m s : ℕ) (rest : List ℕ) (f g : Word) → ((k : ℕ) → k < m 
     → count_of (kept m s rest) f ≡ count_of (kept m s rest) g
 kept_same m s rest f g e w = go (ltb s m) refl
   where
-    go : (t : Bool) → ltb s m ≡ t → count_of (if t then s ∷ rest else rest) f ≡ count_of (if t then s ∷ rest else rest) g
+    go : (t : Bool) → ltb s m ≡ t → count_of (when t then s ∷ rest else rest) f ≡ count_of (when t then s ∷ rest else rest) g
     go true q = ap₂ ◌+◌ (ap tally (e s (ltb-true s m q))) w
     go false q = w
 

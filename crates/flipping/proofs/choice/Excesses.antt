@@ -11,7 +11,7 @@ use borrow.Author.Tests.{lt-ltb, le-ltb}
 use lib.Dec.{ltb}
 use lib.IntN.{pos, negsuc, sub_ℕ}
 use lib.Signed.{lt_z}
-use Rattle.bits.specs.Bits.{Word, if◌then◌else◌}
+use Rattle.bits.specs.Bits.{Word, when◌then◌else◌}
 use Rattle.rules.specs.Codes.{Code, bits}
 use Rattle.rules.specs.Checks.{broken, excess, broken_of, degree_of, met_of}
 use Rattle.rules.specs.Flipping.{flip, stuck, greatest_sent, by_excess}
@@ -87,12 +87,12 @@ module _ {c : Code} {h : List ℕ} {sh : Shape} (lent : Lent c h sh) (x : Word) 
     best_above = top_above (excess c x) (score c x) 8 c.unsent (bits c - c.unsent) bit top raised ranged
 
     -- What comes next for a word that has a broken check.
-    pub best_next : (broken c x ≡ 0 → ⊥) → by_excess c x ≡ (if ltb 8 top then flip bit (sub_ℕ top 8) else stuck bit (sub_ℕ top 8))
+    pub best_next : (broken c x ≡ 0 → ⊥) → by_excess c x ≡ (when ltb 8 top then flip bit (sub_ℕ top 8) else stuck bit (sub_ℕ top 8))
     best_next some = go (ltb 8 top) refl
       where
         chosen : (b : Bool) → ltb 8 top ≡ b → lt_z (pos 0) (excess c x (greatest_sent c x)) ≡ b
         chosen b e = ap (λ n. lt_z (pos 0) (excess c x n)) best_greatest ∙ best_above ∙ e
 
-        go : (b : Bool) → ltb 8 top ≡ b → by_excess c x ≡ (if b then flip bit (sub_ℕ top 8) else stuck bit (sub_ℕ top 8))
+        go : (b : Bool) → ltb 8 top ≡ b → by_excess c x ≡ (when b then flip bit (sub_ℕ top 8) else stuck bit (sub_ℕ top 8))
         go true e = flip_next c x some (chosen true e) ∙ ap₂ flip best_greatest (ap (excess c x) best_greatest ∙ best_excess)
         go false e = stuck_next c x some (chosen false e) ∙ ap₂ stuck best_greatest (ap (excess c x) best_greatest ∙ best_excess)

@@ -13,7 +13,7 @@ use lib.Dec.{leb, ltb}
 use lib.ListN.{get_or, set, length-set}
 use lib.Seq.{get_or-set_same, get_or-set_other}
 use lib.Arith.{digits_div, digits_lt}
-use Rattle.bits.specs.Bits.{Word, digit, least, if◌then◌else◌}
+use Rattle.bits.specs.Bits.{Word, digit, least, when◌then◌else◌}
 use Rattle.bits.proofs.Leasts.{least_found, least_below, least_holds}
 use Rattle.vectors.specs.Vectors.{Holds, from as bits_from}
 use Rattle.vectors.proofs.Firsts.{First}
@@ -64,7 +64,7 @@ light_under d starts first n met begin m k e = go (ltb k m) refl
 -- ---- a block that is looked at
 
 begin_later : (b from : ℕ) → 1 ≤ b → begin_in_of b from ≡ 0
-begin_later b from h = ap (λ t. if t then from else 0) (ne_eqb b 0 (λ e. omega arith))
+begin_later b from h = ap (λ t. when t then from else 0) (ne_eqb b 0 (λ e. omega arith))
 
 begin_leb : (b from m k : ℕ) → from < m → leb (begin_in_of b from) k ≡ leb from (b * m + k)
 begin_leb zero from m k l =
@@ -214,7 +214,7 @@ module _ (sh : Shape) (from : ℕ) (d : Word) (starts counts met : List ℕ) (b 
 -- ---- the greatest bound
 
 pub highest_more : (counts met : List ℕ) (b v : ℕ)
-    → v ≡ (if ltb (highest counts met b) (bound counts met b) then bound counts met b else highest counts met b)
+    → v ≡ (when ltb (highest counts met b) (bound counts met b) then bound counts met b else highest counts met b)
     → v ≡ highest counts met (b + 1)
 unfolding highest
 highest_more counts met b v e = e ∙ ap (highest counts met) (sym (add-one b))
@@ -230,9 +230,9 @@ highest_above counts met (suc n) b h = go (λ l. highest_above counts met n b l)
     (dec_lt (highest counts met n) (bound counts met n))
   where
     go : (b < n → bound counts met b ≤ highest counts met n) → Dec (b ≡ n) → Dec (highest counts met n < bound counts met n)
-        → bound counts met b ≤ (if ltb (highest counts met n) (bound counts met n) then bound counts met n else highest counts met n)
+        → bound counts met b ≤ (when ltb (highest counts met n) (bound counts met n) then bound counts met n else highest counts met n)
     go ih q (yes l) =
-        subst (λ s. bound counts met b ≤ (if s then bound counts met n else highest counts met n))
+        subst (λ s. bound counts met b ≤ (when s then bound counts met n else highest counts met n))
         (sym (lt-ltb (highest counts met n) (bound counts met n) l)) (of q)
       where
         of : Dec (b ≡ n) → bound counts met b ≤ bound counts met n
@@ -240,7 +240,7 @@ highest_above counts met (suc n) b h = go (λ l. highest_above counts met n b l)
         of (no u) = omega (arith, ih (omega arith))
     go ih q (no w) =
         let l : bound counts met n ≤ highest counts met n = omega (arith, lt_of_not-le w) in
-        subst (λ s. bound counts met b ≤ (if s then bound counts met n else highest counts met n))
+        subst (λ s. bound counts met b ≤ (when s then bound counts met n else highest counts met n))
         (sym (le-ltb (highest counts met n) (bound counts met n) l)) (of q)
       where
         of : Dec (b ≡ n) → bound counts met b ≤ highest counts met n
@@ -255,7 +255,7 @@ highest_under counts met zero top s h = s
 highest_under counts met (suc n) top s h = go (ltb (highest counts met n) (bound counts met n))
     (highest_under counts met n top s (λ b l. h b (le_step l)))
   where
-    go : (t : Bool) → highest counts met n < top → (if t then bound counts met n else highest counts met n) < top
+    go : (t : Bool) → highest counts met n < top → (when t then bound counts met n else highest counts met n) < top
     go true ih = h n (lt-suc_self n)
     go false ih = ih
 

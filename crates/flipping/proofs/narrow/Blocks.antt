@@ -13,7 +13,7 @@ use lib.Count.{count_leading_zeros}
 use lib.Dec.{eqb, leb, ltb, lit<}
 use lib.ListN.{get_or, length, set}
 use lib.Seq.{get_or-set_same, get_or-set_other}
-use Rattle.bits.specs.Bits.{Word, flipped, over, if◌then◌else◌, ◌⊕◌}
+use Rattle.bits.specs.Bits.{Word, flipped, over, when◌then◌else◌, ◌⊕◌}
 use Rattle.bits.proofs.Orders.{le-or-lt}
 use Rattle.rules.specs.Codes.{Code}
 use Rattle.rules.specs.Checks.{check}
@@ -93,7 +93,7 @@ module _ (c : Code) (h : List ℕ) (sh : Shape) (lent : Lent c h sh) (fit : Fit 
   score_is b k hb hk = omega (arith, lent.broken_by x b k hb hk, lent.degree_by b k hb hk, lent.few b hb)
 
 pub sent_lt : (m from b k : ℕ) → sent m from b k ≡ true → k < m
-sent_lt m from b k e = go (leb (if eqb b 0 then from else 0) k) (ltb k m) refl e
+sent_lt m from b k e = go (leb (when eqb b 0 then from else 0) k) (ltb k m) refl e
   where
     go : (s t : Bool) → ltb k m ≡ t → (s && t) ≡ true → k < m
     go true true q u = ltb-true k m q
@@ -103,7 +103,7 @@ sent_lt m from b k e = go (leb (if eqb b 0 then from else 0) k) (ltb k m) refl e
 pub sent_is : (m from b k : ℕ) → from < m → k < m → from ≤ b * m + k → sent m from b k ≡ true
 sent_is m from zero k l hk a = ap₂ (λ s t. s && t) (le-leb from k (omega (arith, a))) (lt-ltb k m hk)
 sent_is m from (suc b) k l hk a =
-    ap (λ t. leb (if t then from else 0) k && ltb k m) (ne_eqb (suc b) 0 (λ e. omega arith))
+    ap (λ t. leb (when t then from else 0) k && ltb k m) (ne_eqb (suc b) 0 (λ e. omega arith))
     ∙ ap₂ (λ s t. s && t) (le-leb 0 k zero-le) (lt-ltb k m hk)
 
 pub sent_from : (m from b k : ℕ) → from < m → sent m from b k ≡ true → from ≤ b * m + k

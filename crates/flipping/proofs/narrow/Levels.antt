@@ -10,7 +10,7 @@ use borrow.Author.Tests.{le-leb, lt-leb, leb-false, eq-eqb, ne_eqb}
 use lib.Bits.{bit_and, bit_or}
 use lib.Dec.{eqb, leb, ltb}
 use lib.ListN.{get_or, length}
-use Rattle.bits.specs.Bits.{Word, digit, tally, if◌then◌else◌, count_of, over, ◌⊕◌}
+use Rattle.bits.specs.Bits.{Word, digit, tally, when◌then◌else◌, count_of, over, ◌⊕◌}
 use Rattle.bits.proofs.Counting.{tally_le}
 use Rattle.bits.proofs.Octets.{digit_zero}
 use Rattle.vectors.specs.Vectors.{Holds}
@@ -113,21 +113,21 @@ weighs_none counts hits mask zero is = record {
 pub place_count : (m s : ℕ) (rest : List ℕ) (f : Word) → count_of (kept m s rest) f ≡ tally (ltb s m && f s) + count_of rest f
 place_count m s rest f = go (ltb s m)
   where
-    go : (t : Bool) → count_of (if t then s ∷ rest else rest) f ≡ tally (t && f s) + count_of rest f
+    go : (t : Bool) → count_of (when t then s ∷ rest else rest) f ≡ tally (t && f s) + count_of rest f
     go true = refl
     go false = omega arith
 
 place_length : (m s : ℕ) (rest : List ℕ) → length (kept m s rest) ≡ tally (ltb s m) + length rest
 place_length m s rest = go (ltb s m)
   where
-    go : (t : Bool) → length (if t then s ∷ rest else rest) ≡ tally t + length rest
+    go : (t : Bool) → length (when t then s ∷ rest else rest) ≡ tally t + length rest
     go true = omega arith
     go false = omega arith
 
 place_over : (m s : ℕ) (rest : List ℕ) (f : Word) → over (kept m s rest) f ≡ (ltb s m && f s) ⊕ over rest f
 place_over m s rest f = go (ltb s m)
   where
-    go : (t : Bool) → over (if t then s ∷ rest else rest) f ≡ (t && f s) ⊕ over rest f
+    go : (t : Bool) → over (when t then s ∷ rest else rest) f ≡ (t && f s) ⊕ over rest f
     go true = refl
     go false = refl
 

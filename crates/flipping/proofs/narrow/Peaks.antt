@@ -10,7 +10,7 @@ use native.Mathlib.Omega.{arith}
 use borrow.Author.Tests.{lt-leb, le-leb, lt-ltb, le-ltb, eq-eqb, ne_eqb}
 use lib.Dec.{eqb, leb, ltb}
 use lib.ListN.{length, get_or}
-use Rattle.bits.specs.Bits.{Word, digit, if◌then◌else◌}
+use Rattle.bits.specs.Bits.{Word, digit, when◌then◌else◌}
 use Rattle.bits.proofs.Orders.{le-or-lt}
 use Rattle.rules.specs.Codes.{Code}
 use Rattle.vectors.specs.Vectors.{Holds, up_to, from as bits_from}
@@ -126,7 +126,7 @@ module _ (c : Code) (sh : Shape) (some : 1 ≤ sh.size) (narrow : sh.size ≤ 64
           go (no u) =
               let past = le-ltb i sh.size (omega (arith, lt_of_not-le u)) in
               ap (λ s. s && eqb (score c x (b * sh.size + i)) (get_or scores b 0))
-              (ap (λ t. leb (if eqb b 0 then 0 else 0) i && t) past ∙ and-false (leb (if eqb b 0 then 0 else 0) i))
+              (ap (λ t. leb (when eqb b 0 then 0 else 0) i && t) past ∙ and-false (leb (when eqb b 0 then 0 else 0) i))
               ∙ sym (ap (λ t. t && leb top (score c x (b * sh.size + i))) past)
 
       none : (b : ℕ) → b < sh.blocks → (get_or scores b 0 ≡ top → ⊥) → (k : ℕ) → k < sh.size

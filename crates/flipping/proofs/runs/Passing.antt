@@ -14,7 +14,7 @@ use mir.Val.{SFits, to_z, of_z}
 use mir.Facts.{to_z_pos}
 use mir.ValLaws.{to_z-of_z}
 use lib.ListN.{length, get_or, replicate}
-use Rattle.bits.specs.Bits.{Word, flipped, if◌then◌else◌}
+use Rattle.bits.specs.Bits.{Word, flipped, when◌then◌else◌}
 use Rattle.bits.proofs.Octets.{zeros_at}
 use Rattle.rules.specs.Codes.{Code, bits}
 use Rattle.rules.specs.Checks.{broken, excess, met_of, degree_of}
@@ -67,11 +67,11 @@ module _ {c : Code} {h : List ℕ} {sh : Shape} (lent : Lent c h sh) (x : Word) 
   top_small = omega (arith, t.is, broken_met c x bit, degree_le lent x bit t.under)
 
   pub next_stuck : c.unsent ≡ from → (broken c x ≡ 0 → ⊥) → top ≤ 8 → by_excess c x ≡ stuck bit (sub_ℕ top 8)
-  next_stuck u d l = best_next lent x (top_ends (sym u) refl t) d ∙ ap (λ b. if b then flip bit (sub_ℕ top 8) else stuck bit (sub_ℕ top 8))
+  next_stuck u d l = best_next lent x (top_ends (sym u) refl t) d ∙ ap (λ b. when b then flip bit (sub_ℕ top 8) else stuck bit (sub_ℕ top 8))
       (le-ltb 8 top l)
 
   pub next_flip : c.unsent ≡ from → (broken c x ≡ 0 → ⊥) → 8 < top → by_excess c x ≡ flip bit (sub_ℕ top 8)
-  next_flip u d l = best_next lent x (top_ends (sym u) refl t) d ∙ ap (λ b. if b then flip bit (sub_ℕ top 8) else stuck bit (sub_ℕ top 8))
+  next_flip u d l = best_next lent x (top_ends (sym u) refl t) d ∙ ap (λ b. when b then flip bit (sub_ℕ top 8) else stuck bit (sub_ℕ top 8))
       (lt-ltb 8 top l)
 
   -- A flip mends as many checks as its excess.

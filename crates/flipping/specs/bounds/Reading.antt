@@ -1,6 +1,6 @@
 -- Where the checks of a block's bits are read.
 use Rattle.std.specs.Prelude.{◌≡◌, ◌&&◌, List, ℕ, ◌+◌, ◌-◌, ◌*◌, ◌%◌, ◌≤◌, ◌<◌, leb, ltb, length, get_or, set}
-use Rattle.bits.specs.Bits.{Word, count, tally, if◌then◌else◌, count_of}
+use Rattle.bits.specs.Bits.{Word, count, tally, when◌then◌else◌, count_of}
 use Rattle.layout.specs.declared.Shape.{Shape}
 use Rattle.layout.specs.Lent.{total, shifts_of}
 
@@ -15,7 +15,7 @@ pub record Placed (z : Word) (from m : ℕ) (d : Word) (to : ℕ) (d' : Word) : 
 
 -- Where the check that stands at p in a doubled row of M bits stands once more.
 abbrev pub other : ℕ → ℕ → ℕ
-other M p = if ltb (p % 1024) M then p + M else p - M
+other M p = when ltb (p % 1024) M then p + M else p - M
 
 -- Of n starts from start `first` on, how many have a bit set k places on.
 abbrev pub hits : Word → List ℕ → ℕ → ℕ → ℕ → ℕ
@@ -29,7 +29,7 @@ light d starts first n met begin m k = (leb begin k && ltb k m) && leb n (hits d
 pub record Noted (s m row : ℕ) (starts : List ℕ) (n : ℕ) (starts' : List ℕ) (n' : ℕ) : Type 0 where
   pub long : length starts' ≡ length starts
   pub many : n' ≡ n + tally (ltb s m)
-  pub new : starts' ≡ (if ltb s m then set starts n (row + (m - s)) else starts)
+  pub new : starts' ≡ (when ltb s m then set starts n (row + (m - s)) else starts)
 
 -- n starts from start `first` on: none is past `end`, and whatever is asked of each, f says how often it holds.
 pub record Listed (starts : List ℕ) (first n end : ℕ) (f : Word → ℕ) : Type 0 where

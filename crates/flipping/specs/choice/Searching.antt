@@ -1,6 +1,6 @@
 -- What a search over the blocks gives.
 use Rattle.std.specs.Prelude.{◌≡◌, List, ℕ, zero, suc, ◌+◌, ◌*◌, ◌/◌, ◌≤◌, ◌<◌, eqb, ltb, get_or}
-use Rattle.bits.specs.Bits.{Word, if◌then◌else◌}
+use Rattle.bits.specs.Bits.{Word, when◌then◌else◌}
 use Rattle.planes.specs.Ranges.{Top}
 use Rattle.layout.specs.declared.Shape.{Shape}
 use Rattle.flipping.specs.bounds.Keeping.{bound, Ready, Scored, Under}
@@ -8,7 +8,7 @@ use Rattle.flipping.specs.bounds.Keeping.{bound, Ready, Scored, Under}
 -- The greatest bound of the first blocks.
 unfoldable pub highest : List ℕ → List ℕ → ℕ → ℕ
 highest counts met zero = 0
-highest counts met (suc b) = if ltb (highest counts met b) (bound counts met b) then bound counts met b else highest counts met b
+highest counts met (suc b) = when ltb (highest counts met b) (bound counts met b) then bound counts met b else highest counts met b
 
 -- The met checks that are kept are still right, where bounds have gone down.
 pub record Lowered (sh : Shape) (from : ℕ) (d : Word) (starts counts met met' : List ℕ) : Type 0 where
@@ -17,7 +17,7 @@ pub record Lowered (sh : Shape) (from : ℕ) (d : Word) (starts counts met met' 
 
 -- The first bit of block b that counts, where bits from bit `from` on do.
 abbrev pub begin_in_of : ℕ → ℕ → ℕ
-begin_in_of b from = if eqb b 0 then from else 0
+begin_in_of b from = when eqb b 0 then from else 0
 
 -- Block b was looked at for its first bit of score `top`, and k was found, or none.
 pub record Looked (sh : Shape) (from : ℕ) (d : Word) (starts counts : List ℕ) (b top k : ℕ) (met met' : List ℕ) : Type 0 where

@@ -1,6 +1,6 @@
 -- Rows and blocks that one word holds each, and what is seen of a block's bits at once.
 use Rattle.std.specs.Prelude.{◌≡◌, Bool, true, false, ◌&&◌, List, ℕ, ◌+◌, ◌-◌, ◌*◌, ◌%◌, ◌≤◌, ◌<◌, eqb, leb, ltb, length, get_or}
-use Rattle.bits.specs.Bits.{Word, if◌then◌else◌, count_of}
+use Rattle.bits.specs.Bits.{Word, when◌then◌else◌, count_of}
 use Rattle.rules.specs.Codes.{Code}
 use Rattle.rules.specs.Checks.{check}
 use Rattle.vectors.specs.Vectors.{Holds, up_to, from as bits_from}
@@ -45,7 +45,7 @@ broke c h sh b x rows k = total rows
 
 -- The bits of block b that are sent, where those before bit `from` are not, which is one of block 0.
 abbrev pub sent : ℕ → ℕ → ℕ → Word
-sent m from b k = leb (if eqb b 0 then from else 0) k && ltb k m
+sent m from b k = leb (when eqb b 0 then from else 0) k && ltb k m
 
 -- Of the bits that count, none whose score g is above 8 has more than this score; and if it is above 8, the mask has those that have it.
 pub record Peaked (counts : Word) (g : ℕ → ℕ) (score mask : ℕ) : Type 0 where

@@ -6,7 +6,7 @@ use Prim.Native.Nat.{ℕ, ◌+◌, ◌≤◌, ◌<◌}
 use lib.Dec.{ltb}
 use lib.ListN.{get_or}
 use borrow.Author.Tests.{lt-ltb, le-ltb}
-use Rattle.bits.specs.Bits.{◌⊕◌, if◌then◌else◌, over}
+use Rattle.bits.specs.Bits.{◌⊕◌, when◌then◌else◌, over}
 use Rattle.identity.specs.ties.Flat.{kept, block}
 
 -- The machine's exclusive or.
@@ -29,15 +29,15 @@ pub ⊕-assoc : (a b c : Bool) → a ⊕ b ⊕ c ≡ a ⊕ (b ⊕ c)
 module _ (M : ℕ) (f : ℕ → Bool) where
   -- What a place holds: a shift, or none.
   pub over-one : (s : ℕ) → s < M → over (kept M s []) f ≡ f s
-  over-one s h = ap (λ (b : Bool). over (if b then s ∷ [] else []) f) (lt-ltb s M h) ∙ ⊕-false (f s)
+  over-one s h = ap (λ (b : Bool). over (when b then s ∷ [] else []) f) (lt-ltb s M h) ∙ ⊕-false (f s)
 
   pub over_none : (s : ℕ) → M ≤ s → over (kept M s []) f ≡ false
-  over_none s h = ap (λ (b : Bool). over (if b then s ∷ [] else []) f) (le-ltb s M h)
+  over_none s h = ap (λ (b : Bool). over (when b then s ∷ [] else []) f) (le-ltb s M h)
 
   over_kept : (s : ℕ) (rest : List ℕ) → over (kept M s rest) f ≡ over (kept M s []) f ⊕ over rest f
   over_kept s rest = go (ltb s M)
     where
-      go : (b : Bool) → over (if b then s ∷ rest else rest) f ≡ over (if b then s ∷ [] else []) f ⊕ over rest f
+      go : (b : Bool) → over (when b then s ∷ rest else rest) f ≡ over (when b then s ∷ [] else []) f ⊕ over rest f
       go true = ap (λ (x : Bool). x ⊕ over rest f) (sym (⊕-false (f s)))
       go false = refl
 

@@ -1,6 +1,6 @@
 -- Flat tables, and the lists of rules that they stand for.
 use Rattle.std.specs.Prelude.{Bool, ◌&&◌, ◌≡◌, List, [], ◌∷◌, ℕ, zero, suc, ◌+◌, ◌*◌, ◌/◌, ◌%◌, ◌^◌, ◌<◌, eqb, ltb, length, get_or}
-use Rattle.bits.specs.Bits.{digit, if◌then◌else◌}
+use Rattle.bits.specs.Bits.{digit, when◌then◌else◌}
 use Rattle.rules.specs.Identity.{rows_tied_of, all_padded_of}
 
 -- n things one after the other: the first is read at a place, and each other a step further on.
@@ -10,7 +10,7 @@ pieces f step at (suc n) = f at ∷ pieces f step (at + step) n
 
 -- A block of a parity table has three places. A place that holds M or more holds no shift.
 abbrev pub kept : ℕ → ℕ → List ℕ → List ℕ
-kept M s shifts = if ltb s M then s ∷ shifts else shifts
+kept M s shifts = when ltb s M then s ∷ shifts else shifts
 
 abbrev pub block : ℕ → List ℕ → ℕ → List ℕ
 block M parity at = kept M (get_or parity at 0) (kept M (get_or parity (at + 1) 0) (kept M (get_or parity (at + 2) 0) []))

@@ -6,7 +6,7 @@ use lib.Dec.{eqb, ltb}
 use lib.ListN.{get_or}
 use borrow.Author.Rules.{rules}
 use borrow.Author.Tests.{lt-ltb, le-ltb}
-use Rattle.bits.specs.Bits.{if◌then◌else◌}
+use Rattle.bits.specs.Bits.{when◌then◌else◌}
 use Rattle.onedigit.specs.Wrong.{added}
 use Rattle.onedigit.proofs.wrong_entry.Statement.{statement}
 use Rattle.onedigit.proofs.wrong_entry.Tie as tie
@@ -17,7 +17,7 @@ returns c =
     let held = c.before.wide.ensures in
     let p = get_or a.parity.now a.place 0 in
     ap (λ (y : ℕ). not (eqb y a.s)) held
-    ∙ sym (ap (λ (b : Bool). if b then not (eqb p a.s) else added a.m a.parity.now a.place a.s)
+    ∙ sym (ap (λ (b : Bool). when b then not (eqb p a.s) else added a.m a.parity.now a.place a.s)
     (lt-ltb p a.m (subst (λ (y : ℕ). y < a.m) held c.if1.true)))
 
 returns-2 : tie.Need-returns-2
@@ -26,7 +26,7 @@ returns-2 c =
     let held = c.before.before.wide.ensures in
     let p = get_or a.parity.now a.place 0 in
     ap (λ (known : Bool). eqb (a.place % 3) 2 && (ltb a.s a.m && not known)) c.in_block.ensures
-    ∙ sym (ap (λ (b : Bool). if b then not (eqb p a.s) else added a.m a.parity.now a.place a.s)
+    ∙ sym (ap (λ (b : Bool). when b then not (eqb p a.s) else added a.m a.parity.now a.place a.s)
     (le-ltb p a.m (subst (λ (y : ℕ). a.m ≤ y) held c.before.if1.false)))
 
 pub wrong-entry-spec : {M : Type 1} → statement M

@@ -10,7 +10,7 @@ use native.Mathlib.Omega.{arith}
 use borrow.Author.Tests.{eqb-true, eq-eqb, lt-ltb, le-ltb, le-leb, leb-true}
 use lib.Dec.{eqb, leb}
 use lib.ListN.{get_or}
-use Rattle.bits.specs.Bits.{Word, ◌⊕◌, sum, count, tally, flipped, if◌then◌else◌}
+use Rattle.bits.specs.Bits.{Word, ◌⊕◌, sum, count, tally, flipped, when◌then◌else◌}
 use Rattle.rules.specs.Codes.{Code}
 use Rattle.layout.specs.declared.Shape.{Shape}
 use Rattle.layout.specs.Lent.{Lent, laid}
@@ -111,17 +111,17 @@ module _ (M p q : ℕ) (small : M ≤ 512) (hp : p % 1024 < 2 * M) (is : (q ≡ 
   nearer_of = go (dec_lt (p % 1024) M) is
     where
       go : Dec (p % 1024 < M) → (q ≡ p) ⊎ (q ≡ other M p) → (q ≡ nearer M p) ⊎ (q ≡ nearer M p + M)
-      go (yes l) (inl e) = inl (e ∙ sym (ap (λ t. if t then p else p - M) (lt-ltb (p % 1024) M l)))
-      go (yes l) (inr e) = inr (e ∙ ap (λ t. if t then p + M else p - M) (lt-ltb (p % 1024) M l)
-          ∙ ap (λ z. z + M) (sym (ap (λ t. if t then p else p - M) (lt-ltb (p % 1024) M l))))
+      go (yes l) (inl e) = inl (e ∙ sym (ap (λ t. when t then p else p - M) (lt-ltb (p % 1024) M l)))
+      go (yes l) (inr e) = inr (e ∙ ap (λ t. when t then p + M else p - M) (lt-ltb (p % 1024) M l)
+          ∙ ap (λ z. z + M) (sym (ap (λ t. when t then p else p - M) (lt-ltb (p % 1024) M l))))
       go (no u) (inl e) =
           let l : M ≤ p % 1024 = omega (arith, lt_of_not-le u) in
           let back : p ≡ p - M + M = omega arith in
-          inr (e ∙ back ∙ ap (λ z. z + M) (sym (ap (λ t. if t then p else p - M) (le-ltb (p % 1024) M l))))
+          inr (e ∙ back ∙ ap (λ z. z + M) (sym (ap (λ t. when t then p else p - M) (le-ltb (p % 1024) M l))))
       go (no u) (inr e) =
           let l : M ≤ p % 1024 = omega (arith, lt_of_not-le u) in
-          inl (e ∙ ap (λ t. if t then p + M else p - M) (le-ltb (p % 1024) M l)
-          ∙ sym (ap (λ t. if t then p else p - M) (le-ltb (p % 1024) M l)))
+          inl (e ∙ ap (λ t. when t then p + M else p - M) (le-ltb (p % 1024) M l)
+          ∙ sym (ap (λ t. when t then p else p - M) (le-ltb (p % 1024) M l)))
 
   -- a doubled row has the same there
   pub same_there : (sh : Shape) (z d : Word) → sh.size ≡ M → 1 ≤ M → p / 1024 < sh.rows → Twice sh sh.rows z d → d q ≡ d p
@@ -143,13 +143,13 @@ module _ (M p q : ℕ) (small : M ≤ 512) (hp : p % 1024 < 2 * M) (is : (q ≡ 
       go (yes l) (inr e) =
           let n = p % 1024 in
           let here : p ≡ 1024 * r + n = omega arith in
-          let there : q ≡ 1024 * r + (n + M) = omega (arith, e ∙ ap (λ t. if t then p + M else p - M) (lt-ltb n M l)) in
+          let there : q ≡ 1024 * r + (n + M) = omega (arith, e ∙ ap (λ t. when t then p + M else p - M) (lt-ltb n M l)) in
           ap d there ∙ at (n + M) (omega arith) ∙ ap (λ v. z (64 * (r * sh.words) + v)) (sym (low n l)) ∙ sym (at n hp) ∙ ap d (sym here)
       go (no u) (inr e) =
           let n = p % 1024 in
           let l : M ≤ n = omega (arith, lt_of_not-le u) in
           let here : p ≡ 1024 * r + (n - M + M) = omega arith in
-          let there : q ≡ 1024 * r + (n - M) = omega (arith, e ∙ ap (λ t. if t then p + M else p - M) (le-ltb n M l)) in
+          let there : q ≡ 1024 * r + (n - M) = omega (arith, e ∙ ap (λ t. when t then p + M else p - M) (le-ltb n M l)) in
           ap d there ∙ at (n - M) (omega arith) ∙ ap (λ v. z (64 * (r * sh.words) + v)) (low (n - M) (omega arith))
           ∙ sym (at (n - M + M) (omega arith)) ∙ ap d (sym here)
 

@@ -6,7 +6,7 @@ use Prim.Native.Nat.{ℕ, zero, suc, ◌+◌, ◌≤◌, ◌<◌}
 use native.Mathlib.Nat.{lt_of_not-le}
 use native.Mathlib.Decide.{dec_lt, ℕ_discrete}
 use native.Mathlib.Omega.{arith}
-use Rattle.bits.specs.Bits.{if◌then◌else◌}
+use Rattle.bits.specs.Bits.{when◌then◌else◌}
 use Rattle.magnitudes.specs.Sizes.{smallest}
 use Rattle.magnitudes.proofs.Smallest.{Ordered, Is, smallest_one}
 use Rattle.samples.specs.raising.Knowing.{Ahead}
@@ -37,11 +37,11 @@ module _ (less : ℕ → ℕ → Bool) (top : ℕ) (o : Ordered less top) where
       go (no n) (no m) = omega (arith, lt_of_not-le n, lt_of_not-le m)
 
   -- the later one only if it is smaller
-  pub later : (a b r : ℕ) → a < top → b < top → a ≤ b → r ≡ (if less b a then b else a)
+  pub later : (a b r : ℕ) → a < top → b < top → a ≤ b → r ≡ (when less b a then b else a)
       → ((r ≡ a) ⊎ (r ≡ b)) × Ahead less r a × Ahead less r b
   later a b r la lb u is = go (less b a) refl is
     where
-      go : (v : Bool) → less b a ≡ v → r ≡ (if v then b else a) → ((r ≡ a) ⊎ (r ≡ b)) × Ahead less r a × Ahead less r b
+      go : (v : Bool) → less b a ≡ v → r ≡ (when v then b else a) → ((r ≡ a) ⊎ (r ≡ b)) × Ahead less r a × Ahead less r b
       go true e f = subst (λ r. ((r ≡ a) ⊎ (r ≡ b)) × Ahead less r a × Ahead less r b) (sym f)
           (inr refl, (o.apart b a lb la e, λ v. e), ahead_self b lb)
       go false e f = subst (λ r. ((r ≡ a) ⊎ (r ≡ b)) × Ahead less r a × Ahead less r b) (sym f)
@@ -77,8 +77,8 @@ module _ (less : ℕ → ℕ → Bool) (top : ℕ) (o : Ordered less top) where
       before m (inr p) = omega (arith, p.2)
 
       go : (v : Bool) → marked now ≡ v → Over marked bit first n best → Is less marked bit first best n
-          → Over marked bit first (suc n) (if v && less now best then now else best)
-      go true e s is = by _ (later best now (if less now best then now else best) s.within (u now (omega arith) (omega arith) e)
+          → Over marked bit first (suc n) (when v && less now best then now else best)
+      go true e s is = by _ (later best now (when less now best then now else best) s.within (u now (omega arith) (omega arith) e)
           (before e is) refl)
         where
           here : now < top

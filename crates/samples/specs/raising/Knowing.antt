@@ -1,7 +1,7 @@
 -- What is known of each block, and what a flip makes of it.
 use Rattle.std.specs.Prelude.{◌≡◌, Bool, true, false, ◌&&◌, ◌||◌, List, ℕ, zero, suc, ◌+◌, ◌-◌, ◌*◌, ◌%◌, ◌≤◌, ◌<◌, eqb, ltb, length}
 use Rattle.std.specs.Prelude.{get_or}
-use Rattle.bits.specs.Bits.{Word, if◌then◌else◌}
+use Rattle.bits.specs.Bits.{Word, when◌then◌else◌}
 use Rattle.layout.specs.declared.Shape.{Shape}
 use Rattle.flipping.specs.bounds.Reading.{hits}
 use Rattle.magnitudes.specs.Patterns.{smaller}
@@ -45,7 +45,7 @@ covered starts from M p (suc n) k =
 
 -- The first place of the check that stands at p in a doubled row of M bits.
 abbrev pub nearer : ℕ → ℕ → ℕ
-nearer M p = if ltb (p % 1024) M then p else p - M
+nearer M p = when ltb (p % 1024) M then p else p - M
 
 -- Bit i of block j is covered by a broken one of the first n checks of bit k of the block whose starts begin with start `from`.
 unfoldable pub raised : Shape → Word → List ℕ → List ℕ → ℕ → ℕ → ℕ → ℕ → ℕ → Bool

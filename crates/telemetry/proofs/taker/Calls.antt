@@ -9,7 +9,7 @@ use lib.Dec.{T, eqb, ltb}
 use lib.ListN.{length, set, drop, replicate, length-drop}
 use lib.Seq.{drop-length}
 use borrow.Author.Tests.{lt-ltb, ltb-true, eqb-false}
-use Rattle.bits.specs.Bits.{if◌then◌else◌}
+use Rattle.bits.specs.Bits.{when◌then◌else◌}
 use Rattle.answers.specs.Calls.{refused_correct_of}
 use Rattle.telemetry.specs.taker.Stream.{Found}
 use Rattle.telemetry.specs.taker.Taking.{Taker, Taken, answered_by, standing, matched, moved, whole}
@@ -19,7 +19,7 @@ use Rattle.telemetry.proofs.taker.Laws.{if_is, if_isnt, matched_le}
 
 -- the word of a call that ended so many octets into the stream
 abbrev pub words_of : Taken → ℕ → List Found
-words_of r end = if r.complete then (record { offset = end - 1020; corrected = r.corrected } ∷ []) else []
+words_of r end = when r.complete then (record { offset = end - 1020; corrected = r.corrected } ∷ []) else []
 
 -- what a call did that took k octets of a part
 pub record Went (n : ℕ) (s : Taker) (part : List ℕ) (r : Taken) : Type 0 where
@@ -40,7 +40,7 @@ moved_stands : (s : Taker) (o : ℕ) → s.place < 1024 → (s.place ≡ 1023 �
 moved_stands s o h d = go (ltb s.place 4) refl
   where
     go : (b : Bool) → ltb s.place 4 ≡ b
-        → (if b then standing (matched s.place o) s.told s.octets else standing (suc s.place) s.told
+        → (when b then standing (matched s.place o) s.told s.octets else standing (suc s.place) s.told
         (set s.octets (s.place - 4) o)).place < 1024
     go true e = omega (arith, matched_le s.place o (ltb-true s.place 4 e))
     go false e = omega arith
@@ -48,7 +48,7 @@ moved_stands s o h d = go (ltb s.place 4) refl
 moved_told : (s : Taker) (o : ℕ) → (moved s o).told ≡ s.told
 moved_told s o = go (ltb s.place 4)
   where
-    go : (b : Bool) → (if b then standing (matched s.place o) s.told s.octets else standing (suc s.place) s.told
+    go : (b : Bool) → (when b then standing (matched s.place o) s.told s.octets else standing (suc s.place) s.told
         (set s.octets (s.place - 4) o)).told ≡ s.told
     go true = refl
     go false = refl
@@ -117,7 +117,7 @@ went [] n s = record {
 went (o ∷ part) n s = go (eqb s.place 1023) refl (went part (suc n) (moved s o))
   where
     go : (b : Bool) → eqb s.place 1023 ≡ b → Went (suc n) (moved s o) part (taken_from (suc n) (moved s o) part)
-        → Went n s (o ∷ part) (if b then completed (suc n) s.told (whole s o) else taken_from (suc n) (moved s o) part)
+        → Went n s (o ∷ part) (when b then completed (suc n) s.told (whole s o) else taken_from (suc n) (moved s o) part)
     go true e w = ends n s o part e
     go false e w = moves n s o part (taken_from (suc n) (moved s o) part) e w
 
@@ -129,7 +129,7 @@ as_read s = standing (read_place s.place) s.told s.octets
 pub read_stands : (p : ℕ) → read_place p < 1024
 read_stands p = go (ltb p 1024) refl
   where
-    go : (b : Bool) → ltb p 1024 ≡ b → (if b then p else 0) < 1024
+    go : (b : Bool) → ltb p 1024 ≡ b → (when b then p else 0) < 1024
     go true e = ltb-true p 1024 e
     go false e = omega arith
 
@@ -202,10 +202,10 @@ unfoldable pub asked : ℕ → Taker → ℕ → List ℕ → List (List ℕ) �
 asked zero s at part parts = []
 asked (suc n) s at part [] =
     let r = take_answer s part in
-    words_of r (at + r.taken) ++ (if r.complete then asked n r.next (at + r.taken) (drop r.taken part) [] else [])
+    words_of r (at + r.taken) ++ (when r.complete then asked n r.next (at + r.taken) (drop r.taken part) [] else [])
 asked (suc n) s at part (more ∷ parts) =
     let r = take_answer s part in
-    words_of r (at + r.taken) ++ (if r.complete then asked n r.next (at + r.taken) (drop r.taken part) (more ∷ parts) else asked n
+    words_of r (at + r.taken) ++ (when r.complete then asked n r.next (at + r.taken) (drop r.taken part) (more ∷ parts) else asked n
     r.next (at + r.taken) more parts)
 
 -- More calls than octets and parts are enough.
@@ -231,7 +231,7 @@ asked_given (suc n) s at part [] h few =
         → ((take_answer s part).complete ≡ true → asked n (take_answer s part).next (at + (take_answer s part).taken)
         (drop (take_answer s part).taken part) []
         ≡ given_from (take_answer s part).next (at + (take_answer s part).taken) (drop (take_answer s part).taken part ++ []))
-        → (if b then asked n (take_answer s part).next (at + (take_answer s part).taken) (drop (take_answer s part).taken part) [] else [])
+        → (when b then asked n (take_answer s part).next (at + (take_answer s part).taken) (drop (take_answer s part).taken part) [] else [])
         ≡ given_from (take_answer s part).next (at + (take_answer s part).taken) (drop (take_answer s part).taken part ++ [])
     go true e again = again e
     go false e again =
@@ -252,7 +252,7 @@ asked_given (suc n) s at part (more ∷ parts) h few =
         (drop (take_answer s part).taken part ++ (more ++ joined parts)))
         → asked n (take_answer s part).next (at + (take_answer s part).taken) more parts
         ≡ given_from (take_answer s part).next (at + (take_answer s part).taken) (more ++ joined parts)
-        → (if b then asked n (take_answer s part).next (at + (take_answer s part).taken) (drop (take_answer s part).taken part)
+        → (when b then asked n (take_answer s part).next (at + (take_answer s part).taken) (drop (take_answer s part).taken part)
         (more ∷ parts)
         else asked n (take_answer s part).next (at + (take_answer s part).taken) more parts)
         ≡ given_from (take_answer s part).next (at + (take_answer s part).taken)

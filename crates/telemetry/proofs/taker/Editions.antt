@@ -5,7 +5,7 @@ use mathlib.Core.List.{List, []}
 use Prim.Native.Nat.{ℕ, ◌≤◌, ◌<◌}
 use native.Mathlib.Omega.{arith}
 use borrow.Author.Tests.{le-leb, lt-leb, ne_eqb}
-use Rattle.bits.specs.Bits.{if◌then◌else◌}
+use Rattle.bits.specs.Bits.{when◌then◌else◌}
 use Rattle.bits.proofs.Octets.{Octets}
 use Rattle.randomiser.specs.Randomiser.{randomised}
 use Rattle.randomiser.proofs.Randomising.{randomised_twice}
@@ -32,7 +32,7 @@ module _ (edition limit : ℕ) where
   -- the older editions keep the old sequence
   pub older_sequence : edition ≤ 3 → generator_of edition ≡ telemetry
   older_sequence h =
-      ap₂ (λ a b. if a || b then second else telemetry) (ne_eqb edition 4 (λ e. absurd (omega arith)))
+      ap₂ (λ a b. when a || b then second else telemetry) (ne_eqb edition 4 (λ e. absurd (omega arith)))
       (ne_eqb edition 5 (λ e. absurd (omega arith)))
 
   -- so a taker that is told one gives what one that is told none gives

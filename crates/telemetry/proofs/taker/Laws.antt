@@ -9,16 +9,16 @@ use lib.Dec.{eqb, ltb}
 use lib.ListN.{length, get_or, set, take, drop, length-drop, take-append-drop}
 use lib.Seq.{sets, drop-length, take_all, length-take-le}
 use borrow.Author.Tests.{lt-ltb, le-ltb, eq-eqb, ne_eqb}
-use Rattle.bits.specs.Bits.{if◌then◌else◌}
+use Rattle.bits.specs.Bits.{when◌then◌else◌}
 use Rattle.answers.specs.Calls.{Corrected}
 use Rattle.telemetry.specs.taker.Stream.{marker}
 use Rattle.telemetry.specs.taker.Taking.{Told, Taker, standing, matched, moved, waiting, completed, taken_from}
 
-pub if_is : {A : Type 0} (b : Bool) (x y : A) → b ≡ true → (if b then x else y) ≡ x
-if_is b x y e = ap (λ z. if z then x else y) e
+pub if_is : {A : Type 0} (b : Bool) (x y : A) → b ≡ true → (when b then x else y) ≡ x
+if_is b x y e = ap (λ z. when z then x else y) e
 
-pub if_isnt : {A : Type 0} (b : Bool) (x y : A) → b ≡ false → (if b then x else y) ≡ y
-if_isnt b x y e = ap (λ z. if z then x else y) e
+pub if_isnt : {A : Type 0} (b : Bool) (x y : A) → b ≡ false → (when b then x else y) ≡ y
+if_isnt b x y e = ap (λ z. when z then x else y) e
 
 -- the places of a search
 pub four : (P : ℕ → Type 0) → P 0 → P 1 → P 2 → P 3 → (m : ℕ) → m < 4 → P m
@@ -35,17 +35,17 @@ pub matched_anew : (m : ℕ) → m < 4 → matched m 0x1A ≡ 1
 matched_anew = four (λ m. matched m 0x1A ≡ 1) refl refl refl refl
 
 pub matched_goes : (m o : ℕ) → o ≡ get_or marker m 0 → matched m o ≡ suc m
-matched_goes m o e = if_is (eqb o (get_or marker m 0)) (suc m) (if eqb o 0x1A then 1 else 0) (eq-eqb o (get_or marker m 0) e)
+matched_goes m o e = if_is (eqb o (get_or marker m 0)) (suc m) (when eqb o 0x1A then 1 else 0) (eq-eqb o (get_or marker m 0) e)
 
 pub matched_none : (m o : ℕ) → (o ≡ get_or marker m 0 → ⊥) → (o ≡ 0x1A → ⊥) → matched m o ≡ 0
 matched_none m o d d' =
-    if_isnt (eqb o (get_or marker m 0)) (suc m) (if eqb o 0x1A then 1 else 0) (ne_eqb o (get_or marker m 0) d)
+    if_isnt (eqb o (get_or marker m 0)) (suc m) (when eqb o 0x1A then 1 else 0) (ne_eqb o (get_or marker m 0) d)
     ∙ if_isnt (eqb o 0x1A) 1 0 (ne_eqb o 0x1A d')
 
 pub matched_le : (m o : ℕ) → m < 4 → matched m o ≤ 4
 matched_le m o h = go (eqb o (get_or marker m 0)) (eqb o 0x1A)
   where
-    go : (a b : Bool) → (if a then suc m else if b then 1 else 0) ≤ 4
+    go : (a b : Bool) → (when a then suc m else when b then 1 else 0) ≤ 4
     go true b = omega arith
     go false true = omega arith
     go false false = omega arith

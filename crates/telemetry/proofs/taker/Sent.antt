@@ -5,7 +5,7 @@ use mathlib.Core.List.{List, [], ◌∷◌, ◌++◌}
 use Prim.Native.Nat.{ℕ, zero, suc, ◌+◌, ◌-◌, ◌<◌}
 use lib.Dec.{eqb}
 use lib.ListN.{length, take, drop, replicate, length-replicate}
-use Rattle.bits.specs.Bits.{bit, if◌then◌else◌}
+use Rattle.bits.specs.Bits.{bit, when◌then◌else◌}
 use Rattle.bits.proofs.Octets.{Octets}
 use Rattle.rules.specs.Codes.{code, code5, checks}
 use Rattle.rules.specs.Encoding.{codeword, lifted, written}
@@ -93,7 +93,7 @@ refused_zeros g limit octets =
 -- The greatest k, up to so many, for which the last k octets are the marker's first k.
 abbrev pub longest : ℕ → List ℕ → ℕ
 longest zero seen = 0
-longest (suc k) seen = if begins (take (suc k) marker) (drop (length seen - suc k) seen) then suc k else longest k seen
+longest (suc k) seen = when begins (take (suc k) marker) (drop (length seen - suc k) seen) then suc k else longest k seen
 
 pub matched_longest : (m : ℕ) → m < 4 → (o : ℕ) → longest 4 (take m marker ++ (o ∷ [])) ≡ matched m o
 matched_longest =
@@ -101,25 +101,25 @@ matched_longest =
     (λ o. zeroth (eqb o 0x1A)) (λ o. first (eqb o 0xCF) (eqb o 0x1A)) (λ o. second (eqb o 0xFC) (eqb o 0x1A))
     (λ o. third (eqb o 0x1D) (eqb o 0x1A))
   where
-    zeroth : (b : Bool) → ◌≡◌ {A = ℕ} (if b && false then 4 else if b && false then 3 else if b && false then 2 else if b && true then 1
-        else 0) (if b then 1 else if b then 1 else 0)
+    zeroth : (b : Bool) → ◌≡◌ {A = ℕ} (when b && false then 4 else when b && false then 3 else when b && false then 2 else when b && true then 1
+        else 0) (when b then 1 else when b then 1 else 0)
     zeroth true = refl
     zeroth false = refl
 
-    first : (a b : Bool) → ◌≡◌ {A = ℕ} (if a && false then 4 else if a && false then 3 else if a && true then 2 else if b && true then 1
-        else 0) (if a then 2 else if b then 1 else 0)
+    first : (a b : Bool) → ◌≡◌ {A = ℕ} (when a && false then 4 else when a && false then 3 else when a && true then 2 else when b && true then 1
+        else 0) (when a then 2 else when b then 1 else 0)
     first true b = refl
     first false true = refl
     first false false = refl
 
-    second : (a b : Bool) → ◌≡◌ {A = ℕ} (if a && false then 4 else if a && true then 3 else if false then 2 else if b && true then 1 else
-        0) (if a then 3 else if b then 1 else 0)
+    second : (a b : Bool) → ◌≡◌ {A = ℕ} (when a && false then 4 else when a && true then 3 else when false then 2 else when b && true then 1 else
+        0) (when a then 3 else when b then 1 else 0)
     second true b = refl
     second false true = refl
     second false false = refl
 
-    third : (a b : Bool) → ◌≡◌ {A = ℕ} (if a && true then 4 else if false then 3 else if false then 2 else if b && true then 1 else 0)
-        (if a then 4 else if b then 1 else 0)
+    third : (a b : Bool) → ◌≡◌ {A = ℕ} (when a && true then 4 else when false then 3 else when false then 2 else when b && true then 1 else 0)
+        (when a then 4 else when b then 1 else 0)
     third true b = refl
     third false true = refl
     third false false = refl

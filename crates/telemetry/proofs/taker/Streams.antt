@@ -9,7 +9,7 @@ use lib.Dec.{leb}
 use lib.ListN.{length, get_or, take, drop, length-append}
 use lib.Seq.{take_at, drop_at}
 use borrow.Author.Tests.{lt-leb, le-leb, ne_eqb}
-use Rattle.bits.specs.Bits.{if◌then◌else◌}
+use Rattle.bits.specs.Bits.{when◌then◌else◌}
 use Rattle.randomiser.specs.Randomiser.{Generator}
 use Rattle.telemetry.specs.taker.Stream.{marker, begins, framed, answered, found_from}
 use Rattle.telemetry.proofs.taker.Laws.{if_isnt, four}
@@ -36,7 +36,7 @@ module _ (g : Generator) (limit : ℕ) where
       → found_from g limit 0 at (o ∷ rest) ≡ record { offset = at + 4; corrected = answered g limit (take 1020 (drop 4 (o ∷ rest))) }
       ∷ found_from g limit 1023 (suc at) rest
   unfolding found_from
-  found_taken at o rest e = ap (λ b. if b then (record { offset = at + 4; corrected = answered g limit (take 1020 (drop 4 (o ∷ rest))) }
+  found_taken at o rest e = ap (λ b. when b then (record { offset = at + 4; corrected = answered g limit (take 1020 (drop 4 (o ∷ rest))) }
       ∷ found_from g limit 1023 (suc at) rest) else found_from g limit 0 (suc at) rest) e
 
   -- an octet at which no word begins

@@ -1,6 +1,6 @@
 -- The generators of telemetry's sequences, and the editions that print them.
 use Rattle.std.specs.Prelude.{◌≡◌, Bool, true, false, ◌||◌, List, [], ◌∷◌, ℕ, ◌<◌, eqb, leb, get_or, replicate}
-use Rattle.bits.specs.Bits.{if◌then◌else◌}
+use Rattle.bits.specs.Bits.{when◌then◌else◌}
 use Rattle.randomiser.specs.Randomiser.{Generator, sequence_octet}
 
 -- The randomiser is x^8 + x^7 + x^5 + x^3 + 1 from all ones.
@@ -26,7 +26,7 @@ newer edition = eqb edition 4 || eqb edition 5
 
 -- Without a stated edition the old sequence stays; so it does with an edition that is not known.
 abbrev pub generator_of : ℕ → Generator
-generator_of edition = if newer edition then second else telemetry
+generator_of edition = when newer edition then second else telemetry
 
 -- What the code that works the second sequence out holds: so many of its octets.
 abbrev pub Begins : ℕ → List ℕ → Type 0

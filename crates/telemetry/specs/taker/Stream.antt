@@ -1,6 +1,6 @@
 -- Telemetry as a stream of octets: where its words lie, and what each answers.
 use Rattle.std.specs.Prelude.{Bool, true, false, ◌&&◌, List, [], ◌∷◌, ℕ, zero, suc, ◌+◌, eqb, leb, length, take, drop, replicate}
-use Rattle.bits.specs.Bits.{if◌then◌else◌}
+use Rattle.bits.specs.Bits.{when◌then◌else◌}
 use Rattle.answers.specs.Calls.{Corrected, correct_answer}
 use Rattle.randomiser.specs.Randomiser.{Generator, randomised}
 
@@ -38,7 +38,7 @@ unfoldable pub found_from : Generator → ℕ → ℕ → ℕ → List ℕ → L
 found_from g limit skip at [] = []
 found_from g limit (suc skip) at (octet ∷ rest) = found_from g limit skip (suc at) rest
 found_from g limit zero at (octet ∷ rest) =
-    if framed (octet ∷ rest)
+    when framed (octet ∷ rest)
     then (word_at g limit at (octet ∷ rest) ∷ found_from g limit 1023 (suc at) rest)
     else found_from g limit zero (suc at) rest
 

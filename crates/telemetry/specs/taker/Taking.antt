@@ -1,6 +1,6 @@
 -- The taker: a state that every octet moves on, and one call on a part of the stream.
 use Rattle.std.specs.Prelude.{◌≡◌, Bool, true, false, List, [], ◌∷◌, ℕ, suc, ◌-◌, eqb, ltb, get_or, set, drop, replicate}
-use Rattle.bits.specs.Bits.{if◌then◌else◌}
+use Rattle.bits.specs.Bits.{when◌then◌else◌}
 use Rattle.answers.specs.Calls.{Corrected, refused_correct_of}
 use Rattle.telemetry.specs.sequences.Telemetry.{known, generator_of}
 use Rattle.telemetry.specs.taker.Stream.{Found, marker, answered}
@@ -41,21 +41,21 @@ pub record Made : Type 0 where
 
 unfoldable pub taker_for_answer : ℕ → ℕ → Made
 taker_for_answer edition limit =
-    if known edition then record { number = 0; taker = fresh_taker (tell edition limit) }
+    when known edition then record { number = 0; taker = fresh_taker (tell edition limit) }
     else record { number = 19; taker = new_taker limit }
 
 -- After m octets of the marker and one more, so many are matched: the longest front of the marker that what was searched ends with.
 -- No end of a front is a front of the marker itself, so that is one octet more, or the octet alone, or none (`matched_longest`).
 abbrev pub matched : ℕ → ℕ → ℕ
 matched m octet =
-    if eqb octet (get_or marker m 0) then suc m
-    else if eqb octet 0x1A then 1
+    when eqb octet (get_or marker m 0) then suc m
+    else when eqb octet 0x1A then 1
     else 0
 
 -- The taker after one octet more, which completes no word.
 abbrev pub moved : Taker → ℕ → Taker
 moved s octet =
-    if ltb s.place 4 then standing (matched s.place octet) s.told s.octets
+    when ltb s.place 4 then standing (matched s.place octet) s.told s.octets
     else standing (suc s.place) s.told (set s.octets (s.place - 4) octet)
 
 -- The octets of the word that an octet more completes.
@@ -70,7 +70,7 @@ after s octet = standing 0 s.told (whole s octet)
 unfoldable pub given_from : Taker → ℕ → List ℕ → List Found
 given_from s at [] = []
 given_from s at (octet ∷ rest) =
-    if eqb s.place 1023
+    when eqb s.place 1023
     then (record { offset = suc at - 1020; corrected = answered_by s.told (whole s octet) } ∷ given_from (after s octet) (suc at) rest)
     else given_from (moved s octet) (suc at) rest
 
@@ -93,12 +93,12 @@ completed taken told octets =
 unfoldable pub taken_from : ℕ → Taker → List ℕ → Taken
 taken_from taken s [] = waiting taken s
 taken_from taken s (octet ∷ part) =
-    if eqb s.place 1023 then completed (suc taken) s.told (whole s octet)
+    when eqb s.place 1023 then completed (suc taken) s.told (whole s octet)
     else taken_from (suc taken) (moved s octet) part
 
 -- A place past 1023, which no call gives, is read as 0: such a taker searches.
 abbrev pub read_place : ℕ → ℕ
-read_place place = if ltb place 1024 then place else 0
+read_place place = when ltb place 1024 then place else 0
 
 unfoldable pub take_answer : Taker → List ℕ → Taken
 take_answer s part = taken_from 0 (standing (read_place s.place) s.told s.octets) part

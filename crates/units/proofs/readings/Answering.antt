@@ -8,7 +8,7 @@ use lib.Dec.{T, eqb, ltb}
 use lib.ListN.{length, take, drop, replicate, length-append, length-replicate, length-drop}
 use lib.Seq.{length-take-le, take_at, take-append-le}
 use borrow.Author.Tests.{eqb-true, eq-eqb, ne_eqb}
-use Rattle.bits.specs.Bits.{bit, if◌then◌else◌}
+use Rattle.bits.specs.Bits.{bit, when◌then◌else◌}
 use Rattle.bits.proofs.Octets.{length_octets}
 use Rattle.rules.specs.Codes.{code, code1, code3}
 use Rattle.rules.specs.Encoding.{lifted, sent, written}
@@ -27,7 +27,7 @@ use Rattle.units.specs.readings.Handing.{handed_part, handed_on_of}
 use Rattle.units.proofs.readings.Compared.{block_room}
 
 -- correct's output has a word's length
-chosen : (b : Bool) (a out : List ℕ) → length a ≡ length out → length (if b then a else out) ≡ length out
+chosen : (b : Bool) (a out : List ℕ) → length a ≡ length out → length (when b then a else out) ≡ length out
 chosen true a out e = e
 chosen false a out e = refl
 
@@ -90,9 +90,9 @@ module _ (n : ℕ) (word buffer : List ℕ) (limit : ℕ) (u : unit_code n ≡ t
     mended_part : take long (r.out ++ drop (length word) buffer) ≡ take (code n).octets_of_information r.out
     mended_part = take-append-le long r.out (drop (length word) buffer) fits ∙ ap (λ z. take z r.out) el
 
-    pub part_is : (out after : List ℕ) → after ≡ (if eqb r.number 0 then take long (r.out ++ drop (length word) buffer) else out)
+    pub part_is : (out after : List ℕ) → after ≡ (when eqb r.number 0 then take long (r.out ++ drop (length word) buffer) else out)
         → with_out r after ≡ handed_part n (correct_answer n word limit (replicate (code n).octets_of_word 0)) out
-    part_is out after e = ap (with_out r) (e ∙ ap (λ z. if eqb r.number 0 then z else out) mended_part)
+    part_is out after e = ap (with_out r) (e ∙ ap (λ z. when eqb r.number 0 then z else out) mended_part)
         ∙ ap (λ x. handed_part n x out) corrected_is
 
 -- the next codeblock, by what is handed out
@@ -126,17 +126,17 @@ place_fits n unit k = both (λ n. k < (length unit - 8 - length (tail n)) / (cod
 
 -- a test and what it says
 module _ {A : Type 0} (P : A → Type 0) where
-  when_not : (b : Bool) (a r : A) → (b ≡ false → P a) → (T b → P r) → P (if not b then a else r)
+  when_not : (b : Bool) (a r : A) → (b ≡ false → P a) → (T b → P r) → P (when not b then a else r)
   when_not true a r f g = g tt
   when_not false a r f g = f refl
 
   when_long : (octets : List ℕ) (long : ℕ) (a r : A) → P a → (length octets ≡ long → P r)
-      → P (if not (eqb (length octets) long) then a else r)
+      → P (when not (eqb (length octets) long) then a else r)
   when_long octets long a r p g = go (eqb (length octets) long) refl
     where
-      go : (b : Bool) → eqb (length octets) long ≡ b → P (if not (eqb (length octets) long) then a else r)
-      go true e = subst (λ b. P (if not b then a else r)) (sym e) (g (eqb-true (length octets) long e))
-      go false e = subst (λ b. P (if not b then a else r)) (sym e) p
+      go : (b : Bool) → eqb (length octets) long ≡ b → P (when not (eqb (length octets) long) then a else r)
+      go true e = subst (λ b. P (when not b then a else r)) (sym e) (g (eqb-true (length octets) long e))
+      go false e = subst (λ b. P (when not b then a else r)) (sym e) p
 
 -- an asking leaves the output's length as it is
 when_is : (b : Bool) → T b → b ≡ true
@@ -166,6 +166,6 @@ read_length s unit out =
     Kept h = length h.corrected.out ≡ length out
 
     pick : (b : Bool) (x y : Handed) → length x.corrected.out ≡ length out → length y.corrected.out ≡ length out
-        → length (if b then x else y).corrected.out ≡ length out
+        → length (when b then x else y).corrected.out ≡ length out
     pick true x y p q = p
     pick false x y p q = q

@@ -6,7 +6,7 @@ use native.Mathlib.Omega.{arith}
 use lib.Dec.{eqb}
 use lib.ListN.{length}
 use borrow.Author.Tests.{eq-eqb, ne_eqb}
-use Rattle.bits.specs.Bits.{if◌then◌else◌}
+use Rattle.bits.specs.Bits.{when◌then◌else◌}
 use Rattle.rules.specs.Codes.{code, code1, code3}
 use Rattle.units.specs.unitrules.Units.{unit_code, tail, unit_length}
 use Rattle.units.proofs.unitrules.Shapes.{both}
@@ -16,16 +16,16 @@ use Rattle.units.specs.unitoffers.Offers.{short_units, long_units, unit_offer_of
 -- ---- by number
 
 pub offer_one : (n : ℕ) → n ≡ 1 → short_units ≡ unit_offer_of n
-offer_one n e = sym (ap (λ b. if b then short_units else long_units (eqb n 3)) (eq-eqb n 1 e))
+offer_one n e = sym (ap (λ b. when b then short_units else long_units (eqb n 3)) (eq-eqb n 1 e))
 
 pub offer_other : (n : ℕ) → (n ≡ 1 → ⊥) → long_units (eqb n 3) ≡ unit_offer_of n
-offer_other n d = sym (ap (λ b. if b then short_units else long_units (eqb n 3)) (ne_eqb n 1 d))
+offer_other n d = sym (ap (λ b. when b then short_units else long_units (eqb n 3)) (ne_eqb n 1 d))
 
 -- whatever the number
 pub offer_offered : (n : ℕ) → (unit_offer_of n).offered ≡ unit_code n
 offer_offered n = go (eqb n 1)
   where
-    go : (b : Bool) → (if b then short_units else long_units (eqb n 3)).offered ≡ (b || eqb n 3)
+    go : (b : Bool) → (when b then short_units else long_units (eqb n 3)).offered ≡ (b || eqb n 3)
     go true = refl
     go false = refl
 
@@ -35,7 +35,7 @@ offer_is n u e h = sym (ap (λ u. u.offered) e ∙ offer_offered n) ∙ h
 either : (P : UnitOffer → Type 0) → P short_units → ((b : Bool) → P (long_units b)) → (n : ℕ) → P (unit_offer_of n)
 either P s l n = go (eqb n 1)
   where
-    go : (b : Bool) → P (if b then short_units else long_units (eqb n 3))
+    go : (b : Bool) → P (when b then short_units else long_units (eqb n 3))
     go true = s
     go false = l (eqb n 3)
 

@@ -7,7 +7,7 @@ use native.Mathlib.Omega.{arith}
 use lib.Dec.{eqb, ltb}
 use lib.ListN.{length, replicate, replicate-append-replicate, length-append, length-replicate}
 use borrow.Author.Tests.{eqb-true}
-use Rattle.bits.specs.Bits.{if◌then◌else◌}
+use Rattle.bits.specs.Bits.{when◌then◌else◌}
 use Rattle.rules.specs.Codes.{code}
 use Rattle.answers.specs.Calls.{Corrected, refused_correct_of, correct_answer}
 use Rattle.units.specs.unitrules.Units.{Reading, Handed, unit_code, blocks_in_of, with_out, received}
@@ -19,7 +19,7 @@ use Rattle.units.specs.unitreader.Named.{room_for, handed_at}
 room_le : (n : ℕ) → room_for n ≤ 32
 room_le n = go (eqb n 1)
   where
-    go : (b : Bool) → (if b then 8 else 32) ≤ 32
+    go : (b : Bool) → (when b then 8 else 32) ≤ 32
     go true = omega arith
     go false = omega arith
 
@@ -40,11 +40,11 @@ refused_kept s unit out =
     Kept : Handed → Type 0
     Kept h = (h.corrected.number ≡ 0 → ⊥) → h.corrected.out ≡ out
 
-    pick : (b : Bool) (x y : Handed) → Kept x → Kept y → Kept (if b then x else y)
+    pick : (b : Bool) (x y : Handed) → Kept x → Kept y → Kept (when b then x else y)
     pick true x y p q = p
     pick false x y p q = q
 
-    next : (b : Bool) → eqb r.number 0 ≡ b → Kept (if b then handed_out s r else handed_last_of s r out)
+    next : (b : Bool) → eqb r.number 0 ≡ b → Kept (when b then handed_out s r else handed_last_of s r out)
     next true e = λ d. absurd (d (eqb-true r.number 0 e))
     next false e = λ d. refl
 

@@ -5,7 +5,7 @@ use mathlib.Core.List.{List, ◌++◌}
 use Prim.Native.Nat.{ℕ, ◌-◌, ◌≤◌}
 use lib.Dec.{eqb}
 use lib.ListN.{take, drop, replicate}
-use Rattle.bits.specs.Bits.{if◌then◌else◌}
+use Rattle.bits.specs.Bits.{when◌then◌else◌}
 use Rattle.units.specs.unitrules.Units.{Reading, Handed, with_out, reading_from, read_answer}
 use Rattle.units.proofs.unitrules.Blocks.{take-replicate, drop-replicate}
 use Rattle.units.specs.unitoffers.Offers.{short_units, long_units, unit_offer_of}
@@ -14,7 +14,7 @@ use Rattle.units.specs.unitreader.Named.{room_for, with_zeros, handed_at}
 room_of : (n : ℕ) → (unit_offer_of n).information ≡ room_for n
 room_of n = go (eqb n 1)
   where
-    go : (b : Bool) → (if b then short_units else long_units (eqb n 3)).information ≡ (if b then 8 else 32)
+    go : (b : Bool) → (when b then short_units else long_units (eqb n 3)).information ≡ (when b then 8 else 32)
     go true = refl
     go false = refl
 

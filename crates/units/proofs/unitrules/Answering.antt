@@ -6,26 +6,26 @@ use Prim.Native.Nat.{ℕ, ◌≤◌, ◌<◌}
 use lib.Dec.{eqb, ltb}
 use lib.ListN.{length, replicate}
 use borrow.Author.Tests.{eq-eqb, ne_eqb, lt-ltb, le-ltb, not-false}
-use Rattle.bits.specs.Bits.{if◌then◌else◌}
+use Rattle.bits.specs.Bits.{when◌then◌else◌}
 use Rattle.rules.specs.Codes.{code}
 use Rattle.answers.specs.Calls.{Corrected, refused_correct_of, correct_answer}
 use Rattle.units.specs.unitrules.Units.{unit_code, started, shaped, blocks_in_of, received, Reading}
 use Rattle.units.specs.unitrules.Units.{Handed, with_out, handed_out, handed_last_of}
 use Rattle.units.specs.unitrules.Units.{handed_again_of, read_next_of, read_answer, reader_number_of}
 
-pub if_is : {A : Type 0} (b : Bool) (a r : A) → b ≡ true → (if b then a else r) ≡ a
-if_is b a r e = ap (λ b. if b then a else r) e
+pub if_is : {A : Type 0} (b : Bool) (a r : A) → b ≡ true → (when b then a else r) ≡ a
+if_is b a r e = ap (λ b. when b then a else r) e
 
-pub if_isnt : {A : Type 0} (b : Bool) (a r : A) → b ≡ false → (if b then a else r) ≡ r
-if_isnt b a r e = ap (λ b. if b then a else r) e
+pub if_isnt : {A : Type 0} (b : Bool) (a r : A) → b ≡ false → (when b then a else r) ≡ r
+if_isnt b a r e = ap (λ b. when b then a else r) e
 
-pub not_is : {A : Type 0} (b : Bool) (a r : A) → b ≡ true → (if not b then a else r) ≡ r
-not_is b a r e = ap (λ b. if not b then a else r) e
+pub not_is : {A : Type 0} (b : Bool) (a r : A) → b ≡ true → (when not b then a else r) ≡ r
+not_is b a r e = ap (λ b. when not b then a else r) e
 
-pub not_isnt : {A : Type 0} (b : Bool) (a r : A) → b ≡ false → (if not b then a else r) ≡ a
-not_isnt b a r e = ap (λ b. if not b then a else r) e
+pub not_isnt : {A : Type 0} (b : Bool) (a r : A) → b ≡ false → (when not b then a else r) ≡ a
+not_isnt b a r e = ap (λ b. when not b then a else r) e
 
-pub if_cases : {A : Type 0} (P : A → Type 0) (b : Bool) (a r : A) → (b ≡ true → P a) → (b ≡ false → P r) → P (if b then a else r)
+pub if_cases : {A : Type 0} (P : A → Type 0) (b : Bool) (a r : A) → (b ≡ true → P a) → (b ≡ false → P r) → P (when b then a else r)
 if_cases P true a r p q = p refl
 if_cases P false a r p q = q refl
 
@@ -95,12 +95,12 @@ module _ (s : Reading) (unit out : List ℕ) where
 
   pub next_out : (r : Corrected) → corrected_at ≡ r → r.number ≡ 0 → read_next_of s unit out ≡ handed_out s r
   unfolding read_next_of
-  next_out r e z = ap (λ r. if eqb r.number 0 then handed_out s r else handed_last_of s r out) e
+  next_out r e z = ap (λ r. when eqb r.number 0 then handed_out s r else handed_last_of s r out) e
       ∙ if_is (eqb r.number 0) (handed_out s r) (handed_last_of s r out) (eq-eqb r.number 0 z)
 
   pub next_last : (r : Corrected) → corrected_at ≡ r → (r.number ≡ 0 → ⊥) → read_next_of s unit out ≡ handed_last_of s r out
   unfolding read_next_of
-  next_last r e d = ap (λ r. if eqb r.number 0 then handed_out s r else handed_last_of s r out) e
+  next_last r e d = ap (λ r. when eqb r.number 0 then handed_out s r else handed_last_of s r out) e
       ∙ if_isnt (eqb r.number 0) (handed_out s r) (handed_last_of s r out) (ne_eqb r.number 0 d)
 
   -- an answer by its ladder

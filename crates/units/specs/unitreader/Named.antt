@@ -1,6 +1,6 @@
 -- The named form of the reader: a struct that stands on the lent unit.
 use Rattle.std.specs.Prelude.{List, [], ◌++◌, ℕ, ◌-◌, eqb, replicate}
-use Rattle.bits.specs.Bits.{if◌then◌else◌}
+use Rattle.bits.specs.Bits.{when◌then◌else◌}
 use Rattle.units.specs.unitrules.Units.{Handed, with_out, reader_number_of, reading_from, read_answer}
 use Rattle.units.specs.readings.Answers.{as_handed}
 use Rattle.units.specs.declared.unitreader.Block.{Block}
@@ -8,7 +8,7 @@ use Rattle.units.specs.declared.unitreader.Reader.{Reader}
 
 -- The information octets of a code, 1 or 3; where no unit is of the code, as many as code 3's.
 abbrev pub room_for : ℕ → ℕ
-room_for n = if eqb n 1 then 8 else 32
+room_for n = when eqb n 1 then 8 else 32
 
 -- An answer with so many zeros behind the octets that it hands out.
 abbrev pub with_zeros : ℕ → Handed → Handed
@@ -37,7 +37,7 @@ pub record Made : Type 0 where
 abbrev pub made_over : ℕ → List ℕ → ℕ → Made
 made_over n unit limit =
     let number = reader_number_of n unit in
-    record { number = number; unit = if eqb number 0 then unit else []; place = 0; code = n; limit = limit }
+    record { number = number; unit = when eqb number 0 then unit else []; place = 0; code = n; limit = limit }
 
 abbrev pub as_made : ℕ → Reader → Made
 as_made number r = record { number = number; unit = r.unit.now; place = r.place; code = r.code; limit = r.limit }

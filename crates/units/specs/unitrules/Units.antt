@@ -1,7 +1,7 @@
 -- Telecommand transmission units: a start sequence, one or more codeblocks of code 1 or code 3, and a tail.
 use Rattle.std.specs.Prelude.{Bool, true, false, not, ◌&&◌, ◌||◌, List, [], ◌∷◌, ◌++◌, ℕ, zero, suc, ◌+◌, ◌-◌, ◌*◌, ◌/◌, ◌%◌, ◌^◌, eqb, leb}
 use Rattle.std.specs.Prelude.{ltb, length, take, drop, replicate}
-use Rattle.bits.specs.Bits.{bit, if◌then◌else◌}
+use Rattle.bits.specs.Bits.{bit, when◌then◌else◌}
 use Rattle.rules.specs.Codes.{code}
 use Rattle.rules.specs.Encoding.{lifted, encoded, written}
 use Rattle.answers.specs.Calls.{Encoded, Corrected, refused_correct_of, correct_answer}
@@ -17,7 +17,7 @@ start = 0x03 ∷ 0x47 ∷ 0x76 ∷ 0xC7 ∷ 0x27 ∷ 0x28 ∷ 0x95 ∷ 0xB0 ∷ 
 -- Where the standard offers a tail for the code, even as an option, it is always written and always demanded; otherwise there is none.
 unfoldable pub tail : ℕ → List ℕ
 tail n =
-    if eqb n 1 then
+    when eqb n 1 then
     (0x55 ∷ 0x55 ∷ 0x55 ∷ 0x56 ∷ 0xAA ∷ 0xAA ∷ 0xAA ∷ 0xAA ∷ 0x55 ∷ 0x55 ∷ 0x55 ∷ 0x55 ∷ 0x55 ∷ 0x55 ∷ 0x55 ∷ 0x55 ∷ [])
     else []
 
@@ -52,17 +52,17 @@ unit_length n long = 8 + (blocks_for n long * (code n).octets_of_word + length (
 -- How many octets the unit of so many octets of information has; 0 where there is none, and where no length of a slice is as great.
 unfoldable pub unit_octets_of : ℕ → ℕ → ℕ
 unit_octets_of n long =
-    if not (unit_code n) then 0
-    else if eqb long 0 then 0
-    else if not (ltb (unit_length n long) (2 ^ 64)) then 0
+    when not (unit_code n) then 0
+    else when eqb long 0 then 0
+    else when not (ltb (unit_length n long) (2 ^ 64)) then 0
     else unit_length n long
 
 -- The writer: 1 for another code; 2 if there is no information; 3 if the output is not exactly as long as needed.
 unfoldable pub write_answer : ℕ → List ℕ → List ℕ → Encoded
 write_answer n information out =
-    if not (unit_code n) then record { number = 1; out = out }
-    else if eqb (length information) 0 then record { number = 2; out = out }
-    else if not (eqb (length out) (unit_length n (length information))) then record { number = 3; out = out }
+    when not (unit_code n) then record { number = 1; out = out }
+    else when eqb (length information) 0 then record { number = 2; out = out }
+    else when not (eqb (length out) (unit_length n (length information))) then record { number = 3; out = out }
     else record { number = 0; out = unit n information }
 
 -- ---- the reader
@@ -113,9 +113,9 @@ with_out r out = record {
 -- one or more whole codeblocks and the tail.
 unfoldable pub reader_number_of : ℕ → List ℕ → ℕ
 reader_number_of n unit =
-    if not (unit_code n) then 1
-    else if not (started unit) then 11
-    else if not (shaped n unit) then 12
+    when not (unit_code n) then 1
+    else when not (started unit) then 11
+    else when not (shaped n unit) then 12
     else 0
 
 abbrev pub reading_from : ℕ → ℕ → ℕ → ℕ → Reading
@@ -159,14 +159,14 @@ unfoldable pub read_next_of : Reading → List ℕ → List ℕ → Handed
 read_next_of s unit out =
     let n = s.code in
     let r = correct_answer n (received n unit s.place) s.limit (replicate (code n).octets_of_word 0) in
-    if eqb r.number 0 then handed_out s r else handed_last_of s r out
+    when eqb r.number 0 then handed_out s r else handed_last_of s r out
 
 -- Asked with an output: 3 first if it is not the code's information length, which ends nothing; else the answer that ended the reading,
 -- or that there is none, again and again; or the next codeblock. A reading of another code, which no reader made, answers 1.
 unfoldable pub read_answer : Reading → List ℕ → List ℕ → Handed
 read_answer s unit out =
-    if not (unit_code s.code) then handed_again_of s (refused_correct_of out 1) false
-    else if not (eqb (length out) (code s.code).octets_of_information) then handed_again_of s (refused_correct_of out 3) false
-    else if not (eqb s.kept.number 0) then handed_again_of s (with_out s.kept out) false
-    else if not (ltb s.place (blocks_in_of s.code unit)) then handed_again_of s (refused_correct_of out 0) true
+    when not (unit_code s.code) then handed_again_of s (refused_correct_of out 1) false
+    else when not (eqb (length out) (code s.code).octets_of_information) then handed_again_of s (refused_correct_of out 3) false
+    else when not (eqb s.kept.number 0) then handed_again_of s (with_out s.kept out) false
+    else when not (ltb s.place (blocks_in_of s.code unit)) then handed_again_of s (refused_correct_of out 0) true
     else read_next_of s unit out

@@ -9,7 +9,7 @@ use native.Mathlib.Omega.{arith}
 use lib.Dec.{T, eqb, leb, ltb, le→leb, nltb→le}
 use lib.ListN.{length}
 use borrow.Author.Tests.{eq-eqb, ne_eqb, eqb-true, le-ltb}
-use Rattle.bits.specs.Bits.{Word, bit, count, tally, if◌then◌else◌}
+use Rattle.bits.specs.Bits.{Word, bit, count, tally, when◌then◌else◌}
 use Rattle.rules.specs.Codes.{Code, code, code4, code5, near_earth, bits, information, offered, telecommanded}
 use Rattle.rules.specs.Checks.{broken}
 use Rattle.rules.specs.Encoding.{lifted, sent, encoded, codeword, OwnParity}
@@ -82,15 +82,15 @@ module _ (n : ℕ) (off : offered n ≡ true) where
   module _ (r : Run) where
     pub judged_other : (r.number ≡ 0 → ⊥) → r.number ≡ judged (code n) r
     judged_other d =
-        sym (ap (λ b. if not b then r.number else if ltb 0 (count (code n).unsent r.word) then 7 else if not
+        sym (ap (λ b. when not b then r.number else when ltb 0 (count (code n).unsent r.word) then 7 else when not
         (codeword (code n) (sent (code n) r.word)) then 8 else 0) (ne_eqb r.number 0 d))
 
     spelled : (a b : Bool) → r.number ≡ 0 → ltb 0 (count (code n).unsent r.word) ≡ a → codeword (code n) (sent (code n) r.word) ≡ b
-        → (if a then 7 else if not b then 8 else 0) ≡ judged (code n) r
+        → (when a then 7 else when not b then 8 else 0) ≡ judged (code n) r
     spelled a b e f g =
-        sym (ap (λ b. if not b then r.number else if ltb 0 (count (code n).unsent r.word) then 7 else if not
+        sym (ap (λ b. when not b then r.number else when ltb 0 (count (code n).unsent r.word) then 7 else when not
         (codeword (code n) (sent (code n) r.word)) then 8 else 0) (eq-eqb r.number 0 e)
-        ∙ ap₂ (λ a b. if a then 7 else if not b then 8 else 0) f g)
+        ∙ ap₂ (λ a b. when a then 7 else when not b then 8 else 0) f g)
 
     no_unsent : ((i : ℕ) → i < (code n).unsent → r.word i ≡ false) → ltb 0 (count (code n).unsent r.word) ≡ false
     no_unsent none = le-ltb 0 (count (code n).unsent r.word) (le_of_eq (count_none (code n).unsent r.word none))

@@ -10,7 +10,7 @@ use lib.Dec.{ltb, eqb}
 use lib.ListN.{length, get_or, take, set, length-append}
 use lib.Seq.{take-suc, take-suc-set}
 use borrow.Author.Tests.{ltb-true, ltb-false, lt-ltb, le-ltb}
-use Rattle.bits.specs.Bits.{if◌then◌else◌}
+use Rattle.bits.specs.Bits.{when◌then◌else◌}
 use Rattle.rules.specs.Codes.{code, offered}
 use Rattle.answers.specs.Calls.{refusal, unless, Corrected, refused_correct_of, ran_correct, ran_from, correct_answer}
 use Rattle.wordlog.specs.line.Line.{digits, decimal, fields, numbers, line}
@@ -19,13 +19,13 @@ use Rattle.wordlog.specs.line.Line.{digits, decimal, fields, numbers, line}
 
 -- one digit, or those of a tenth and one more
 abbrev spelled : ℕ → List ℕ → List ℕ
-spelled n front = if ltb n 10 then ((48 + n) ∷ []) else front ++ ((48 + n % 10) ∷ [])
+spelled n front = when ltb n 10 then ((48 + n) ∷ []) else front ++ ((48 + n % 10) ∷ [])
 
 spelled_same : (n : ℕ) (a b : List ℕ) → (10 ≤ n → a ≡ b) → spelled n a ≡ spelled n b
 spelled_same n a b f = go (ltb n 10) refl
   where
-    go : (t : Bool) → ltb n 10 ≡ t → (if t then ((48 + n) ∷ []) else a ++ ((48 + n % 10) ∷ []))
-        ≡ (if t then ((48 + n) ∷ []) else b ++ ((48 + n % 10) ∷ []))
+    go : (t : Bool) → ltb n 10 ≡ t → (when t then ((48 + n) ∷ []) else a ++ ((48 + n % 10) ∷ []))
+        ≡ (when t then ((48 + n) ∷ []) else b ++ ((48 + n % 10) ∷ []))
     go true e = refl
     go false e = ap (λ (l : List ℕ). l ++ ((48 + n % 10) ∷ [])) (f (ltb-false n 10 e))
 
@@ -146,7 +146,7 @@ same_line i n word limit out other e =
     go : (k : ℕ) → line i (answer k out) ≡ line i (answer k other)
     go k = by (eqb k 0)
       where
-        by : (b : Bool) → line i (if b then ran_from n word limit out else refused_correct_of out k) ≡ line i
-            (if b then ran_from n word limit other else refused_correct_of other k)
+        by : (b : Bool) → line i (when b then ran_from n word limit out else refused_correct_of out k) ≡ line i
+            (when b then ran_from n word limit other else refused_correct_of other k)
         by true = refl
         by false = refl

@@ -8,7 +8,7 @@ use native.Mathlib.Omega.{arith}
 use lib.Dec.{T, ltb}
 use lib.ListN.{length, length-append, drop_of_length-le}
 use borrow.Author.Tests.{ltb-false, le-ltb, not-false}
-use Rattle.bits.specs.Bits.{if◌then◌else◌}
+use Rattle.bits.specs.Bits.{when◌then◌else◌}
 use Rattle.rules.specs.Codes.{code, offered}
 use Rattle.answers.specs.Calls.{refused_correct_of}
 use Rattle.wordlog.specs.line.Line.{header, line}
@@ -60,7 +60,7 @@ behind (a ∷ []) octets l e = absurd (omega arith)
 behind (a ∷ b ∷ []) octets l e = absurd (omega arith)
 behind (a ∷ b ∷ c ∷ []) octets l e =
     let f : ltb (length (a ∷ b ∷ c ∷ octets)) 3 ≡ false = le-ltb (length (a ∷ b ∷ c ∷ octets)) 3 (omega arith) in
-    ap₂ (λ (t u : Bool). if t || u then line 0 (refused_correct_of [] 1) else lines a (256 * b + c) 0 octets (words a octets)) f
+    ap₂ (λ (t u : Bool). when t || u then line 0 (refused_correct_of [] 1) else lines a (256 * b + c) 0 octets (words a octets)) f
     (neither (ltb 3 3) (not (offered a)) e).1
 behind (a ∷ b ∷ c ∷ d ∷ h) octets l e = absurd (omega arith)
 

@@ -2,7 +2,7 @@
 use Rattle.std.specs.Prelude.{List, [], ◌∷◌, ◌++◌, ℕ, zero, suc, ◌+◌, ◌/◌, ◌%◌, ltb, replicate}
 use Prim.Native.Char.{code as ascii_of}
 use Prim.Native.String.{String, [] as none, ◌∷◌ as ◌then◌}
-use Rattle.bits.specs.Bits.{if◌then◌else◌}
+use Rattle.bits.specs.Bits.{when◌then◌else◌}
 use Rattle.rules.specs.Codes.{code}
 use Rattle.answers.specs.Calls.{Corrected, correct_answer}
 
@@ -14,7 +14,7 @@ ascii (c then rest) = ascii_of c ∷ ascii rest
 -- The decimal digits of a number, the most significant first; no number has more digits than itself and one.
 unfoldable pub digits : ℕ → ℕ → List ℕ
 digits zero n = (48 + n) ∷ []
-digits (suc most) n = if ltb n 10 then ((48 + n) ∷ []) else digits most (n / 10) ++ ((48 + n % 10) ∷ [])
+digits (suc most) n = when ltb n 10 then ((48 + n) ∷ []) else digits most (n / 10) ++ ((48 + n % 10) ∷ [])
 
 abbrev pub decimal : ℕ → List ℕ
 decimal n = digits n n

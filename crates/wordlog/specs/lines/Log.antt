@@ -1,6 +1,6 @@
 -- The log of a recording, octets to text.
 use Rattle.std.specs.Prelude.{Bool, not, ◌||◌, List, [], ◌++◌, ℕ, zero, suc, ◌+◌, ◌-◌, ◌*◌, ◌/◌, ltb, length, get_or, take, drop}
-use Rattle.bits.specs.Bits.{if◌then◌else◌}
+use Rattle.bits.specs.Bits.{when◌then◌else◌}
 use Rattle.rules.specs.Codes.{code, offered}
 use Rattle.answers.specs.Calls.{refused_correct_of}
 use Rattle.wordlog.specs.line.Line.{header, line, word_line}
@@ -36,7 +36,7 @@ unfoldable pub body : List ℕ → List ℕ
 body recording =
     let n = code_in recording in
     let octets = rest_in recording in
-    if bad recording then line 0 (refused_correct_of [] 1)
+    when bad recording then line 0 (refused_correct_of [] 1)
     else lines n (limit_in recording) 0 octets (words n octets)
 
 -- The log: a header and the lines.

@@ -2,7 +2,7 @@
 use mathlib.Core.Path.{sym, ap, ap₂, ◌∙◌}
 use Prim.Native.Nat.{ℕ, ◌+◌, ◌-◌, ◌%◌}
 use borrow.Author.Tests.{lt-ltb, le-ltb}
-use Rattle.bits.specs.Bits.{Word, flipped, if◌then◌else◌}
+use Rattle.bits.specs.Bits.{Word, flipped, when◌then◌else◌}
 use Rattle.flipping.proofs.bounds.flip_check.Goals as goal
 
 pub returns-then-p-m : goal.returns-then-p-m
@@ -10,11 +10,11 @@ returns-then-p-m c =
     let a = c.args in
     c.flip_bit-then-p-m.ensures
     ∙ ap₂ (λ (x : Word) (q : ℕ). flipped x q) c.flip_bit.ensures
-    (ap (λ b. if b then a.p + a.m else a.p - a.m) (sym (lt-ltb (a.p % 1024) a.m c.if-p-m.true)))
+    (ap (λ b. when b then a.p + a.m else a.p - a.m) (sym (lt-ltb (a.p % 1024) a.m c.if-p-m.true)))
 
 pub returns-else-p-m : goal.returns-else-p-m
 returns-else-p-m c =
     let a = c.args in
     c.flip_bit-else-p-m.ensures
     ∙ ap₂ (λ (x : Word) (q : ℕ). flipped x q) c.flip_bit.ensures
-    (ap (λ b. if b then a.p + a.m else a.p - a.m) (sym (le-ltb (a.p % 1024) a.m c.if-p-m.false)))
+    (ap (λ b. when b then a.p + a.m else a.p - a.m) (sym (le-ltb (a.p % 1024) a.m c.if-p-m.false)))

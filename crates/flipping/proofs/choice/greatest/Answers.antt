@@ -3,7 +3,7 @@ use mathlib.Core.Path.{◌≡◌, ap, ap₂, ◌∙◌}
 use Prim.Native.Nat.{ℕ}
 use native.Mathlib.Omega.{arith}
 use lib.Dec.{ltb}
-use Rattle.bits.specs.Bits.{if◌then◌else◌}
+use Rattle.bits.specs.Bits.{when◌then◌else◌}
 use Rattle.flipping.specs.choice.Searching.{highest}
 use Rattle.flipping.proofs.choice.Searches.{highest_none, highest_more}
 use Rattle.flipping.proofs.choice.greatest.Goals as goal
@@ -22,7 +22,7 @@ loop-b-preserved c =
     let a = c.args in (
       omega arith,
       highest_more a.counts.now a.met.now l.b c.higher-top.result (c.higher-top.ensures
-          ∙ ap₂ (λ (x y : ℕ). if ltb x y then y else x) l.invariant.1 c.bound_of.ensures),
+          ∙ ap₂ (λ (x y : ℕ). when ltb x y then y else x) l.invariant.1 c.bound_of.ensures),
     )
 
 pub returns : goal.returns

@@ -4,7 +4,7 @@ use mathlib.Core.Bool.{Bool, true, false, not, ◌&&◌}
 use Prim.Native.Nat.{zero-le}
 use borrow.Author.Tests.{le-leb, eq-eqb, ne_eqb}
 use lib.Dec.{leb, ltb}
-use Rattle.bits.specs.Bits.{◌⊕◌, digit, if◌then◌else◌}
+use Rattle.bits.specs.Bits.{◌⊕◌, digit, when◌then◌else◌}
 use Rattle.planes.proofs.Digits.{ones_at}
 use Rattle.vectors.proofs.Places.{digit_xor}
 use Rattle.flipping.proofs.bounds.Weights.{and-true, not-before}
@@ -25,11 +25,11 @@ returns-then-b-eq0 c i hi =
     ∙ ap₂ ◌⊕◌ all (c.front.ensures i hi ∙ ap (λ t. ltb i a.from && t) all)
     ∙ less (ltb i a.m) (ltb i a.from)
     ∙ ap (λ t. t && ltb i a.m) (not-before i a.from)
-    ∙ ap (λ t. leb (if t then a.from else 0) i && ltb i a.m) (sym (eq-eqb a.b 0 c.if-b-eq0.true))
+    ∙ ap (λ t. leb (when t then a.from else 0) i && ltb i a.m) (sym (eq-eqb a.b 0 c.if-b-eq0.true))
 
 pub returns : goal.returns
 returns c i hi =
     let a = c.args in
     c.front-all.ensures i hi ∙ ap (λ t. ltb i a.m && t) (ones_at 64 i hi) ∙ and-true (ltb i a.m)
     ∙ ap (λ t. t && ltb i a.m) (sym (le-leb 0 i zero-le))
-    ∙ ap (λ t. leb (if t then a.from else 0) i && ltb i a.m) (sym (ne_eqb a.b 0 c.if-b-eq0.false))
+    ∙ ap (λ t. leb (when t then a.from else 0) i && ltb i a.m) (sym (ne_eqb a.b 0 c.if-b-eq0.false))
