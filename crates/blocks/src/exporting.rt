@@ -2,7 +2,7 @@
 ghost use Rattle.std.specs.Prelude.{◌≡◌, ◌++◌, ◌+◌, ◌-◌, ◌*◌, ◌/◌, ◌%◌, ◌≤◌, length, take, replicate};
 ghost use Rattle.blocks.specs.framecheck.FrameCheck.{framed};
 ghost use Rattle.blocks.specs.framecheck.Table.{table as table_of};
-ghost use Rattle.blocks.specs.Blocks.{two, four, front, block as block_of, exported as exportedOf, export_answer, export_room};
+ghost use Rattle.blocks.specs.Blocks.{two, four, front, block as block_of, exported as exported_of, export_answer, export_room};
 ghost use Rattle.blocks.specs.exporting.Answers.{as_exported};
 
 use super::framecheck;
@@ -100,7 +100,7 @@ fn least(a: usize, b: usize) -> usize
 // As many blocks as the output holds.
 fn put_blocks(octets: &[u8], n: usize, out: &mut [u8], t: &[u16; 256])
     requires { (n ≡ (length octets.now + 503) / 504) × (n ≤ 128) × (length out.old ≡ 512 * n) × (t.now ≡ table_of) }
-    ensures { out.new ≡ exportedOf n 0 octets.now }
+    ensures { out.new ≡ exported_of n 0 octets.now }
 {
     let mut k: usize = 0;
     while k < n {

@@ -2,8 +2,8 @@
 ghost use Rattle.std.specs.Prelude.{◌≡◌, ◌+◌, ◌*◌, ◌≤◌, ◌<◌, length};
 ghost use Rattle.blocks.specs.framecheck.FrameCheck.{sound};
 ghost use Rattle.blocks.specs.framecheck.Table.{table as table_of};
-ghost use Rattle.blocks.specs.Blocks.{number_in, used_in, count_right_of, clear as clearOf, filling_in, fault as faultOf, first_fault_of};
-ghost use Rattle.blocks.specs.Blocks.{imported as importedOf, whole_blocks, import_answer, import_room};
+ghost use Rattle.blocks.specs.Blocks.{number_in, used_in, count_right_of, clear as clear_of, filling_in, fault as fault_of, first_fault_of};
+ghost use Rattle.blocks.specs.Blocks.{imported as imported_of, whole_blocks, import_answer, import_room};
 ghost use Rattle.blocks.specs.importing.Answers.{as_fault, as_imported, found_in};
 
 use super::framecheck;
@@ -66,7 +66,7 @@ fn count_right(last: bool, used: usize) -> bool
 
 // Whether all of the octets are zeros.
 fn clear(octets: &[u8]) -> bool
-    ensures { result ≡ clearOf octets.now }
+    ensures { result ≡ clear_of octets.now }
 {
     let mut i: usize = 0;
     while i < octets.len() {
@@ -81,7 +81,7 @@ fn clear(octets: &[u8]) -> bool
 // Whether zeros stand after the used octets.
 fn is_filled(block: &[u8], used: usize) -> bool
     requires { (length block.now ≡ 512) × (used ≡ used_in block.now) × (used ≤ 504) }
-    ensures { result ≡ clearOf (filling_in block.now) }
+    ensures { result ≡ clear_of (filling_in block.now) }
 {
     let from = 6 + used;
     clear(&block[from..510])
@@ -90,7 +90,7 @@ fn is_filled(block: &[u8], used: usize) -> bool
 // The fault of a block at a place, 0 for none: 21 check, 22 number, 23 count or filling.
 fn fault(place: usize, last: bool, block: &[u8], t: &[u16; 256]) -> u8
     requires { (length block.now ≡ 512) × (t.now ≡ table_of) }
-    ensures { result ≡ faultOf place last block.now }
+    ensures { result ≡ fault_of place last block.now }
 {
     if !is_sound(block, t) {
         return 21;
@@ -149,7 +149,7 @@ fn found(blocks: &[u8]) -> Imported
 // How many octets are used in n blocks, all but the last of them full.
 fn room(blocks: &[u8], n: usize) -> usize
     requires { (length blocks.now ≡ 512 * n) × (n ≤ 128) × ((first_fault_of n 0 blocks.now).number ≡ 0) }
-    ensures { result ≡ length (importedOf n blocks.now) }
+    ensures { result ≡ length (imported_of n blocks.now) }
 {
     if n == 0 {
         return 0;
@@ -162,8 +162,8 @@ fn room(blocks: &[u8], n: usize) -> usize
 // The used octets of n blocks, one block after another.
 fn take_data(blocks: &[u8], n: usize, out: &mut [u8])
     requires { (length blocks.now ≡ 512 * n) × (n ≤ 128) × ((first_fault_of n 0 blocks.now).number ≡ 0)
-        × (length out.old ≡ length (importedOf n blocks.now)) }
-    ensures { out.new ≡ importedOf n blocks.now }
+        × (length out.old ≡ length (imported_of n blocks.now)) }
+    ensures { out.new ≡ imported_of n blocks.now }
 {
     let mut end: usize = 0;
     let mut k: usize = 0;

@@ -15,7 +15,7 @@ ghost use Rattle.flipping.specs.endings.Answers.{as_corrected};
 ghost use Rattle.units.specs.unitrules.Units.{unit_octets_of, write_answer, reader_answer, read_answer};
 ghost use Rattle.units.specs.readings.Answers.{as_reading, as_handed};
 ghost use Rattle.bch.specs.Bch.{bch_encode_answer, bch_check_answer};
-ghost use Rattle.bch.specs.Answers.{as_encoded as asBchEncoded, as_mended};
+ghost use Rattle.bch.specs.Answers.{as_encoded as as_bch_encoded, as_mended};
 ghost use Rattle.quick.specs.Quick.{quick_answer};
 ghost use Rattle.quick.specs.Answers.{as_quick};
 ghost use Rattle.nearest.specs.Nearest.{nearest_answer};
@@ -192,7 +192,7 @@ pub extern "C" fn pandoricchia_read(state: Reading, unit: &[u8], out: &mut [u8])
 
 #[unsafe(no_mangle)]
 pub extern "C" fn pandoricchia_bch_encode(information: &[u8], word: &mut [u8]) -> u8
-    ensures { asBchEncoded result word.new ≡ bch_encode_answer information.now word.old }
+    ensures { as_bch_encoded result word.new ≡ bch_encode_answer information.now word.old }
 {
     bch::bch_encode(information, word)
 }

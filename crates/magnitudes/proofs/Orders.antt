@@ -13,7 +13,7 @@ use lib.ListN.{length, get_or-eq_default}
 use borrow.Author.Tests.{le-ltb, ltb-true, eqb-true}
 use Rattle.bits.specs.Bits.{when◌then◌else◌}
 use Rattle.bits.proofs.Sums.{below_at}
-use Rattle.magnitudes.specs.Samples.{isOne, sample_of, read, magnitude, smaller, is_finite, all_finite}
+use Rattle.magnitudes.specs.Samples.{is_one, sample_of, read, magnitude, smaller, is_finite, all_finite}
 use Rattle.magnitudes.proofs.Smallest.{Ordered}
 
 both : (a b : Bool) → (a && b) ≡ true → (a ≡ true) × (b ≡ true)
@@ -67,9 +67,9 @@ unsigned false m e = record {
       (le-ltb (m * up e * 1) (0 * 1 * down e) (omega (arith, ap (λ z. z * down e) (zero-mul 1), zero-mul (down e))));
   zero_if = λ f. absurd (true≢false (sym f));
 }
-unsigned true m e = go (isOne (fin true m e)) refl
+unsigned true m e = go (is_one (fin true m e)) refl
   where
-    go : (b : Bool) → isOne (fin true m e) ≡ b → Unsigned m e (magnitude (fin true m e))
+    go : (b : Bool) → is_one (fin true m e) ≡ b → Unsigned m e (magnitude (fin true m e))
     go true f = record {
       sign = false;
       is = ap (λ b. when b then fin false m e else fin true m e) f;
@@ -161,7 +161,7 @@ past_sample samples n h = get_or-eq_default samples nan {n = n} h
 
 pub past_read : (samples : List Float) (n : ℕ) → length samples ≤ n → read samples n ≡ false
 unfolding read lt
-past_read samples n h = ap isOne (past_sample samples n h)
+past_read samples n h = ap is_one (past_sample samples n h)
 
 pub past_smaller : (samples : List Float) (n : ℕ) → length samples ≤ n → (k : ℕ) → (smaller samples n k ≡ false)
     × (smaller samples k n ≡ false)

@@ -20,7 +20,7 @@ use Rattle.bits.specs.Bits.{below}
 use Rattle.rules.specs.Codes.{Code, bits}
 use Rattle.magnitudes.specs.Samples as S
 use Rattle.magnitudes.specs.Samples.{sample_of, magnitude}
-use Rattle.magnitudes.specs.Patterns.{samples_of, pattern_of, unsigned, isOne, read, smaller, is_finite, all_finite}
+use Rattle.magnitudes.specs.Patterns.{samples_of, pattern_of, unsigned, is_one, read, smaller, is_finite, all_finite}
 use Rattle.magnitudes.specs.Sizes.{by_size}
 use Rattle.magnitudes.proofs.Smallest.{Ordered}
 use Rattle.magnitudes.proofs.Choosing.{same_order}
@@ -28,7 +28,7 @@ use Rattle.magnitudes.proofs.Orders.{magnitude_lt}
 use Rattle.magnitudes.proofs.Orders as orders
 
 -- both zeros are read as 0
-pub zeros_read : (isOne 0 ≡ false) × (isOne 0x8000_0000 ≡ false)
+pub zeros_read : (is_one 0 ≡ false) × (is_one 0x8000_0000 ≡ false)
 zeros_read = (refl, refl)
 
 -- ---- the fields of a pattern
@@ -153,7 +153,7 @@ sizes_by_patterns a b f g =
 
 -- ---- the sign
 
-below-zero : (x : Float) (s : Bool) (a c : ℕ) → 0 < c → HasValue x s a c → S.isOne x ≡ (s && not (eqb a 0))
+below-zero : (x : Float) (s : Bool) (a c : ℕ) → 0 < c → HasValue x s a c → S.is_one x ≡ (s && not (eqb a 0))
 unfolding lt of_bits
 below-zero nan s a c pos h = absurd h
 below-zero (inf t) s a c pos h = absurd h
@@ -181,7 +181,7 @@ below-zero (fin true m e) s a c pos h = go (dec_lt 0 a) ∙ ap (λ b. b && not (
         empty z (no k) = omega (arith, lt_of_not-le k, none, mul-one (m * up e))
 
 -- A finite sample is below 0 just where its sign is set and the rest is not 0.
-pub one_by_sign : (p : ℕ) → is_finite p ≡ true → S.isOne (of_bits binary32 p) ≡ isOne p
+pub one_by_sign : (p : ℕ) → is_finite p ≡ true → S.is_one (of_bits binary32 p) ≡ is_one p
 one_by_sign p f =
     below-zero (of_bits binary32 p) (leb 0x8000_0000 p) (worth (unsigned p)) (2 ^ 149) (pow_pos 149) (value p f)
     ∙ ap (λ b. leb 0x8000_0000 p && not b) (zero_if (unsigned p) (dec_lt 0 (unsigned p)))
@@ -223,14 +223,14 @@ past_pattern patterns n h = get_or-eq_default patterns 0 {n = n} h
 
 pub past_read : (patterns : List ℕ) (n : ℕ) → length patterns ≤ n → read patterns n ≡ false
 unfolding read
-past_read patterns n h = ap isOne (past_pattern patterns n h)
+past_read patterns n h = ap is_one (past_pattern patterns n h)
 
 module _ (patterns : List ℕ) (finite : all_finite patterns ≡ true) where
   pub read_same : S.read (samples_of patterns) ≡ read patterns
   read_same = fun_ext (λ n. go n (dec_lt n (length patterns)))
     where
       go : (n : ℕ) → Dec (n < length patterns) → S.read (samples_of patterns) n ≡ read patterns n
-      go n (yes l) = unfold S.read read in ap S.isOne (sample_at patterns n l)
+      go n (yes l) = unfold S.read read in ap S.is_one (sample_at patterns n l)
           ∙ one_by_sign (pattern_of patterns n) (finite_at patterns finite n l)
       go n (no g) =
           let past : length patterns ≤ n = omega (arith, lt_of_not-le g) in

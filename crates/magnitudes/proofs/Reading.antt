@@ -15,23 +15,23 @@ use Rattle.bits.proofs.Octets.{digit_zero}
 use Rattle.bits.proofs.Orders.{le-or-lt}
 use Rattle.vectors.specs.Vectors.{Holds, up_to, from}
 use Rattle.vectors.proofs.Places.{or-none, place, place_or, place_above, place_cut, place_up, place_below, digit_or, digit_power}
-use Rattle.magnitudes.specs.Patterns.{unsigned, isOne}
+use Rattle.magnitudes.specs.Patterns.{unsigned, is_one}
 
 -- a number of 32 bits is above the sign alone just where the sign is set and the rest is not 0
-pub above_sign : (p : ℕ) → p < 2 ^ 32 → ltb 0x8000_0000 p ≡ isOne p
+pub above_sign : (p : ℕ) → p < 2 ^ 32 → ltb 0x8000_0000 p ≡ is_one p
 above_sign p h = go (dec_lt 0x8000_0000 p)
   where
-    go : Dec (0x8000_0000 < p) → ltb 0x8000_0000 p ≡ isOne p
+    go : Dec (0x8000_0000 < p) → ltb 0x8000_0000 p ≡ is_one p
     go (yes l) =
         lt-ltb 0x8000_0000 p l
         ∙ sym (ap₂ (λ a b. a && not b) (le-leb 0x8000_0000 p (omega arith)) (ne_eqb (unsigned p) 0 (λ e. omega arith)))
     go (no g) = le-ltb 0x8000_0000 p (omega (arith, lt_of_not-le g)) ∙ by (dec_lt p 0x8000_0000)
       where
-        by : Dec (p < 0x8000_0000) → false ≡ isOne p
+        by : Dec (p < 0x8000_0000) → false ≡ is_one p
         by (yes l) = sym (ap (λ a. a && not (eqb (unsigned p) 0)) (lt-leb 0x8000_0000 p l))
         by (no k) =
             let is : p ≡ 0x8000_0000 = omega (arith, lt_of_not-le g, lt_of_not-le k) in
-            sym (ap isOne is)
+            sym (ap is_one is)
 
 -- a power of 2 that fits
 pub raised : (i : ℕ) → i < 32 → (1 * 2 ^ i) % 2 ^ 32 ≡ 2 ^ i

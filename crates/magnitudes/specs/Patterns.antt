@@ -17,11 +17,11 @@ abbrev pub unsigned : ℕ → ℕ
 unsigned p = p % 0x8000_0000
 
 -- The sign is set, and what is left without it is not 0.
-abbrev pub isOne : ℕ → Bool
-isOne p = leb 0x8000_0000 p && not (eqb (unsigned p) 0)
+abbrev pub is_one : ℕ → Bool
+is_one p = leb 0x8000_0000 p && not (eqb (unsigned p) 0)
 
 unfoldable pub read : List ℕ → Word
-read patterns n = isOne (pattern_of patterns n)
+read patterns n = is_one (pattern_of patterns n)
 
 -- Whether bit n's pattern is smaller than bit k's, both without their signs.
 unfoldable pub smaller : List ℕ → ℕ → ℕ → Bool

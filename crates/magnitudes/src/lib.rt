@@ -6,9 +6,9 @@
 ghost use Rattle.std.specs.Prelude.{◌≡◌, Bool, true, false, ℕ, ◌+◌, ◌*◌, ◌/◌, ◌^◌, ◌<◌, ◌≤◌, eqb, length};
 ghost use Rattle.bits.specs.Bits.{digit, ◌⊕◌, below, when◌then◌else◌};
 ghost use Rattle.vectors.specs.Vectors.{wbit, Holds, up_to, from, joined};
-ghost use Rattle.magnitudes.specs.Patterns.{isOne, pattern_of, read as read_of, unsigned as unsignedOf, smaller as smaller_of, is_finite};
+ghost use Rattle.magnitudes.specs.Patterns.{is_one as is_one_of, pattern_of, read as read_of, unsigned as unsigned_of, smaller as smaller_of, is_finite};
 ghost use Rattle.magnitudes.specs.Patterns.{all_finite};
-ghost use Rattle.magnitudes.specs.Sizes.{smallest as smallestOf};
+ghost use Rattle.magnitudes.specs.Sizes.{smallest as smallest_in};
 
 // The bits of some samples, and whether all of these are finite.
 #[derive(Clone, Copy)]
@@ -25,7 +25,7 @@ struct Wide {
 
 // A pattern without its sign.
 fn unsigned(p: u32) -> u32
-    ensures { result ≡ unsignedOf p }
+    ensures { result ≡ unsigned_of p }
 {
     p % 0x8000_0000
 }
@@ -39,7 +39,7 @@ fn is_finite(p: u32) -> bool
 
 // Whether a sample is read as 1: the sign is set, and the rest is not 0.
 pub fn is_one(p: u32) -> bool
-    ensures { result ≡ isOne p }
+    ensures { result ≡ is_one_of p }
 {
     p > 0x8000_0000
 }
@@ -47,7 +47,7 @@ pub fn is_one(p: u32) -> bool
 // The power of 2, if the sample is read as 1.
 fn mark(p: u32, place: usize) -> u32
     requires { place < 32 }
-    ensures { result ≡ (when isOne p then 2 ^ place else 0) }
+    ensures { result ≡ (when is_one_of p then 2 ^ place else 0) }
 {
     if is_one(p) { 1 << place } else { 0 }
 }
@@ -159,7 +159,7 @@ pub fn smallest_of(samples: &[u32], mask: u64, first: usize, bit: usize) -> usiz
     requires { (bit < length samples.now) × ((i : ℕ) → i < 64 → digit 64 mask i ≡ true → first + i < length samples.now) }
     ensures { (result < length samples.now)
         × ((marked : ℕ → Bool) (n : ℕ) → n ≤ 64 → Holds mask (up_to n (from first marked))
-        → result ≡ smallestOf (smaller_of samples.now) marked bit first n) }
+        → result ≡ smallest_in (smaller_of samples.now) marked bit first n) }
 {
     let mut left = mask;
     let mut best = bit;

@@ -6,7 +6,7 @@
 ghost use Rattle.std.specs.Prelude.{◌≡◌, List, ℕ, ◌-◌, ◌<◌, ◌≤◌, length, get_or};
 ghost use Rattle.bits.specs.Bits.{Word, bit};
 ghost use Rattle.vectors.specs.Vectors.{wbit};
-ghost use Rattle.nearest.specs.Nearest.{none, first_list, fewest, refused, searched as searchedFor, nearest_answer};
+ghost use Rattle.nearest.specs.Nearest.{none, first_list, fewest, refused, searched as searched_for, nearest_answer};
 ghost use Rattle.nearest.specs.Answers.{column_list, Broken, lowest_from, held, held_flipped, HandedOut, as_reached};
 
 // The places of bits that are not used are 0.
@@ -301,7 +301,7 @@ fn hand_out(y: &mut [u64; 3], l: Listed, out: &mut [u8])
 // A word, an output of the right length, and a reach that is offered.
 fn mended(y: &mut [u64; 3], reach: u8, out: &mut [u8]) -> Reached
     requires { (length out.old ≡ 16) × (reach ≤ 3) }
-    ensures { as_reached result out.new ≡ searchedFor reach (wbit y.old) out.old }
+    ensures { as_reached result out.new ≡ searched_for reach (wbit y.old) out.old }
 {
     let l = list_for(y, reach);
     if !l.found {
@@ -319,7 +319,7 @@ fn mended(y: &mut [u64; 3], reach: u8, out: &mut [u8]) -> Reached
 // The same of a word's octets.
 fn searched(word: &[u8], reach: u8, out: &mut [u8]) -> Reached
     requires { (length word.now ≡ 16) × (length out.old ≡ 16) × (reach ≤ 3) }
-    ensures { as_reached result out.new ≡ searchedFor reach (bit word.now) out.old }
+    ensures { as_reached result out.new ≡ searched_for reach (bit word.now) out.old }
 {
     let mut y = [0u64; 3];
     vectors::load(word, &mut y);

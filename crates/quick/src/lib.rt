@@ -10,7 +10,7 @@ pub mod lowest_wide;
 ghost use Rattle.std.specs.Prelude.{◌≡◌, true, ℕ, ◌≤◌, length};
 ghost use Rattle.bits.specs.Bits.{Word, bit};
 ghost use Rattle.rules.specs.Codes.{Code, code as code_of, checks, offered};
-ghost use Rattle.rules.specs.Checks.{check, lowest as lowestOf};
+ghost use Rattle.rules.specs.Checks.{check, lowest as lowest_of};
 ghost use Rattle.rules.specs.Encoding.{lifted};
 ghost use Rattle.catalogue.specs.offer.Offers.{offer_of, Known};
 ghost use Rattle.quick.specs.Quick.{read, as_read, refused_quick, quick_answer};
@@ -41,7 +41,7 @@ fn refused(number: u8) -> Answered
 // The answer by the lowest broken check: that many checks were evaluated, and it; or all of them.
 fn answer(lowest: u32, all: u32) -> Answered
     requires { lowest ≤ 2048 }
-    ensures { (c : Code) (x : Word) → all ≡ checks c → lowest ≡ lowestOf c x → as_quick result ≡ as_read (read (checks c) (check c x)) }
+    ensures { (c : Code) (x : Word) → all ≡ checks c → lowest ≡ lowest_of c x → as_quick result ≡ as_read (read (checks c) (check c x)) }
 {
     if lowest == all {
         return Answered {
@@ -61,7 +61,7 @@ fn answer(lowest: u32, all: u32) -> Answered
 fn lowest_broken(o: Offer, word: &[u8]) -> u32
     requires { Known o × (length word.now ≡ o.word) }
     ensures { (n : ℕ) → offered n ≡ true → o ≡ offer_of n
-        → result ≡ lowestOf (code_of n) (lifted (code_of n) (bit word.now)) }
+        → result ≡ lowest_of (code_of n) (lifted (code_of n) (bit word.now)) }
 {
     let sh = o.shape;
     if sh.size == 511 {

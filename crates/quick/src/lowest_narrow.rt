@@ -2,7 +2,7 @@
 ghost use Rattle.std.specs.Prelude.{◌≡◌, true, ℕ, ◌+◌, ◌*◌, ◌≤◌, ◌<◌, length};
 ghost use Rattle.bits.specs.Bits.{Word, bit, ◌⊕◌};
 ghost use Rattle.rules.specs.Codes.{Code, code as code_of, offered};
-ghost use Rattle.rules.specs.Checks.{lowest as lowestOf};
+ghost use Rattle.rules.specs.Checks.{lowest as lowest_of};
 ghost use Rattle.rules.specs.Encoding.{lifted};
 ghost use Rattle.vectors.specs.Vectors.{wbit, both, up_to, from, twice};
 ghost use Rattle.layout.specs.Lent.{Fit, Lent};
@@ -54,7 +54,7 @@ fn narrow_group(y: &[u64], h: &[u16], sh: Shape, r: usize) -> u64
 // The lowest broken check, row after row.
 fn rows_lowest(y: &[u64], h: &[u16], sh: Shape) -> u32
     requires { Fit h.now sh × (sh.size ≤ 64) × (length y.now ≡ 17) }
-    ensures { (c : Code) → Lent c h.now sh → result ≡ lowestOf c (wbit y.now) }
+    ensures { (c : Code) → Lent c h.now sh → result ≡ lowest_of c (wbit y.now) }
 {
     let mut r = 0;
     while r < sh.rows {
@@ -71,7 +71,7 @@ fn rows_lowest(y: &[u64], h: &[u16], sh: Shape) -> u32
 pub fn lowest(o: Offer, word: &[u8]) -> u32
     requires { Known o × (length word.now ≡ o.word) × (o.shape.size ≡ 511 → ⊥) }
     ensures { (n : ℕ) → offered n ≡ true → o ≡ offer_of n
-        → result ≡ lowestOf (code_of n) (lifted (code_of n) (bit word.now)) }
+        → result ≡ lowest_of (code_of n) (lifted (code_of n) (bit word.now)) }
 {
     let of = o.shape;
     let mut h = [0u16; TABLE];

@@ -2,7 +2,7 @@
 ghost use Rattle.std.specs.Prelude.{◌≡◌, true, ℕ, ◌+◌, ◌*◌, ◌/◌, ◌≤◌, ◌<◌, length};
 ghost use Rattle.bits.specs.Bits.{Word, bit, least};
 ghost use Rattle.rules.specs.Codes.{Code, code as code_of, offered};
-ghost use Rattle.rules.specs.Checks.{check, lowest as lowestOf};
+ghost use Rattle.rules.specs.Checks.{check, lowest as lowest_of};
 ghost use Rattle.rules.specs.Encoding.{lifted};
 ghost use Rattle.vectors.specs.Vectors.{wbit, Holds, up_to, from, twice};
 ghost use Rattle.layout.specs.Lent.{Fit, Lent};
@@ -171,7 +171,7 @@ fn wide_row_lowest(d: &[u64], h: &[u16], sh: Shape, r: usize) -> usize
 fn wide_rows_lowest(d: &[u64], h: &[u16], sh: Shape) -> u32
     requires { Fit h.now sh × Full h.now sh × (sh.blocks ≡ 16) × (length d.now ≡ 256) }
     ensures { (c : Code) (x : Word) → Lent c h.now sh → Twofold sh.blocks sh.size x d.now
-        → result ≡ lowestOf c x }
+        → result ≡ lowest_of c x }
 {
     let mut row = 0;
     while row < sh.rows {
@@ -187,7 +187,7 @@ fn wide_rows_lowest(d: &[u64], h: &[u16], sh: Shape) -> u32
 // The lowest broken check of a word that is laid out whole.
 fn whole_lowest(octets: &[u8], u: usize, h: &[u16], sh: Shape) -> u32
     requires { Fit h.now sh × Full h.now sh × (448 < sh.size) × (sh.blocks ≡ 16) × (u ≤ 18) × (length octets.now ≤ 1022) }
-    ensures { (c : Code) → Lent c h.now sh → u ≡ c.unsent → result ≡ lowestOf c (lifted c (bit octets.now)) }
+    ensures { (c : Code) → Lent c h.now sh → u ≡ c.unsent → result ≡ lowest_of c (lifted c (bit octets.now)) }
 {
     let mut y = [0u64; WORD];
     received::take(octets, u, &mut y);
@@ -201,7 +201,7 @@ fn whole_lowest(octets: &[u8], u: usize, h: &[u16], sh: Shape) -> u32
 pub fn lowest(o: Offer, word: &[u8]) -> u32
     requires { Known o × (length word.now ≡ o.word) × (o.shape.size ≡ 511) }
     ensures { (n : ℕ) → offered n ≡ true → o ≡ offer_of n
-        → result ≡ lowestOf (code_of n) (lifted (code_of n) (bit word.now)) }
+        → result ≡ lowest_of (code_of n) (lifted (code_of n) (bit word.now)) }
 {
     let mut h = [0u16; TABLE];
     tables::lend511(&mut h);

@@ -33,7 +33,7 @@ use Rattle.answers.proofs.Corrections.{near_degree, ran_back, ran_one_back, ran_
 use Rattle.answers.proofs.Unlike.{ran_unlike, ran_parity}
 use Rattle.answers.proofs.Refusals.{few_numbers, never_seven}
 use Rattle.answers.proofs.Wrong.{decided, ran_two_back, ran_three_back}
-use Rattle.magnitudes.specs.Samples.{read, sample_of, magnitude, smaller, isOne, all_finite}
+use Rattle.magnitudes.specs.Samples.{read, sample_of, magnitude, smaller, is_one, all_finite}
 use Rattle.magnitudes.specs.Sizes.{reaching, by_size}
 use Rattle.magnitudes.proofs.Smallest.{Ordered, Smallest}
 use Rattle.magnitudes.proofs.Choosing.{by_size_lem, size_greatest, equal_sizes, size_smallest}
@@ -310,7 +310,7 @@ module _ (n : ℕ) (t : T (sampled n)) (samples : List Float) (ls : length sampl
 pub record Alike (s s' : List Float) : Type 0 where
   pub long : length s ≡ length s'
   pub finite : all_finite s ≡ all_finite s'
-  pub signs : (i : ℕ) → i < length s → isOne (sample_of s i) ≡ isOne (sample_of s' i)
+  pub signs : (i : ℕ) → i < length s → is_one (sample_of s i) ≡ is_one (sample_of s' i)
   pub sizes : (i j : ℕ) → i < length s → j < length s
       → lt (magnitude (sample_of s i)) (magnitude (sample_of s j)) ≡ lt (magnitude (sample_of s' i)) (magnitude (sample_of s' j))
 

@@ -8,8 +8,8 @@ pub mod smallest;
 
 ghost use Rattle.std.specs.Prelude.{◌≡◌, true, false, not, ◌&&◌, ℕ, ◌*◌, ◌≤◌, ◌<◌, T, eqb, length};
 ghost use Rattle.rules.specs.Codes.{code as code_of, offered};
-ghost use Rattle.rules.specs.Checks.{broken as broken_of, lowest as lowestOf};
-ghost use Rattle.answers.specs.Calls.{refusal as refusalOf};
+ghost use Rattle.rules.specs.Checks.{broken as broken_of, lowest as lowest_of};
+ghost use Rattle.answers.specs.Calls.{refusal as refusal_of};
 ghost use Rattle.vectors.specs.Vectors.{wbit};
 ghost use Rattle.layout.specs.Lent.{Fit, laid};
 ghost use Rattle.catalogue.specs.offer.Offers.{offer_of, Known};
@@ -47,7 +47,7 @@ fn begin(size: usize, y: &[u64; WORD], h: &mut [u16; TABLE], z: &mut [u64; SYNDR
     requires { Size size × (wbit z.old ≡ (λ n. false)) }
     ensures { (n : ℕ) → offered n ≡ true → size ≡ (offer_of n).shape.size → (result.shape ≡ (offer_of n).shape)
         × Lends n h.new result.shape × (wbit z.new ≡ laid (code_of n) result.shape (wbit y.now))
-        × (result.first ≡ broken_of (code_of n) (wbit y.now)) × (result.lowest ≡ lowestOf (code_of n) (wbit y.now)) }
+        × (result.first ≡ broken_of (code_of n) (wbit y.now)) × (result.lowest ≡ lowest_of (code_of n) (wbit y.now)) }
 {
     let sh = measured::checks(size, y, h, z);
     Begun {
@@ -74,7 +74,7 @@ fn run_judged(
         × Beginning h.now sh 0 first (wbit y.old) (wbit z.now) }
     ensures { (n : ℕ) → offered n ≡ true → o ≡ offer_of n → T (offered n && not (eqb n 5))
         → Begins (code_of n) h.now sh 0 first (wbit y.old) (wbit z.now)
-        → lowest ≡ lowestOf (code_of n) (wbit y.old) → Finds n samples.now limit (wbit y.new) result }
+        → lowest ≡ lowest_of (code_of n) (wbit y.old) → Finds n samples.now limit (wbit y.new) result }
 {
     let end = sizing::run(samples, y, z, h, sh, limit, first);
     let ran = end.ran;
@@ -152,7 +152,7 @@ fn correct_taken(o: Offer, samples: &[u32], limit: u16, out: &mut [u8]) -> Corre
 
 // The number that refuses so many samples and an output of so many octets; 0 if they are taken.
 fn refusal(o: Offer, samples: usize, octets: usize) -> u8
-    ensures { result ≡ refusalOf o.steps samples o.bits octets o.word }
+    ensures { result ≡ refusal_of o.steps samples o.bits octets o.word }
 {
     refusals::refusal(o.steps, samples, o.bits, octets, o.word)
 }

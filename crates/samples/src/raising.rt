@@ -7,7 +7,7 @@ ghost use Rattle.layout.specs.Lent.{Lent, laid};
 ghost use Rattle.flipping.specs.bounds.Reading.{hits, Twice, Gathered};
 ghost use Rattle.flipping.specs.bounds.Keeping.{Ready};
 ghost use Rattle.magnitudes.specs.Patterns.{smaller};
-ghost use Rattle.samples.specs.raising.Knowing.{Within, Ahead, Known, Knows, whole, covered, nearer as nearerOf, raised};
+ghost use Rattle.samples.specs.raising.Knowing.{Within, Ahead, Known, Knows, whole, covered, nearer as nearer_of, raised};
 
 use flipping::bounds;
 use layout::{BLOCKS, ROWS, STARTS, Shape};
@@ -237,7 +237,7 @@ fn raise_all(
 // The first place of the check at p.
 fn nearer(p: usize, m: usize) -> usize
     requires { (p % 1024 < 2 * m) × (p < 4096) × (m ≤ 512) }
-    ensures { (result < 4096) × (result ≡ nearerOf m p) }
+    ensures { (result < 4096) × (result ≡ nearer_of m p) }
 {
     if p % 1024 < m {
         return p;
@@ -263,7 +263,7 @@ fn raise_check(
         met.old kept.old
         → Knows samples.now sh (wbit d.now) starts.now counts.now
         (λ j i. seen j i || (wbit d.now p
-        && covered starts.now (8 * j) sh.size (nearerOf sh.size p) (get_or counts.now j 0) i))
+        && covered starts.now (8 * j) sh.size (nearer_of sh.size p) (get_or counts.now j 0) i))
         met.new kept.new) }
 {
     if !vectors::is_set(d, p) {

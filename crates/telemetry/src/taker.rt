@@ -4,8 +4,8 @@ ghost use Rattle.std.proofs.lemmas.List.Edits.{sets};
 ghost use Rattle.answers.specs.Calls.{refused_correct_of};
 ghost use Rattle.flipping.specs.endings.Answers.{as_corrected};
 ghost use Rattle.telemetry.specs.taker.Taking.{tell, standing, fresh_taker, new_taker, taker_for_answer};
-ghost use Rattle.telemetry.specs.taker.Taking.{matched as matchedBy, read_place, GoesOn};
-ghost use Rattle.telemetry.specs.taker.Taking.{waiting as waitingOf, completed as completedOf, take_answer};
+ghost use Rattle.telemetry.specs.taker.Taking.{matched as matched_by, read_place, GoesOn};
+ghost use Rattle.telemetry.specs.taker.Taking.{waiting as waiting_of, completed as completed_of, take_answer};
 ghost use Rattle.telemetry.specs.taker.Answers.{as_taker, as_made, as_taken};
 
 use super::sequences;
@@ -63,7 +63,7 @@ fn read_place(place: usize) -> usize
 // The octets of the marker matched after one octet more. Only the marker's first octet begins one.
 fn matched(m: usize, octet: u8) -> usize
     requires { m < 4 }
-    ensures { (result ≡ matchedBy m octet) × (result ≤ 4) }
+    ensures { (result ≡ matched_by m octet) × (result ≤ 4) }
 {
     if octet == 0x1A {
         return 1;
@@ -152,7 +152,7 @@ fn none() -> Corrected
 }
 
 fn waiting(taken: usize, place: usize, edition: u8, limit: u16, octets: [u8; 1020]) -> Taken
-    ensures { as_taken result ≡ waitingOf taken (standing place (tell edition limit) octets) }
+    ensures { as_taken result ≡ waiting_of taken (standing place (tell edition limit) octets) }
 {
     let next = Taker {
         place: place,
@@ -173,7 +173,7 @@ fn waiting(taken: usize, place: usize, edition: u8, limit: u16, octets: [u8; 102
 
 // A whole word: derandomised, corrected and handed out.
 fn completed(taken: usize, edition: u8, limit: u16, octets: [u8; 1020]) -> Taken
-    ensures { as_taken result ≡ completedOf taken (tell edition limit) octets }
+    ensures { as_taken result ≡ completed_of taken (tell edition limit) octets }
 {
     let mut received = octets;
     sequences::randomise_word(edition, &mut received);

@@ -13,7 +13,7 @@ ghost use Rattle.rules.specs.Codes.{code as code_of};
 ghost use Rattle.rules.specs.Encoding.{lifted, encoded, written};
 ghost use Rattle.codes.specs.Answers.{as_encoded};
 ghost use Rattle.randomiser.specs.Randomiser.{telecommand, randomised};
-ghost use Rattle.units.specs.unitrules.Units.{unit_code, start, tail as tailOf, blocks_for, codeblock};
+ghost use Rattle.units.specs.unitrules.Units.{unit_code, start, tail as tail_of, blocks_for, codeblock};
 ghost use Rattle.units.specs.unitrules.Units.{codeblocks, unit as unit_of, unit_length};
 ghost use Rattle.units.specs.unitrules.Units.{unit_octets_of, write_answer};
 ghost use Rattle.units.specs.Numbers.{write_number_of};
@@ -109,8 +109,8 @@ fn write_blocks(code: u8, information: &[u8], out: &mut [u8])
 }
 
 fn write_tail(code: u8, out: &mut [u8])
-    requires { (unit_code code ≡ true) × (length out.old ≡ length (tailOf code)) }
-    ensures { out.new ≡ tailOf code }
+    requires { (unit_code code ≡ true) × (length out.old ≡ length (tail_of code)) }
+    ensures { out.new ≡ tail_of code }
 {
     if tail_octets(code) != 0 {
         copying::copy(&TAIL, out);

@@ -4,7 +4,7 @@ ghost use Rattle.bits.specs.Bits.{when◌then◌else◌};
 ghost use Rattle.rules.specs.Codes.{code as code_of};
 ghost use Rattle.answers.specs.Calls.{refused_correct_of, correct_answer};
 ghost use Rattle.flipping.specs.endings.Answers.{as_corrected};
-ghost use Rattle.units.specs.unitrules.Units.{unit_code, tail as tailOf, same as sameOf, started, blocks_in_of};
+ghost use Rattle.units.specs.unitrules.Units.{unit_code, tail as tail_of, same as same_of, started, blocks_in_of};
 ghost use Rattle.units.specs.unitrules.Units.{shaped, received, handed_last_of};
 ghost use Rattle.units.specs.unitrules.Units.{handed_again_of, reader_number_of, reader_answer, read_next_of, read_answer};
 ghost use Rattle.units.specs.readings.Answers.{as_reading, as_handed};
@@ -36,7 +36,7 @@ pub struct Handed {
 
 // Whether two slices hold the same octets.
 fn same(a: &[u8], b: &[u8]) -> bool
-    ensures { result ≡ sameOf a.now b.now }
+    ensures { result ≡ same_of a.now b.now }
 {
     if a.len() != b.len() {
         return false;
@@ -63,7 +63,7 @@ fn is_started(unit: &[u8]) -> bool
 // The octets between the start and the tail of a unit of so many octets.
 fn between(code: u8, long: usize) -> usize
     requires { unit_code code ≡ true }
-    ensures { result ≡ long - 8 - length (tailOf code) }
+    ensures { result ≡ long - 8 - length (tail_of code) }
 {
     let ends = 8 + tail_octets(code);
     if long < ends { 0 } else { long - ends }
@@ -72,14 +72,14 @@ fn between(code: u8, long: usize) -> usize
 // The whole codeblocks that they hold.
 fn blocks_in(code: u8, long: usize) -> usize
     requires { unit_code code ≡ true }
-    ensures { result ≡ (long - 8 - length (tailOf code)) / (code_of code).octets_of_word }
+    ensures { result ≡ (long - 8 - length (tail_of code)) / (code_of code).octets_of_word }
 {
     between(code, long) / word_octets(code)
 }
 
 fn is_tail(code: u8, end: &[u8]) -> bool
     requires { unit_code code ≡ true }
-    ensures { result ≡ sameOf end.now (tailOf code) }
+    ensures { result ≡ same_of end.now (tail_of code) }
 {
     if tail_octets(code) != 0 {
         same(end, &TAIL)

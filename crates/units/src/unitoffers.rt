@@ -1,7 +1,7 @@
 // What a code number fixes of telecommand transmission units, and their start and tail sequences.
 ghost use Rattle.std.specs.Prelude.{◌≡◌, true, ◌≤◌, length};
 ghost use Rattle.rules.specs.Codes.{code as code_of};
-ghost use Rattle.units.specs.unitrules.Units.{unit_code, tail as tailOf};
+ghost use Rattle.units.specs.unitrules.Units.{unit_code, tail as tail_of};
 ghost use Rattle.units.specs.unitoffers.Offers.{unit_offer_of};
 
 pub const START: [u8; 8] = [0x03, 0x47, 0x76, 0xC7, 0x27, 0x28, 0x95, 0xB0];
@@ -76,7 +76,7 @@ pub fn information_octets(code: u8) -> usize
 
 pub fn tail_octets(code: u8) -> usize
     requires { unit_code code ≡ true }
-    ensures { (result ≡ length (tailOf code)) × (result ≤ 16) }
+    ensures { (result ≡ length (tail_of code)) × (result ≤ 16) }
 {
     let u = unit_of(code);
     u.tail

@@ -4,7 +4,7 @@ ghost use Rattle.bits.specs.Bits.{count};
 ghost use Rattle.rules.specs.Codes.{code as code_of, offered};
 ghost use Rattle.rules.specs.Checks.{broken};
 ghost use Rattle.rules.specs.Flipping.{Run};
-ghost use Rattle.answers.specs.Calls.{judged, fault as faultOf};
+ghost use Rattle.answers.specs.Calls.{judged, fault as fault_of};
 ghost use Rattle.vectors.specs.Vectors.{wbit, from};
 ghost use Rattle.catalogue.specs.offer.Offers.{offer_of, Known};
 ghost use Rattle.layout.specs.declared.Shape.{Shape};
@@ -45,7 +45,7 @@ pub fn judge(o: Offer, y: &[u64; WORD], number: u8) -> u8
 pub fn fault(o: Offer, y: &[u64; WORD], z: &[u64; SYNDROME]) -> u8
     requires { Known o }
     ensures { (n : ℕ) → offered n ≡ true → o ≡ offer_of n → (word h : List ℕ) (sh : Shape) → length word ≡ (code_of n).octets_of_word
-        → Measured n word h (wbit y.now) (wbit z.now) sh → result ≡ faultOf n word }
+        → Measured n word h (wbit y.now) (wbit z.now) sh → result ≡ fault_of n word }
 {
     if !syndromes::is_quiet(z) {
         return 9;

@@ -3,7 +3,7 @@ ghost use Rattle.std.specs.Prelude.{◌≡◌, [], ◌∷◌, ◌++◌, ◌+◌,
 ghost use Rattle.rules.specs.Codes.{code as code_of};
 ghost use Rattle.answers.specs.Calls.{refused_correct_of};
 ghost use Rattle.flipping.specs.endings.Answers.{as_corrected};
-ghost use Rattle.wordlog.specs.line.Line.{decimal, fields, numbers as numbersOf, header, line as line_of, word_line};
+ghost use Rattle.wordlog.specs.line.Line.{decimal, fields, numbers as numbers_of, header, line as line_of, word_line};
 
 use flipping::endings;
 
@@ -67,7 +67,7 @@ fn put_fields(numbers: &[u64], text: &mut [u8], at: usize) -> usize
 
 // What a line gives of an answer. A further field of the answer is one entry here, one in the definition, and one in the proof.
 fn numbers(a: endings::Corrected) -> [u64; 5]
-    ensures { result ≡ numbersOf (as_corrected a []) }
+    ensures { result ≡ numbers_of (as_corrected a []) }
 {
     [
         octet(a.number),

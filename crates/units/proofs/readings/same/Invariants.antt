@@ -2,11 +2,11 @@
 use mathlib.Core.Path.{◌≡◌}
 use Prim.Native.Nat.{◌-◌, ◌≤◌}
 use lib.ListN.{length, drop}
-use Rattle.units.specs.unitrules.Units.{same as sameOf}
+use Rattle.units.specs.unitrules.Units.{same as same_of}
 use Rattle.units.proofs.readings.same.Given as goal
 
 abbrev pub invariant-loop-i : goal.invariant-loop-i
-invariant-loop-i l = (l.i ≤ length l.a) × (sameOf (drop l.i l.a) (drop l.i l.b) ≡ sameOf l.a l.b)
+invariant-loop-i l = (l.i ≤ length l.a) × (same_of (drop l.i l.a) (drop l.i l.b) ≡ same_of l.a l.b)
 
 abbrev pub decreases-loop-i : goal.decreases-loop-i
 decreases-loop-i l = length l.a - l.i
