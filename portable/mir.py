@@ -169,19 +169,23 @@ class Reader:
     """The functions of some libraries, and the shapes of the types that they name."""
 
     def __init__(self):
-        self.functions, self.shapes, self.forms = {}, {}, {}
+        self.functions, self.shapes, self.refused = {}, {}, {}
 
     def read(self, path):
+        """All of a library but its functions that stand for several, as those of traits do, which nothing here may call."""
         with open(path, encoding="utf-8") as file:
             for name, form in json.load(file):
-                self.add(name, form)
+                if any(form["generics"].values()):
+                    self.refused[name] = "it has parameters for types or traits"
+                else:
+                    self.add(name, form)
 
     def add(self, name, form):
         if name in self.functions:
             raise Refused("two functions have the name %s" % name)
-        unknown = set(form) - {"lifetimes", "outlives", "params", "types", "locals", "body"}
-        if unknown:
-            raise Refused("%s: a function with %s" % (name, sorted(unknown)))
+        unknown = set(form) - {"lifetimes", "outlives", "params", "generics", "types", "locals", "body"}
+        if unknown or any(form["generics"].values()):
+            raise Refused("%s: a function with %s" % (name, sorted(unknown) or "generics"))
         for declared in form["types"]:
             self.declare(declared)
         locals_ = [self.type(local["ty"]) for local in form["locals"]]
@@ -190,8 +194,8 @@ class Reader:
             body = Body(self, locals_, form["body"]).whole()
         except Refused as refusal:
             raise Refused("%s: %s" % (name, refusal)) from None
+        memory += [True] * (len(locals_) - len(memory))
         self.functions[name] = Function(name, form["params"], locals_, memory, body)
-        self.forms[name] = [form["params"], form["locals"], form["body"]]
 
     def home(self, form):
         if form not in ("ValueLocal", "MemorySlot"):
@@ -199,6 +203,8 @@ class Reader:
         return form == "MemorySlot"
 
     def declare(self, form):
+        if form["type_params"] or form["const_params"] or form["owns"] or form["is_cell"]:
+            raise Refused("%s has parameters, owns memory or is a cell" % form["name"])
         kind, parts = the_only(form["shape"], "a type's shape")
         if kind == "Fields":
             shape = ("struct", [self.type(t) for t in parts])
@@ -231,8 +237,8 @@ class Reader:
             ref, length = [self.type(t) for t in parts[1]]
             if ref[0] == "ref" and length == WORD:
                 return ("slice", ref[1], ref[2])
-        if kind == "Named":
-            return ("named", parts["name"])
+        if kind == "Named" and not parts[1]:
+            return ("named", parts[0]["name"])
         raise Refused("a type: %s" % json.dumps(form)[:200])
 
     def fields(self, ty, variant=None):
@@ -287,6 +293,30 @@ class Body:
 
     def __init__(self, reader, locals_, forms):
         self.reader, self.locals, self.forms, self.at, self.round = reader, locals_, forms, 0, []
+        # By a local that constants are lent to, the local that is made for them; a reference to it that is only followed needs no statement.
+        self.lent = {}
+        for form in forms:
+            if isinstance(form, dict) and "LendStatic" in form:
+                self.lend(form["LendStatic"])
+        self.followed = [local for local in self.lent if not self.handed_on(forms, local)]
+
+    def lend(self, parts):
+        place, ty, _ = parts
+        ty = self.reader.type(ty)
+        if place["steps"] or place["local"] in self.lent or self.locals[place["local"]] != ("ref", False, ty):
+            raise Refused("a constant that is lent: %s" % json.dumps(parts)[:200])
+        self.lent[place["local"]] = len(self.locals)
+        self.locals.append(ty)
+
+    def handed_on(self, form, local):
+        """Whether a form has the local but to follow it, or to lend a constant to it."""
+        if isinstance(form, list):
+            return any(self.handed_on(part, local) for part in form)
+        if not isinstance(form, dict):
+            return False
+        if set(form) == {"local", "steps"}:
+            return form["local"] == local and not (form["steps"] and "Deref" in form["steps"][0])
+        return any(key != "LendStatic" and self.handed_on(part, local) for key, part in form.items())
 
     def whole(self):
         body = self.statements()
@@ -315,14 +345,21 @@ class Body:
             self.round.pop()
             return [made]
         kind, parts = the_only(form, "a statement")
+        if kind in ("Assign", "Call") and parts[0 if kind == "Assign" else 2] in [{"local": local, "steps": []} for local in self.lent]:
+            raise Refused("a constant's reference that is written again: %s" % json.dumps(form)[:200])
         if kind == "Assign":
             place = self.place(parts[0])
             return [Assign(place, self.value(parts[1], place.ty))]
         if kind == "Call":
-            key, name = the_only(parts[0], "what is called")
-            if key == "Direct":
+            key, called = the_only(parts[0], "what is called")
+            if key == "Fn" and not any(called[1].values()):
                 place = self.place(parts[2])
-                return [Assign(place, Call(name, [self.operand(x) for x in parts[1]], place.ty))]
+                return [Assign(place, Call(called[0], [self.operand(x) for x in parts[1]], place.ty))]
+        if kind == "LendStatic":
+            local = parts[0]["local"]
+            made = Use(self.lent[local], self.locals[self.lent[local]])
+            made = [Assign(made, self.constant(parts[2], made.ty))]
+            return made if local in self.followed else made + [Assign(Use(local, self.locals[local]), AddrOf(Use(self.lent[local], made[0].place.ty)))]
         if kind == "If":
             cond = self.operand(parts)
             then = self.statements()
@@ -335,9 +372,31 @@ class Body:
             return [Exit(self.round[-1 - parts])]
         raise Refused("a statement: %s" % json.dumps(form)[:200])
 
-    def place(self, form):
-        made = Use(form["local"], self.locals[form["local"]])
-        for step in form["steps"]:
+    def constant(self, form, ty):
+        """The value of a constant, of a type."""
+        kind, parts = the_only(form, "a constant")
+        if kind == "Ints" and ty == ("array", integer(parts["width"]), len(parts["values"])):
+            return Aggregate([Const(parts["width"], n) for n in parts["values"]], ty)
+        if kind == "Parts" and ty[0] == "array" and len(parts) == ty[2]:
+            return Aggregate([self.constant(part, ty[1]) for part in parts], ty)
+        if kind == "Repeat" and ty[0] == "array" and parts[1] == ty[2]:
+            return Repeat(self.constant(parts[0], ty[1]), parts[1], ty)
+        if kind == "Bool" and ty == BOOL:
+            return Truth(parts)
+        if kind in ("Int", "Float"):
+            return self.operand(form)
+        raise Refused("a constant: %s" % json.dumps(form)[:200])
+
+    def place(self, form, address=False):
+        """A place, or one of which only the address is taken: the first element of an array that is lent is where the array is."""
+        made, steps = Use(form["local"], self.locals[form["local"]]), form["steps"]
+        if made.local in self.lent and steps and "Deref" in steps[0]:
+            to = self.locals[self.lent[made.local]]
+            if self.reader.type(steps[0]["Deref"]) == to or address and len(steps) == 1 and to[0] == "array":
+                made, steps = Use(self.lent[made.local], to), steps[1:]
+            elif made.local in self.followed:
+                raise Refused("a constant that is followed as something else: %s" % json.dumps(form)[:200])
+        for step in steps:
             kind, part = the_only(step, "a step")
             if kind == "Field":
                 of = made.ty if not isinstance(made, Variant) else None
@@ -370,7 +429,7 @@ class Body:
         if kind == "Opd":
             return self.operand(parts)
         if kind == "AddrOf":
-            return AddrOf(self.place(parts))
+            return AddrOf(self.place(parts, True))
         if kind == "Aggregate":
             return Aggregate([self.operand(x) for x in parts], ty)
         if kind == "Repeat":
