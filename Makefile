@@ -12,7 +12,7 @@
 # machine that is here, `make campaign N=..` asks the archive and it the same, `make speed` says how fast it is on this machine,
 # `make dist` writes pandoricchia-VERSION.tar.gz in target, which needs a C compiler alone. Without the toolchain `make run`,
 # `make lib` and `make install` take the C file, and say so; `make install` does too where the machine is not x86-64.
-.PHONY: run test lib shared native compare matrix campaign bench speed alist peers man dist install uninstall
+.PHONY: run test lib programs shared native compare matrix campaign bench speed alist peers man dist install uninstall
 N ?= 20000
 SAMPLE ?= samples/code5.bin
 ARCHIVE = target/staticlib/libpandoricchia.a
@@ -28,7 +28,7 @@ X86 := $(filter x86_64,$(shell uname -m))
 
 ifdef TOOLCHAIN
 run:
-	rt check wordbench
+	outside/build_program wordbench
 	outside/run_x86 target/bin/wordbench < $(SAMPLE)
 else
 run:
@@ -41,8 +41,7 @@ test:
 # The archive is x86-64 wherever it is made; beside it, what the C file gives on this machine.
 ifdef TOOLCHAIN
 lib: $(if $(X86),,native)
-	rt staticlib capi
-	cp target/staticlib/libcapi.a $(ARCHIVE)
+	outside/build_library
 	outside/build_shared $(VERSION)
 	@$(if $(X86),,echo "target/staticlib is for x86-64; target/native has the archive and the shared library for this machine, from the C file")
 else
@@ -92,16 +91,19 @@ man:
 	python3 -m pandoricchia completion bash > completion/pandoricchia.bash
 	python3 -m pandoricchia completion zsh > completion/_pandoricchia
 
+# The bench programs as they were proved, and the one whose tables the pictures and other formats come from.
+programs:
+	for name in $(PROGRAMS) charts; do outside/build_program $$name || exit 1; done
+
 # What install finds missing.
 $(ARCHIVE):
-	rt staticlib capi
-	cp target/staticlib/libcapi.a $@
+	outside/build_library
 
 $(SHARED): $(ARCHIVE)
 	outside/build_shared $(VERSION)
 
 target/bin/%:
-	rt check $*
+	outside/build_program $*
 
 # On an x86-64 machine with the toolchain what was proved here is installed, on any other what the C file gives.
 ifneq ($(and $(TOOLCHAIN),$(X86)),)
