@@ -203,12 +203,12 @@ static inline bool io_number_print_decimal(uint32_t fd, uint64_t n)
     return io_write_all(fd, text, k);
 }
 
-/* ---- log -------------------------------------------------------------------------------------------- */
+/* ---- wordlog ------------------------------------------------------------------------------------------- */
 
 /* The log: a line of it, and the log of a recording. */
 
 /* The octets of a word. */
-static inline uint64_t log_lines_word_octets(uint8_t code)
+static inline uint64_t wordlog_lines_word_octets(uint8_t code)
 {
     return catalogue_offer_word_octets(code);
 }
@@ -503,7 +503,7 @@ static inline void why_main(void)
     }
     uint8_t word[1022];
     why_word_buffer(word);
-    uint64_t size = log_lines_word_octets(head[0]);
+    uint64_t size = wordlog_lines_word_octets(head[0]);
     why_words(head[0], why_limit_of(head[1], head[2]), word, size);
     why_ended();
 }

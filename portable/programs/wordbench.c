@@ -132,32 +132,32 @@ static inline void io_large_buffer(uint8_t *restrict result)
     memset(result, 0, 65536);
 }
 
-/* ---- log -------------------------------------------------------------------------------------------- */
+/* ---- wordlog ------------------------------------------------------------------------------------------- */
 
 /* The log: a line of it, and the log of a recording. */
 
 /* What the words of a block are corrected and numbered by. */
-typedef struct log_lines_Block {
+typedef struct wordlog_lines_Block {
     uint8_t code;
     uint16_t limit;
     uint64_t size;
     uint64_t index;
     uint64_t count;
-} log_lines_Block;
+} wordlog_lines_Block;
 
-static const uint8_t log_line_put_header_table[36] = {
+static const uint8_t wordlog_line_put_header_table[36] = {
     119, 111, 114, 100, 32, 97, 110, 115, 119, 101, 114, 32, 102, 108, 105, 112, 115, 32, 102, 105, 114, 115, 116, 32,
     108, 97, 115, 116, 32, 117, 110, 108, 105, 107, 101, 10,
 };
 
 /* Whether a recording has fewer than three octets, or a bad code. */
-static inline bool log_lines_is_bad(const uint8_t *head, uint64_t head_len)
+static inline bool wordlog_lines_is_bad(const uint8_t *head, uint64_t head_len)
 {
     return head_len < 3 || !catalogue_offer_is_offered(head[0]);
 }
 
 /* A text as it stands, behind the text so far. */
-static inline uint64_t log_line_put_text(const uint8_t *octets, uint64_t octets_len, uint8_t *restrict text,
+static inline uint64_t wordlog_line_put_text(const uint8_t *octets, uint64_t octets_len, uint8_t *restrict text,
         uint64_t at)
 {
     uint64_t end = at;
@@ -171,138 +171,138 @@ static inline uint64_t log_line_put_text(const uint8_t *octets, uint64_t octets_
 }
 
 /* The header, at the start of the text. */
-static inline uint64_t log_line_put_header(uint8_t *restrict text)
+static inline uint64_t wordlog_line_put_header(uint8_t *restrict text)
 {
-    return log_line_put_text(log_line_put_header_table, 36, text, 0);
+    return wordlog_line_put_text(wordlog_line_put_header_table, 36, text, 0);
 }
 
 /* Refusal 1: correct's record for a code that is not offered. */
-static inline flipping_endings_Corrected log_line_refusal(void)
+static inline flipping_endings_Corrected wordlog_line_refusal(void)
 {
     return flipping_endings_refused_correct(1);
 }
 
-static inline uint64_t log_line_octet(uint8_t n)
+static inline uint64_t wordlog_line_octet(uint8_t n)
 {
     return n;
 }
 
-static inline uint64_t log_line_wide(uint32_t n)
+static inline uint64_t wordlog_line_wide(uint32_t n)
 {
     return n;
 }
 
 /* What a line gives of an answer. A further field of the answer is one entry here, one in the definition, and one in
  * the proof. */
-static inline void log_line_numbers(flipping_endings_Corrected a, uint64_t *restrict result)
+static inline void wordlog_line_numbers(flipping_endings_Corrected a, uint64_t *restrict result)
 {
-    result[0] = log_line_octet(a.number);
-    result[1] = log_line_wide(a.flips);
-    result[2] = log_line_wide(a.first);
-    result[3] = log_line_wide(a.last);
-    result[4] = log_line_wide(a.unlike);
+    result[0] = wordlog_line_octet(a.number);
+    result[1] = wordlog_line_wide(a.flips);
+    result[2] = wordlog_line_wide(a.first);
+    result[3] = wordlog_line_wide(a.last);
+    result[4] = wordlog_line_wide(a.unlike);
 }
 
 /* One digit, as it is printed. */
-static inline uint8_t log_line_glyph(uint64_t d)
+static inline uint8_t wordlog_line_glyph(uint64_t d)
 {
     return (uint8_t)(48 + (uint8_t)d);
 }
 
 /* A number behind the text so far: answers where the text ends then. */
-static inline uint64_t log_line_put(uint64_t n, uint8_t *restrict text, uint64_t at)
+static inline uint64_t wordlog_line_put(uint64_t n, uint8_t *restrict text, uint64_t at)
 {
     if (n < 10) {
-        text[at] = log_line_glyph(n);
+        text[at] = wordlog_line_glyph(n);
         return at + 1;
     }
-    uint64_t end = log_line_put(n / 10, text, at);
-    text[end] = log_line_glyph(n % 10);
+    uint64_t end = wordlog_line_put(n / 10, text, at);
+    text[end] = wordlog_line_glyph(n % 10);
     return end + 1;
 }
 
 /* A space and a number. 21 octets hold any. */
-static inline uint64_t log_line_put_field(uint64_t n, uint8_t *restrict text, uint64_t at)
+static inline uint64_t wordlog_line_put_field(uint64_t n, uint8_t *restrict text, uint64_t at)
 {
     text[at] = 32;
-    return log_line_put(n, text, at + 1);
+    return wordlog_line_put(n, text, at + 1);
 }
 
 /* Numbers, a space before each. */
-static inline uint64_t log_line_put_fields(const uint64_t *numbers, uint64_t numbers_len, uint8_t *restrict text,
+static inline uint64_t wordlog_line_put_fields(const uint64_t *numbers, uint64_t numbers_len, uint8_t *restrict text,
         uint64_t at)
 {
     uint64_t end = at;
     uint64_t k = 0;
     while (k < numbers_len) {
-        end = log_line_put_field(numbers[k], text, end);
+        end = wordlog_line_put_field(numbers[k], text, end);
         k += 1;
     }
     return end;
 }
 
 /* The line of an answer. 128 octets hold any. */
-static inline uint64_t log_line_put_line(uint64_t index, flipping_endings_Corrected a, uint8_t *restrict text,
+static inline uint64_t wordlog_line_put_line(uint64_t index, flipping_endings_Corrected a, uint8_t *restrict text,
         uint64_t at)
 {
     uint64_t values[5];
-    log_line_numbers(a, values);
-    uint64_t start = log_line_put(index, text, at);
-    uint64_t end = log_line_put_fields(values, 5, text, start);
+    wordlog_line_numbers(a, values);
+    uint64_t start = wordlog_line_put(index, text, at);
+    uint64_t end = wordlog_line_put_fields(values, 5, text, start);
     text[end] = 10;
     return end + 1;
 }
 
 /* The log of a bad head: the header, and the line of refusal 1. */
-static inline uint64_t log_lines_put_bad(uint8_t *restrict text)
+static inline uint64_t wordlog_lines_put_bad(uint8_t *restrict text)
 {
-    uint64_t end = log_line_put_header(text);
-    return log_line_put_line(0, log_line_refusal(), text, end);
+    uint64_t end = wordlog_line_put_header(text);
+    return wordlog_line_put_line(0, wordlog_line_refusal(), text, end);
 }
 
 /* The log of a recording's first three octets, or of the fewer that it has. */
-static inline uint64_t log_lines_begin(const uint8_t *head, uint64_t head_len, uint8_t *restrict text)
+static inline uint64_t wordlog_lines_begin(const uint8_t *head, uint64_t head_len, uint8_t *restrict text)
 {
-    if (log_lines_is_bad(head, head_len)) {
-        return log_lines_put_bad(text);
+    if (wordlog_lines_is_bad(head, head_len)) {
+        return wordlog_lines_put_bad(text);
     }
-    return log_line_put_header(text);
+    return wordlog_line_put_header(text);
 }
 
 /* The octets of a word. */
-static inline uint64_t log_lines_word_octets(uint8_t code)
+static inline uint64_t wordlog_lines_word_octets(uint8_t code)
 {
     return catalogue_offer_word_octets(code);
 }
 
 /* How many octets of whole words 64 KiB hold. */
-static inline uint64_t log_lines_block_octets(uint8_t code)
+static inline uint64_t wordlog_lines_block_octets(uint8_t code)
 {
-    uint64_t size = log_lines_word_octets(code);
+    uint64_t size = wordlog_lines_word_octets(code);
     return 0x10000 / size * size;
 }
 
 /* The limit, high octet first. */
-static inline uint16_t log_lines_limit(uint8_t high, uint8_t low)
+static inline uint16_t wordlog_lines_limit(uint8_t high, uint8_t low)
 {
     return (uint16_t)(256 * (uint16_t)high + (uint16_t)low);
 }
 
 /* A block of words, before which so many octets of words were read. Its last word may be short. */
-static inline log_lines_Block log_lines_block_at(const uint8_t *head, uint64_t read, const uint8_t *words,
+static inline wordlog_lines_Block wordlog_lines_block_at(const uint8_t *head, uint64_t read, const uint8_t *words,
         uint64_t words_len)
 {
     (void)words;
     uint8_t code = head[0];
-    uint64_t size = log_lines_word_octets(code);
+    uint64_t size = wordlog_lines_word_octets(code);
     uint64_t index = read / size;
     uint64_t count = (words_len + (size - 1)) / size;
-    return (log_lines_Block){.code = code, .limit = log_lines_limit(head[1], head[2]), .size = size, .index = index,
+    return (wordlog_lines_Block){.code = code, .limit = wordlog_lines_limit(head[1], head[2]), .size = size, .index = index,
             .count = count};
 }
 
 /* The lesser of two numbers. */
-static inline uint64_t log_lines_least(uint64_t a, uint64_t b)
+static inline uint64_t wordlog_lines_least(uint64_t a, uint64_t b)
 {
     if (a < b) {
         return a;
@@ -311,33 +311,33 @@ static inline uint64_t log_lines_least(uint64_t a, uint64_t b)
 }
 
 /* Corrects a word into out, and writes its line. */
-static inline uint64_t log_line_write_word(uint8_t code, uint16_t limit, uint64_t index, const uint8_t *word,
+static inline uint64_t wordlog_line_write_word(uint8_t code, uint16_t limit, uint64_t index, const uint8_t *word,
         uint64_t word_len, uint8_t *restrict out, uint64_t out_len, uint8_t *restrict text, uint64_t at)
 {
     flipping_endings_Corrected answer = codes_correct(code, word, word_len, limit, out, out_len);
-    return log_line_put_line(index, answer, text, at);
+    return wordlog_line_put_line(index, answer, text, at);
 }
 
 /* Corrects word k of those that are numbered from index on, and writes its line. */
-static inline uint64_t log_lines_write_at(uint8_t code, uint16_t limit, uint64_t size, uint64_t index, uint64_t k,
+static inline uint64_t wordlog_lines_write_at(uint8_t code, uint16_t limit, uint64_t size, uint64_t index, uint64_t k,
         const uint8_t *words, uint64_t words_len, uint8_t *restrict out, uint64_t out_len, uint8_t *restrict text,
         uint64_t at)
 {
     uint64_t from = k * size;
-    uint64_t to = log_lines_least(from + size, words_len);
-    return log_line_write_word(code, limit, index + k, words + from, to - from, out, out_len, text, at);
+    uint64_t to = wordlog_lines_least(from + size, words_len);
+    return wordlog_line_write_word(code, limit, index + k, words + from, to - from, out, out_len, text, at);
 }
 
 /* Corrects words that are numbered from index on, one after another, and writes their lines: answers where the text
  * ends. */
-static inline uint64_t log_lines_write_words(uint8_t code, uint16_t limit, uint64_t size, uint64_t index,
+static inline uint64_t wordlog_lines_write_words(uint8_t code, uint16_t limit, uint64_t size, uint64_t index,
         uint64_t count, const uint8_t *words, uint64_t words_len, uint8_t *restrict out, uint64_t out_len,
         uint8_t *restrict text)
 {
     uint64_t end = 0;
     uint64_t k = 0;
     while (k < count) {
-        end = log_lines_write_at(code, limit, size, index, k, words, words_len, out, out_len, text, end);
+        end = wordlog_lines_write_at(code, limit, size, index, k, words, words_len, out, out_len, text, end);
         k += 1;
     }
     return end;
@@ -345,11 +345,11 @@ static inline uint64_t log_lines_write_words(uint8_t code, uint16_t limit, uint6
 
 /* What the log grows by: corrects a block of words, before which so many octets of words were read, and writes their
  * lines. */
-static inline uint64_t log_lines_go_on(const uint8_t *head, uint64_t read, const uint8_t *words, uint64_t words_len,
+static inline uint64_t wordlog_lines_go_on(const uint8_t *head, uint64_t read, const uint8_t *words, uint64_t words_len,
         uint8_t *restrict out, uint64_t out_len, uint8_t *restrict text)
 {
-    log_lines_Block b = log_lines_block_at(head, read, words, words_len);
-    return log_lines_write_words(b.code, b.limit, b.size, b.index, b.count, words, words_len, out, out_len, text);
+    wordlog_lines_Block b = wordlog_lines_block_at(head, read, words, words_len);
+    return wordlog_lines_write_words(b.code, b.limit, b.size, b.index, b.count, words, words_len, out, out_len, text);
 }
 
 /* ---- os --------------------------------------------------------------------------------------------- */
@@ -489,7 +489,7 @@ static inline bool wordbench_block(const uint8_t *head, uint64_t read, uint8_t *
     if (input.failed) {
         return false;
     }
-    uint64_t end = log_lines_go_on(head, read, words, n, out, out_len, text);
+    uint64_t end = wordlog_lines_go_on(head, read, words, n, out, out_len, text);
     return wordbench_write(text, end) && n == words_len;
 }
 
@@ -512,8 +512,8 @@ static inline void wordbench_all(const uint8_t *head)
     wordbench_out_buffer(out);
     uint8_t text[524416];
     wordbench_text_buffer(text);
-    uint64_t size = log_lines_word_octets(head[0]);
-    uint64_t full = log_lines_block_octets(head[0]);
+    uint64_t size = wordlog_lines_word_octets(head[0]);
+    uint64_t full = wordlog_lines_block_octets(head[0]);
     wordbench_blocks(head, words, full, out, size, text);
 }
 
@@ -521,8 +521,8 @@ static inline void wordbench_all(const uint8_t *head)
 static inline void wordbench_log(const uint8_t *head, uint64_t head_len)
 {
     uint8_t text[256] = {0};
-    uint64_t end = log_lines_begin(head, head_len, text);
-    if (wordbench_write(text, end) && !log_lines_is_bad(head, head_len)) {
+    uint64_t end = wordlog_lines_begin(head, head_len, text);
+    if (wordbench_write(text, end) && !wordlog_lines_is_bad(head, head_len)) {
         wordbench_all(head);
     }
 }
