@@ -433,7 +433,9 @@ class Body:
         if kind == "Aggregate":
             return Aggregate([self.operand(x) for x in parts], ty)
         if kind == "Repeat":
-            return Repeat(self.operand(parts[0]), parts[1], ty)
+            key, length = the_only(parts[1], "how often a value is repeated")
+            if key == "Lit" and ty[0] == "array" and ty[2] == length:
+                return Repeat(self.operand(parts[0]), length, ty)
         if kind == "Op1":
             return self.op1(parts[0], self.operand(parts[1]))
         if kind == "Op2":

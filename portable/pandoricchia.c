@@ -872,7 +872,6 @@ static inline uint64_t blocks_exporting_exported_octets(uint64_t long_)
 
 /* How a code is handed to the engine: its shape in numbers, and its parity table as one flat list. */
 
-/* How a code is handed to the engine: its shape in numbers, and its parity table as one flat list. */
 typedef struct layout_Shape {
     uint64_t size;
     uint64_t words;
@@ -3171,8 +3170,7 @@ static inline codes_Stepped codes_step(uint8_t code, const uint8_t *word, uint64
 
 /* ---- lists ------------------------------------------------------------------------------------------ */
 
-/* The call list: the records of a run go into the caller's table, one by one. It is proved by hand and only stores
- * them. */
+/* The call list: the records of a run go into the caller's table, one by one; `list` only stores them. */
 
 /* For a flip: its bit number, its excess, and the broken checks left after it. */
 typedef pandoricchia_fliprecord lists_listing_FlipRecord;
