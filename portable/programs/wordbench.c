@@ -297,8 +297,8 @@ static inline wordlog_lines_Block wordlog_lines_block_at(const uint8_t *head, ui
     uint64_t size = wordlog_lines_word_octets(code);
     uint64_t index = read / size;
     uint64_t count = (words_len + (size - 1)) / size;
-    return (wordlog_lines_Block){.code = code, .limit = wordlog_lines_limit(head[1], head[2]), .size = size, .index = index,
-            .count = count};
+    return (wordlog_lines_Block){.code = code, .limit = wordlog_lines_limit(head[1], head[2]), .size = size,
+            .index = index, .count = count};
 }
 
 /* The lesser of two numbers. */
@@ -345,8 +345,8 @@ static inline uint64_t wordlog_lines_write_words(uint8_t code, uint16_t limit, u
 
 /* What the log grows by: corrects a block of words, before which so many octets of words were read, and writes their
  * lines. */
-static inline uint64_t wordlog_lines_go_on(const uint8_t *head, uint64_t read, const uint8_t *words, uint64_t words_len,
-        uint8_t *restrict out, uint64_t out_len, uint8_t *restrict text)
+static inline uint64_t wordlog_lines_go_on(const uint8_t *head, uint64_t read, const uint8_t *words,
+        uint64_t words_len, uint8_t *restrict out, uint64_t out_len, uint8_t *restrict text)
 {
     wordlog_lines_Block b = wordlog_lines_block_at(head, read, words, words_len);
     return wordlog_lines_write_words(b.code, b.limit, b.size, b.index, b.count, words, words_len, out, out_len, text);
