@@ -5,18 +5,13 @@ use Rattle.rules.specs.Codes.{code, code4, code5}
 use Rattle.rules.specs.Identity.{tied}
 use borrow.Author.Rules.{rules}
 use Rattle.onedigit.proofs.Standing.{stand_for}
-use Rattle.onedigit.proofs.tied_511.Statement.{statement}
-use Rattle.onedigit.proofs.tied_511.Tie as tie
+use Rattle.onedigit.proofs.tied_511.Goals as goal
 
-returns : tie.Need-returns
+pub returns : goal.returns
 unfolding tied code code4 code5
 returns c =
-    let parity = c.before.before.before.before.parity-511 in
-    let generator = c.before.before.generator-511 in
+    let parity = c.parity_511 in
+    let generator = c.generator_511 in
     let e = c.tied.ensures 512 (omega arith)
     ∙ stand_for 511 512 2 14 2 parity.result generator.result parity.ensures generator.ensures in
     (e, e)
-
-pub tied-511-spec : {M : Type 1} → statement M
-tied-511-spec = tie.close (tie.spec (λ c κs. search rules) (λ c. search rules) (λ c κs. search rules) (λ c. search rules)
-    (λ c κs. search rules) returns)

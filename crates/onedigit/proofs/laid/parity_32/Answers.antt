@@ -5,15 +5,11 @@ use Rattle.rules.specs.Tables.{parity32}
 use Rattle.catalogue.specs.tables.Flat.{pairs, flat8}
 use Rattle.identity.specs.ties.Flat.{pieces, parity_of}
 use Rattle.onedigit.specs.Laid.{threes}
-use Rattle.onedigit.proofs.laid.parity_32.Statement.{statement}
-use Rattle.onedigit.proofs.laid.parity_32.Tie as tie
+use Rattle.onedigit.proofs.laid.parity_32.Goals as goal
 
 stands : parity_of 32 4 8 (threes (flat8 (pairs parity32))) ≡ parity32
 unfolding pieces threes flat8 parity32
 stands = refl
 
-returns : tie.Need-returns
-returns c = ap (parity_of 32 4 8) (c.spread.ensures ∙ ap threes c.before.before.before.lend32.ensures) ∙ stands
-
-pub parity-32-spec : {M : Type 1} → statement M
-parity-32-spec = tie.close (tie.spec (λ c. search rules) (λ c κs. search rules) (λ c. search rules) (λ c κs. search rules) returns)
+pub returns : goal.returns
+returns c = ap (parity_of 32 4 8) (c.spread.ensures ∙ ap threes c.lend32.ensures) ∙ stands

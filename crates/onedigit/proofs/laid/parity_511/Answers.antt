@@ -5,15 +5,11 @@ use Rattle.rules.specs.Tables.{parity511}
 use Rattle.catalogue.specs.tables.Flat.{pairs, flat16}
 use Rattle.identity.specs.ties.Flat.{pieces, parity_of}
 use Rattle.onedigit.specs.Laid.{threes}
-use Rattle.onedigit.proofs.laid.parity_511.Statement.{statement}
-use Rattle.onedigit.proofs.laid.parity_511.Tie as tie
+use Rattle.onedigit.proofs.laid.parity_511.Goals as goal
 
 stands : parity_of 511 2 16 (threes (flat16 (pairs parity511))) ≡ parity511
 unfolding pieces threes flat16 parity511
 stands = refl
 
-returns : tie.Need-returns
-returns c = ap (parity_of 511 2 16) (c.spread.ensures ∙ ap threes c.before.before.before.lend511.ensures) ∙ stands
-
-pub parity-511-spec : {M : Type 1} → statement M
-parity-511-spec = tie.close (tie.spec (λ c. search rules) (λ c κs. search rules) (λ c. search rules) (λ c κs. search rules) returns)
+pub returns : goal.returns
+returns c = ap (parity_of 511 2 16) (c.spread.ensures ∙ ap threes c.lend511.ensures) ∙ stands

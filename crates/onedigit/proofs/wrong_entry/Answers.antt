@@ -8,27 +8,22 @@ use borrow.Author.Rules.{rules}
 use borrow.Author.Tests.{lt-ltb, le-ltb}
 use Rattle.bits.specs.Bits.{when◌then◌else◌}
 use Rattle.onedigit.specs.Wrong.{added}
-use Rattle.onedigit.proofs.wrong_entry.Statement.{statement}
-use Rattle.onedigit.proofs.wrong_entry.Tie as tie
+use Rattle.onedigit.proofs.wrong_entry.Goals as goal
 
-returns : tie.Need-returns
-returns c =
-    let a = c.before.before.before.before.args in
-    let held = c.before.wide.ensures in
+pub returns-then-held-m : goal.returns-then-held-m
+returns-then-held-m c =
+    let a = c.args in
+    let held = c.wide-held.ensures in
     let p = get_or a.parity.now a.place 0 in
     ap (λ (y : ℕ). not (eqb y a.s)) held
     ∙ sym (ap (λ (b : Bool). when b then not (eqb p a.s) else added a.m a.parity.now a.place a.s)
-    (lt-ltb p a.m (subst (λ (y : ℕ). y < a.m) held c.if1.true)))
+    (lt-ltb p a.m (subst (λ (y : ℕ). y < a.m) held c.if-held-m.true)))
 
-returns-2 : tie.Need-returns-2
-returns-2 c =
-    let a = c.before.before.before.before.before.args in
-    let held = c.before.before.wide.ensures in
+pub returns : goal.returns
+returns c =
+    let a = c.args in
+    let held = c.wide-held.ensures in
     let p = get_or a.parity.now a.place 0 in
     ap (λ (known : Bool). eqb (a.place % 3) 2 && (ltb a.s a.m && not known)) c.in_block.ensures
     ∙ sym (ap (λ (b : Bool). when b then not (eqb p a.s) else added a.m a.parity.now a.place a.s)
-    (le-ltb p a.m (subst (λ (y : ℕ). a.m ≤ y) held c.before.if1.false)))
-
-pub wrong-entry-spec : {M : Type 1} → statement M
-wrong-entry-spec = tie.close (tie.spec (λ c. search rules) (λ c. search rules) (λ c κs. search rules) returns (λ c. search rules)
-    (λ c κs. search rules) returns-2)
+    (le-ltb p a.m (subst (λ (y : ℕ). a.m ≤ y) held c.if-held-m.false)))

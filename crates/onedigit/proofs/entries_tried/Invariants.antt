@@ -1,0 +1,17 @@
+-- `onedigit::entries_tried` meets its contract: those passed are counted.
+use mathlib.Core.Path.{◌≡◌, ap, ◌∙◌}
+use Prim.Native.Nat.{ℕ, ◌+◌, ◌-◌, ◌*◌, ◌≤◌, ◌<◌}
+use native.Mathlib.Omega.{arith}
+use lib.ListN.{length}
+use Rattle.bits.specs.Bits.{count}
+use Rattle.onedigit.specs.Wrong.{entry_wrong}
+use Rattle.bits.proofs.Counting.{tally_le, count-start}
+use Rattle.onedigit.proofs.Counts.{count_more, within, product_fits}
+use Rattle.onedigit.proofs.entries_tried.Given as goal
+
+abbrev pub invariant-loop-t : goal.invariant-loop-t
+invariant-loop-t l =
+    (l.t ≤ l.n) × (l.n ≤ 65535 * 65536) × (l.tried ≤ l.t) × (l.tried ≡ count l.t (entry_wrong l.m l.parity))
+
+abbrev pub decreases-loop-t : goal.decreases-loop-t
+decreases-loop-t l = l.n - l.t
