@@ -59,7 +59,8 @@ module _ (n : ℕ) (word : List ℕ) where
 
   -- 9 exactly if a check is broken
   pub fault_broken : quiet? ≡ false → fault n word ≡ 9
-  fault_broken e = ap (λ z. when not z then 9 else when last_two_set n word then 14 else when not (codeword (code n) (bit word)) then 15 else 0) e
+  fault_broken e = ap (λ z. when not z then 9 else when last_two_set n word then 14 else when not
+      (codeword (code n) (bit word)) then 15 else 0) e
 
   spelled : (a b d : Bool) → quiet? ≡ a → last_two_set n word ≡ b → codeword (code n) (bit word) ≡ d
       → fault n word ≡ (when not a then 9 else when b then 14 else when not d then 15 else 0)

@@ -77,12 +77,14 @@ module _ (x : Word) (out : List ℕ) where
 
   pub judged_codeword : (d : Bool) → codeword x ≡ true → judged d x out ≡ whole
   unfolding judged
-  judged_codeword d e = ap (λ b. when b then whole else when d then refused 13 out else when ltb (wrong_bit x) 63 then mended else refused 13 out)
+  judged_codeword d e = ap (λ b. when b then whole else when d then refused 13 out else when ltb
+      (wrong_bit x) 63 then mended else refused 13 out)
       e
 
   pub judged_detected : (d : Bool) → d ≡ true → codeword x ≡ false → judged d x out ≡ refused 13 out
   unfolding judged
-  judged_detected d t e = ap₂ (λ b c. when b then whole else when c then refused 13 out else when ltb (wrong_bit x) 63 then mended else refused 13
+  judged_detected d t e = ap₂ (λ b c. when b then whole else when c then refused 13 out else when ltb
+      (wrong_bit x) 63 then mended else refused 13
       out) e t
 
   pub judged_mended : (d : Bool) → d ≡ false → codeword x ≡ false → wrong_bit x < 63 → judged d x out ≡ mended
@@ -94,7 +96,8 @@ module _ (x : Word) (out : List ℕ) where
   pub judged_far : (d : Bool) → codeword x ≡ false → 63 ≤ wrong_bit x → judged d x out ≡ refused 13 out
   unfolding judged
   judged_far d e l =
-      ap₂ (λ b c. when b then whole else when d then refused 13 out else when c then mended else refused 13 out) e (le-ltb (wrong_bit x) 63 l)
+      ap₂ (λ b c. when b then whole else when d then refused 13 out else when c then mended else refused 13 out) e
+      (le-ltb (wrong_bit x) 63 l)
       ∙ either d
     where
       either : (b : Bool) → (when b then refused 13 out else refused 13 out) ≡ refused 13 out

@@ -20,7 +20,8 @@ module _ (n : ℕ) (word : List ℕ) {number low : ℕ} (found : (number ≡ fau
     is = ap₂ (λ k z. opened k z (when eqb k 0 then take (code n).octets_of_information word else [])) found.0 found.1
 
     pub opened_other : (number ≡ 0 → ⊥) → opened number low [] ≡ opened_from n word
-    opened_other d = sym (ap (λ b. opened number low (when b then take (code n).octets_of_information word else [])) (ne_eqb number 0 d)) ∙ is
+    opened_other d = sym (ap (λ b. opened number low (when b then take (code n).octets_of_information word else [])) (ne_eqb number 0 d))
+        ∙ is
 
     pub opened_codeword : number ≡ 0 → opened number low (take (code n).octets_of_information word) ≡ opened_from n word
     opened_codeword e = sym (ap (λ b. opened number low (when b then take (code n).octets_of_information word else [])) (eq-eqb number 0 e))

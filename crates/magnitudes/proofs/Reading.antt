@@ -38,7 +38,8 @@ pub raised : (i : ℕ) → i < 32 → (1 * 2 ^ i) % 2 ^ 32 ≡ 2 ^ i
 raised i h = ap (λ z. z % 2 ^ 32) (one-mul (2 ^ i)) ∙ mod-eq_of_lt (pow-lt h)
 
 -- one mark more
-pub marked_more : (x : Word) (v i m : ℕ) → i < 32 → ((j : ℕ) → j < 32 → digit 32 v j ≡ up_to i x j) → m ≡ (when x i then 2 ^ (31 - i) else 0)
+pub marked_more : (x : Word) (v i m : ℕ) → i < 32 → ((j : ℕ) → j < 32 → digit 32 v j ≡ up_to i x j)
+    → m ≡ (when x i then 2 ^ (31 - i) else 0)
     → (j : ℕ) → j < 32 → digit 32 (bit_or v m) j ≡ up_to (i + 1) x j
 marked_more x v i m h d e j l =
     digit_or 32 v m j ∙ ap₂ ◌||◌ (d j l) (ap (λ z. digit 32 z j) e ∙ here (x i)) ∙ go (ℕ_discrete j i) (dec_lt j i)

@@ -6,7 +6,8 @@
 ghost use Rattle.std.specs.Prelude.{◌≡◌, Bool, true, false, ℕ, ◌+◌, ◌*◌, ◌/◌, ◌^◌, ◌<◌, ◌≤◌, eqb, length};
 ghost use Rattle.bits.specs.Bits.{digit, ◌⊕◌, below, when◌then◌else◌};
 ghost use Rattle.vectors.specs.Vectors.{wbit, Holds, up_to, from, joined};
-ghost use Rattle.magnitudes.specs.Patterns.{is_one as is_one_of, pattern_of, read as read_of, unsigned as unsigned_of, smaller as smaller_of, is_finite};
+ghost use Rattle.magnitudes.specs.Patterns.{is_one as is_one_of, pattern_of, read as read_of};
+ghost use Rattle.magnitudes.specs.Patterns.{unsigned as unsigned_of, smaller as smaller_of, is_finite};
 ghost use Rattle.magnitudes.specs.Patterns.{all_finite};
 ghost use Rattle.magnitudes.specs.Sizes.{smallest as smallest_in};
 

@@ -147,7 +147,8 @@ parity_bit_lem b d e f hb hd he hf bd be bf zero_sum = ⊎_elim (λ l. l) inform
     informs : b < 64 → 64 ≤ b
     informs l =
         let five : degree_of (code 1) b ≡ 5 =
-        bit_degree 1 tt b (inside b hb) ∙ ap (λ t. when t then 5 else 3) (lt-ltb b (information (code 1)) (omega (arith, information_are))) in
+        bit_degree 1 tt b (inside b hb)
+        ∙ ap (λ t. when t then 5 else 3) (lt-ltb b (information (code 1)) (omega (arith, information_are))) in
         absurd (omega (
           arith,
           five,

@@ -228,7 +228,8 @@ module _ (cs : List ℕ) (n z : ℕ) (e : cs ≡ column_list) (h : n < 128) wher
   pub lowest_here : get_or cs n 0 ≡ z → lowest_from (128 - n) n z ≡ n
   lowest_here q =
       lowest_pass n z h
-      ∙ ap (λ t. when t then n else lowest_from (128 - (n + 1)) (n + 1) z) (eq-eqb (get_or column_list n 0) z (ap (λ w. get_or w n 0) (sym e)
+      ∙ ap (λ t. when t then n else lowest_from (128 - (n + 1)) (n + 1) z)
+      (eq-eqb (get_or column_list n 0) z (ap (λ w. get_or w n 0) (sym e)
       ∙ q))
 
   pub lowest_later : (get_or cs n 0 ≡ z → ⊥) → lowest_from (128 - n) n z ≡ lowest_from (128 - (n + 1)) (n + 1) z

@@ -47,7 +47,8 @@ module _ (c : Code) (x : Word) where
   next_by : (a b : Bool) → eqb (broken c x) 0 ≡ a → lt_z (pos 0) (excess c x chosen) ≡ b
       → by_excess c x ≡ (when a then quiet else (when b then flip chosen (excess c x chosen) else stuck chosen (excess c x chosen)))
   unfolding by_excess
-  next_by a b e f = ap₂ (λ a b. when a then quiet else (when b then flip chosen (excess c x chosen) else stuck chosen (excess c x chosen))) e f
+  next_by a b e f = ap₂
+      (λ a b. when a then quiet else (when b then flip chosen (excess c x chosen) else stuck chosen (excess c x chosen))) e f
 
   pub next_quiet : by_excess c x ≡ quiet → broken c x ≡ 0
   next_quiet q = go (eqb (broken c x) 0) (lt_z (pos 0) (excess c x chosen)) refl refl

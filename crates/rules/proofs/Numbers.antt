@@ -152,7 +152,8 @@ module _ (x : Word) (first second : Bool) where
 
   in_second : (n : ℕ) → 7665 ≤ n → four_word x first second n ≡ encoded code4 x n ⊕ second
   unfolding inverted code4 generator511
-  in_second n l = ap₂ (λ a b. encoded code4 x n ⊕ (not a && (when b then first else second))) (le-ltb n 7154 (omega arith)) (le-ltb n 7665 l)
+  in_second n l = ap₂ (λ a b. encoded code4 x n ⊕ (not a && (when b then first else second))) (le-ltb n 7154 (omega arith))
+      (le-ltb n 7665 l)
 
   inform : (n : ℕ) → n < 7154 → four_word x first second n ≡ encoded code4 x n
   unfolding inverted code4 generator511

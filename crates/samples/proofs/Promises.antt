@@ -321,7 +321,8 @@ comparisons_alone s s' a n limit out =
     ap₂ (λ l f. unless (refusal (sampled n) l (bits (code n)) (length out) (code n).octets_of_word) (refused_correct_of out)
     (when f then ran_samples n s limit out else refused_correct_of out 16)) a.long a.finite
     ∙ ap₂ (λ x less. unless (refusal (sampled n) (length s') (bits (code n)) (length out) (code n).octets_of_word) (refused_correct_of out)
-    (when all_finite s' then ran_correct (code n) x (run (by_size less (code n)) limit x) out else refused_correct_of out 16)) (fun_ext reads)
+    (when all_finite s' then ran_correct (code n) x (run (by_size less (code n)) limit x) out else refused_correct_of out 16))
+    (fun_ext reads)
     (fun_ext (λ i. fun_ext (λ j. less i j)))
   where
     reads : (i : ℕ) → read s i ≡ read s' i

@@ -67,7 +67,8 @@ module _ {c : Code} {h : List ℕ} {sh : Shape} (lent : Lent c h sh) (x : Word) 
   top_small = omega (arith, t.is, broken_met c x bit, degree_le lent x bit t.under)
 
   pub next_stuck : c.unsent ≡ from → (broken c x ≡ 0 → ⊥) → top ≤ 8 → by_excess c x ≡ stuck bit (sub_ℕ top 8)
-  next_stuck u d l = best_next lent x (top_ends (sym u) refl t) d ∙ ap (λ b. when b then flip bit (sub_ℕ top 8) else stuck bit (sub_ℕ top 8))
+  next_stuck u d l = best_next lent x (top_ends (sym u) refl t) d
+      ∙ ap (λ b. when b then flip bit (sub_ℕ top 8) else stuck bit (sub_ℕ top 8))
       (le-ltb 8 top l)
 
   pub next_flip : c.unsent ≡ from → (broken c x ≡ 0 → ⊥) → 8 < top → by_excess c x ≡ flip bit (sub_ℕ top 8)

@@ -6,7 +6,6 @@ use native.Mathlib.Nat.{mod-lt}
 use native.Mathlib.Omega.{arith}
 use lib.ListN.{set}
 use Rattle.identity.specs.ties.Flat.{flat_tied}
-use borrow.Author.Rules.{rules}
 use Rattle.onedigit.proofs.digit_noticed.Goals as goal
 
 pub overflow_cast-t : goal.overflow_cast-t

@@ -1,14 +1,8 @@
 -- `onedigit::digits_noticed` meets its contract: those passed are counted, and the table is as it was.
-use mathlib.Core.Path.{◌≡◌, refl, sym, ap, ◌∙◌, subst}
-use mathlib.Core.List.{List}
-use Prim.Native.Nat.{ℕ, ◌-◌, ◌*◌, ◌/◌, ◌≤◌, ◌<◌}
-use native.Mathlib.Omega.{arith}
-use lib.ListN.{length}
+use mathlib.Core.Path.{◌≡◌}
+use Prim.Native.Nat.{ℕ, ◌-◌, ◌*◌, ◌≤◌}
 use Rattle.bits.specs.Bits as bits
-use Rattle.identity.specs.ties.Flat.{Sizes}
 use Rattle.onedigit.specs.Wrong.{digit_noticed_of}
-use Rattle.bits.proofs.Counting.{tally_le, count-start}
-use Rattle.onedigit.proofs.Counts.{count_more, within, product_fits}
 use Rattle.onedigit.proofs.digits_noticed.Given as goal
 
 abbrev pub invariant-loop-t : goal.invariant-loop-t
@@ -17,7 +11,8 @@ invariant-loop-t l =
     × (l.n ≤ 65535 * 65536 * 15)
     × (l.noticed ≤ l.t)
     × (l.generator ≡ l.initial.generator)
-    × ((printed : ℕ) → l.m ≤ printed → l.noticed ≡ bits.count l.t (digit_noticed_of l.m printed l.rows l.count l.parts l.digits l.parity l.initial.generator))
+    × ((printed : ℕ) → l.m ≤ printed
+    → l.noticed ≡ bits.count l.t (digit_noticed_of l.m printed l.rows l.count l.parts l.digits l.parity l.initial.generator))
 
 abbrev pub decreases-loop-t : goal.decreases-loop-t
 decreases-loop-t l = l.n - l.t

@@ -1,15 +1,8 @@
 -- `onedigit::entries_noticed` meets its contract: those passed are counted, and the table is as it was.
-use mathlib.Core.Path.{◌≡◌, refl, sym, ap, ◌∙◌, subst}
-use mathlib.Core.List.{List}
-use Prim.Native.Nat.{ℕ, ◌+◌, ◌-◌, ◌*◌, ◌/◌, ◌%◌, ◌≤◌, ◌<◌}
-use native.Mathlib.Nat.{mod-lt}
-use native.Mathlib.Omega.{arith}
-use lib.ListN.{length}
+use mathlib.Core.Path.{◌≡◌}
+use Prim.Native.Nat.{ℕ, ◌-◌, ◌*◌, ◌≤◌}
 use Rattle.bits.specs.Bits as bits
-use Rattle.identity.specs.ties.Flat.{Sizes}
-use Rattle.onedigit.specs.Wrong.{place_noticed_of, entry_noticed_of}
-use Rattle.bits.proofs.Counting.{tally_le, count-start}
-use Rattle.onedigit.proofs.Counts.{count_more, within, product_fits}
+use Rattle.onedigit.specs.Wrong.{entry_noticed_of}
 use Rattle.onedigit.proofs.entries_noticed.Given as goal
 
 abbrev pub invariant-loop-t : goal.invariant-loop-t
@@ -18,7 +11,8 @@ invariant-loop-t l =
     × (l.n ≤ 65535 * 65536)
     × (l.noticed ≤ l.t)
     × (l.parity ≡ l.initial.parity)
-    × ((printed : ℕ) → l.m ≤ printed → l.noticed ≡ bits.count l.t (entry_noticed_of l.m printed l.rows l.count l.parts l.initial.parity l.generator))
+    × ((printed : ℕ) → l.m ≤ printed
+    → l.noticed ≡ bits.count l.t (entry_noticed_of l.m printed l.rows l.count l.parts l.initial.parity l.generator))
 
 abbrev pub decreases-loop-t : goal.decreases-loop-t
 decreases-loop-t l = l.n - l.t

@@ -1,12 +1,8 @@
 -- `onedigit::entries_tried` meets its contract: those passed are counted.
-use mathlib.Core.Path.{◌≡◌, ap, ◌∙◌}
-use Prim.Native.Nat.{ℕ, ◌+◌, ◌-◌, ◌*◌, ◌≤◌, ◌<◌}
-use native.Mathlib.Omega.{arith}
-use lib.ListN.{length}
+use mathlib.Core.Path.{◌≡◌}
+use Prim.Native.Nat.{◌-◌, ◌*◌, ◌≤◌}
 use Rattle.bits.specs.Bits.{count}
 use Rattle.onedigit.specs.Wrong.{entry_wrong}
-use Rattle.bits.proofs.Counting.{tally_le, count-start}
-use Rattle.onedigit.proofs.Counts.{count_more, within, product_fits}
 use Rattle.onedigit.proofs.entries_tried.Given as goal
 
 abbrev pub invariant-loop-t : goal.invariant-loop-t

@@ -4,7 +4,6 @@ use mathlib.Core.Bool.{Bool, not, ◌&&◌}
 use lib.ListN.{set}
 use borrow.Author.Tests.{not-true, not-false}
 use Rattle.identity.specs.ties.Flat.{flat_tied}
-use borrow.Author.Rules.{rules}
 use Rattle.onedigit.proofs.entry_noticed.Goals as goal
 use mathlib.Core.Path.{ap}
 use mathlib.Core.Bool.{not}

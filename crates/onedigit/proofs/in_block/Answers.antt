@@ -3,7 +3,6 @@ use mathlib.Core.Path.{ap, ap₂}
 use mathlib.Core.Bool.{Bool, ◌||◌}
 use Prim.Native.Nat.{ℕ}
 use lib.Dec.{eqb}
-use borrow.Author.Rules.{rules}
 use Rattle.onedigit.proofs.in_block.Goals as goal
 
 pub returns : goal.returns

@@ -4,7 +4,6 @@ use Prim.Native.Nat.{◌*◌, ◌^◌, ◌<◌}
 use native.Mathlib.Omega.{arith}
 use lib.Bits.{bit_xor}
 use lib.Pow.{shl_exact}
-use borrow.Author.Rules.{rules}
 use Rattle.onedigit.proofs.other_word.Goals as goal
 
 pub returns : goal.returns

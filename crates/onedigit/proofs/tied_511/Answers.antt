@@ -1,9 +1,8 @@
 -- `onedigit::tied_511`: the flat tables stand for those of code 4, which code 5 has too. Assumes nothing.
-use mathlib.Core.Path.{◌≡◌, ◌∙◌}
+use mathlib.Core.Path.{◌∙◌}
 use native.Mathlib.Omega.{arith}
 use Rattle.rules.specs.Codes.{code, code4, code5}
 use Rattle.rules.specs.Identity.{tied}
-use borrow.Author.Rules.{rules}
 use Rattle.onedigit.proofs.Standing.{stand_for}
 use Rattle.onedigit.proofs.tied_511.Goals as goal
 

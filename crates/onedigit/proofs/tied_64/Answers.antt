@@ -1,9 +1,8 @@
 -- `onedigit::tied_64`: the flat tables stand for those of code 3. Assumes nothing.
-use mathlib.Core.Path.{◌≡◌, ◌∙◌}
+use mathlib.Core.Path.{◌∙◌}
 use native.Mathlib.Omega.{arith}
 use Rattle.rules.specs.Codes.{code, code3}
 use Rattle.rules.specs.Identity.{tied}
-use borrow.Author.Rules.{rules}
 use Rattle.onedigit.proofs.Standing.{stand_for}
 use Rattle.onedigit.proofs.tied_64.Goals as goal
 

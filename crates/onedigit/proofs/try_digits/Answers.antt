@@ -6,7 +6,6 @@ use lib.ListN.{length}
 use Rattle.onedigit.specs.Wrong.{digit_noticed_of}
 use Rattle.bits.proofs.Counting.{count-le}
 use Rattle.onedigit.proofs.Counts.{product_fits}
-use borrow.Author.Rules.{rules}
 use Rattle.onedigit.proofs.try_digits.Goals as goal
 
 pub overflow_mul-tried : goal.overflow_mul-tried

@@ -6,7 +6,6 @@ use lib.ListN.{length}
 use Rattle.onedigit.specs.Wrong.{entry_wrong, entry_noticed_of}
 use Rattle.bits.proofs.Counting.{count-le}
 use Rattle.onedigit.proofs.Counts.{product_fits}
-use borrow.Author.Rules.{rules}
 use Rattle.onedigit.proofs.try_entries.Goals as goal
 
 pub returns : goal.returns

@@ -2,7 +2,6 @@
 use mathlib.Core.Path.{ap}
 use mathlib.Core.Bool.{not}
 use Rattle.onedigit.proofs.Counts.{put_back}
-use borrow.Author.Rules.{rules}
 use Rattle.onedigit.proofs.word_noticed.Goals as goal
 
 pub returns : goal.returns

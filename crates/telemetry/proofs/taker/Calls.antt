@@ -231,7 +231,8 @@ asked_given (suc n) s at part [] h few =
         → ((take_answer s part).complete ≡ true → asked n (take_answer s part).next (at + (take_answer s part).taken)
         (drop (take_answer s part).taken part) []
         ≡ given_from (take_answer s part).next (at + (take_answer s part).taken) (drop (take_answer s part).taken part ++ []))
-        → (when b then asked n (take_answer s part).next (at + (take_answer s part).taken) (drop (take_answer s part).taken part) [] else [])
+        → (when b then asked n (take_answer s part).next (at + (take_answer s part).taken)
+        (drop (take_answer s part).taken part) [] else [])
         ≡ given_from (take_answer s part).next (at + (take_answer s part).taken) (drop (take_answer s part).taken part ++ [])
     go true e again = again e
     go false e again =

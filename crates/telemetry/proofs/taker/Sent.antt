@@ -101,24 +101,28 @@ matched_longest =
     (λ o. zeroth (eqb o 0x1A)) (λ o. first (eqb o 0xCF) (eqb o 0x1A)) (λ o. second (eqb o 0xFC) (eqb o 0x1A))
     (λ o. third (eqb o 0x1D) (eqb o 0x1A))
   where
-    zeroth : (b : Bool) → ◌≡◌ {A = ℕ} (when b && false then 4 else when b && false then 3 else when b && false then 2 else when b && true then 1
+    zeroth : (b : Bool)
+        → ◌≡◌ {A = ℕ} (when b && false then 4 else when b && false then 3 else when b && false then 2 else when b && true then 1
         else 0) (when b then 1 else when b then 1 else 0)
     zeroth true = refl
     zeroth false = refl
 
-    first : (a b : Bool) → ◌≡◌ {A = ℕ} (when a && false then 4 else when a && false then 3 else when a && true then 2 else when b && true then 1
+    first : (a b : Bool)
+        → ◌≡◌ {A = ℕ} (when a && false then 4 else when a && false then 3 else when a && true then 2 else when b && true then 1
         else 0) (when a then 2 else when b then 1 else 0)
     first true b = refl
     first false true = refl
     first false false = refl
 
-    second : (a b : Bool) → ◌≡◌ {A = ℕ} (when a && false then 4 else when a && true then 3 else when false then 2 else when b && true then 1 else
+    second : (a b : Bool)
+        → ◌≡◌ {A = ℕ} (when a && false then 4 else when a && true then 3 else when false then 2 else when b && true then 1 else
         0) (when a then 3 else when b then 1 else 0)
     second true b = refl
     second false true = refl
     second false false = refl
 
-    third : (a b : Bool) → ◌≡◌ {A = ℕ} (when a && true then 4 else when false then 3 else when false then 2 else when b && true then 1 else 0)
+    third : (a b : Bool)
+        → ◌≡◌ {A = ℕ} (when a && true then 4 else when false then 3 else when false then 2 else when b && true then 1 else 0)
         (when a then 4 else when b then 1 else 0)
     third true b = refl
     third false true = refl

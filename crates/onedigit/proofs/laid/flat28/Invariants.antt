@@ -1,13 +1,8 @@
 -- `onedigit::laid::flat28`: word i of the flat list is the one that it is for. Assumes nothing.
-use mathlib.Core.Path.{refl}
 use mathlib.Core.List.{[]}
 use Prim.Native.Nat.{◌-◌, ◌/◌, ◌%◌}
-use native.Mathlib.Omega.{arith}
 use lib.ListN.{get_or}
-use borrow.Author.Rules.{rules}
-use Rattle.catalogue.proofs.tables.Listed.{Filled, filled_all}
-use Rattle.onedigit.specs.Laid.{words28}
-use Rattle.onedigit.proofs.Filling.{filled_more}
+use Rattle.catalogue.proofs.tables.Listed.{Filled}
 use Rattle.onedigit.proofs.laid.flat28.Given as goal
 
 abbrev pub invariant-loop-i : goal.invariant-loop-i

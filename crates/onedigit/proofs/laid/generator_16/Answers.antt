@@ -1,6 +1,5 @@
 -- `onedigit::laid::generator_16`: what the words of the printed rows stand for, computed. Assumes nothing.
 use mathlib.Core.Path.{◌≡◌, refl, ap, ◌∙◌}
-use borrow.Author.Rules.{rules}
 use Rattle.rules.specs.Tables.{generator16}
 use Rattle.identity.specs.ties.Flat.{pieces, joined, generator_of}
 use Rattle.onedigit.specs.Laid.{words4}

@@ -1,6 +1,5 @@
 -- `onedigit::laid::generator_511`: what the words of the printed rows stand for, computed. Assumes nothing.
 use mathlib.Core.Path.{◌≡◌, refl, ap, ◌∙◌}
-use borrow.Author.Rules.{rules}
 use Rattle.rules.specs.Tables.{generator511}
 use Rattle.identity.specs.printed.Words.{table_words}
 use Rattle.identity.specs.ties.Flat.{pieces, joined, generator_of}

@@ -1,6 +1,5 @@
 -- `onedigit::laid::parity_16`: what the library's places, three to a block, stand for, computed. Assumes nothing.
 use mathlib.Core.Path.{◌≡◌, refl, ap, ◌∙◌}
-use borrow.Author.Rules.{rules}
 use Rattle.rules.specs.Tables.{parity16}
 use Rattle.catalogue.specs.tables.Flat.{pairs, flat8}
 use Rattle.identity.specs.ties.Flat.{pieces, parity_of}

@@ -4,7 +4,6 @@ use Prim.Native.Nat.{◌+◌, ◌*◌, ◌/◌, ◌%◌}
 use lib.ListN.{get_or}
 use borrow.Author.Tests.{eq-eqb, ne_eqb}
 use Rattle.bits.specs.Bits.{when◌then◌else◌}
-use borrow.Author.Rules.{rules}
 use Rattle.onedigit.proofs.laid.place.Goals as goal
 
 pub returns-then-i-eq2 : goal.returns-then-i-eq2

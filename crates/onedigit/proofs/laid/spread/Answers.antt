@@ -1,9 +1,8 @@
 -- `onedigit::laid::spread`: place i of the list is the one that it is for. Assumes nothing.
-use Prim.Native.Nat.{◌-◌}
 use native.Mathlib.Omega.{arith}
 use borrow.Author.Rules.{rules}
-use Rattle.catalogue.proofs.tables.Listed.{Filled, filled_all}
-use Rattle.onedigit.specs.Laid.{third_none, threes}
+use Rattle.catalogue.proofs.tables.Listed.{filled_all}
+use Rattle.onedigit.specs.Laid.{threes}
 use Rattle.onedigit.proofs.Filling.{filled_more}
 use Rattle.onedigit.proofs.laid.spread.Goals as goal
 

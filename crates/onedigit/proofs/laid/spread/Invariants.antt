@@ -1,10 +1,7 @@
 -- `onedigit::laid::spread`: place i of the list is the one that it is for. Assumes nothing.
 use Prim.Native.Nat.{◌-◌}
-use native.Mathlib.Omega.{arith}
-use borrow.Author.Rules.{rules}
-use Rattle.catalogue.proofs.tables.Listed.{Filled, filled_all}
-use Rattle.onedigit.specs.Laid.{third_none, threes}
-use Rattle.onedigit.proofs.Filling.{filled_more}
+use Rattle.catalogue.proofs.tables.Listed.{Filled}
+use Rattle.onedigit.specs.Laid.{third_none}
 use Rattle.onedigit.proofs.laid.spread.Given as goal
 
 abbrev pub invariant-loop-i : goal.invariant-loop-i
