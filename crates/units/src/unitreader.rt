@@ -1,5 +1,5 @@
-// The reader as a struct that holds the unit's slice and a place. Each function over it is proved by hand and only takes it apart or puts
-// it together; `begin` and `block_at` do the work on a plain slice and numbers.
+// The reader as a struct that holds the unit's slice and a place. Each function over it only takes it apart or puts it together; `begin`
+// and `block_at` do the work on a plain slice and numbers.
 ghost use Rattle.std.specs.Prelude.{◌≡◌, [], eqb, replicate};
 ghost use Rattle.bits.specs.Bits.{when◌then◌else◌};
 ghost use Rattle.units.specs.unitrules.Units.{reader_number_of, reading_from};
