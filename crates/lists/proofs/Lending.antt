@@ -34,9 +34,10 @@ module _ {M : Type 1} {𝓤 : Ura M} (𝓛 : Logic 𝓤) (R : RattleType) (lawfu
   open 𝓛 use {H}
 
   pub fills : {C : Calls 𝓤 H} {Λ : Loops 𝓤 H} {E : Env 𝓤 H} {q : Post 𝓤 H} {p : Place} {y : Operand} {rest : Body} {Γ : List (Item 𝓤)}
-      → Opd Go 𝓛 (‵ ((Array R n).own_val (replicate n x) (array_val (replicate n v) ∷ [])) ∷ ‵ (froom (ty_array (lone R.mir) n) l 0) ∷ Γ) E y v
-      → Finds Go 𝓛 (‵ ((Array R n).own_val (replicate n x) (array_val (replicate n v) ∷ [])) ∷ ‵ (froom (ty_array (lone R.mir) n) l 0) ∷ Γ) E p
-      (ty_array (lone R.mir) n, l, 0)
+      → Opd Go 𝓛 (‵ ((Array R n).own_val (replicate n x) (array_val (replicate n v) ∷ [])) ∷ ‵ (froom (ty_array (lone R.mir) n) l 0) ∷ Γ)
+      E y v
+      → Finds Go 𝓛 (‵ ((Array R n).own_val (replicate n x) (array_val (replicate n v) ∷ [])) ∷ ‵ (froom (ty_array (lone R.mir) n) l 0) ∷ Γ)
+      E p (ty_array (lone R.mir) n, l, 0)
       → Sq 𝓛 (‵ (part_at (Array R n) full_share (replicate n x) l 0) ∷ Γ) (runs C Λ E rest q)
       → Sq 𝓛 (‵ (froom (ty_array (lone R.mir) n) l 0) ∷ Γ) (runs C Λ E (seq (assign p (repeat y n)) rest) q)
   fills opd finds then =
