@@ -5,7 +5,6 @@
 ghost use Rattle.std.specs.Prelude.{◌≡◌, ◌<◌, ◌≤◌, length, IfOk};
 
 use flipping::endings;
-use std::alloc::{AllocError, Global};
 use std::env::FillError;
 use std::io;
 use std::io::{Read, Write};
@@ -166,15 +165,14 @@ fn no_limit<R: Read, E: Write>(input: &mut R, errors: &mut E) -> Result<(), Fail
 }
 
 // As much of the stream as one read may bring.
-fn part_buffer(alloc: Global) -> Result<Vec<u8>, AllocError>
-    ensures { IfOk result (λ v. length v.items ≡ 65536) }
+fn part_buffer() -> [u8; 65536]
+    ensures { 65536 ≡ length result }
 {
-    vec![in alloc; 0; 65536]
+    [0; 65536]
 }
 
 // The lines of a stream.
 fn run<R: Read, W: Write, E: Write>(
-    alloc: Global,
     edition: u8,
     input: &mut R,
     output: &mut W,
@@ -194,14 +192,13 @@ fn run<R: Read, W: Write, E: Write>(
         output,
         b"word offset answer flips first last unlike lowest\n",
     )?;
-    let mut part = part_buffer(alloc)?;
+    let mut part = part_buffer();
     let taker = made.taker;
     stream(input, output, taker, &mut part)
 }
 
 fn main(rt: HostRuntime) -> ExitCode {
     let ran = run(
-        rt.alloc(),
         edition(&rt),
         &mut rt.stdin(),
         &mut rt.stdout(),

@@ -1,25 +1,24 @@
 // Reads blocks of the lab's disk from standard input and writes the octets of the recording.
 #![tactic(auto)]
 
-ghost use Rattle.std.specs.Prelude.{◌≡◌, ◌-◌, length, IfOk};
+ghost use Rattle.std.specs.Prelude.{◌≡◌, ◌-◌, length};
 
 use blocks::importing;
-use std::alloc::{AllocError, Global};
 use std::io::{Read, Write};
 use std::process::ExitCode;
 use streams::Failure;
 
 // One octet more than a recording holds, so that more than fits is seen.
-fn in_buffer(alloc: Global) -> Result<Vec<u8>, AllocError>
-    ensures { IfOk result (λ v. length v.items ≡ 65537) }
+fn in_buffer() -> [u8; 65537]
+    ensures { 65537 ≡ length result }
 {
-    vec![in alloc; 0; 65537]
+    [0; 65537]
 }
 
-fn out_buffer(alloc: Global) -> Result<Vec<u8>, AllocError>
-    ensures { IfOk result (λ v. length v.items ≡ 64512) }
+fn out_buffer() -> [u8; 64512]
+    ensures { 64512 ≡ length result }
 {
-    vec![in alloc; 0; 64512]
+    [0; 64512]
 }
 
 // Whether the input ended.
@@ -66,13 +65,12 @@ fn all<W: Write, E: Write>(
 
 // The octets of the blocks that are read.
 fn run<R: Read, W: Write, E: Write>(
-    alloc: Global,
     input: &mut R,
     output: &mut W,
     errors: &mut E,
 ) -> Result<(), Failure> {
-    let mut blocks = in_buffer(alloc)?;
-    let mut out = out_buffer(alloc)?;
+    let mut blocks = in_buffer();
+    let mut out = out_buffer();
     let n = streams::fill(input, &mut blocks)?;
     if n < 65537 && !is_ended(input)? {
         return Ok(());
@@ -81,11 +79,6 @@ fn run<R: Read, W: Write, E: Write>(
 }
 
 fn main(rt: HostRuntime) -> ExitCode {
-    let ran = run(
-        rt.alloc(),
-        &mut rt.stdin(),
-        &mut rt.stdout(),
-        &mut rt.stderr(),
-    );
+    let ran = run(&mut rt.stdin(), &mut rt.stdout(), &mut rt.stderr());
     streams::end(&rt, "fromblocks", ran)
 }

@@ -5,7 +5,6 @@ ghost use Rattle.std.specs.Prelude.{◌≡◌, ◌+◌, ◌≤◌, ◌↔◌, le
 ghost use Rattle.std.specs.Io.{ReadsAtMost};
 ghost use Rattle.std.specs.Process.{exit_status};
 
-use std::alloc::AllocError;
 use std::io;
 use std::io::{Read, Write};
 use std::process::ExitCode;
@@ -15,13 +14,6 @@ use std::process::ExitCode;
 pub enum Failure {
     Input(io::Error),
     Output(io::Error),
-    Memory,
-}
-
-impl From<AllocError> for Failure {
-    fn from(_error: AllocError) -> Failure {
-        Failure::Memory
-    }
 }
 
 // One read: as much as comes, and nothing where the input has ended.
@@ -89,7 +81,6 @@ fn say<R: Eprint + AllocGlobal>(rt: &R, name: &str, failure: Failure) -> io::Res
     match failure {
         Failure::Input(e) => say_why(rt, name, "standard input", &e),
         Failure::Output(e) => say_why(rt, name, "standard output", &e),
-        Failure::Memory => eprintln!(rt; "{name}: out of memory"),
     }
 }
 

@@ -1,25 +1,24 @@
 // Reads the octets of a recording from standard input and writes them in blocks of the lab's disk.
 #![tactic(auto)]
 
-ghost use Rattle.std.specs.Prelude.{◌≡◌, ◌-◌, length, IfOk};
+ghost use Rattle.std.specs.Prelude.{◌≡◌, ◌-◌, length};
 
 use blocks::exporting;
-use std::alloc::{AllocError, Global};
 use std::io::{Read, Write};
 use std::process::ExitCode;
 use streams::Failure;
 
 // More than a recording holds, so that more than fits is seen.
-fn in_buffer(alloc: Global) -> Result<Vec<u8>, AllocError>
-    ensures { IfOk result (λ v. length v.items ≡ 65537) }
+fn in_buffer() -> [u8; 65537]
+    ensures { 65537 ≡ length result }
 {
-    vec![in alloc; 0; 65537]
+    [0; 65537]
 }
 
-fn out_buffer(alloc: Global) -> Result<Vec<u8>, AllocError>
-    ensures { IfOk result (λ v. length v.items ≡ 65536) }
+fn out_buffer() -> [u8; 65536]
+    ensures { 65536 ≡ length result }
 {
-    vec![in alloc; 0; 65536]
+    [0; 65536]
 }
 
 // Whether the input ended.
@@ -66,13 +65,12 @@ fn all<W: Write, E: Write>(
 
 // The blocks of the octets that are read.
 fn run<R: Read, W: Write, E: Write>(
-    alloc: Global,
     input: &mut R,
     output: &mut W,
     errors: &mut E,
 ) -> Result<(), Failure> {
-    let mut octets = in_buffer(alloc)?;
-    let mut out = out_buffer(alloc)?;
+    let mut octets = in_buffer();
+    let mut out = out_buffer();
     let n = streams::fill(input, &mut octets)?;
     if n < 65537 && !is_ended(input)? {
         return Ok(());
@@ -81,11 +79,6 @@ fn run<R: Read, W: Write, E: Write>(
 }
 
 fn main(rt: HostRuntime) -> ExitCode {
-    let ran = run(
-        rt.alloc(),
-        &mut rt.stdin(),
-        &mut rt.stdout(),
-        &mut rt.stderr(),
-    );
+    let ran = run(&mut rt.stdin(), &mut rt.stdout(), &mut rt.stderr());
     streams::end(&rt, "toblocks", ran)
 }

@@ -1,10 +1,9 @@
 // Reads a telecommand transmission unit: one octet code, two octets limit, then the unit. Prints a line for each codeblock.
 #![tactic(auto)]
 
-ghost use Rattle.std.specs.Prelude.{◌≡◌, ◌≤◌, ◌<◌, ◌*◌, length, IfOk};
+ghost use Rattle.std.specs.Prelude.{◌≡◌, ◌≤◌, ◌<◌, ◌*◌, length};
 
 use flipping::endings;
-use std::alloc::{AllocError, Global};
 use std::io;
 use std::io::{Read, Write};
 use std::process::ExitCode;
@@ -12,10 +11,10 @@ use streams::Failure;
 use units::{readings, unitoffers};
 
 // The longest unit of 64 KiB of information, code 1's.
-fn unit_buffer(alloc: Global) -> Result<Vec<u8>, AllocError>
-    ensures { IfOk result (λ v. length v.items ≡ 131096) }
+fn unit_buffer() -> [u8; 131096]
+    ensures { 131096 ≡ length result }
 {
-    vec![in alloc; 0; 131096]
+    [0; 131096]
 }
 
 fn out_buffer() -> [u8; 32]
@@ -125,7 +124,6 @@ fn put_unit<W: Write>(output: &mut W, code: u8, limit: u16, unit: &[u8]) -> io::
 
 // The lines of the unit that is read.
 fn run<R: Read, W: Write, E: Write>(
-    alloc: Global,
     input: &mut R,
     output: &mut W,
     errors: &mut E,
@@ -136,7 +134,7 @@ fn run<R: Read, W: Write, E: Write>(
     )?;
     let mut head = [0u8; 3];
     streams::fill(input, &mut head)?;
-    let mut unit = unit_buffer(alloc)?;
+    let mut unit = unit_buffer();
     let n = streams::fill(input, &mut unit)?;
     if !ended(input, errors)? {
         return Ok(());
@@ -145,11 +143,6 @@ fn run<R: Read, W: Write, E: Write>(
 }
 
 fn main(rt: HostRuntime) -> ExitCode {
-    let ran = run(
-        rt.alloc(),
-        &mut rt.stdin(),
-        &mut rt.stdout(),
-        &mut rt.stderr(),
-    );
+    let ran = run(&mut rt.stdin(), &mut rt.stdout(), &mut rt.stderr());
     streams::end(&rt, "unitread", ran)
 }

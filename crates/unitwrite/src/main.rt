@@ -1,25 +1,24 @@
 // Writes a telecommand transmission unit: one octet code, then information to the end; the unit goes to standard output.
 #![tactic(auto)]
 
-ghost use Rattle.std.specs.Prelude.{◌≡◌, ◌≤◌, length, IfOk};
+ghost use Rattle.std.specs.Prelude.{◌≡◌, ◌≤◌, length};
 
-use std::alloc::{AllocError, Global};
 use std::io::{Read, Write};
 use std::process::ExitCode;
 use streams::Failure;
 
 // The most information, 64 KiB.
-fn information_buffer(alloc: Global) -> Result<Vec<u8>, AllocError>
-    ensures { IfOk result (λ v. length v.items ≡ 65536) }
+fn information_buffer() -> [u8; 65536]
+    ensures { 65536 ≡ length result }
 {
-    vec![in alloc; 0; 65536]
+    [0; 65536]
 }
 
 // The longest unit of 64 KiB of information, code 1's.
-fn unit_buffer(alloc: Global) -> Result<Vec<u8>, AllocError>
-    ensures { IfOk result (λ v. length v.items ≡ 131096) }
+fn unit_buffer() -> [u8; 131096]
+    ensures { 131096 ≡ length result }
 {
-    vec![in alloc; 0; 131096]
+    [0; 131096]
 }
 
 // Whether the input is at its end; if not, why it can't be taken is said.
@@ -52,19 +51,18 @@ fn write<W: Write, E: Write>(
 
 // The unit of what is read, out.
 fn run<R: Read, W: Write, E: Write>(
-    alloc: Global,
     input: &mut R,
     output: &mut W,
     errors: &mut E,
 ) -> Result<(), Failure> {
     let mut code = [0u8; 1];
     streams::fill(input, &mut code)?;
-    let mut information = information_buffer(alloc)?;
+    let mut information = information_buffer();
     let n = streams::fill(input, &mut information)?;
     if !ended(input, errors)? {
         return Ok(());
     }
-    let mut unit = unit_buffer(alloc)?;
+    let mut unit = unit_buffer();
     let long = units::unit_octets(code[0], n);
     if long <= 131096 {
         write(
@@ -79,11 +77,6 @@ fn run<R: Read, W: Write, E: Write>(
 }
 
 fn main(rt: HostRuntime) -> ExitCode {
-    let ran = run(
-        rt.alloc(),
-        &mut rt.stdin(),
-        &mut rt.stdout(),
-        &mut rt.stderr(),
-    );
+    let ran = run(&mut rt.stdin(), &mut rt.stdout(), &mut rt.stderr());
     streams::end(&rt, "unitwrite", ran)
 }

@@ -1,10 +1,9 @@
 // Corrects a recording: one octet code, two octets limit, then words to the end. Prints its log.
 #![tactic(auto)]
 
-ghost use Rattle.std.specs.Prelude.{◌≡◌, ◌+◌, ◌%◌, ◌≤◌, ◌<◌, length, IfOk};
+ghost use Rattle.std.specs.Prelude.{◌≡◌, ◌+◌, ◌%◌, ◌≤◌, ◌<◌, length};
 ghost use Rattle.wordlog.specs.lines.Parts.{Taken, size_in, Room, Counted};
 
-use std::alloc::{AllocError, Global};
 use std::io::{Read, Write};
 use std::process::ExitCode;
 use streams::Failure;
@@ -58,31 +57,26 @@ fn out_buffer() -> [u8; 1022]
 }
 
 // A block of words.
-fn words_buffer(alloc: Global) -> Result<Vec<u8>, AllocError>
-    ensures { IfOk result (λ v. length v.items ≡ 65536) }
+fn words_buffer() -> [u8; 65536]
+    ensures { 65536 ≡ length result }
 {
-    vec![in alloc; 0; 65536]
+    [0; 65536]
 }
 
 // The lines of a block.
-fn text_buffer(alloc: Global) -> Result<Vec<u8>, AllocError>
-    ensures { IfOk result (λ v. length v.items ≡ 524416) }
+fn text_buffer() -> [u8; 524416]
+    ensures { 524416 ≡ length result }
 {
-    vec![in alloc; 0; 524416]
+    [0; 524416]
 }
 
 // All words, in blocks of at most 64 KiB.
-fn all<R: Read, W: Write>(
-    alloc: Global,
-    input: &mut R,
-    output: &mut W,
-    head: &[u8],
-) -> Result<(), Failure>
+fn all<R: Read, W: Write>(input: &mut R, output: &mut W, head: &[u8]) -> Result<(), Failure>
     requires { Taken head.now }
 {
-    let mut words = words_buffer(alloc)?;
+    let mut words = words_buffer();
     let mut out = out_buffer();
-    let mut text = text_buffer(alloc)?;
+    let mut text = text_buffer();
     let size = lines::word_octets(head[0]);
     let full = lines::block_octets(head[0]);
     blocks(
@@ -96,31 +90,26 @@ fn all<R: Read, W: Write>(
 }
 
 // The log of a head, and of the words behind it where it is taken.
-fn log<R: Read, W: Write>(
-    alloc: Global,
-    input: &mut R,
-    output: &mut W,
-    head: &[u8],
-) -> Result<(), Failure>
+fn log<R: Read, W: Write>(input: &mut R, output: &mut W, head: &[u8]) -> Result<(), Failure>
     requires { length head.now ≤ 3 }
 {
     let mut text = [0u8; 256];
     let end = lines::begin(head, &mut text);
     streams::write(output, &text[..end])?;
     if !lines::is_bad(head) {
-        all(alloc, input, output, head)?;
+        all(input, output, head)?;
     }
     Ok(())
 }
 
 // The log of a recording.
-fn run<R: Read, W: Write>(alloc: Global, input: &mut R, output: &mut W) -> Result<(), Failure> {
+fn run<R: Read, W: Write>(input: &mut R, output: &mut W) -> Result<(), Failure> {
     let mut head = [0u8; 3];
     let n = streams::fill(input, &mut head)?;
-    log(alloc, input, output, &head[..n])
+    log(input, output, &head[..n])
 }
 
 fn main(rt: HostRuntime) -> ExitCode {
-    let ran = run(rt.alloc(), &mut rt.stdin(), &mut rt.stdout());
+    let ran = run(&mut rt.stdin(), &mut rt.stdout());
     streams::end(&rt, "wordbench", ran)
 }
