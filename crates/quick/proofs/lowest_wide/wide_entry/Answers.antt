@@ -9,7 +9,7 @@ use Rattle.quick.proofs.lowest_wide.wide_entry.Goals as goal
 
 pub lifted_from-requires : goal.lifted_from-requires
 lifted_from-requires c =
-    (omega (arith, c.if-s-end.true, c.requires.1), c.requires.2, c.requires.3, c.requires.4)
+    (omega arith, c.requires.2, c.requires.3, c.requires.4)
 
 pub returns-then-s-end : goal.returns-then-s-end
 returns-then-s-end c code e =
