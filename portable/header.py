@@ -34,9 +34,9 @@ class Boundary:
     """Which of the header's records is which of the library's, by the types of the functions; and that all else agrees. Floats that the
     header lends may be numbers of 32 bits in the library, which are their patterns."""
 
-    def __init__(self, header, reader, crate):
+    def __init__(self, header, reader, crate, names):
+        """`names` are the crate's functions."""
         self.header, self.reader, self.crate, self.records, self.patterns = header, reader, crate, {}, set()
-        names = sorted(name for name in reader.functions if name.startswith(crate + "::"))
         if names != sorted(crate + "::" + name for name in header.functions):
             raise Refused("the header's functions are not those of %s" % crate)
         for name in names:

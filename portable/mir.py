@@ -21,6 +21,7 @@ def integer(bits):
 
 WORD = integer(64)
 OP2_SIGNED = {"Add", "Sub", "Mul", "Div", "Rem", "Lt", "Le", "Shr"}
+OP2_WRAP = {"WrapAdd", "WrapSub", "WrapMul"}
 OP2_PLAIN = {"And", "Or", "Xor", "Shl", "Eq", "Ne"}
 OP2_FLOAT = {"FloatEq", "FloatNe", "FloatLt", "FloatLe"}
 COUNTS = {"LeadingZeros", "TrailingZeros", "CountOnes"}
@@ -72,6 +73,13 @@ class Variant:
 class Deref:
     def __init__(self, of, ty):
         self.of, self.ty = of, ty
+
+
+class NoElements:
+    """An array of no elements, wherever it is: its address is never followed, and may outlive the local that it was taken of."""
+
+    def __init__(self, ty):
+        self.ty = ty
 
 
 class AddrOf:
@@ -135,6 +143,10 @@ class Loop:
         self.body = body
 
 
+class Stuck:
+    """Where no run comes: the machine would be stuck, and that it is not is proved."""
+
+
 class Exit:
     """To the end of a block, or to the next turn of a loop."""
 
@@ -165,20 +177,16 @@ def the_only(form, what):
     return next(iter(form.items()))
 
 
+def stuck(body):
+    """Whether statements are not run: what comes before where the machine would be stuck is not either, unless it jumps."""
+    return any(isinstance(s, Stuck) for s in body) and not any(isinstance(s, (Return, Exit, If, Switch, Block, Loop)) for s in body)
+
+
 class Reader:
     """The functions of some libraries, and the shapes of the types that they name."""
 
     def __init__(self):
-        self.functions, self.shapes, self.refused = {}, {}, {}
-
-    def read(self, path):
-        """All of a library but its functions that stand for several, as those of traits do, which nothing here may call."""
-        with open(path, encoding="utf-8") as file:
-            for name, form in json.load(file):
-                if any(form["generics"].values()):
-                    self.refused[name] = "it has parameters for types or traits"
-                else:
-                    self.add(name, form)
+        self.functions, self.shapes, self.declaring = {}, {}, set()
 
     def add(self, name, form):
         if name in self.functions:
@@ -252,6 +260,11 @@ class Reader:
             if kind == "enum" and variant is not None:
                 return [integer(8)] + parts[variant]
         raise Refused("fields of %s" % (ty,))
+
+    def single(self, ty):
+        """The type of the only field of a struct that has one, which lies where the struct does; None of anything else."""
+        kind, parts = self.shapes[ty[1]] if ty[0] == "named" else (None, [])
+        return parts[0] if kind == "struct" and len(parts) == 1 else None
 
     def size_and_alignment(self, ty):
         """In octets, as the machine counts them; a struct lies in the order written."""
@@ -338,6 +351,8 @@ class Body:
             return []
         if form == "Return":
             return [Return(Use(0, self.locals[0]))]
+        if form == "Unreachable":
+            return [Stuck()]
         if form in ("Block", "Loop"):
             made = Block([]) if form == "Block" else Loop([])
             self.round.append(made)
@@ -349,7 +364,10 @@ class Body:
             raise Refused("a constant's reference that is written again: %s" % json.dumps(form)[:200])
         if kind == "Assign":
             place = self.place(parts[0])
-            return [Assign(place, self.value(parts[1], place.ty))]
+            value = self.value(parts[1], place.ty)
+            while place.ty == PTR and isinstance(value, AddrOf) and self.reader.single(value.of.ty):
+                value = AddrOf(Field(value.of, 0, self.reader.single(value.of.ty)))
+            return [Assign(place, value)]
         if kind == "Call":
             key, called = the_only(parts[0], "what is called")
             if key == "Fn" and not any(called[1].values()):
@@ -362,18 +380,27 @@ class Body:
             return made if local in self.followed else made + [Assign(Use(local, self.locals[local]), AddrOf(Use(self.lent[local], made[0].place.ty)))]
         if kind == "If":
             cond = self.operand(parts)
-            then = self.statements()
-            return [If(cond, then, self.statements())]
+            then, other = self.statements(), self.statements()
+            if stuck(then) or stuck(other):
+                return other if stuck(then) else then
+            return [If(cond, then, other)]
         if kind == "Switch":
             on = self.operand(parts[0])
             arms = [(keys, self.statements()) for keys in parts[1]]
-            return [Switch(on, arms, self.statements() if parts[2] else None)]
+            default = self.statements() if parts[2] else None
+            arms = [(keys, body) for keys, body in arms if not stuck(body)]
+            default = None if default is not None and stuck(default) else default
+            if len(arms) + (default is not None) < 2:
+                return arms[0][1] if arms else default if default is not None else [Stuck()]
+            return [Switch(on, arms, default)]
         if kind == "Exit" and parts < len(self.round):
             return [Exit(self.round[-1 - parts])]
         raise Refused("a statement: %s" % json.dumps(form)[:200])
 
     def constant(self, form, ty):
         """The value of a constant, of a type."""
+        if form == "Unit" and ty == UNIT:
+            return Nothing()
         kind, parts = the_only(form, "a constant")
         if kind == "Ints" and ty == ("array", integer(parts["width"]), len(parts["values"])):
             return Aggregate([Const(parts["width"], n) for n in parts["values"]], ty)
@@ -381,9 +408,16 @@ class Body:
             return Aggregate([self.constant(part, ty[1]) for part in parts], ty)
         if kind == "Repeat" and ty[0] == "array" and parts[1] == ty[2]:
             return Repeat(self.constant(parts[0], ty[1]), parts[1], ty)
+        if kind == "Parts" and ty[0] == "named":
+            shape, fields = self.reader.shapes[ty[1]]
+            if shape == "enum" and parts:
+                tag = self.constant(parts[0], integer(8))
+                fields = [integer(8)] + (fields[tag.value] if tag.value < len(fields) else [])
+            if len(parts) == len(fields):
+                return Aggregate([self.constant(part, field) for part, field in zip(parts, fields)], ty)
         if kind == "Bool" and ty == BOOL:
             return Truth(parts)
-        if kind in ("Int", "Float"):
+        if kind in ("Int", "Float") and ty == (kind.lower(), parts["width"]):
             return self.operand(form)
         raise Refused("a constant: %s" % json.dumps(form)[:200])
 
@@ -429,7 +463,9 @@ class Body:
         if kind == "Opd":
             return self.operand(parts)
         if kind == "AddrOf":
-            return AddrOf(self.place(parts, True))
+            made = self.place(parts, True)
+            none = made.ty[0] == "array" and made.ty[2] == 0 and not any("Deref" in step for step in parts["steps"])
+            return AddrOf(NoElements(made.ty) if none else made)
         if kind == "Aggregate":
             return Aggregate([self.operand(x) for x in parts], ty)
         if kind == "Repeat":
@@ -471,6 +507,8 @@ class Body:
         known = OP2_SIGNED if sign in ("Signed", "Unsigned") else OP2_PLAIN if sign is None else ()
         if kind in known and same and (a.ty[0] == "int" or a.ty == BOOL and kind in OP2_PLAIN - {"Shl"}):
             return Op2(kind, sign, a, b, BOOL if kind in COMPARISONS else a.ty)
+        if kind in OP2_WRAP and sign is None and same and a.ty[0] == "int":
+            return Op2(kind, None, a, b, a.ty)
         if kind in OP2_FLOAT and sign is None and same and a.ty[0] == "float":
             return Op2(kind, None, a, b, BOOL)
         raise Refused("an operation on two values: %s of %s and %s" % (json.dumps(op), a.ty, b.ty))

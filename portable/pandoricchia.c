@@ -46,6 +46,18 @@ typedef char widths_of_imported[OCTETS(imported, number) == 1 && OCTETS(imported
 #undef OCTETS
 
 /* A part of an array that is lent: where it begins, and how many. */
+typedef struct lent_uint16_t {
+    const uint16_t *at;
+    uint64_t len;
+} lent_uint16_t;
+
+/* A part of an array that is lent: where it begins, and how many. */
+typedef struct lent_uint32_t {
+    const uint32_t *at;
+    uint64_t len;
+} lent_uint32_t;
+
+/* A part of an array that is lent: where it begins, and how many. */
 typedef struct lent_uint8_t {
     const uint8_t *at;
     uint64_t len;
@@ -115,6 +127,568 @@ static inline uint32_t pattern_of(const float *x)
 static const float no_float[1] = {0};
 static const uint8_t no_uint8_t[1] = {0};
 
+/* ---- refusals --------------------------------------------------------------------------------------- */
+
+/* The refusals: one for each number that a call gives for what it does not do, and those that all calls share. */
+
+/* Why a call refuses, by the names that the header has. */
+enum { refusals_Refusal_Code = 0, refusals_Refusal_InputLength = 1, refusals_Refusal_OutputLength = 2,
+        refusals_Refusal_LastSix = 3, refusals_Refusal_Stuck = 4, refusals_Refusal_Limit = 5,
+        refusals_Refusal_Unsent = 6, refusals_Refusal_Parity = 7, refusals_Refusal_Broken = 8,
+        refusals_Refusal_Places = 9, refusals_Refusal_NoStart = 10, refusals_Refusal_NoTail = 11,
+        refusals_Refusal_NoBchWord = 12, refusals_Refusal_LastTwo = 13,
+        refusals_Refusal_OtherParity = 14, refusals_Refusal_Sample = 15,
+        refusals_Refusal_NoneNear = 16, refusals_Refusal_Reach = 17,
+        refusals_Refusal_Edition = 18, refusals_Refusal_TooLong = 19,
+        refusals_Refusal_BlockCheck = 20,
+        refusals_Refusal_BlockNumber = 21,
+        refusals_Refusal_BlockCount = 22 };
+typedef struct refusals_Refusal {
+    uint8_t tag;
+} refusals_Refusal;
+
+enum { refusals_Result_unit_Refusal_Ok = 0, refusals_Result_unit_Refusal_Err = 1 };
+typedef struct refusals_Result_unit_Refusal {
+    uint8_t tag;
+    union {
+        struct { refusals_Refusal field0; } Err;
+    } as;
+} refusals_Result_unit_Refusal;
+
+typedef struct refusals_ErrResidual_Refusal {
+    refusals_Refusal field0;
+} refusals_ErrResidual_Refusal;
+
+enum { refusals_ControlFlow_ErrResidual_Refusal_unit_Continue = 0,
+        refusals_ControlFlow_ErrResidual_Refusal_unit_Break = 1 };
+typedef struct refusals_ControlFlow_ErrResidual_Refusal_unit {
+    uint8_t tag;
+    union {
+        struct { refusals_ErrResidual_Refusal field0; } Break;
+    } as;
+} refusals_ControlFlow_ErrResidual_Refusal_unit;
+
+enum { refusals_Result_u8_Refusal_Ok = 0, refusals_Result_u8_Refusal_Err = 1 };
+typedef struct refusals_Result_u8_Refusal {
+    uint8_t tag;
+    union {
+        struct { uint8_t field0; } Ok;
+        struct { refusals_Refusal field0; } Err;
+    } as;
+} refusals_Result_u8_Refusal;
+
+/* Admits a call whose code is offered and whose input and output are as long as they must be; refused in this order. */
+static inline refusals_Result_unit_Refusal refusals_admit(bool offered, uint64_t input, uint64_t long_,
+        uint64_t output, uint64_t room)
+{
+    if (!offered) {
+        return (refusals_Result_unit_Refusal){.tag = refusals_Result_unit_Refusal_Err,
+                .as.Err = {.field0 = (refusals_Refusal){.tag = refusals_Refusal_Code}}};
+    }
+    if (input != long_) {
+        return (refusals_Result_unit_Refusal){.tag = refusals_Result_unit_Refusal_Err,
+                .as.Err = {.field0 = (refusals_Refusal){.tag = refusals_Refusal_InputLength}}};
+    }
+    if (output != room) {
+        return (refusals_Result_unit_Refusal){.tag = refusals_Result_unit_Refusal_Err,
+                .as.Err = {.field0 = (refusals_Refusal){.tag = refusals_Refusal_OutputLength}}};
+    }
+    return (refusals_Result_unit_Refusal){.tag = refusals_Result_unit_Refusal_Ok};
+}
+
+static inline refusals_ControlFlow_ErrResidual_Refusal_unit refusals_ResultTry_branch_unit_Refusal(
+        refusals_Result_unit_Refusal p0)
+{
+    switch (p0.tag) {
+    case refusals_Result_unit_Refusal_Ok:
+        return (refusals_ControlFlow_ErrResidual_Refusal_unit){.tag = refusals_ControlFlow_ErrResidual_Refusal_unit_Continue};
+    case refusals_Result_unit_Refusal_Err:
+    default:
+        return (refusals_ControlFlow_ErrResidual_Refusal_unit){.tag = refusals_ControlFlow_ErrResidual_Refusal_unit_Break, .as.Break = {.field0 = (refusals_ErrResidual_Refusal){.field0 = p0.as.Err.field0}}};
+    }
+}
+
+static inline refusals_Refusal refusals_AnyFrom_from_Refusal(refusals_Refusal p0)
+{
+    return p0;
+}
+
+static inline refusals_Result_unit_Refusal refusals_ResultFromResidualErrResidual_from_residual_un(
+        refusals_ErrResidual_Refusal p0)
+{
+    return (refusals_Result_unit_Refusal){.tag = refusals_Result_unit_Refusal_Err,
+            .as.Err = {.field0 = refusals_AnyFrom_from_Refusal(p0.field0)}};
+}
+
+/* The number that C gets. */
+static inline uint8_t refusals_Refusal_number(refusals_Refusal self)
+{
+    switch (self.tag) {
+    case refusals_Refusal_Code:
+        return 1;
+    case refusals_Refusal_InputLength:
+        return 2;
+    case refusals_Refusal_OutputLength:
+        return 3;
+    case refusals_Refusal_LastSix:
+        return 4;
+    case refusals_Refusal_Stuck:
+        return 5;
+    case refusals_Refusal_Limit:
+        return 6;
+    case refusals_Refusal_Unsent:
+        return 7;
+    case refusals_Refusal_Parity:
+        return 8;
+    case refusals_Refusal_Broken:
+        return 9;
+    case refusals_Refusal_Places:
+        return 10;
+    case refusals_Refusal_NoStart:
+        return 11;
+    case refusals_Refusal_NoTail:
+        return 12;
+    case refusals_Refusal_NoBchWord:
+        return 13;
+    case refusals_Refusal_LastTwo:
+        return 14;
+    case refusals_Refusal_OtherParity:
+        return 15;
+    case refusals_Refusal_Sample:
+        return 16;
+    case refusals_Refusal_NoneNear:
+        return 17;
+    case refusals_Refusal_Reach:
+        return 18;
+    case refusals_Refusal_Edition:
+        return 19;
+    case refusals_Refusal_TooLong:
+        return 20;
+    case refusals_Refusal_BlockCheck:
+        return 21;
+    case refusals_Refusal_BlockNumber:
+        return 22;
+    case refusals_Refusal_BlockCount:
+    default:
+        return 23;
+    }
+}
+
+/* The number of a call that gives nothing else: 0 where it is done. */
+static inline uint8_t refusals_number(refusals_Result_unit_Refusal done)
+{
+    switch (done.tag) {
+    case refusals_Result_unit_Refusal_Ok:
+        return 0;
+    case refusals_Result_unit_Refusal_Err:
+    default: {
+        refusals_Refusal refusal = done.as.Err.field0;
+        return refusals_Refusal_number(refusal);
+    }
+    }
+}
+
+/* ---- core ------------------------------------------------------------------------------------------- */
+
+/* What is used of the toolchain's own library, once for each type that it is used at. */
+
+typedef struct core_alloc_AllocError {
+    uint8_t nothing; /* it has no fields, but C asks for one */
+} core_alloc_AllocError;
+
+enum { core_Result_u64_AllocError_Ok = 0, core_Result_u64_AllocError_Err = 1 };
+typedef struct core_Result_u64_AllocError {
+    uint8_t tag;
+    union {
+        struct { uint64_t field0; } Ok;
+        struct { core_alloc_AllocError field0; } Err;
+    } as;
+} core_Result_u64_AllocError;
+
+enum { core_Option_u64_None = 0, core_Option_u64_Some = 1 };
+typedef struct core_Option_u64 {
+    uint8_t tag;
+    union {
+        struct { uint64_t field0; } Some;
+    } as;
+} core_Option_u64;
+
+typedef struct core_option_NoValue {
+    uint8_t nothing; /* it has no fields, but C asks for one */
+} core_option_NoValue;
+
+enum { core_ControlFlow_NoValue_u64_Continue = 0, core_ControlFlow_NoValue_u64_Break = 1 };
+typedef struct core_ControlFlow_NoValue_u64 {
+    uint8_t tag;
+    union {
+        struct { uint64_t field0; } Continue;
+        struct { core_option_NoValue field0; } Break;
+    } as;
+} core_ControlFlow_NoValue_u64;
+
+typedef struct core_ElementMismatch_u8 {
+    lent_uint8_t field0;
+    lent_uint8_t field1;
+} core_ElementMismatch_u8;
+
+typedef struct core_Iter_u8 {
+    lent_uint8_t field0;
+} core_Iter_u8;
+
+enum { core_Option_ref_u8_None = 0, core_Option_ref_u8_Some = 1 };
+typedef struct core_Option_ref_u8 {
+    uint8_t tag;
+    union {
+        struct { const uint8_t *field0; } Some;
+    } as;
+} core_Option_ref_u8;
+
+enum { core_Result_u8_AllocError_Ok = 0, core_Result_u8_AllocError_Err = 1 };
+typedef struct core_Result_u8_AllocError {
+    uint8_t tag;
+    union {
+        struct { uint8_t field0; } Ok;
+        struct { core_alloc_AllocError field0; } Err;
+    } as;
+} core_Result_u8_AllocError;
+
+static inline core_Result_u64_AllocError core_clone_U64Clone_clone(const uint64_t *p0)
+{
+    return (core_Result_u64_AllocError){.tag = core_Result_u64_AllocError_Ok, .as.Ok = {.field0 = *p0}};
+}
+
+static inline uint64_t core_surely_u64(const uint64_t *p0)
+{
+    return core_clone_U64Clone_clone(p0).as.Ok.field0;
+}
+
+static inline void core_fill_u64(uint64_t *restrict p0, uint64_t p0_len, uint64_t p1)
+{
+    uint64_t t = p1;
+    uint64_t t2 = p0_len;
+    if (t2 == 0) {
+        return;
+    }
+    uint64_t t3 = 0;
+    while (t3 < t2 - 1) {
+        p0[t3] = core_surely_u64(&t);
+        t3 += 1;
+    }
+    p0[t2 - 1] = t;
+}
+
+static inline uint8_t core_int_u8_max(uint8_t p0, uint8_t p1)
+{
+    if (p1 < p0) {
+        return p0;
+    }
+    return p1;
+}
+
+static inline uint64_t core_int_usize_saturating_sub(uint64_t p0, uint64_t p1)
+{
+    if (p1 <= p0) {
+        return p0 - p1;
+    }
+    return 0;
+}
+
+static inline uint64_t core_int_usize_min(uint64_t p0, uint64_t p1)
+{
+    if (p1 < p0) {
+        return p1;
+    }
+    return p0;
+}
+
+static inline uint8_t core_int_u8_saturating_sub(uint8_t p0, uint8_t p1)
+{
+    if (p1 <= p0) {
+        return (uint8_t)(p0 - p1);
+    }
+    return 0;
+}
+
+static inline void core_copy_from_slice_u64(uint64_t *restrict p0, uint64_t p0_len, const uint64_t *p1)
+{
+    uint64_t t = 0;
+    while (t < p0_len) {
+        p0[t] = p1[t];
+        t += 1;
+    }
+}
+
+static inline uint8_t core_convert_others_U8FromBool_from(bool p0)
+{
+    return (uint8_t)p0;
+}
+
+static inline core_ControlFlow_NoValue_u64 core_OptionTry_branch_u64(core_Option_u64 p0)
+{
+    switch (p0.tag) {
+    case core_Option_u64_Some:
+        return (core_ControlFlow_NoValue_u64){.tag = core_ControlFlow_NoValue_u64_Continue,
+                .as.Continue = {.field0 = p0.as.Some.field0}};
+    case core_Option_u64_None:
+    default:
+        return (core_ControlFlow_NoValue_u64){.tag = core_ControlFlow_NoValue_u64_Break,
+                .as.Break = {.field0 = (core_option_NoValue){0}}};
+    }
+}
+
+static inline void core_copy_from_slice_u8(uint8_t *restrict p0, uint64_t p0_len, const uint8_t *p1)
+{
+    uint64_t t = 0;
+    while (t < p0_len) {
+        p0[t] = p1[t];
+        t += 1;
+    }
+}
+
+static inline uint64_t core_size_of_param_u8(void)
+{
+    return 1;
+}
+
+static inline uint64_t core_group_u8(void)
+{
+    uint64_t t = core_size_of_param_u8();
+    return 32 * (uint64_t)(t == 1) + 16 * (uint64_t)(t == 2) + 8 * (uint64_t)(t == 4);
+}
+
+static inline bool core_cmp_numbers_U8PartialEq_eq(const uint8_t *p0, const uint8_t *p1)
+{
+    return *p0 == *p1;
+}
+
+static inline bool core_ElementMismatchPlaceTest_at_u8(const core_ElementMismatch_u8 *p0, uint64_t p1)
+{
+    return !core_cmp_numbers_U8PartialEq_eq(p0->field0.at + p1, p0->field1.at + p1);
+}
+
+static inline uint64_t core_first_by_one_ElementMismatch_u8(const core_ElementMismatch_u8 *p0, uint64_t p1, uint64_t p2)
+{
+    uint64_t t = p1;
+    while (t < p2) {
+        if (core_ElementMismatchPlaceTest_at_u8(p0, t)) {
+            return t;
+        }
+        t += 1;
+    }
+    return p2;
+}
+
+static inline bool core_any_in_turn_ElementMismatch_u8(const core_ElementMismatch_u8 *p0, uint64_t p1)
+{
+    uint64_t t = 0;
+    while (4 <= p1 - t) {
+        if (core_first_by_one_ElementMismatch_u8(p0, t, t + 4) < t + 4) {
+            return true;
+        }
+        t += 4;
+    }
+    return core_first_by_one_ElementMismatch_u8(p0, t, p1) < p1;
+}
+
+static inline bool core_any_in_run_ElementMismatch_u8(const core_ElementMismatch_u8 *p0, uint64_t p1, uint64_t p2)
+{
+    bool t = false;
+    uint64_t t2 = 0;
+    while (t2 < p2) {
+        t = (int)t | core_ElementMismatchPlaceTest_at_u8(p0, p1 + t2);
+        t2 += 1;
+    }
+    return t;
+}
+
+static inline bool core_any_in_three_ElementMismatch_u8(const core_ElementMismatch_u8 *p0, uint64_t p1)
+{
+    return (int)((int)core_any_in_run_ElementMismatch_u8(p0, 0, 1) | core_any_in_run_ElementMismatch_u8(p0, p1 / 2, 1))
+            | core_any_in_run_ElementMismatch_u8(p0, p1 - 1, 1);
+}
+
+static inline bool core_any_in_ends_ElementMismatch_u8(const core_ElementMismatch_u8 *p0, uint64_t p1, uint64_t p2)
+{
+    return (int)core_any_in_run_ElementMismatch_u8(p0, 0, p2) | core_any_in_run_ElementMismatch_u8(p0, p1 - p2, p2);
+}
+
+static inline bool core_any_in_quarters_ElementMismatch_u8(const core_ElementMismatch_u8 *p0, uint64_t p1, uint64_t p2)
+{
+    uint64_t t = p1 - p2;
+    return (int)((int)((int)core_any_in_run_ElementMismatch_u8(p0, 0, p2)
+            | core_any_in_run_ElementMismatch_u8(p0, core_int_usize_min(p2, t), p2))
+            | core_any_in_run_ElementMismatch_u8(p0, core_int_usize_min(2 * p2, t), p2))
+            | core_any_in_run_ElementMismatch_u8(p0, t, p2);
+}
+
+static inline uint64_t core_skip_groups_ElementMismatch_u8(const core_ElementMismatch_u8 *p0, uint64_t p1, uint64_t p2,
+        uint64_t p3)
+{
+    uint64_t t = p1;
+    while (0 < p3 && p3 <= p2 - t && !core_any_in_run_ElementMismatch_u8(p0, t, p3)) {
+        t += p3;
+    }
+    return t;
+}
+
+static inline bool core_any_by_groups_ElementMismatch_u8(const core_ElementMismatch_u8 *p0, uint64_t p1, uint64_t p2)
+{
+    if (p2 < 8) {
+        return core_any_in_turn_ElementMismatch_u8(p0, p1);
+    }
+    if (p1 < p2 / 8) {
+        return 0 < p1 && core_any_in_three_ElementMismatch_u8(p0, p1);
+    }
+    if (p1 <= p2 / 4) {
+        return core_any_in_ends_ElementMismatch_u8(p0, p1, p2 / 8);
+    }
+    if (p1 <= p2) {
+        return core_any_in_quarters_ElementMismatch_u8(p0, p1, p2 / 4);
+    }
+    if (p1 <= 2 * p2) {
+        return core_any_in_ends_ElementMismatch_u8(p0, p1, p2);
+    }
+    if (p2 <= p1 - core_skip_groups_ElementMismatch_u8(p0, core_skip_groups_ElementMismatch_u8(p0, 0, p1, 2 * p2), p1,
+            p2)) {
+        return true;
+    }
+    return core_any_in_run_ElementMismatch_u8(p0, p1 - p2, p2);
+}
+
+static inline bool core_all_equal_u8(const uint8_t *p0, uint64_t p0_len, const uint8_t *p1, uint64_t p1_len)
+{
+    if (p0_len != p1_len) {
+        return false;
+    }
+    core_ElementMismatch_u8 t = (core_ElementMismatch_u8){.field0 = (lent_uint8_t){p0, p0_len},
+            .field1 = (lent_uint8_t){p1, p1_len}};
+    return !core_any_by_groups_ElementMismatch_u8(&t, p0_len, core_group_u8());
+}
+
+static inline bool core_parts_equal_u8(const uint8_t *p0, uint64_t p0_len, const uint8_t *p1, uint64_t p1_len)
+{
+    return core_all_equal_u8(p0, p0_len, p1, p1_len);
+}
+
+static inline bool core_starts_with_u8(const uint8_t *p0, uint64_t p0_len, const uint8_t *p1, uint64_t p1_len)
+{
+    if (p0_len < p1_len) {
+        return false;
+    }
+    return core_parts_equal_u8(p1, p1_len, p0, p1_len);
+}
+
+static inline bool core_any_by_one_ElementMismatch_u8(const core_ElementMismatch_u8 *p0, uint64_t p1)
+{
+    return core_first_by_one_ElementMismatch_u8(p0, 0, p1) < p1;
+}
+
+static inline bool core_groups_equal_u8(const uint8_t *p0, uint64_t p0_len, const uint8_t *p1, uint64_t p1_len)
+{
+    core_ElementMismatch_u8 t = (core_ElementMismatch_u8){.field0 = (lent_uint8_t){p0, p0_len},
+            .field1 = (lent_uint8_t){p1, p1_len}};
+    return !core_any_by_groups_ElementMismatch_u8(&t, p0_len, core_group_u8());
+}
+
+static inline bool core_slices_equal_u8(const uint8_t *p0, uint64_t p0_len, const uint8_t *p1, uint64_t p1_len)
+{
+    if (p0_len != p1_len) {
+        return false;
+    }
+    if (core_group_u8() < 8) {
+        return core_parts_equal_u8(p0, p0_len, p1, p1_len);
+    }
+    core_ElementMismatch_u8 t = (core_ElementMismatch_u8){.field0 = (lent_uint8_t){p0, p0_len},
+            .field1 = (lent_uint8_t){p1, p1_len}};
+    uint64_t t2 = core_group_u8() / 8;
+    if (p0_len < t2) {
+        return !core_any_by_one_ElementMismatch_u8(&t, p0_len);
+    }
+    if (core_any_in_run_ElementMismatch_u8(&t, 0, t2)) {
+        return false;
+    }
+    return core_groups_equal_u8(p0, p0_len, p1, p1_len);
+}
+
+static inline bool core_RefSlicePartialEq_eq_u8(const lent_uint8_t *p0, const lent_uint8_t *p1)
+{
+    return core_slices_equal_u8((*p0).at, (*p0).len, (*p1).at, (*p1).len);
+}
+
+static inline uint16_t core_int_u16_from_be_bytes(const uint8_t *p0)
+{
+    uint8_t t[2];
+    memcpy(t, p0, 2);
+    return (uint16_t)((uint16_t)t[0] * 256 + (uint16_t)t[1]);
+}
+
+static inline uint32_t core_int_u32_from_be_bytes(const uint8_t *p0)
+{
+    uint8_t t[4];
+    memcpy(t, p0, 4);
+    return (uint32_t)t[0] * 0x1000000 + (uint32_t)t[1] * 0x10000 + (uint32_t)t[2] * 256 + (uint32_t)t[3];
+}
+
+static inline core_Iter_u8 core_iter_u8(const uint8_t *p0, uint64_t p0_len)
+{
+    return (core_Iter_u8){.field0 = (lent_uint8_t){p0, p0_len}};
+}
+
+static inline bool core_is_empty_u8(const uint8_t *p0, uint64_t p0_len)
+{
+    (void)p0;
+    return p0_len == 0;
+}
+
+static inline core_Option_ref_u8 core_IterIterator_next_u8(core_Iter_u8 *restrict p0)
+{
+    lent_uint8_t t = p0->field0;
+    if (core_is_empty_u8(t.at, t.len)) {
+        return (core_Option_ref_u8){.tag = core_Option_ref_u8_None};
+    }
+    p0->field0 = (lent_uint8_t){t.at + 1, t.len - 1};
+    return (core_Option_ref_u8){.tag = core_Option_ref_u8_Some, .as.Some = {.field0 = t.at + 0}};
+}
+
+static inline void core_int_u32_to_be_bytes(uint32_t p0, uint8_t *restrict result)
+{
+    result[0] = (uint8_t)((p0 / 0x1000000) % 256);
+    result[1] = (uint8_t)((p0 / 0x10000) % 256);
+    result[2] = (uint8_t)((p0 / 256) % 256);
+    result[3] = (uint8_t)(p0 % 256);
+}
+
+static inline void core_int_u16_to_be_bytes(uint16_t p0, uint8_t *restrict result)
+{
+    result[0] = (uint8_t)((p0 / 256) % 256);
+    result[1] = (uint8_t)(p0 % 256);
+}
+
+static inline core_Result_u8_AllocError core_clone_U8Clone_clone(const uint8_t *p0)
+{
+    return (core_Result_u8_AllocError){.tag = core_Result_u8_AllocError_Ok, .as.Ok = {.field0 = *p0}};
+}
+
+static inline uint8_t core_surely_u8(const uint8_t *p0)
+{
+    return core_clone_U8Clone_clone(p0).as.Ok.field0;
+}
+
+static inline void core_fill_u8(uint8_t *restrict p0, uint64_t p0_len, uint8_t p1)
+{
+    uint8_t t = p1;
+    uint64_t t2 = p0_len;
+    if (t2 == 0) {
+        return;
+    }
+    uint64_t t3 = 0;
+    while (t3 < t2 - 1) {
+        p0[t3] = core_surely_u8(&t);
+        t3 += 1;
+    }
+    p0[t2 - 1] = t;
+}
+
 /* ---- vectors ---------------------------------------------------------------------------------------- */
 
 /* Vectors of bits in words of 64. */
@@ -129,10 +703,13 @@ typedef struct vectors_Pair {
 static inline uint64_t vectors_gathered(const uint8_t *octets, uint64_t at, uint64_t n)
 {
     uint64_t number = 0;
-    uint64_t j = 0;
-    while (j < n) {
-        number = number * 256 + (uint64_t)octets[at + j];
-        j += 1;
+    lent_uint8_t t = (lent_uint8_t){octets + at, at + n - at};
+    uint64_t octet = 0;
+    uint64_t t2 = t.len;
+    while (octet < t2) {
+        const uint8_t *t3 = t.at + octet;
+        number = number * 256 + (uint64_t)*t3;
+        octet += 1;
     }
     return number;
 }
@@ -161,15 +738,21 @@ static inline uint64_t vectors_front(uint64_t v, uint64_t t)
     return v ^ ((v << t) >> t);
 }
 
+/* Clears the bits from bit n on of the word that has it. */
+static inline void vectors_trim_word(uint64_t *restrict ws, uint64_t n)
+{
+    uint64_t k = n / 64;
+    ws[k] = vectors_front(ws[k], n % 64);
+}
+
 /* Clears the bits from bit n on. */
 static inline void vectors_trim(uint64_t *restrict ws, uint64_t ws_len, uint64_t n)
 {
     uint64_t k = n / 64;
-    uint64_t t = n % 64;
-    while (k < ws_len) {
-        ws[k] = vectors_front(ws[k], t);
-        t = 0;
-        k += 1;
+    if (k < ws_len) {
+        vectors_trim_word(ws, n);
+        uint64_t t = k + 1;
+        core_fill_u64(ws + t, ws_len - t, 0);
     }
 }
 
@@ -178,12 +761,14 @@ static inline void vectors_lift(uint64_t *restrict ws, uint64_t ws_len, uint64_t
 {
     if (0 < u) {
         uint64_t before = 0;
-        uint64_t k = 0;
-        while (k < ws_len) {
-            uint64_t v = ws[k];
-            ws[k] = vectors_funnel(before, v, 64 - u);
+        uint64_t t = 0;
+        uint64_t t2 = ws_len;
+        while (t < t2) {
+            uint64_t *word = ws + t;
+            uint64_t v = *word;
+            *word = vectors_funnel(before, v, 64 - u);
             before = v;
-            k += 1;
+            t += 1;
         }
     }
 }
@@ -194,7 +779,8 @@ static inline void vectors_double_words(const uint64_t *v, uint64_t n, uint64_t 
 {
     uint64_t a = v[0];
     uint64_t k = 0;
-    while (k + 1 < n) {
+    uint64_t t2 = n - 1;
+    while (k < t2) {
         uint64_t b = v[k + 1];
         d[k] = a;
         d[n + k] = vectors_funnel(a, b, t);
@@ -245,7 +831,8 @@ static inline void vectors_add_word(uint64_t v, uint64_t *restrict acc, uint64_t
 static inline void vectors_copying_copy(const uint8_t *octets, uint64_t octets_len, uint8_t *restrict out)
 {
     uint64_t i = 0;
-    while (i < octets_len) {
+    uint64_t t = octets_len;
+    while (i < t) {
         out[i] = octets[i];
         i += 1;
     }
@@ -354,8 +941,10 @@ static inline void vectors_cut(const uint64_t *y, uint64_t p, uint64_t m, uint64
     uint64_t q = p / 64;
     uint64_t t = p % 64;
     uint64_t k = 0;
-    while (k < v_len) {
-        v[k] = vectors_span(y, q + k, t);
+    uint64_t t2 = v_len;
+    while (k < t2) {
+        uint64_t *word = v + k;
+        *word = vectors_span(y, q + k, t);
         k += 1;
     }
     vectors_trim(v, v_len, m);
@@ -365,10 +954,12 @@ static inline void vectors_cut(const uint64_t *y, uint64_t p, uint64_t m, uint64
 static inline uint64_t vectors_ones(const uint64_t *ws, uint64_t ws_len)
 {
     uint64_t n = 0;
-    uint64_t k = 0;
-    while (k < ws_len) {
-        n += (uint64_t)count_ones64(ws[k]);
-        k += 1;
+    uint64_t t = 0;
+    uint64_t t2 = ws_len;
+    while (t < t2) {
+        const uint64_t *word = ws + t;
+        n += (uint64_t)count_ones64(*word);
+        t += 1;
     }
     return n;
 }
@@ -376,37 +967,42 @@ static inline uint64_t vectors_ones(const uint64_t *ws, uint64_t ws_len)
 /* How many words in front are 0, counted by fours. */
 static inline uint64_t vectors_skip(const uint64_t *ws, uint64_t ws_len)
 {
-    uint64_t k = 0;
-    while (k + 4 <= ws_len) {
+    uint64_t fours = ws_len / 4;
+    uint64_t j = 0;
+    while (j < fours) {
+        uint64_t k = 4 * j;
         if ((ws[k] | ws[k + 1] | (ws[k + 2] | ws[k + 3])) != 0) {
             return k;
         }
-        k += 4;
+        j += 1;
     }
-    return k;
+    return 4 * fours;
 }
 
 /* The first bit that is set, or the number of bits if none is. */
 static inline uint64_t vectors_first(const uint64_t *ws, uint64_t ws_len)
 {
     uint64_t k = vectors_skip(ws, ws_len);
-    while (k < ws_len) {
+    uint64_t t = ws_len;
+    while (k < t) {
         if (ws[k] != 0) {
             return 64 * k + (uint64_t)leading_zeros64(ws[k]);
         }
         k += 1;
     }
-    return 64 * k;
+    return 64 * ws_len;
 }
 
 /* Whether a bit is set. */
 static inline bool vectors_any(const uint64_t *ws, uint64_t ws_len)
 {
     uint64_t v = 0;
-    uint64_t k = 0;
-    while (k < ws_len) {
-        v |= ws[k];
-        k += 1;
+    uint64_t t = 0;
+    uint64_t t2 = ws_len;
+    while (t < t2) {
+        const uint64_t *word = ws + t;
+        v |= *word;
+        t += 1;
     }
     return v != 0;
 }
@@ -416,13 +1012,6 @@ static inline void vectors_flip_bit(uint64_t *restrict ws, uint64_t n)
 {
     uint64_t q = n / 64;
     ws[q] ^= UINT64_C(1) << (63 - n % 64);
-}
-
-/* Clears the bits from bit n on of the word that has it. */
-static inline void vectors_trim_word(uint64_t *restrict ws, uint64_t n)
-{
-    uint64_t k = n / 64;
-    ws[k] = vectors_front(ws[k], n % 64);
 }
 
 /* Whether bit n is set. */
@@ -436,6 +1025,7 @@ static inline bool vectors_is_set(const uint64_t *ws, uint64_t n)
 /* The older BCH words: encoding, and checking in two modes. A word is divided as a whole: each coefficient of the
  * remainder is the sum of the bits at the ones of one row. */
 
+/* A record of C's: its number says whether the rest counts. */
 typedef pandoricchia_mended bch_Mended;
 
 /* Row j has a one for each bit of a word that counts towards the coefficient of x^(6-j) of its remainder. The fill
@@ -464,10 +1054,11 @@ static inline uint64_t bch_odd(uint64_t v)
 static inline uint64_t bch_divide(uint64_t v)
 {
     uint64_t r = 0;
-    uint64_t j = 0;
-    while (j < 7) {
-        r = 2 * r + bch_odd(bch_ROWS[j] & v);
-        j += 1;
+    uint64_t t = 0;
+    while (t < 7) {
+        uint64_t row = bch_ROWS[t];
+        r = 2 * r + bch_odd(row & v);
+        t += 1;
     }
     return r;
 }
@@ -480,20 +1071,30 @@ static inline void bch_write(uint64_t v, uint8_t *restrict out, uint64_t out_len
     vectors_store(y, 0, out, out_len);
 }
 
-/* Information in, word out. */
-static inline uint8_t bch_bch_encode(const uint8_t *information, uint64_t information_len, uint8_t *restrict word,
-        uint64_t word_len)
+/* The word of the information, or why there is none. */
+static inline refusals_Result_unit_Refusal bch_encoded(const uint8_t *information, uint64_t information_len,
+        uint8_t *restrict word, uint64_t word_len)
 {
     if (information_len != 7) {
-        return 2;
+        return (refusals_Result_unit_Refusal){.tag = refusals_Result_unit_Refusal_Err,
+                .as.Err = {.field0 = (refusals_Refusal){.tag = refusals_Refusal_InputLength}}};
     }
     if (word_len != 8) {
-        return 3;
+        return (refusals_Result_unit_Refusal){.tag = refusals_Result_unit_Refusal_Err,
+                .as.Err = {.field0 = (refusals_Refusal){.tag = refusals_Refusal_OutputLength}}};
     }
     uint64_t v = bch_taken(information, information_len);
     uint64_t r = bch_divide(v);
     bch_write(v ^ (r * 2) ^ 254, word, word_len);
-    return 0;
+    return (refusals_Result_unit_Refusal){.tag = refusals_Result_unit_Refusal_Ok};
+}
+
+/* Information in, word out. */
+static inline uint8_t bch_bch_encode(const uint8_t *information, uint64_t information_len, uint8_t *restrict word,
+        uint64_t word_len)
+{
+    refusals_Result_unit_Refusal t = bch_encoded(information, information_len, word, word_len);
+    return refusals_number(t);
 }
 
 /* The bits of the 63 each of which alone leaves r. */
@@ -501,55 +1102,110 @@ static inline uint64_t bch_places(uint64_t r)
 {
     uint64_t m = UINT64_C(0xFFFFFFFFFFFFFFFE);
     uint64_t j = 0;
+    const uint64_t *t = bch_ROWS;
     while (j < 7) {
+        const uint64_t *row = t + j;
         if ((r >> (6 - j)) % 2 == 1) {
-            m &= bch_ROWS[j];
+            m &= *row;
         } else {
-            m &= bch_ROWS[j] ^ UINT64_C(0xFFFFFFFFFFFFFFFF);
+            m &= *row ^ UINT64_C(0xFFFFFFFFFFFFFFFF);
         }
         j += 1;
     }
     return m;
 }
 
-/* A word of the right length, into an output of the right length. */
-static inline bch_Mended bch_judge(bool detect_only, const uint8_t *word, uint64_t word_len, uint8_t *restrict out,
-        uint64_t out_len)
+/* How many bits are mended of a word of the right length, which goes into an output of the right length. */
+static inline refusals_Result_u8_Refusal bch_judge(bool detect_only, const uint8_t *word, uint64_t word_len,
+        uint8_t *restrict out, uint64_t out_len)
 {
     uint64_t v = bch_taken(word, word_len);
     uint64_t r = bch_divide(v ^ 254);
     if (r == 0) {
         bch_write(v, out, out_len);
-        return (bch_Mended){.number = 0, .mended = 0};
+        return (refusals_Result_u8_Refusal){.tag = refusals_Result_u8_Refusal_Ok, .as.Ok = {.field0 = 0}};
     }
     if (detect_only) {
-        return (bch_Mended){.number = 13, .mended = 0};
+        return (refusals_Result_u8_Refusal){.tag = refusals_Result_u8_Refusal_Err,
+                .as.Err = {.field0 = (refusals_Refusal){.tag = refusals_Refusal_NoBchWord}}};
     }
     uint64_t m = bch_places(r);
     if (m == 0) {
-        return (bch_Mended){.number = 13, .mended = 0};
+        return (refusals_Result_u8_Refusal){.tag = refusals_Result_u8_Refusal_Err,
+                .as.Err = {.field0 = (refusals_Refusal){.tag = refusals_Refusal_NoBchWord}}};
     }
     bch_write(v ^ m, out, out_len);
-    return (bch_Mended){.number = 0, .mended = 1};
+    return (refusals_Result_u8_Refusal){.tag = refusals_Result_u8_Refusal_Ok, .as.Ok = {.field0 = 1}};
+}
+
+/* The same of a word and an output of any length. */
+static inline refusals_Result_u8_Refusal bch_checked(bool detect_only, const uint8_t *word, uint64_t word_len,
+        uint8_t *restrict out, uint64_t out_len)
+{
+    if (word_len != 8) {
+        return (refusals_Result_u8_Refusal){.tag = refusals_Result_u8_Refusal_Err,
+                .as.Err = {.field0 = (refusals_Refusal){.tag = refusals_Refusal_InputLength}}};
+    }
+    if (out_len != 8) {
+        return (refusals_Result_u8_Refusal){.tag = refusals_Result_u8_Refusal_Err,
+                .as.Err = {.field0 = (refusals_Refusal){.tag = refusals_Refusal_OutputLength}}};
+    }
+    return bch_judge(detect_only, word, word_len, out, out_len);
 }
 
 /* Single error correction, or detect-only: the word out, or 13. */
 static inline bch_Mended bch_bch_check(bool detect_only, const uint8_t *word, uint64_t word_len, uint8_t *restrict out,
         uint64_t out_len)
 {
-    if (word_len != 8) {
-        return (bch_Mended){.number = 2, .mended = 0};
+    refusals_Result_u8_Refusal t = bch_checked(detect_only, word, word_len, out, out_len);
+    switch (t.tag) {
+    case refusals_Result_u8_Refusal_Ok: {
+        uint8_t mended = t.as.Ok.field0;
+        return (bch_Mended){.number = 0, .mended = mended};
     }
-    if (out_len != 8) {
-        return (bch_Mended){.number = 3, .mended = 0};
+    case refusals_Result_u8_Refusal_Err:
+    default: {
+        refusals_Refusal refusal = t.as.Err.field0;
+        return (bch_Mended){.number = refusals_Refusal_number(refusal), .mended = 0};
     }
-    return bch_judge(detect_only, word, word_len, out, out_len);
+    }
 }
 
 /* ---- blocks ----------------------------------------------------------------------------------------- */
 
 /* No functions: recordings in blocks of 512 octets, the definitions in specs/ and the theorems in proofs/. */
 
+typedef struct blocks_importing_fn_clear_all_Self {
+    uint8_t nothing; /* it has no fields, but C asks for one */
+} blocks_importing_fn_clear_all_Self;
+
+/* Why octets are refused, and the place of the block at fault; 0 where no block is. */
+typedef struct blocks_importing_Faulty {
+    refusals_Refusal refusal;
+    uint32_t block;
+} blocks_importing_Faulty;
+
+enum { blocks_Result_unit_Faulty_Ok = 0, blocks_Result_unit_Faulty_Err = 1 };
+typedef struct blocks_Result_unit_Faulty {
+    uint8_t tag;
+    union {
+        struct { blocks_importing_Faulty field0; } Err;
+    } as;
+} blocks_Result_unit_Faulty;
+
+typedef struct blocks_ErrResidual_Faulty {
+    blocks_importing_Faulty field0;
+} blocks_ErrResidual_Faulty;
+
+enum { blocks_ControlFlow_ErrResidual_Faulty_unit_Continue = 0, blocks_ControlFlow_ErrResidual_Faulty_unit_Break = 1 };
+typedef struct blocks_ControlFlow_ErrResidual_Faulty_unit {
+    uint8_t tag;
+    union {
+        struct { blocks_ErrResidual_Faulty field0; } Break;
+    } as;
+} blocks_ControlFlow_ErrResidual_Faulty_unit;
+
+/* A record of C's: its number says whether the rest counts. */
 typedef pandoricchia_imported blocks_importing_Imported;
 
 /* The remainder of every octet's polynomial times x^16. */
@@ -578,50 +1234,39 @@ static inline bool blocks_importing_is_whole(uint64_t long_)
     return long_ % 512 == 0 && long_ / 512 <= 128;
 }
 
-static inline uint64_t blocks_framecheck_octet(uint8_t x)
-{
-    return x;
-}
-
-static inline uint64_t blocks_framecheck_wide(uint16_t x)
-{
-    return x;
-}
-
 /* The frame check over octets; the table is lent. */
-static inline uint64_t blocks_framecheck_over(const uint8_t *octets, uint64_t octets_len, const uint16_t *t)
+static inline uint16_t blocks_framecheck_over(const uint8_t *octets, uint64_t octets_len, const uint16_t *t)
 {
     uint64_t r = 65535;
-    uint64_t i = 0;
-    while (i < octets_len) {
-        r = (r % 256 * 256) ^ blocks_framecheck_wide(t[(r / 256) ^ blocks_framecheck_octet(octets[i])]);
-        i += 1;
+    uint64_t t2 = 0;
+    uint64_t t3 = octets_len;
+    while (t2 < t3) {
+        const uint8_t *octet = octets + t2;
+        r = (r % 256 * 256) ^ (uint64_t)t[(r / 256) ^ (uint64_t)*octet];
+        t2 += 1;
     }
-    return r;
-}
-
-/* The number that two octets write, high octet first. */
-static inline uint64_t blocks_importing_pair(uint8_t high, uint8_t last)
-{
-    return 256 * (uint64_t)high + (uint64_t)last;
+    return (uint16_t)r;
 }
 
 /* Whether the check of a block is right. */
 static inline bool blocks_importing_is_sound(const uint8_t *block, const uint16_t *t)
 {
-    return blocks_framecheck_over(block, 510, t) == blocks_importing_pair(block[510], block[511]);
+    uint8_t t2[2] = {block[510], block[511]};
+    return blocks_framecheck_over(block, 510, t) == core_int_u16_from_be_bytes(t2);
 }
 
 /* The number that a block says of itself. */
 static inline uint64_t blocks_importing_number(const uint8_t *block)
 {
-    return 0x10000 * blocks_importing_pair(block[0], block[1]) + blocks_importing_pair(block[2], block[3]);
+    uint8_t t[4] = {block[0], block[1], block[2], block[3]};
+    return core_int_u32_from_be_bytes(t);
 }
 
 /* How many octets of a block are used. */
 static inline uint64_t blocks_importing_used(const uint8_t *block)
 {
-    return blocks_importing_pair(block[4], block[5]);
+    uint8_t t[2] = {block[4], block[5]};
+    return core_int_u16_from_be_bytes(t);
 }
 
 static inline bool blocks_importing_count_right(bool last, uint64_t used)
@@ -632,17 +1277,44 @@ static inline bool blocks_importing_count_right(bool last, uint64_t used)
     return used == 504;
 }
 
+static inline bool blocks_importing_fn_clear_all(blocks_importing_fn_clear_all_Self *restrict p0, const uint8_t *p1)
+{
+    (void)p0;
+    return *p1 == 0;
+}
+
+static inline bool blocks_importing_fn_clear_all_FnMut_call_mut(blocks_importing_fn_clear_all_Self *restrict p0,
+        const uint8_t *p1)
+{
+    return blocks_importing_fn_clear_all(p0, p1);
+}
+
+static inline bool blocks_Iterator_all_Iter_u8_ref_u8_all(core_Iter_u8 *restrict p0,
+        blocks_importing_fn_clear_all_Self p1)
+{
+    blocks_importing_fn_clear_all_Self t = p1;
+    for (;;) {
+        core_Option_ref_u8 t2 = core_IterIterator_next_u8(p0);
+        switch (t2.tag) {
+        case core_Option_ref_u8_Some:
+            if (!blocks_importing_fn_clear_all_FnMut_call_mut(&t, t2.as.Some.field0)) {
+                return false;
+            }
+            break;
+        case core_Option_ref_u8_None:
+        default:
+            goto end;
+        }
+    }
+    end:;
+    return true;
+}
+
 /* Whether all of the octets are zeros. */
 static inline bool blocks_importing_clear(const uint8_t *octets, uint64_t octets_len)
 {
-    uint64_t i = 0;
-    while (i < octets_len) {
-        if (octets[i] != 0) {
-            return false;
-        }
-        i += 1;
-    }
-    return true;
+    core_Iter_u8 t = core_iter_u8(octets, octets_len);
+    return blocks_Iterator_all_Iter_u8_ref_u8_all(&t, (blocks_importing_fn_clear_all_Self){0});
 }
 
 /* Whether zeros stand after the used octets. */
@@ -652,49 +1324,87 @@ static inline bool blocks_importing_is_filled(const uint8_t *block, uint64_t use
     return blocks_importing_clear(block + from, 510 - from);
 }
 
-/* The fault of a block at a place, 0 for none: 21 check, 22 number, 23 count or filling. */
-static inline uint8_t blocks_importing_fault(uint64_t place, bool last, const uint8_t *block, const uint16_t *t)
+/* The fault of a block at a place: its check, its number, its count or its filling. */
+static inline refusals_Result_unit_Refusal blocks_importing_fault(uint64_t place, bool last, const uint8_t *block,
+        const uint16_t *t)
 {
     if (!blocks_importing_is_sound(block, t)) {
-        return 21;
+        return (refusals_Result_unit_Refusal){.tag = refusals_Result_unit_Refusal_Err,
+                .as.Err = {.field0 = (refusals_Refusal){.tag = refusals_Refusal_BlockCheck}}};
     }
     if (blocks_importing_number(block) != place) {
-        return 22;
+        return (refusals_Result_unit_Refusal){.tag = refusals_Result_unit_Refusal_Err,
+                .as.Err = {.field0 = (refusals_Refusal){.tag = refusals_Refusal_BlockNumber}}};
     }
     uint64_t n = blocks_importing_used(block);
     if (!blocks_importing_count_right(last, n)) {
-        return 23;
+        return (refusals_Result_unit_Refusal){.tag = refusals_Result_unit_Refusal_Err,
+                .as.Err = {.field0 = (refusals_Refusal){.tag = refusals_Refusal_BlockCount}}};
     }
     if (!blocks_importing_is_filled(block, n)) {
-        return 23;
+        return (refusals_Result_unit_Refusal){.tag = refusals_Result_unit_Refusal_Err,
+                .as.Err = {.field0 = (refusals_Refusal){.tag = refusals_Refusal_BlockCount}}};
     }
-    return 0;
+    return (refusals_Result_unit_Refusal){.tag = refusals_Result_unit_Refusal_Ok};
 }
 
 /* The fault of the lowest block at fault, with its place. */
-static inline blocks_importing_Imported blocks_importing_first_fault(const uint8_t *blocks, uint64_t n,
+static inline blocks_Result_unit_Faulty blocks_importing_first_fault(const uint8_t *blocks, uint64_t n,
         const uint16_t *t)
 {
     uint64_t k = 0;
     while (k < n) {
         uint64_t at = k * 512;
-        uint8_t number = blocks_importing_fault(k, k + 1 == n, blocks + at, t);
-        if (number != 0) {
-            return (blocks_importing_Imported){.number = number, .block = (uint32_t)k};
+        refusals_Result_unit_Refusal t2 = blocks_importing_fault(k, k + 1 == n, blocks + at, t);
+        switch (t2.tag) {
+        case refusals_Result_unit_Refusal_Ok:
+            break;
+        case refusals_Result_unit_Refusal_Err:
+        default: {
+            refusals_Refusal refusal = t2.as.Err.field0;
+            return (blocks_Result_unit_Faulty){.tag = blocks_Result_unit_Faulty_Err,
+                    .as.Err = {.field0 = (blocks_importing_Faulty){.refusal = refusal, .block = (uint32_t)k}}};
+        }
         }
         k += 1;
     }
-    return (blocks_importing_Imported){.number = 0, .block = 0};
+    return (blocks_Result_unit_Faulty){.tag = blocks_Result_unit_Faulty_Ok};
 }
 
-/* What is at fault with some octets, 0 for nothing: 20 for a length not of whole blocks or too many, then the lowest
- * block at fault. */
-static inline blocks_importing_Imported blocks_importing_found(const uint8_t *blocks, uint64_t blocks_len)
+/* What is at fault with some octets: a length not of whole blocks or too many, then the lowest block at fault. */
+static inline blocks_Result_unit_Faulty blocks_importing_found(const uint8_t *blocks, uint64_t blocks_len)
 {
     if (!blocks_importing_is_whole(blocks_len)) {
-        return (blocks_importing_Imported){.number = 20, .block = 0};
+        return (blocks_Result_unit_Faulty){.tag = blocks_Result_unit_Faulty_Err,
+                .as.Err = {.field0 = (blocks_importing_Faulty){.refusal = (
+                refusals_Refusal){.tag = refusals_Refusal_TooLong}, .block = 0}}};
     }
     return blocks_importing_first_fault(blocks, blocks_len / 512, blocks_framecheck_TABLE);
+}
+
+static inline blocks_ControlFlow_ErrResidual_Faulty_unit blocks_ResultTry_branch_unit_Faulty(
+        blocks_Result_unit_Faulty p0)
+{
+    switch (p0.tag) {
+    case blocks_Result_unit_Faulty_Ok:
+        return (blocks_ControlFlow_ErrResidual_Faulty_unit){.tag = blocks_ControlFlow_ErrResidual_Faulty_unit_Continue};
+    case blocks_Result_unit_Faulty_Err:
+    default:
+        return (blocks_ControlFlow_ErrResidual_Faulty_unit){.tag = blocks_ControlFlow_ErrResidual_Faulty_unit_Break,
+                .as.Break = {.field0 = (blocks_ErrResidual_Faulty){.field0 = p0.as.Err.field0}}};
+    }
+}
+
+static inline blocks_importing_Faulty blocks_AnyFrom_from_Faulty(blocks_importing_Faulty p0)
+{
+    return p0;
+}
+
+static inline blocks_Result_unit_Faulty blocks_ResultFromResidualErrResidual_from_residual_unit(
+        blocks_ErrResidual_Faulty p0)
+{
+    return (blocks_Result_unit_Faulty){.tag = blocks_Result_unit_Faulty_Err,
+            .as.Err = {.field0 = blocks_AnyFrom_from_Faulty(p0.field0)}};
 }
 
 /* How many octets are used in n blocks, all but the last of them full. */
@@ -725,77 +1435,68 @@ static inline void blocks_importing_take_data(const uint8_t *blocks, uint64_t n,
     }
 }
 
+/* The octets of a recording in blocks, or why there are none. */
+static inline blocks_Result_unit_Faulty blocks_importing_take_blocks(const uint8_t *blocks, uint64_t blocks_len,
+        uint8_t *restrict out, uint64_t out_len)
+{
+    blocks_ControlFlow_ErrResidual_Faulty_unit t = blocks_ResultTry_branch_unit_Faulty(blocks_importing_found(blocks,
+            blocks_len));
+    switch (t.tag) {
+    case blocks_ControlFlow_ErrResidual_Faulty_unit_Continue:
+        break;
+    case blocks_ControlFlow_ErrResidual_Faulty_unit_Break:
+    default:
+        return blocks_ResultFromResidualErrResidual_from_residual_unit(t.as.Break.field0);
+    }
+    uint64_t t2 = blocks_len / 512;
+    if (out_len != blocks_importing_room(blocks, t2)) {
+        return (blocks_Result_unit_Faulty){.tag = blocks_Result_unit_Faulty_Err,
+                .as.Err = {.field0 = (blocks_importing_Faulty){.refusal = (
+                refusals_Refusal){.tag = refusals_Refusal_OutputLength}, .block = 0}}};
+    }
+    blocks_importing_take_data(blocks, t2, out);
+    return (blocks_Result_unit_Faulty){.tag = blocks_Result_unit_Faulty_Ok};
+}
+
 /* The octets of a recording in blocks: 20 for a length not of whole blocks or too many, 21 to 23 for the lowest
  * block at fault, 3 if the output is not as long as needed. */
 static inline blocks_importing_Imported blocks_importing_import_blocks(const uint8_t *blocks, uint64_t blocks_len,
         uint8_t *restrict out, uint64_t out_len)
 {
-    blocks_importing_Imported refused = blocks_importing_found(blocks, blocks_len);
-    if (refused.number != 0) {
-        return refused;
+    blocks_Result_unit_Faulty t = blocks_importing_take_blocks(blocks, blocks_len, out, out_len);
+    switch (t.tag) {
+    case blocks_Result_unit_Faulty_Ok:
+        return (blocks_importing_Imported){.number = 0, .block = 0};
+    case blocks_Result_unit_Faulty_Err:
+    default: {
+        blocks_importing_Faulty faulty = t.as.Err.field0;
+        refusals_Refusal refusal = faulty.refusal;
+        return (blocks_importing_Imported){.number = refusals_Refusal_number(refusal), .block = faulty.block};
     }
-    uint64_t n = blocks_len / 512;
-    if (out_len != blocks_importing_room(blocks, n)) {
-        return (blocks_importing_Imported){.number = 3, .block = 0};
     }
-    blocks_importing_take_data(blocks, n, out);
-    return (blocks_importing_Imported){.number = 0, .block = 0};
 }
 
 /* The room that import needs, 0 where there is none. */
 static inline uint64_t blocks_importing_imported_octets(const uint8_t *blocks, uint64_t blocks_len)
 {
-    blocks_importing_Imported refused = blocks_importing_found(blocks, blocks_len);
-    if (refused.number != 0) {
+    switch (blocks_importing_found(blocks, blocks_len).tag) {
+    case blocks_Result_unit_Faulty_Ok:
+        return blocks_importing_room(blocks, blocks_len / 512);
+    case blocks_Result_unit_Faulty_Err:
+    default:
         return 0;
     }
-    return blocks_importing_room(blocks, blocks_len / 512);
-}
-
-/* The lesser of two numbers. */
-static inline uint64_t blocks_exporting_least(uint64_t a, uint64_t b)
-{
-    if (a < b) {
-        return a;
-    }
-    return b;
-}
-
-/* The last octet of a number. */
-static inline uint8_t blocks_exporting_low(uint64_t v)
-{
-    return (uint8_t)(v % 256);
-}
-
-/* Two octets of a number, high octet first. */
-static inline void blocks_exporting_put_two(uint64_t v, uint8_t *restrict out)
-{
-    out[0] = blocks_exporting_low(v / 256);
-    out[1] = blocks_exporting_low(v);
-}
-
-/* Four octets of a number. */
-static inline void blocks_exporting_put_four(uint64_t v, uint8_t *restrict out)
-{
-    blocks_exporting_put_two(v / 0x10000, out);
-    blocks_exporting_put_two(v, out + 2);
 }
 
 /* The number of a block and its count. */
-static inline void blocks_exporting_put_head(uint64_t place, uint64_t count, uint8_t *restrict out)
+static inline void blocks_exporting_put_head(uint32_t place, uint16_t count, uint8_t *restrict out, uint64_t out_len)
 {
-    blocks_exporting_put_four(place, out);
-    blocks_exporting_put_two(count, out + 4);
-}
-
-/* Zeros into an output. */
-static inline void blocks_exporting_wipe(uint8_t *restrict out, uint64_t out_len)
-{
-    uint64_t i = 0;
-    while (i < out_len) {
-        out[i] = 0;
-        i += 1;
-    }
+    uint8_t t[4];
+    core_int_u32_to_be_bytes(place, t);
+    core_copy_from_slice_u8(out, 4, t);
+    uint8_t t2[2];
+    core_int_u16_to_be_bytes(count, t2);
+    core_copy_from_slice_u8(out + 4, out_len - 4, t2);
 }
 
 /* The used octets, and zeros after them. */
@@ -804,30 +1505,32 @@ static inline void blocks_exporting_put_data(const uint8_t *used, uint64_t used_
 {
     uint64_t n = used_len;
     vectors_copying_copy(used, used_len, out);
-    blocks_exporting_wipe(out + n, out_len - n);
+    core_fill_u8(out + n, out_len - n, 0);
 }
 
 /* What the check is made over: head and data. */
-static inline void blocks_exporting_put_front(uint64_t place, const uint8_t *used, uint64_t used_len,
+static inline void blocks_exporting_put_front(uint32_t place, const uint8_t *used, uint64_t used_len,
         uint8_t *restrict out, uint64_t out_len)
 {
-    blocks_exporting_put_head(place, used_len, out);
+    blocks_exporting_put_head(place, (uint16_t)used_len, out, 6);
     blocks_exporting_put_data(used, used_len, out + 6, out_len - 6);
 }
 
 /* The check behind the 510 octets that it is made over. */
-static inline void blocks_exporting_put_check(uint8_t *restrict out, const uint16_t *t)
+static inline void blocks_exporting_put_check(uint8_t *restrict out, uint64_t out_len, const uint16_t *t)
 {
-    uint64_t check = blocks_framecheck_over(out, 510, t);
-    blocks_exporting_put_two(check, out + 510);
+    uint16_t check = blocks_framecheck_over(out, 510, t);
+    uint8_t t2[2];
+    core_int_u16_to_be_bytes(check, t2);
+    core_copy_from_slice_u8(out + 510, out_len - 510, t2);
 }
 
 /* One block. */
-static inline void blocks_exporting_put_block(uint64_t place, const uint8_t *used, uint64_t used_len,
-        uint8_t *restrict out, const uint16_t *t)
+static inline void blocks_exporting_put_block(uint32_t place, const uint8_t *used, uint64_t used_len,
+        uint8_t *restrict out, uint64_t out_len, const uint16_t *t)
 {
     blocks_exporting_put_front(place, used, used_len, out, 510);
-    blocks_exporting_put_check(out, t);
+    blocks_exporting_put_check(out, out_len, t);
 }
 
 /* As many blocks as the output holds. */
@@ -837,26 +1540,37 @@ static inline void blocks_exporting_put_blocks(const uint8_t *octets, uint64_t o
     uint64_t k = 0;
     while (k < n) {
         uint64_t from = k * 504;
-        uint64_t end = blocks_exporting_least(from + 504, octets_len);
+        uint64_t end = core_int_usize_min(from + 504, octets_len);
         uint64_t at = k * 512;
-        blocks_exporting_put_block(k, octets + from, end - from, out + at, t);
+        uint64_t past = at + 512;
+        blocks_exporting_put_block((uint32_t)k, octets + from, end - from, out + at, past - at, t);
         k += 1;
     }
+}
+
+/* The blocks of a recording, or why there are none. */
+static inline refusals_Result_unit_Refusal blocks_exporting_exported(const uint8_t *octets, uint64_t octets_len,
+        uint8_t *restrict out, uint64_t out_len)
+{
+    if (64512 < octets_len) {
+        return (refusals_Result_unit_Refusal){.tag = refusals_Result_unit_Refusal_Err,
+                .as.Err = {.field0 = (refusals_Refusal){.tag = refusals_Refusal_TooLong}}};
+    }
+    uint64_t n = (octets_len + 503) / 504;
+    if (out_len != 512 * n) {
+        return (refusals_Result_unit_Refusal){.tag = refusals_Result_unit_Refusal_Err,
+                .as.Err = {.field0 = (refusals_Refusal){.tag = refusals_Refusal_OutputLength}}};
+    }
+    blocks_exporting_put_blocks(octets, octets_len, n, out, blocks_framecheck_TABLE);
+    return (refusals_Result_unit_Refusal){.tag = refusals_Result_unit_Refusal_Ok};
 }
 
 /* The blocks of a recording: 20 for more than 64,512 octets, 3 if the output is not as long as needed. */
 static inline uint8_t blocks_exporting_export_blocks(const uint8_t *octets, uint64_t octets_len, uint8_t *restrict out,
         uint64_t out_len)
 {
-    if (64512 < octets_len) {
-        return 20;
-    }
-    uint64_t n = (octets_len + 503) / 504;
-    if (out_len != 512 * n) {
-        return 3;
-    }
-    blocks_exporting_put_blocks(octets, octets_len, n, out, blocks_framecheck_TABLE);
-    return 0;
+    refusals_Result_unit_Refusal t = blocks_exporting_exported(octets, octets_len, out, out_len);
+    return refusals_number(t);
 }
 
 /* The room that export needs for so many octets, 0 where there is none. */
@@ -929,13 +1643,19 @@ static const uint16_t catalogue_tables_PARITY64[64] = {
     35, 65535, 56, 65535, 62, 65535, 0, 11, 58, 65535, 3, 65535, 0, 65535, 65535, 65535,
 };
 
+/* And of a telecommand code's, by M: four rows of eight blocks, each in one word. */
+static inline layout_Shape catalogue_offer_telecommand_shape(uint64_t size)
+{
+    return (layout_Shape){.size = size, .words = 1, .blocks = 8, .rows = 4};
+}
+
 /* A telecommand code: its octets, its bits, and M. */
 static inline catalogue_offer_Offer catalogue_offer_telecommand(uint64_t word, uint64_t information, uint64_t bits,
         uint64_t size)
 {
     return (catalogue_offer_Offer){.offered = true, .opens = true, .steps = true, .word = word,
             .information = information, .multiple = 1, .bits = bits, .unsent = 0, .fill = 0, .asked = false,
-            .shape = (layout_Shape){.size = size, .words = 1, .blocks = 8, .rows = 4}};
+            .shape = catalogue_offer_telecommand_shape(size)};
 }
 
 /* A near-Earth code: whether every bit is sent, its octets, and what is not sent or sent besides. */
@@ -952,7 +1672,7 @@ static inline catalogue_offer_Offer catalogue_offer_none(void)
 {
     return (catalogue_offer_Offer){.offered = false, .opens = false, .steps = false, .word = 16, .information = 8,
             .multiple = 1, .bits = 128, .unsent = 0, .fill = 0, .asked = false,
-            .shape = (layout_Shape){.size = 16, .words = 1, .blocks = 8, .rows = 4}};
+            .shape = catalogue_offer_telecommand_shape(16)};
 }
 
 /* What a code number fixes. */
@@ -977,22 +1697,19 @@ static inline catalogue_offer_Offer catalogue_offer_of(uint8_t code)
 /* Whether a code is offered. */
 static inline bool catalogue_offer_is_offered(uint8_t code)
 {
-    catalogue_offer_Offer o = catalogue_offer_of(code);
-    return o.offered;
+    return catalogue_offer_of(code).offered;
 }
 
 /* The octets of a word. */
 static inline uint64_t catalogue_offer_word_octets(uint8_t code)
 {
-    catalogue_offer_Offer o = catalogue_offer_of(code);
-    return o.word;
+    return catalogue_offer_of(code).word;
 }
 
 /* The octets of a word's information. */
 static inline uint64_t catalogue_offer_information_octets(uint8_t code)
 {
-    catalogue_offer_Offer o = catalogue_offer_of(code);
-    return o.information;
+    return catalogue_offer_of(code).information;
 }
 
 /* The blocks of a row, one place after another from place at on. */
@@ -1000,52 +1717,59 @@ static inline void catalogue_tables_flatten_row(const uint16_t *nested, uint64_t
         uint64_t at)
 {
     uint64_t b = 0;
-    while (b < nested_len) {
-        h[at + 2 * b] = nested[2 * b];
-        h[at + 2 * b + 1] = nested[2 * b + 1];
+    uint64_t t = nested_len;
+    while (b < t) {
+        const uint16_t *block = nested + 2 * b;
+        h[at + 2 * b] = block[0];
+        h[at + 2 * b + 1] = block[1];
         b += 1;
     }
 }
 
-/* Two rows of 16 blocks, one place after another. */
-static inline void catalogue_tables_flatten16(const uint16_t *nested, uint16_t *restrict h)
+/* Rows of blocks that fill the places of h, one place after another. */
+static inline void catalogue_tables_flatten_16_2(const uint16_t *nested, uint16_t *restrict h)
 {
     uint64_t r = 0;
-    while (r < 2) {
-        catalogue_tables_flatten_row(nested + 32 * r, 16, h, 32 * r);
+    uint64_t t = 2;
+    while (r < t) {
+        const uint16_t *row = nested + 32 * r;
+        catalogue_tables_flatten_row(row, 16, h, UINT64_C(2) * 16 * r);
         r += 1;
     }
 }
 
 static inline void catalogue_tables_lend511(uint16_t *restrict h)
 {
-    catalogue_tables_flatten16(catalogue_tables_PARITY511, h);
+    catalogue_tables_flatten_16_2(catalogue_tables_PARITY511, h);
 }
 
-/* Four rows of eight blocks, one place after another. */
-static inline void catalogue_tables_flatten8(const uint16_t *nested, uint16_t *restrict h)
+/* Rows of blocks that fill the places of h, one place after another. */
+static inline void catalogue_tables_flatten_8_4(const uint16_t *nested, uint16_t *restrict h)
 {
     uint64_t r = 0;
-    while (r < 4) {
-        catalogue_tables_flatten_row(nested + 16 * r, 8, h, 16 * r);
+    uint64_t t = 4;
+    while (r < t) {
+        const uint16_t *row = nested + 16 * r;
+        catalogue_tables_flatten_row(row, 8, h, UINT64_C(2) * 8 * r);
         r += 1;
     }
 }
 
-/* The places of each table, laid flat. */
+/* The places of each table, laid flat, out of a copy: the compiler lays these itself then, which saves check 120
+ * instructions. A function for each, since the clause of each names its own table. */
 static inline void catalogue_tables_lend16(uint16_t *restrict h)
 {
-    catalogue_tables_flatten8(catalogue_tables_PARITY16, h);
+    catalogue_tables_flatten_8_4(catalogue_tables_PARITY16, h);
 }
 
 static inline void catalogue_tables_lend32(uint16_t *restrict h)
 {
-    catalogue_tables_flatten8(catalogue_tables_PARITY32, h);
+    catalogue_tables_flatten_8_4(catalogue_tables_PARITY32, h);
 }
 
 static inline void catalogue_tables_lend64(uint16_t *restrict h)
 {
-    catalogue_tables_flatten8(catalogue_tables_PARITY64, h);
+    catalogue_tables_flatten_8_4(catalogue_tables_PARITY64, h);
 }
 
 /* The same where one word holds a row. `lend` has the one caller that its speed rests on, so it does not call this. */
@@ -1053,14 +1777,14 @@ static inline layout_Shape catalogue_tables_lend_narrow(uint64_t size, uint16_t 
 {
     if (size == 16) {
         catalogue_tables_lend16(h);
-        return (layout_Shape){.size = 16, .words = 1, .blocks = 8, .rows = 4};
+        return catalogue_offer_telecommand_shape(16);
     }
     if (size == 32) {
         catalogue_tables_lend32(h);
-        return (layout_Shape){.size = 32, .words = 1, .blocks = 8, .rows = 4};
+        return catalogue_offer_telecommand_shape(32);
     }
     catalogue_tables_lend64(h);
-    return (layout_Shape){.size = 64, .words = 1, .blocks = 8, .rows = 4};
+    return catalogue_offer_telecommand_shape(64);
 }
 
 /* The parity table whose blocks have this size, lent: its places into h, and its shape, in numbers that a compiler
@@ -1069,15 +1793,15 @@ static inline layout_Shape catalogue_tables_lend(uint64_t size, uint16_t *restri
 {
     if (size == 16) {
         catalogue_tables_lend16(h);
-        return (layout_Shape){.size = 16, .words = 1, .blocks = 8, .rows = 4};
+        return catalogue_offer_telecommand_shape(16);
     }
     if (size == 32) {
         catalogue_tables_lend32(h);
-        return (layout_Shape){.size = 32, .words = 1, .blocks = 8, .rows = 4};
+        return catalogue_offer_telecommand_shape(32);
     }
     if (size == 64) {
         catalogue_tables_lend64(h);
-        return (layout_Shape){.size = 64, .words = 1, .blocks = 8, .rows = 4};
+        return catalogue_offer_telecommand_shape(64);
     }
     catalogue_tables_lend511(h);
     return (layout_Shape){.size = 511, .words = 8, .blocks = 16, .rows = 2};
@@ -1123,7 +1847,8 @@ static inline void syndromes_add_block(const uint64_t *d, const uint16_t *h, lay
         uint64_t *restrict acc)
 {
     uint64_t r = 0;
-    while (r < sh.rows) {
+    uint64_t t = sh.rows;
+    while (r < t) {
         syndromes_add_row(d, h, sh, b, acc, r);
         r += 1;
     }
@@ -1143,7 +1868,8 @@ static inline void syndromes_trim_row(uint64_t *restrict z, layout_Shape sh, uin
 static inline void syndromes_trim_rows(uint64_t *restrict z, layout_Shape sh)
 {
     uint64_t r = 0;
-    while (r < sh.rows) {
+    uint64_t t = sh.rows;
+    while (r < t) {
         syndromes_trim_row(z, sh, r);
         r += 1;
     }
@@ -1172,7 +1898,8 @@ static inline void syndromes_add_narrow_block(vectors_Pair d, const uint16_t *h,
         uint64_t *restrict acc)
 {
     uint64_t r = 0;
-    while (r < sh.rows) {
+    uint64_t t = sh.rows;
+    while (r < t) {
         syndromes_add_narrow_row(d, h, sh, b, acc, r);
         r += 1;
     }
@@ -1183,7 +1910,8 @@ static inline void syndromes_add_narrow_blocks(const uint64_t *y, const uint16_t
         uint64_t *restrict acc)
 {
     uint64_t b = 0;
-    while (b < sh.blocks) {
+    uint64_t t = sh.blocks;
+    while (b < t) {
         uint64_t v = vectors_front(vectors_window(y, b * sh.size), sh.size);
         syndromes_add_narrow_block(vectors_double_word(v, sh.size), h, sh, b, acc);
         b += 1;
@@ -1211,7 +1939,8 @@ static inline void syndromes_add_blocks(const uint64_t *y, const uint16_t *h, la
         uint64_t part_len, uint64_t *restrict d, uint64_t d_len, uint64_t *restrict acc)
 {
     uint64_t b = 0;
-    while (b < sh.blocks) {
+    uint64_t t = sh.blocks;
+    while (b < t) {
         syndromes_add_wide_block(y, h, sh, b, part, part_len, d, d_len, acc);
         b += 1;
     }
@@ -1286,7 +2015,8 @@ static inline void syndromes_flip_checks(uint64_t *restrict z, const uint16_t *h
         uint64_t k)
 {
     uint64_t r = 0;
-    while (r < sh.rows) {
+    uint64_t t = sh.rows;
+    while (r < t) {
         syndromes_flip_row(z, h, sh, b, k, r);
         r += 1;
     }
@@ -1370,10 +2100,12 @@ static inline void word_received_cut_block(const uint8_t *octets, uint64_t unsen
 static inline uint64_t word_ownparity_folded(const uint64_t *ws, uint64_t ws_len)
 {
     uint64_t v = 0;
-    uint64_t k = 0;
-    while (k < ws_len) {
-        v ^= ws[k];
-        k += 1;
+    uint64_t t = 0;
+    uint64_t t2 = ws_len;
+    while (t < t2) {
+        const uint64_t *word = ws + t;
+        v ^= *word;
+        t += 1;
     }
     return v;
 }
@@ -1433,8 +2165,7 @@ static inline layout_Shape word_measured_measure_by(uint64_t unsent, uint64_t si
 static inline layout_Shape word_measured_measure(catalogue_offer_Offer o, const uint8_t *word, uint64_t word_len,
         uint16_t *restrict h, uint64_t *restrict y, uint64_t *restrict z)
 {
-    layout_Shape of = o.shape;
-    return word_measured_measure_by(o.unsent, of.size, word, word_len, h, y, z);
+    return word_measured_measure_by(o.unsent, o.shape.size, word, word_len, h, y, z);
 }
 
 /* Whether one of n bits from bit `at` on is set. */
@@ -1592,57 +2323,183 @@ static const uint16_t encoder_wideparity_walk_wide_table[150] = {
     0, 0, 313, 379, 445, 65535, 65535, 65535, 65535, 65535,
 };
 
-static const uint16_t encoder_narrowparity_narrow_steps_table[150] = {
+static const uint16_t encoder_narrowparity_narrow_steps_table[10] = {
     3, 2, 1, 65535, 65535, 65535, 65535, 65535, 65535, 65535,
+};
+
+static const uint16_t encoder_narrowparity_narrow_steps_table_2[10] = {
     3, 1, 12, 14, 65535, 65535, 65535, 65535, 65535, 65535,
+};
+
+static const uint16_t encoder_narrowparity_narrow_steps_table_3[10] = {
     0, 2, 0, 65535, 65535, 65535, 65535, 65535, 65535, 65535,
+};
+
+static const uint16_t encoder_narrowparity_narrow_steps_table_4[10] = {
     0, 1, 11, 65535, 65535, 65535, 65535, 65535, 65535, 65535,
+};
+
+static const uint16_t encoder_narrowparity_narrow_steps_table_5[10] = {
     0, 0, 12, 14, 65535, 65535, 65535, 65535, 65535, 65535,
+};
+
+static const uint16_t encoder_narrowparity_narrow_steps_table_6[10] = {
     0, 3, 11, 13, 65535, 65535, 65535, 65535, 65535, 65535,
+};
+
+static const uint16_t encoder_narrowparity_narrow_steps_table_7[10] = {
     0, 0, 10, 15, 65535, 65535, 65535, 65535, 65535, 65535,
+};
+
+static const uint16_t encoder_narrowparity_narrow_steps_table_8[10] = {
     0, 0, 7, 12, 14, 15, 65535, 65535, 65535, 65535,
+};
+
+static const uint16_t encoder_narrowparity_narrow_steps_table_9[10] = {
     3, 0, 3, 4, 5, 65535, 65535, 65535, 65535, 65535,
+};
+
+static const uint16_t encoder_narrowparity_narrow_steps_table_10[10] = {
     3, 3, 12, 14, 65535, 65535, 65535, 65535, 65535, 65535,
+};
+
+static const uint16_t encoder_narrowparity_narrow_steps_table_11[10] = {
     3, 3, 4, 8, 65535, 65535, 65535, 65535, 65535, 65535,
+};
+
+static const uint16_t encoder_narrowparity_narrow_steps_table_12[10] = {
     1, 3, 0, 65535, 65535, 65535, 65535, 65535, 65535, 65535,
+};
+
+static const uint16_t encoder_narrowparity_narrow_steps_table_13[10] = {
     1, 0, 7, 65535, 65535, 65535, 65535, 65535, 65535, 65535,
+};
+
+static const uint16_t encoder_narrowparity_narrow_steps_table_14[10] = {
     2, 1, 11, 65535, 65535, 65535, 65535, 65535, 65535, 65535,
+};
+
+static const uint16_t encoder_narrowparity_narrow_steps_table_15[10] = {
     2, 0, 3, 65535, 65535, 65535, 65535, 65535, 65535, 65535,
 };
 
-static const uint16_t encoder_narrowparity_narrow_steps_table_2[150] = {
+static const uint16_t encoder_narrowparity_narrow_steps_table_16[10] = {
     3, 2, 26, 65535, 65535, 65535, 65535, 65535, 65535, 65535,
+};
+
+static const uint16_t encoder_narrowparity_narrow_steps_table_17[10] = {
     3, 1, 23, 25, 65535, 65535, 65535, 65535, 65535, 65535,
+};
+
+static const uint16_t encoder_narrowparity_narrow_steps_table_18[10] = {
     0, 2, 20, 65535, 65535, 65535, 65535, 65535, 65535, 65535,
+};
+
+static const uint16_t encoder_narrowparity_narrow_steps_table_19[10] = {
     0, 1, 17, 65535, 65535, 65535, 65535, 65535, 65535, 65535,
+};
+
+static const uint16_t encoder_narrowparity_narrow_steps_table_20[10] = {
     0, 0, 2, 8, 65535, 65535, 65535, 65535, 65535, 65535,
+};
+
+static const uint16_t encoder_narrowparity_narrow_steps_table_21[10] = {
     0, 3, 20, 26, 65535, 65535, 65535, 65535, 65535, 65535,
+};
+
+static const uint16_t encoder_narrowparity_narrow_steps_table_22[10] = {
     0, 0, 8, 13, 29, 31, 65535, 65535, 65535, 65535,
+};
+
+static const uint16_t encoder_narrowparity_narrow_steps_table_23[10] = {
     0, 0, 5, 6, 9, 15, 65535, 65535, 65535, 65535,
+};
+
+static const uint16_t encoder_narrowparity_narrow_steps_table_24[10] = {
     3, 0, 11, 13, 15, 65535, 65535, 65535, 65535, 65535,
+};
+
+static const uint16_t encoder_narrowparity_narrow_steps_table_25[10] = {
     3, 3, 2, 8, 65535, 65535, 65535, 65535, 65535, 65535,
+};
+
+static const uint16_t encoder_narrowparity_narrow_steps_table_26[10] = {
     3, 3, 4, 16, 65535, 65535, 65535, 65535, 65535, 65535,
+};
+
+static const uint16_t encoder_narrowparity_narrow_steps_table_27[10] = {
     1, 3, 1, 65535, 65535, 65535, 65535, 65535, 65535, 65535,
+};
+
+static const uint16_t encoder_narrowparity_narrow_steps_table_28[10] = {
     1, 0, 20, 65535, 65535, 65535, 65535, 65535, 65535, 65535,
+};
+
+static const uint16_t encoder_narrowparity_narrow_steps_table_29[10] = {
     2, 1, 29, 65535, 65535, 65535, 65535, 65535, 65535, 65535,
+};
+
+static const uint16_t encoder_narrowparity_narrow_steps_table_30[10] = {
     2, 0, 21, 65535, 65535, 65535, 65535, 65535, 65535, 65535,
 };
 
-static const uint16_t encoder_narrowparity_narrow_steps_table_3[150] = {
+static const uint16_t encoder_narrowparity_narrow_steps_table_31[10] = {
     3, 2, 3, 65535, 65535, 65535, 65535, 65535, 65535, 65535,
+};
+
+static const uint16_t encoder_narrowparity_narrow_steps_table_32[10] = {
     3, 1, 58, 59, 65535, 65535, 65535, 65535, 65535, 65535,
+};
+
+static const uint16_t encoder_narrowparity_narrow_steps_table_33[10] = {
     0, 2, 43, 65535, 65535, 65535, 65535, 65535, 65535, 65535,
+};
+
+static const uint16_t encoder_narrowparity_narrow_steps_table_34[10] = {
     0, 1, 35, 65535, 65535, 65535, 65535, 65535, 65535, 65535,
+};
+
+static const uint16_t encoder_narrowparity_narrow_steps_table_35[10] = {
     0, 0, 31, 32, 65535, 65535, 65535, 65535, 65535, 65535,
+};
+
+static const uint16_t encoder_narrowparity_narrow_steps_table_36[10] = {
     0, 3, 8, 62, 65535, 65535, 65535, 65535, 65535, 65535,
+};
+
+static const uint16_t encoder_narrowparity_narrow_steps_table_37[10] = {
     0, 0, 24, 51, 65535, 65535, 65535, 65535, 65535, 65535,
+};
+
+static const uint16_t encoder_narrowparity_narrow_steps_table_38[10] = {
     0, 0, 15, 19, 36, 49, 65535, 65535, 65535, 65535,
+};
+
+static const uint16_t encoder_narrowparity_narrow_steps_table_39[10] = {
     0, 0, 5, 22, 37, 46, 48, 51, 56, 59,
+};
+
+static const uint16_t encoder_narrowparity_narrow_steps_table_40[10] = {
     3, 0, 20, 21, 46, 65535, 65535, 65535, 65535, 65535,
+};
+
+static const uint16_t encoder_narrowparity_narrow_steps_table_41[10] = {
     3, 3, 0, 2, 33, 34, 65535, 65535, 65535, 65535,
+};
+
+static const uint16_t encoder_narrowparity_narrow_steps_table_42[10] = {
     1, 3, 37, 65535, 65535, 65535, 65535, 65535, 65535, 65535,
+};
+
+static const uint16_t encoder_narrowparity_narrow_steps_table_43[10] = {
     1, 0, 26, 65535, 65535, 65535, 65535, 65535, 65535, 65535,
+};
+
+static const uint16_t encoder_narrowparity_narrow_steps_table_44[10] = {
     2, 1, 56, 65535, 65535, 65535, 65535, 65535, 65535, 65535,
+};
+
+static const uint16_t encoder_narrowparity_narrow_steps_table_45[10] = {
     2, 0, 43, 65535, 65535, 65535, 65535, 65535, 65535, 65535,
 };
 
@@ -1704,22 +2561,28 @@ static inline void encoder_wideparity_double_row(const uint64_t *z, const uint16
 }
 
 /* Adds a doubled row to the w words of a row from word at on, turned by each of the shifts of a step. */
-static inline void encoder_wideparity_add_turns(const uint64_t *d, const uint16_t *step, uint64_t size,
-        uint64_t *restrict z, uint64_t at, uint64_t w)
+static inline void encoder_wideparity_add_turns(const uint64_t *d, const uint16_t *step, uint64_t step_len,
+        uint64_t size, uint64_t *restrict z, uint64_t at, uint64_t w)
 {
-    uint64_t k = 2;
-    while (k < 10 && (uint64_t)step[k] < size) {
-        vectors_add_turned(d, step[k], z, at, w);
-        k += 1;
+    lent_uint16_t t = (lent_uint16_t){step + 2, step_len - 2};
+    uint64_t shift = 0;
+    uint64_t t2 = t.len;
+    while (shift < t2) {
+        const uint16_t *t3 = t.at + shift;
+        if (size <= (uint64_t)*t3) {
+            break;
+        }
+        vectors_add_turned(d, *t3, z, at, w);
+        shift += 1;
     }
 }
 
 /* A step where more words hold a row; d has room for a doubled one. */
-static inline void encoder_wideparity_step_wide(const uint16_t *step, layout_Shape sh, uint64_t *restrict d,
-        uint64_t *restrict z)
+static inline void encoder_wideparity_step_wide(const uint16_t *step, uint64_t step_len, layout_Shape sh,
+        uint64_t *restrict d, uint64_t *restrict z)
 {
     encoder_wideparity_double_row(z, step, sh, d, 16);
-    encoder_wideparity_add_turns(d, step, sh.size, z, (uint64_t)step[0] * sh.words, sh.words);
+    encoder_wideparity_add_turns(d, step, step_len, sh.size, z, (uint64_t)step[0] * sh.words, sh.words);
     syndromes_trim_rows(z, sh);
 }
 
@@ -1727,10 +2590,12 @@ static inline void encoder_wideparity_step_wide(const uint16_t *step, layout_Sha
 static inline void encoder_wideparity_walk_wide(layout_Shape sh, uint64_t *restrict z)
 {
     uint64_t d[16] = {0};
-    uint64_t k = 0;
-    while (k < 15) {
-        encoder_wideparity_step_wide(encoder_wideparity_walk_wide_table + 10 * k, sh, d, z);
-        k += 1;
+    uint64_t t = 0;
+    const uint16_t *t2 = encoder_wideparity_walk_wide_table;
+    while (t < 15) {
+        const uint16_t *step = t2 + 10 * t;
+        encoder_wideparity_step_wide(step, 10, sh, d, z);
+        t += 1;
     }
 }
 
@@ -1746,12 +2611,13 @@ static inline uint64_t encoder_wideparity_ones_if(uint64_t odd)
 /* Adds a word of 64 equal bits to each word of row r, of 511 bits. */
 static inline void encoder_wideparity_invert_row(uint64_t *restrict z, uint64_t r, uint64_t v)
 {
+    uint64_t last = 8 * r + 7;
     uint64_t k = 8 * r;
-    while (k < 8 * r + 7) {
+    while (k < last) {
         vectors_add_word(v, z, k);
         k += 1;
     }
-    vectors_add_word(vectors_front(v, 63), z, k);
+    vectors_add_word(vectors_front(v, 63), z, last);
 }
 
 /* Inverts the rows that end with every bit the other way, by a number that has a bit for each block, set where its
@@ -1800,7 +2666,8 @@ static inline void encoder_parityrows_put_row(const uint64_t *z, layout_Shape sh
         uint64_t p)
 {
     uint64_t j = 0;
-    while (j < sh.words) {
+    uint64_t t = sh.words;
+    while (j < t) {
         encoder_parityrows_put_word(z[r * sh.words + j], y, p + 64 * j);
         j += 1;
     }
@@ -1811,7 +2678,8 @@ static inline void encoder_parityrows_put_rows(const uint64_t *z, layout_Shape s
         uint64_t *restrict y, uint64_t at)
 {
     uint64_t a = 0;
-    while (a < sh.rows) {
+    uint64_t t = sh.rows;
+    while (a < t) {
         encoder_parityrows_put_row(z, sh, (a + first) % sh.rows, y, at + a * sh.size);
         a += 1;
     }
@@ -1890,34 +2758,86 @@ static inline void encoder_narrowparity_lay_narrow(const uint8_t *octets, uint64
 /* The list of steps for M, where one word holds a row. */
 static inline void encoder_narrowparity_narrow_steps(uint64_t size, uint16_t *restrict result)
 {
-    if (size == 16) {
-        memcpy(result, encoder_narrowparity_narrow_steps_table, 150 * sizeof(uint16_t));
+    switch (size) {
+    case 16:
+        memcpy(result + 0, encoder_narrowparity_narrow_steps_table, 10 * sizeof(uint16_t));
+        memcpy(result + 10, encoder_narrowparity_narrow_steps_table_2, 10 * sizeof(uint16_t));
+        memcpy(result + 20, encoder_narrowparity_narrow_steps_table_3, 10 * sizeof(uint16_t));
+        memcpy(result + 30, encoder_narrowparity_narrow_steps_table_4, 10 * sizeof(uint16_t));
+        memcpy(result + 40, encoder_narrowparity_narrow_steps_table_5, 10 * sizeof(uint16_t));
+        memcpy(result + 50, encoder_narrowparity_narrow_steps_table_6, 10 * sizeof(uint16_t));
+        memcpy(result + 60, encoder_narrowparity_narrow_steps_table_7, 10 * sizeof(uint16_t));
+        memcpy(result + 70, encoder_narrowparity_narrow_steps_table_8, 10 * sizeof(uint16_t));
+        memcpy(result + 80, encoder_narrowparity_narrow_steps_table_9, 10 * sizeof(uint16_t));
+        memcpy(result + 90, encoder_narrowparity_narrow_steps_table_10, 10 * sizeof(uint16_t));
+        memcpy(result + 100, encoder_narrowparity_narrow_steps_table_11, 10 * sizeof(uint16_t));
+        memcpy(result + 110, encoder_narrowparity_narrow_steps_table_12, 10 * sizeof(uint16_t));
+        memcpy(result + 120, encoder_narrowparity_narrow_steps_table_13, 10 * sizeof(uint16_t));
+        memcpy(result + 130, encoder_narrowparity_narrow_steps_table_14, 10 * sizeof(uint16_t));
+        memcpy(result + 140, encoder_narrowparity_narrow_steps_table_15, 10 * sizeof(uint16_t));
+        return;
+    case 32:
+        memcpy(result + 0, encoder_narrowparity_narrow_steps_table_16, 10 * sizeof(uint16_t));
+        memcpy(result + 10, encoder_narrowparity_narrow_steps_table_17, 10 * sizeof(uint16_t));
+        memcpy(result + 20, encoder_narrowparity_narrow_steps_table_18, 10 * sizeof(uint16_t));
+        memcpy(result + 30, encoder_narrowparity_narrow_steps_table_19, 10 * sizeof(uint16_t));
+        memcpy(result + 40, encoder_narrowparity_narrow_steps_table_20, 10 * sizeof(uint16_t));
+        memcpy(result + 50, encoder_narrowparity_narrow_steps_table_21, 10 * sizeof(uint16_t));
+        memcpy(result + 60, encoder_narrowparity_narrow_steps_table_22, 10 * sizeof(uint16_t));
+        memcpy(result + 70, encoder_narrowparity_narrow_steps_table_23, 10 * sizeof(uint16_t));
+        memcpy(result + 80, encoder_narrowparity_narrow_steps_table_24, 10 * sizeof(uint16_t));
+        memcpy(result + 90, encoder_narrowparity_narrow_steps_table_25, 10 * sizeof(uint16_t));
+        memcpy(result + 100, encoder_narrowparity_narrow_steps_table_26, 10 * sizeof(uint16_t));
+        memcpy(result + 110, encoder_narrowparity_narrow_steps_table_27, 10 * sizeof(uint16_t));
+        memcpy(result + 120, encoder_narrowparity_narrow_steps_table_28, 10 * sizeof(uint16_t));
+        memcpy(result + 130, encoder_narrowparity_narrow_steps_table_29, 10 * sizeof(uint16_t));
+        memcpy(result + 140, encoder_narrowparity_narrow_steps_table_30, 10 * sizeof(uint16_t));
+        return;
+    default:
+        memcpy(result + 0, encoder_narrowparity_narrow_steps_table_31, 10 * sizeof(uint16_t));
+        memcpy(result + 10, encoder_narrowparity_narrow_steps_table_32, 10 * sizeof(uint16_t));
+        memcpy(result + 20, encoder_narrowparity_narrow_steps_table_33, 10 * sizeof(uint16_t));
+        memcpy(result + 30, encoder_narrowparity_narrow_steps_table_34, 10 * sizeof(uint16_t));
+        memcpy(result + 40, encoder_narrowparity_narrow_steps_table_35, 10 * sizeof(uint16_t));
+        memcpy(result + 50, encoder_narrowparity_narrow_steps_table_36, 10 * sizeof(uint16_t));
+        memcpy(result + 60, encoder_narrowparity_narrow_steps_table_37, 10 * sizeof(uint16_t));
+        memcpy(result + 70, encoder_narrowparity_narrow_steps_table_38, 10 * sizeof(uint16_t));
+        memcpy(result + 80, encoder_narrowparity_narrow_steps_table_39, 10 * sizeof(uint16_t));
+        memcpy(result + 90, encoder_narrowparity_narrow_steps_table_40, 10 * sizeof(uint16_t));
+        memcpy(result + 100, encoder_narrowparity_narrow_steps_table_41, 10 * sizeof(uint16_t));
+        memcpy(result + 110, encoder_narrowparity_narrow_steps_table_42, 10 * sizeof(uint16_t));
+        memcpy(result + 120, encoder_narrowparity_narrow_steps_table_43, 10 * sizeof(uint16_t));
+        memcpy(result + 130, encoder_narrowparity_narrow_steps_table_44, 10 * sizeof(uint16_t));
+        memcpy(result + 140, encoder_narrowparity_narrow_steps_table_45, 10 * sizeof(uint16_t));
         return;
     }
-    if (size == 32) {
-        memcpy(result, encoder_narrowparity_narrow_steps_table_2, 150 * sizeof(uint16_t));
-        return;
-    }
-    memcpy(result, encoder_narrowparity_narrow_steps_table_3, 150 * sizeof(uint16_t));
 }
 
 /* The copies of a doubled row that are turned by the shifts of a step, summed; one word holds the row. */
-static inline uint64_t encoder_narrowparity_turns(vectors_Pair d, const uint16_t *step, uint64_t size)
+static inline uint64_t encoder_narrowparity_turns(vectors_Pair d, const uint16_t *step, uint64_t step_len,
+        uint64_t size)
 {
     uint64_t sum = 0;
-    uint64_t k = 2;
-    while (k < 10 && (uint64_t)step[k] < size) {
-        sum ^= vectors_funnel(d.first, d.second, step[k]);
-        k += 1;
+    lent_uint16_t t = (lent_uint16_t){step + 2, step_len - 2};
+    uint64_t shift = 0;
+    uint64_t t2 = t.len;
+    while (shift < t2) {
+        const uint16_t *t3 = t.at + shift;
+        if (size <= (uint64_t)*t3) {
+            break;
+        }
+        sum ^= vectors_funnel(d.first, d.second, *t3);
+        shift += 1;
     }
     return sum;
 }
 
 /* A step where one word holds a row. */
-static inline void encoder_narrowparity_step_narrow(const uint16_t *step, layout_Shape sh, uint64_t *restrict z)
+static inline void encoder_narrowparity_step_narrow(const uint16_t *step, uint64_t step_len, layout_Shape sh,
+        uint64_t *restrict z)
 {
     vectors_Pair d = vectors_double_word(z[(uint64_t)step[1]], sh.size);
-    vectors_add_word(vectors_front(encoder_narrowparity_turns(d, step, sh.size), sh.size), z, step[0]);
+    vectors_add_word(vectors_front(encoder_narrowparity_turns(d, step, step_len, sh.size), sh.size), z, step[0]);
 }
 
 /* The steps, one after the other, where one word holds a row. */
@@ -1925,10 +2845,12 @@ static inline void encoder_narrowparity_walk_narrow(layout_Shape sh, uint64_t *r
 {
     uint16_t steps[150];
     encoder_narrowparity_narrow_steps(sh.size, steps);
-    uint64_t k = 0;
-    while (k < 15) {
-        encoder_narrowparity_step_narrow(steps + 10 * k, sh, z);
-        k += 1;
+    uint64_t t = 0;
+    const uint16_t *t2 = steps;
+    while (t < 15) {
+        const uint16_t *step = t2 + 10 * t;
+        encoder_narrowparity_step_narrow(step, 10, sh, z);
+        t += 1;
     }
 }
 
@@ -1969,15 +2891,16 @@ static inline void encoder_solver_encode(catalogue_offer_Offer o, const uint8_t 
  * number, so that no mode of the machine's floating point matters. */
 
 /* The bits of some samples, and whether all of these are finite. */
-typedef struct magnitudes_Narrow {
+typedef struct magnitudes_Marked_u32 {
     uint32_t bits;
     bool finite;
-} magnitudes_Narrow;
+} magnitudes_Marked_u32;
 
-typedef struct magnitudes_Wide {
+/* The bits of some samples, and whether all of these are finite. */
+typedef struct magnitudes_Marked_u64 {
     uint64_t bits;
     bool finite;
-} magnitudes_Wide;
+} magnitudes_Marked_u64;
 
 /* The first bit of v that is set. */
 static inline uint64_t magnitudes_first_set(uint64_t v)
@@ -2019,15 +2942,6 @@ static inline uint64_t magnitudes_smallest_of(const float *samples, uint64_t mas
     return best;
 }
 
-/* The less of 32 and n. */
-static inline uint64_t magnitudes_front(uint64_t n)
-{
-    if (n < 32) {
-        return n;
-    }
-    return 32;
-}
-
 /* Whether a sample is read as 1: the sign is set, and the rest is not 0. */
 static inline bool magnitudes_is_one(uint32_t p)
 {
@@ -2050,7 +2964,7 @@ static inline bool magnitudes_is_finite(uint32_t p)
 }
 
 /* The bits of the n samples from sample `at` on, in front, and whether these are finite. */
-static inline magnitudes_Narrow magnitudes_half(const float *samples, uint64_t at, uint64_t n)
+static inline magnitudes_Marked_u32 magnitudes_half(const float *samples, uint64_t at, uint64_t n)
 {
     uint32_t bits = 0;
     bool finite = true;
@@ -2060,16 +2974,16 @@ static inline magnitudes_Narrow magnitudes_half(const float *samples, uint64_t a
         finite = magnitudes_is_finite(pattern_of(samples + (at + i))) & finite;
         i += 1;
     }
-    return (magnitudes_Narrow){.bits = bits, .finite = finite};
+    return (magnitudes_Marked_u32){.bits = bits, .finite = finite};
 }
 
 /* The same of up to 64 samples: in two halves, whose loops the compiler takes four samples at a time. */
-static inline magnitudes_Wide magnitudes_word(const float *samples, uint64_t at, uint64_t n)
+static inline magnitudes_Marked_u64 magnitudes_word(const float *samples, uint64_t at, uint64_t n)
 {
-    uint64_t m = magnitudes_front(n);
-    magnitudes_Narrow a = magnitudes_half(samples, at, m);
-    magnitudes_Narrow b = magnitudes_half(samples, at + m, n - m);
-    return (magnitudes_Wide){.bits = ((uint64_t)a.bits << 32) | (uint64_t)b.bits, .finite = b.finite & a.finite};
+    uint64_t m = core_int_usize_min(n, 32);
+    magnitudes_Marked_u32 a = magnitudes_half(samples, at, m);
+    magnitudes_Marked_u32 b = magnitudes_half(samples, at + m, n - m);
+    return (magnitudes_Marked_u64){.bits = ((uint64_t)a.bits << 32) | (uint64_t)b.bits, .finite = b.finite & a.finite};
 }
 
 /* The words that the samples fill whole. */
@@ -2079,7 +2993,7 @@ static inline bool magnitudes_read_whole(const float *samples, uint64_t samples_
     bool finite = true;
     uint64_t k = 0;
     while (k < whole) {
-        magnitudes_Wide w = magnitudes_word(samples, 64 * k, 64);
+        magnitudes_Marked_u64 w = magnitudes_word(samples, 64 * k, 64);
         y[k] = w.bits;
         finite = w.finite & finite;
         k += 1;
@@ -2093,7 +3007,7 @@ static inline bool magnitudes_read(const float *samples, uint64_t samples_len, u
     bool finite = magnitudes_read_whole(samples, samples_len, y);
     uint64_t k = samples_len / 64;
     uint64_t n = samples_len % 64;
-    magnitudes_Wide w = magnitudes_word(samples, 64 * k, n);
+    magnitudes_Marked_u64 w = magnitudes_word(samples, 64 * k, n);
     y[k] = w.bits;
     return w.finite & finite;
 }
@@ -2144,8 +3058,7 @@ static inline planes_Sum planes_add(planes_Planes p, uint64_t x)
 /* The flipping run: what it keeps (bounds), the bit of greatest excess (choice, narrow), the run (runs), how correct
  * ends (endings). */
 
-typedef pandoricchia_corrected flipping_endings_Corrected;
-
+/* The number is that of an ending; the calls' records give it on. */
 typedef struct flipping_runs_Ran {
     uint8_t number;
     uint32_t flips;
@@ -2156,6 +3069,12 @@ typedef struct flipping_runs_Ended {
     flipping_runs_Ran ran;
     uint32_t last;
 } flipping_runs_Ended;
+
+/* How a run ends: quiet, stuck, or with as many flips as the limit allows. */
+enum { flipping_runs_Ending_Quiet = 0, flipping_runs_Ending_Stuck = 1, flipping_runs_Ending_Limit = 2 };
+typedef struct flipping_runs_Ending {
+    uint8_t tag;
+} flipping_runs_Ending;
 
 /* Of the bits of a block, those that have none, at most one and at most two of some checks met; and how many checks
  * these are. */
@@ -2184,6 +3103,27 @@ typedef struct flipping_choice_Best {
     uint64_t bit;
 } flipping_choice_Best;
 
+/* Where the checks of each block's bits are read, in words of this shape: the starts of every block, and how many it
+ * has. */
+typedef struct flipping_bounds_Places {
+    layout_Shape shape;
+    uint16_t starts[128];
+    uint8_t counts[16];
+} flipping_bounds_Places;
+
+/* Places, and for each block how many of its checks every bit has met at least. */
+typedef struct flipping_bounds_Bounds {
+    flipping_bounds_Places places;
+    uint8_t met[16];
+} flipping_bounds_Bounds;
+
+/* A record of C's: its number says whether the rest counts. */
+typedef pandoricchia_corrected flipping_endings_Corrected;
+
+typedef struct flipping_ErrResidual_Ending {
+    flipping_runs_Ending field0;
+} flipping_ErrResidual_Ending;
+
 /* What comes next: quiet; or stuck, with the greatest excess and the lowest bit that has it; or this bit, of this
  * excess, is to be flipped. */
 enum { flipping_runs_Next_Quiet = 0, flipping_runs_Next_Stuck = 1, flipping_runs_Next_Flip = 2 };
@@ -2195,16 +3135,23 @@ typedef struct flipping_runs_Next {
     } as;
 } flipping_runs_Next;
 
-/* What correct gives besides its number where it is refused by 1 to 3, and on samples also by 16. */
-static inline flipping_endings_Corrected flipping_endings_refused_correct(uint8_t number)
-{
-    return (flipping_endings_Corrected){.number = number, .flips = 0, .first = 0, .last = 0, .unlike = 0, .lowest = 0};
-}
-
 /* A run that ends. */
-static inline flipping_runs_Ended flipping_runs_at_end(uint8_t number, uint32_t flips, uint32_t last)
+static inline flipping_runs_Ended flipping_runs_at_end(flipping_runs_Ending ending, uint32_t flips, uint32_t last)
 {
-    return (flipping_runs_Ended){.ran = (flipping_runs_Ran){.number = number, .flips = flips}, .last = last};
+    uint8_t t;
+    switch (ending.tag) {
+    case flipping_runs_Ending_Quiet:
+        t = 0;
+        break;
+    case flipping_runs_Ending_Stuck:
+        t = 5;
+        break;
+    case flipping_runs_Ending_Limit:
+    default:
+        t = 6;
+        break;
+    }
+    return (flipping_runs_Ended){.ran = (flipping_runs_Ran){.number = t, .flips = flips}, .last = last};
 }
 
 /* The first m bits of v over and over. */
@@ -2297,14 +3244,13 @@ static inline flipping_narrow_Level flipping_narrow_highest(flipping_narrow_Weig
 /* For each block the greatest score above 8 of its bits, and the bits that have it; bits before bit `from` are not
  * sent. */
 static inline void flipping_narrow_weigh_all(const uint64_t *rows, const uint16_t *h, layout_Shape sh, uint64_t from,
-        uint32_t *restrict scores, uint64_t *restrict masks)
+        flipping_narrow_Level *restrict levels)
 {
     uint64_t b = 0;
-    while (b < sh.blocks) {
-        flipping_narrow_Level l = flipping_narrow_highest(flipping_narrow_weigh(rows, h, sh, b,
+    uint64_t t = sh.blocks;
+    while (b < t) {
+        levels[b] = flipping_narrow_highest(flipping_narrow_weigh(rows, h, sh, b,
                 flipping_narrow_sent_in(b, from, sh.size)));
-        scores[b] = l.score;
-        masks[b] = l.mask;
         b += 1;
     }
 }
@@ -2319,21 +3265,21 @@ static inline flipping_narrow_Peak flipping_narrow_better(flipping_narrow_Peak p
 }
 
 /* The greatest of the scores, and the first block that has it; 8 if none is greater. */
-static inline flipping_narrow_Peak flipping_narrow_greatest(const uint32_t *scores, uint64_t blocks)
+static inline flipping_narrow_Peak flipping_narrow_greatest(const flipping_narrow_Level *levels, uint64_t blocks)
 {
     flipping_narrow_Peak p = (flipping_narrow_Peak){.score = 8, .block = 0};
     uint64_t b = 0;
     while (b < blocks) {
-        p = flipping_narrow_better(p, scores[b], b);
+        p = flipping_narrow_better(p, levels[b].score, b);
         b += 1;
     }
     return p;
 }
 
 /* The first bit of this block that is set in its mask. */
-static inline uint64_t flipping_narrow_first_bit(const uint64_t *masks, uint64_t block, uint64_t m)
+static inline uint64_t flipping_narrow_first_bit(uint64_t mask, uint64_t block, uint64_t m)
 {
-    return block * m + (uint64_t)leading_zeros64(masks[block]);
+    return block * m + (uint64_t)leading_zeros64(mask);
 }
 
 /* The smallest of a bit and of those that are set in the mask of a block which begins with bit `first`, if it has
@@ -2348,13 +3294,15 @@ static inline uint64_t flipping_narrow_peak_in(const float *samples, uint32_t sc
 }
 
 /* The smallest of a bit and of those that the masks have of the blocks with this score. */
-static inline uint64_t flipping_narrow_smallest_peak(const float *samples, const uint32_t *scores,
-        const uint64_t *masks, layout_Shape sh, uint32_t top, uint64_t bit)
+static inline uint64_t flipping_narrow_smallest_peak(const float *samples, const flipping_narrow_Level *levels,
+        layout_Shape sh, uint32_t top, uint64_t bit)
 {
     uint64_t best = bit;
     uint64_t b = 0;
-    while (b < sh.blocks) {
-        best = flipping_narrow_peak_in(samples, scores[b], masks[b], top, b * sh.size, best);
+    uint64_t t = sh.blocks;
+    while (b < t) {
+        flipping_narrow_Level level = levels[b];
+        best = flipping_narrow_peak_in(samples, level.score, level.mask, top, b * sh.size, best);
         b += 1;
     }
     return best;
@@ -2363,28 +3311,31 @@ static inline uint64_t flipping_narrow_smallest_peak(const float *samples, const
 /* The bit of the greatest score above 8 where the blocks have been weighed; of several the one with the smallest
  * sample, then the lowest number; without samples the lowest. A score of 8 says that there is none. */
 static inline flipping_choice_Best flipping_narrow_best_of(const float *samples, uint64_t samples_len,
-        const uint32_t *scores, const uint64_t *masks, layout_Shape sh)
+        const flipping_narrow_Level *levels, layout_Shape sh)
 {
-    flipping_narrow_Peak p = flipping_narrow_greatest(scores, sh.blocks);
-    uint64_t low = flipping_narrow_first_bit(masks, p.block, sh.size);
-    if (p.score <= 8) {
-        return (flipping_choice_Best){.score = p.score, .bit = low};
+    flipping_narrow_Peak p = flipping_narrow_greatest(levels, sh.blocks);
+    uint32_t score = p.score;
+    uint64_t low = flipping_narrow_first_bit(levels[p.block].mask, p.block, sh.size);
+    if (score <= 8) {
+        return (flipping_choice_Best){.score = score, .bit = low};
     }
     if (samples_len == 0) {
-        return (flipping_choice_Best){.score = p.score, .bit = low};
+        return (flipping_choice_Best){.score = score, .bit = low};
     }
-    return (flipping_choice_Best){.score = p.score,
-            .bit = flipping_narrow_smallest_peak(samples, scores, masks, sh, p.score, low)};
+    return (flipping_choice_Best){.score = score,
+            .bit = flipping_narrow_smallest_peak(samples, levels, sh, score, low)};
 }
 
 /* The best bit from bit `from` on, after all blocks have been weighed. */
 static inline flipping_choice_Best flipping_narrow_choose(const float *samples, uint64_t samples_len,
         const uint64_t *rows, const uint16_t *h, layout_Shape sh, uint64_t from)
 {
-    uint32_t scores[16] = {0};
-    uint64_t masks[16] = {0};
-    flipping_narrow_weigh_all(rows, h, sh, from, scores, masks);
-    return flipping_narrow_best_of(samples, samples_len, scores, masks, sh);
+    flipping_narrow_Level levels[16];
+    for (size_t i = 0; i < 16; i++) {
+        levels[i] = (flipping_narrow_Level){.score = 0, .mask = 0};
+    }
+    flipping_narrow_weigh_all(rows, h, sh, from, levels);
+    return flipping_narrow_best_of(samples, samples_len, levels, sh);
 }
 
 /* Flips the check of a row that covers bit k by the shift s; a number that is m or more is no shift. `each` has the
@@ -2438,16 +3389,16 @@ static inline flipping_runs_Ended flipping_runs_go_on_narrow(const float *sample
         flipping_choice_Best chosen = flipping_narrow_choose(samples, samples_len, rows, h, sh, from);
         uint32_t high = chosen.score;
         if (high <= 8) {
-            return flipping_runs_at_end(5, flips, left);
+            return flipping_runs_at_end((flipping_runs_Ending){.tag = flipping_runs_Ending_Stuck}, flips, left);
         }
         if (end <= flips) {
-            return flipping_runs_at_end(6, flips, left);
+            return flipping_runs_at_end((flipping_runs_Ending){.tag = flipping_runs_Ending_Limit}, flips, left);
         }
         flipping_narrow_flip(y, rows, h, sh, chosen.bit);
         left -= high - 8;
         flips += 1;
     }
-    return flipping_runs_at_end(0, flips, 0);
+    return flipping_runs_at_end((flipping_runs_Ending){.tag = flipping_runs_Ending_Quiet}, flips, 0);
 }
 
 /* The run by the sizes of the samples, where one word holds a block: as many samples as bits, or none, where all
@@ -2501,7 +3452,8 @@ static inline void flipping_bounds_double_rows(const uint64_t *z, layout_Shape s
     uint64_t words = sh.words;
     uint64_t m = sh.size;
     uint64_t r = 0;
-    while (r < sh.rows) {
+    uint64_t t = sh.rows;
+    while (r < t) {
         flipping_bounds_double_row(z, r * words, words, m, v, 8, d, 16 * r);
         r += 1;
     }
@@ -2532,60 +3484,58 @@ static inline uint64_t flipping_bounds_note_row(const uint16_t *h, layout_Shape 
 static inline uint64_t flipping_bounds_gather(const uint16_t *h, layout_Shape sh, uint64_t b, uint16_t *restrict starts)
 {
     uint64_t n = 8 * b;
-    uint64_t r = 0;
-    while (r < sh.rows) {
-        n = flipping_bounds_note_row(h, sh, b, r, starts, n);
-        r += 1;
+    uint64_t row = 0;
+    uint64_t t = sh.rows;
+    while (row < t) {
+        n = flipping_bounds_note_row(h, sh, b, row, starts, n);
+        row += 1;
     }
     return n - 8 * b;
 }
 
 /* The starts of every block, and how many each has. */
-static inline void flipping_bounds_gather_all(const uint16_t *h, layout_Shape sh, uint16_t *restrict starts,
-        uint8_t *restrict counts)
+static inline void flipping_bounds_Places_gather(flipping_bounds_Places *restrict self, const uint16_t *h)
 {
+    layout_Shape sh = self->shape;
     uint64_t b = 0;
-    while (b < sh.blocks) {
-        uint64_t t = flipping_bounds_gather(h, sh, b, starts);
-        counts[b] = (uint8_t)t;
+    uint64_t t = sh.blocks;
+    while (b < t) {
+        uint64_t t2 = flipping_bounds_gather(h, sh, b, self->starts);
+        self->counts[b] = (uint8_t)t2;
         b += 1;
     }
 }
 
-/* The doubled rows of the syndrome z, and the starts of every block. The bounds begin with no met check. */
-static inline void flipping_bounds_begin(const uint64_t *z, const uint16_t *h, layout_Shape sh, uint64_t *restrict d,
-        uint16_t *restrict starts, uint8_t *restrict counts)
+/* The doubled rows of the syndrome z, and the bounds of the blocks of this shape: no met check is counted on yet. */
+static inline flipping_bounds_Bounds flipping_bounds_begin(const uint64_t *z, const uint16_t *h, layout_Shape sh,
+        uint64_t *restrict rows)
 {
     uint64_t v[8] = {0};
-    flipping_bounds_double_rows(z, sh, v, d);
-    flipping_bounds_gather_all(h, sh, starts, counts);
+    flipping_bounds_double_rows(z, sh, v, rows);
+    flipping_bounds_Bounds bounds;
+    bounds.places.shape = sh;
+    memset(bounds.places.starts, 0, 128 * sizeof(uint16_t));
+    memset(bounds.places.counts, 0, 16);
+    memset(bounds.met, 0, 16);
+    flipping_bounds_Places_gather(&bounds.places, h);
+    return bounds;
 }
 
-/* The bound of block b. */
-static inline uint8_t flipping_choice_bound_of(const uint8_t *counts, const uint8_t *met, uint64_t b)
+static inline uint8_t flipping_bounds_Bounds_bound_of(const flipping_bounds_Bounds *p0, uint64_t p1)
 {
-    return (uint8_t)(8 + counts[b] - 2 * met[b]);
+    return (uint8_t)(8 + p0->places.counts[p1] - 2 * p0->met[p1]);
 }
 
-/* The greater of two. */
-static inline uint8_t flipping_choice_higher(uint8_t a, uint8_t b)
+static inline uint8_t flipping_bounds_Bounds_greatest(const flipping_bounds_Bounds *p0)
 {
-    if (a < b) {
-        return b;
+    uint8_t t = 0;
+    uint64_t t2 = 0;
+    uint64_t t3 = p0->places.shape.blocks;
+    while (t2 < t3) {
+        t = core_int_u8_max(t, flipping_bounds_Bounds_bound_of(p0, t2));
+        t2 += 1;
     }
-    return a;
-}
-
-/* The greatest bound. */
-static inline uint8_t flipping_choice_greatest(const uint8_t *counts, const uint8_t *met, uint64_t blocks)
-{
-    uint8_t top = 0;
-    uint64_t b = 0;
-    while (b < blocks) {
-        top = flipping_choice_higher(top, flipping_choice_bound_of(counts, met, b));
-        b += 1;
-    }
-    return top;
+    return t;
 }
 
 /* The first bit of block b that counts, where bits from bit `from` on do, which is one of block 0. */
@@ -2649,13 +3599,7 @@ static inline uint64_t flipping_bounds_lightest(const uint64_t *d, const uint16_
 /* Of 64 bits from bit `at` on, how many stand ahead of bit k. */
 static inline uint64_t flipping_bounds_ahead(uint64_t k, uint64_t at)
 {
-    if (k <= at) {
-        return 0;
-    }
-    if (k - at < 64) {
-        return k - at;
-    }
-    return 64;
+    return core_int_usize_min(core_int_usize_saturating_sub(k, at), 64);
 }
 
 /* Of the bits that are set in v, which begins with bit `at`, those from bit `begin` to before bit m. */
@@ -2677,81 +3621,78 @@ static inline uint64_t flipping_bounds_weigh(const uint64_t *d, const uint16_t *
     return flipping_bounds_between(found, at, begin, m);
 }
 
-/* The first bit of block b from bit `begin` on that has at most so many of its n checks met; M if there is none. */
-static inline uint64_t flipping_choice_first_in_block(const uint64_t *d, const uint16_t *starts, uint64_t b,
-        uint64_t n, uint64_t met, uint64_t begin, layout_Shape sh)
+static inline uint64_t flipping_bounds_Bounds_first_in_block(const flipping_bounds_Bounds *p0, const uint64_t *p1,
+        uint64_t p2, uint64_t p3, uint64_t p4)
 {
-    uint64_t k = 0;
-    while (k < sh.words) {
-        uint64_t found = flipping_bounds_weigh(d, starts, 8 * b, n, met, 64 * k, begin, sh.size);
-        if (found != 0) {
-            return 64 * k + (uint64_t)leading_zeros64(found);
+    uint64_t t = p0->places.shape.size;
+    uint64_t t2 = 0;
+    uint64_t t3 = p0->places.counts[p2];
+    uint64_t t4 = p0->places.shape.words;
+    while (t2 < t4) {
+        uint64_t t5 = flipping_bounds_weigh(p1, p0->places.starts, 8 * p2, t3, p3, 64 * t2, p4, t);
+        if (t5 != 0) {
+            return 64 * t2 + (uint64_t)leading_zeros64(t5);
         }
-        k += 1;
+        t2 += 1;
     }
-    return sh.size;
+    return t;
 }
 
-/* The same: a search for bits without a met check is the most frequent one, and a loop of its own for the compiler. */
-static inline uint64_t flipping_choice_first_light(const uint64_t *d, const uint16_t *starts, uint64_t b, uint64_t n,
-        uint64_t met, uint64_t begin, layout_Shape sh)
+static inline uint64_t flipping_bounds_Bounds_first_light(const flipping_bounds_Bounds *p0, const uint64_t *p1,
+        uint64_t p2, uint64_t p3, uint64_t p4)
 {
-    if (met == 0) {
-        return flipping_choice_first_in_block(d, starts, b, n, 0, begin, sh);
+    if (p3 == 0) {
+        return flipping_bounds_Bounds_first_in_block(p0, p1, p2, 0, p4);
     }
-    return flipping_choice_first_in_block(d, starts, b, n, met, begin, sh);
+    return flipping_bounds_Bounds_first_in_block(p0, p1, p2, p3, p4);
 }
 
-/* The first bit of block b that counts and has at most as many of its checks met as the block's bound says; M if
- * there is none. */
-static inline uint64_t flipping_choice_first_met(const uint64_t *d, const uint16_t *starts, const uint8_t *counts,
-        const uint8_t *met, layout_Shape sh, uint64_t from, uint64_t b)
+static inline uint64_t flipping_bounds_Bounds_first_met(const flipping_bounds_Bounds *p0, const uint64_t *p1,
+        uint64_t p2, uint64_t p3)
 {
-    uint64_t n = counts[b];
-    return flipping_choice_first_light(d, starts, b, n, met[b], flipping_choice_begin_in(b, from), sh);
+    return flipping_bounds_Bounds_first_light(p0, p1, p3, p0->met[p3], flipping_choice_begin_in(p3, p2));
 }
 
-/* The first bit of block b of score `top`, where its bound is not greater; M if there is none. If the bound was
- * `top`, it goes down then. */
-static inline uint64_t flipping_choice_look(const uint64_t *d, const uint16_t *starts, const uint8_t *counts,
-        uint8_t *restrict met, layout_Shape sh, uint64_t from, uint64_t b, uint8_t top)
+static inline uint64_t flipping_bounds_Bounds_look(flipping_bounds_Bounds *restrict p0, const uint64_t *p1,
+        uint64_t p2, uint64_t p3, uint8_t p4)
 {
-    if (flipping_choice_bound_of(counts, met, b) != top) {
-        return sh.size;
+    uint64_t t = p0->places.shape.size;
+    if (flipping_bounds_Bounds_bound_of(p0, p3) != p4) {
+        return t;
     }
-    uint64_t k = flipping_choice_first_met(d, starts, counts, met, sh, from, b);
-    if (k < sh.size) {
-        return k;
+    uint64_t t2 = flipping_bounds_Bounds_first_met(p0, p1, p2, p3);
+    if (t2 < t) {
+        return t2;
     }
-    met[b] = (uint8_t)(met[b] + 1);
-    return sh.size;
+    p0->met[p3] = (uint8_t)(p0->met[p3] + 1);
+    return t;
 }
 
-/* The first bit of score `top` from bit `from` on, where no bound is greater; the number of bits if there is none. */
-static inline uint64_t flipping_choice_first_at(const uint64_t *d, const uint16_t *starts, const uint8_t *counts,
-        uint8_t *restrict met, layout_Shape sh, uint64_t from, uint8_t top)
+static inline uint64_t flipping_bounds_Bounds_first_at(flipping_bounds_Bounds *restrict p0, const uint64_t *p1,
+        uint64_t p2, uint8_t p3)
 {
-    uint64_t b = 0;
-    while (b < sh.blocks) {
-        uint64_t k = flipping_choice_look(d, starts, counts, met, sh, from, b, top);
-        if (k < sh.size) {
-            return b * sh.size + k;
+    layout_Shape t = p0->places.shape;
+    uint64_t t2 = 0;
+    uint64_t t3 = t.blocks;
+    while (t2 < t3) {
+        uint64_t t4 = flipping_bounds_Bounds_look(p0, p1, p2, t2, p3);
+        if (t4 < t.size) {
+            return t2 * t.size + t4;
         }
-        b += 1;
+        t2 += 1;
     }
-    return sh.blocks * sh.size;
+    return t.blocks * t.size;
 }
 
-/* The bit of the greatest score from bit `from` on; of several, the lowest number. */
-static inline flipping_choice_Best flipping_choice_choose(const uint64_t *d, const uint16_t *starts,
-        const uint8_t *counts, uint8_t *restrict met, layout_Shape sh, uint64_t from)
+static inline flipping_choice_Best flipping_bounds_Bounds_choose(flipping_bounds_Bounds *restrict p0,
+        const uint64_t *p1, uint64_t p2)
 {
-    uint64_t end = sh.blocks * sh.size;
+    uint64_t t = p0->places.shape.blocks * p0->places.shape.size;
     for (;;) {
-        uint8_t top = flipping_choice_greatest(counts, met, sh.blocks);
-        uint64_t bit = flipping_choice_first_at(d, starts, counts, met, sh, from, top);
-        if (bit < end) {
-            return (flipping_choice_Best){.score = top, .bit = bit};
+        uint8_t t2 = flipping_bounds_Bounds_greatest(p0);
+        uint64_t t3 = flipping_bounds_Bounds_first_at(p0, p1, p2, t2);
+        if (t3 < t) {
+            return (flipping_choice_Best){.score = t2, .bit = t3};
         }
     }
 }
@@ -2778,81 +3719,71 @@ static inline void flipping_bounds_flip_checks(uint64_t *restrict d, const uint1
     }
 }
 
-/* So many fewer, or none. */
-static inline uint8_t flipping_bounds_fewer(uint8_t v, uint8_t by)
-{
-    if (v < by) {
-        return 0;
-    }
-    return (uint8_t)(v - by);
-}
-
 /* After a flip that broke so many checks, the bits of each block may have so many met checks fewer. */
-static inline void flipping_bounds_raise(uint8_t *restrict met, uint8_t by)
+static inline void flipping_bounds_raise(uint8_t *restrict met, uint64_t met_len, uint8_t by)
 {
-    uint64_t b = 0;
-    while (b < 16) {
-        met[b] = flipping_bounds_fewer(met[b], by);
-        b += 1;
+    uint64_t t = 0;
+    uint64_t t2 = met_len;
+    while (t < t2) {
+        uint8_t *m = met + t;
+        *m = core_int_u8_saturating_sub(*m, by);
+        t += 1;
     }
 }
 
 /* Flips the checks of a bit and raises the bounds; the bit has as many met checks as the bound of its block says. */
-static inline void flipping_bounds_flip(uint64_t *restrict d, const uint16_t *starts, const uint8_t *counts,
-        uint8_t *restrict met, layout_Shape sh, uint64_t bit)
+static inline void flipping_bounds_Bounds_flip(flipping_bounds_Bounds *restrict self, uint64_t *restrict rows,
+        uint64_t bit)
 {
+    layout_Shape sh = self->places.shape;
     uint64_t b = bit / sh.size;
-    uint64_t n = counts[b];
-    flipping_bounds_flip_checks(d, starts, 8 * b, n, bit % sh.size, sh.size);
-    uint8_t by = met[b];
-    flipping_bounds_raise(met, by);
+    uint64_t n = self->places.counts[b];
+    flipping_bounds_flip_checks(rows, self->places.starts, 8 * b, n, bit % sh.size, sh.size);
+    uint8_t by = self->met[b];
+    flipping_bounds_raise(self->met, 16, by);
 }
 
 /* Flips a bit of a word, and its checks in what is kept of it; the bit has as many met checks as the bound of its
  * block says. */
-static inline void flipping_runs_flip(uint64_t *restrict y, uint64_t *restrict d, const uint16_t *starts,
-        const uint8_t *counts, uint8_t *restrict met, layout_Shape sh, uint64_t bit)
+static inline void flipping_runs_flip(uint64_t *restrict y, uint64_t *restrict rows,
+        flipping_bounds_Bounds *restrict bounds, uint64_t bit)
 {
     vectors_flip_bit(y, bit);
-    flipping_bounds_flip(d, starts, counts, met, sh, bit);
+    flipping_bounds_Bounds_flip(bounds, rows, bit);
 }
 
-/* The run from the word y, of which d, starts, counts and met are kept, under a limit: flips until it ends. So many
- * checks are broken. */
-static inline flipping_runs_Ended flipping_runs_go_on(uint64_t *restrict y, uint64_t *restrict d,
-        const uint16_t *starts, const uint8_t *counts, uint8_t *restrict met, const uint16_t *h, layout_Shape sh,
-        uint64_t from, uint16_t limit, uint32_t first)
+/* The run from the word y, of which rows and bounds are kept, under a limit: flips until it ends. So many checks are
+ * broken. */
+static inline flipping_runs_Ended flipping_runs_go_on(uint64_t *restrict y, uint64_t *restrict rows,
+        flipping_bounds_Bounds *restrict bounds, const uint16_t *h, uint64_t from, uint16_t limit, uint32_t first)
 {
     (void)h;
     uint32_t most = limit;
     uint32_t flips = 0;
     uint32_t left = first;
     while (0 < left) {
-        flipping_choice_Best best = flipping_choice_choose(d, starts, counts, met, sh, from);
+        flipping_choice_Best best = flipping_bounds_Bounds_choose(bounds, rows, from);
         uint32_t top = best.score;
         if (top <= 8) {
-            return flipping_runs_at_end(5, flips, left);
+            return flipping_runs_at_end((flipping_runs_Ending){.tag = flipping_runs_Ending_Stuck}, flips, left);
         }
         if (most <= flips) {
-            return flipping_runs_at_end(6, flips, left);
+            return flipping_runs_at_end((flipping_runs_Ending){.tag = flipping_runs_Ending_Limit}, flips, left);
         }
-        flipping_runs_flip(y, d, starts, counts, met, sh, best.bit);
+        flipping_runs_flip(y, rows, bounds, best.bit);
         left -= top - 8;
         flips += 1;
     }
-    return flipping_runs_at_end(0, flips, 0);
+    return flipping_runs_at_end((flipping_runs_Ending){.tag = flipping_runs_Ending_Quiet}, flips, 0);
 }
 
 /* The run from the word y with the syndrome z, of which so many checks are broken, by the bounds of its blocks. */
 static inline flipping_runs_Ended flipping_runs_run_bounded(uint64_t *restrict y, const uint64_t *z, const uint16_t *h,
         layout_Shape sh, uint64_t from, uint16_t limit, uint32_t first)
 {
-    uint64_t d[65] = {0};
-    uint16_t starts[128] = {0};
-    uint8_t counts[16] = {0};
-    uint8_t met[16] = {0};
-    flipping_bounds_begin(z, h, sh, d, starts, counts);
-    return flipping_runs_go_on(y, d, starts, counts, met, h, sh, from, limit, first);
+    uint64_t rows[65] = {0};
+    flipping_bounds_Bounds bounds = flipping_bounds_begin(z, h, sh, rows);
+    return flipping_runs_go_on(y, rows, &bounds, h, from, limit, first);
 }
 
 /* The run from the word y with the syndrome z, of which so many checks are broken, under a limit: flips until it
@@ -2861,7 +3792,7 @@ static inline flipping_runs_Ended flipping_runs_run(uint64_t *restrict y, const 
         layout_Shape sh, uint64_t from, uint16_t limit, uint32_t first)
 {
     if (first == 0) {
-        return flipping_runs_at_end(0, 0, 0);
+        return flipping_runs_at_end((flipping_runs_Ending){.tag = flipping_runs_Ending_Quiet}, 0, 0);
     }
     if (sh.words == 1) {
         return flipping_runs_run_narrow(no_float, 0, y, z, h, sh, from, limit, first);
@@ -2880,17 +3811,25 @@ static inline uint32_t flipping_endings_unlike_after(catalogue_offer_Offer o, co
     return (uint32_t)word_unlike_unlike(word, word_len, y, o.unsent, o.bits - o.unsent);
 }
 
+/* What correct gives besides its number where it is refused by 1 to 3, and on samples also by 16. */
+static inline flipping_endings_Corrected flipping_endings_refused_correct(uint8_t number)
+{
+    return (flipping_endings_Corrected){.number = number, .flips = 0, .first = 0, .last = 0, .unlike = 0, .lowest = 0};
+}
+
+static inline flipping_runs_Ending flipping_AnyFrom_from_Ending(flipping_runs_Ending p0)
+{
+    return p0;
+}
+
 /* What comes next for a word that has a broken check and the syndrome z, by the bounds of its blocks; bits before
  * bit `from` are not sent. */
 static inline flipping_runs_Next flipping_runs_next_bounded(const uint64_t *z, const uint16_t *h, layout_Shape sh,
         uint64_t from)
 {
-    uint64_t d[65] = {0};
-    uint16_t starts[128] = {0};
-    uint8_t counts[16] = {0};
-    uint8_t met[16] = {0};
-    flipping_bounds_begin(z, h, sh, d, starts, counts);
-    flipping_choice_Best best = flipping_choice_choose(d, starts, counts, met, sh, from);
+    uint64_t rows[65] = {0};
+    flipping_bounds_Bounds bounds = flipping_bounds_begin(z, h, sh, rows);
+    flipping_choice_Best best = flipping_bounds_Bounds_choose(&bounds, rows, from);
     uint8_t excess = (uint8_t)(signed8((uint8_t)best.score) - 8);
     if (best.score <= 8) {
         return (flipping_runs_Next){.tag = flipping_runs_Next_Stuck,
@@ -2926,38 +3865,27 @@ static inline flipping_runs_Next flipping_runs_comes_next(const uint64_t *z, con
     return flipping_runs_next_bounded(z, h, sh, from);
 }
 
-/* ---- refusals --------------------------------------------------------------------------------------- */
-
-/* The refusals that all calls share. */
-
-/* The number by which a code that is not offered, an input's length or an output's length is refused; 0 if all are
- * right. */
-static inline uint8_t refusals_refusal(bool offered, uint64_t input, uint64_t long_, uint64_t output, uint64_t room)
-{
-    if (!offered) {
-        return 1;
-    }
-    if (input != long_) {
-        return 2;
-    }
-    if (output != room) {
-        return 3;
-    }
-    return 0;
-}
-
 /* ---- codes ------------------------------------------------------------------------------------------ */
 
 /* The calls. Each takes any code number, any lengths and any contents; what it refuses it refuses by number, and
  * writes nothing. */
 
+/* A record of C's: its number says whether the rest counts. */
 typedef pandoricchia_checked codes_Checked;
 
-/* What is wrong with a word, by number, and its lowest broken check. */
+/* What is wrong with a word, by the number that `judging::fault` gives, and its lowest broken check. */
 typedef struct codes_Found {
     uint8_t number;
     uint32_t lowest;
 } codes_Found;
+
+/* What open gives: the number, the lowest broken check, and the information octets as a part of the word, lent back.
+ * A number, and no Result: a word is refused by 9 together with its lowest broken check. */
+typedef struct codes_Opened {
+    uint8_t number;
+    uint32_t lowest;
+    lent_uint8_t part;
+} codes_Opened;
 
 /* A run on a received word: its end, and how many checks are broken at its start and which is the lowest of them. */
 typedef struct codes_Course {
@@ -2966,6 +3894,7 @@ typedef struct codes_Course {
     uint32_t lowest;
 } codes_Course;
 
+/* A record of C's: its number, and whether it was quiet, say whether the rest counts. */
 typedef pandoricchia_stepped codes_Stepped;
 
 /* Whether the last octet of the information is not a multiple of what it must be: one of code 4's last six bits is
@@ -2976,41 +3905,67 @@ static inline bool codes_six_set(catalogue_offer_Offer o, const uint8_t *informa
     return information[last] % o.multiple != 0;
 }
 
+/* The word of the information, or why there is none. */
+static inline refusals_Result_unit_Refusal codes_encoded(uint8_t code, const uint8_t *information,
+        uint64_t information_len, uint8_t *restrict word, uint64_t word_len)
+{
+    catalogue_offer_Offer o = catalogue_offer_of(code);
+    refusals_ControlFlow_ErrResidual_Refusal_unit t = refusals_ResultTry_branch_unit_Refusal(refusals_admit(o.offered,
+            information_len, o.information, word_len, o.word));
+    switch (t.tag) {
+    case refusals_ControlFlow_ErrResidual_Refusal_unit_Continue:
+        break;
+    case refusals_ControlFlow_ErrResidual_Refusal_unit_Break:
+    default:
+        return refusals_ResultFromResidualErrResidual_from_residual_un(t.as.Break.field0);
+    }
+    if (codes_six_set(o, information)) {
+        return (refusals_Result_unit_Refusal){.tag = refusals_Result_unit_Refusal_Err,
+                .as.Err = {.field0 = (refusals_Refusal){.tag = refusals_Refusal_LastSix}}};
+    }
+    encoder_solver_encode(o, information, information_len, word, word_len);
+    return (refusals_Result_unit_Refusal){.tag = refusals_Result_unit_Refusal_Ok};
+}
+
 /* Information in, word out. */
 static inline uint8_t codes_encode(uint8_t code, const uint8_t *information, uint64_t information_len,
         uint8_t *restrict word, uint64_t word_len)
 {
-    catalogue_offer_Offer o = catalogue_offer_of(code);
-    uint8_t number = refusals_refusal(o.offered, information_len, o.information, word_len, o.word);
-    if (number != 0) {
-        return number;
-    }
-    if (codes_six_set(o, information)) {
-        return 4;
-    }
-    encoder_solver_encode(o, information, information_len, word, word_len);
-    return 0;
+    refusals_Result_unit_Refusal t = codes_encoded(code, information, information_len, word, word_len);
+    return refusals_number(t);
+}
+
+/* How many checks of a word of the right length are broken, and the lowest of them. This and each function that
+ * measures a word makes room for it: a struct of that room would be returned as a copy. */
+static inline codes_Checked codes_check_taken(catalogue_offer_Offer o, const uint8_t *word, uint64_t word_len)
+{
+    uint16_t h[64] = {0};
+    uint64_t y[130] = {0};
+    uint64_t z[16] = {0};
+    layout_Shape sh = word_measured_measure(o, word, word_len, h, y, z);
+    return (codes_Checked){.number = 0, .broken = syndromes_broken(z), .lowest = syndromes_lowest(z, sh)};
 }
 
 /* What a refused check gives besides its number. */
-static inline codes_Checked codes_refused_check(uint8_t number)
+static inline codes_Checked codes_refused_check(refusals_Refusal refusal)
 {
-    return (codes_Checked){.number = number, .broken = 0, .lowest = 0};
+    return (codes_Checked){.number = refusals_Refusal_number(refusal), .broken = 0, .lowest = 0};
 }
 
 /* How many checks are broken, and the lowest of them. */
 static inline codes_Checked codes_check(uint8_t code, const uint8_t *word, uint64_t word_len)
 {
     catalogue_offer_Offer o = catalogue_offer_of(code);
-    uint8_t number = refusals_refusal(o.offered, word_len, o.word, 0, 0);
-    if (number != 0) {
-        return codes_refused_check(number);
+    refusals_Result_unit_Refusal t = refusals_admit(o.offered, word_len, o.word, 0, 0);
+    switch (t.tag) {
+    case refusals_Result_unit_Refusal_Ok:
+        return codes_check_taken(o, word, word_len);
+    case refusals_Result_unit_Refusal_Err:
+    default: {
+        refusals_Refusal refusal = t.as.Err.field0;
+        return codes_refused_check(refusal);
     }
-    uint16_t h[64] = {0};
-    uint64_t y[130] = {0};
-    uint64_t z[16] = {0};
-    layout_Shape sh = word_measured_measure(o, word, word_len, h, y, z);
-    return (codes_Checked){.number = 0, .broken = syndromes_broken(z), .lowest = syndromes_lowest(z, sh)};
+    }
 }
 
 /* What is wrong with a word of the right length, and its lowest broken check. */
@@ -3023,25 +3978,34 @@ static inline codes_Found codes_fault_of(catalogue_offer_Offer o, const uint8_t 
     return (codes_Found){.number = word_judging_fault(o, y, z), .lowest = syndromes_lowest(z, sh)};
 }
 
+/* The information octets of a word of the right length, where it is a codeword. */
+static inline codes_Opened codes_open_taken(catalogue_offer_Offer o, const uint8_t *word, uint64_t word_len)
+{
+    codes_Found f = codes_fault_of(o, word, word_len);
+    uint64_t t;
+    if (f.number == 0) {
+        t = o.information;
+    } else {
+        t = 0;
+    }
+    uint64_t end = t;
+    return (codes_Opened){.number = f.number, .lowest = f.lowest, .part = (lent_uint8_t){word, end}};
+}
+
 /* The information octets of a codeword, lent back as a part of the word. */
-static inline lent_uint8_t codes_open(uint8_t code, const uint8_t *word, uint64_t word_len, uint8_t *restrict number,
-        uint32_t *restrict lowest)
+static inline codes_Opened codes_open(uint8_t code, const uint8_t *word, uint64_t word_len)
 {
     catalogue_offer_Offer o = catalogue_offer_of(code);
-    uint8_t refused = refusals_refusal(o.opens, word_len, o.word, 0, 0);
-    if (refused != 0) {
-        *number = refused;
-        *lowest = 0;
-        return (lent_uint8_t){word, 0};
+    refusals_Result_unit_Refusal t = refusals_admit(o.opens, word_len, o.word, 0, 0);
+    switch (t.tag) {
+    case refusals_Result_unit_Refusal_Ok:
+        return codes_open_taken(o, word, word_len);
+    case refusals_Result_unit_Refusal_Err:
+    default: {
+        refusals_Refusal refusal = t.as.Err.field0;
+        return (codes_Opened){.number = refusals_Refusal_number(refusal), .lowest = 0, .part = (lent_uint8_t){word, 0}};
     }
-    codes_Found f = codes_fault_of(o, word, word_len);
-    *number = f.number;
-    *lowest = f.lowest;
-    if (f.number != 0) {
-        return (lent_uint8_t){word, 0};
     }
-    uint64_t end = o.information;
-    return (lent_uint8_t){word, end};
 }
 
 /* The flipping run on a word of the right length; h, y and z are handed over as zeros, and y comes back as the word
@@ -3094,17 +4058,16 @@ static inline flipping_endings_Corrected codes_correct(uint8_t code, const uint8
         uint16_t limit, uint8_t *restrict out, uint64_t out_len)
 {
     catalogue_offer_Offer o = catalogue_offer_of(code);
-    uint8_t number = refusals_refusal(o.offered, word_len, o.word, out_len, o.word);
-    if (number != 0) {
-        return flipping_endings_refused_correct(number);
+    refusals_Result_unit_Refusal t = refusals_admit(o.offered, word_len, o.word, out_len, o.word);
+    switch (t.tag) {
+    case refusals_Result_unit_Refusal_Ok:
+        return codes_correct_taken(o, word, word_len, limit, out, out_len);
+    case refusals_Result_unit_Refusal_Err:
+    default: {
+        refusals_Refusal refusal = t.as.Err.field0;
+        return flipping_endings_refused_correct(refusals_Refusal_number(refusal));
     }
-    return codes_correct_taken(o, word, word_len, limit, out, out_len);
-}
-
-/* What a refused step gives besides its number. */
-static inline codes_Stepped codes_refused_step(uint8_t number)
-{
-    return (codes_Stepped){.number = number, .quiet = false, .bit = 0, .excess = 0};
+    }
 }
 
 /* What comes next for a word of the right length; h, y and z are handed over as zeros, and y comes back as the
@@ -3114,6 +4077,12 @@ static inline flipping_runs_Next codes_next_of(catalogue_offer_Offer o, const ui
 {
     layout_Shape sh = word_measured_measure(o, word, word_len, h, y, z);
     return flipping_runs_comes_next(z, h, sh, o.unsent);
+}
+
+/* What a refused step gives besides its number. */
+static inline codes_Stepped codes_refused_step(refusals_Refusal refusal)
+{
+    return (codes_Stepped){.number = refusals_Refusal_number(refusal), .quiet = false, .bit = 0, .excess = 0};
 }
 
 /* A word with one bit flipped, into an output of the right length. */
@@ -3133,14 +4102,13 @@ static inline codes_Stepped codes_step_out(catalogue_offer_Offer o, const uint8_
         vectors_copying_copy(word, word_len, out);
         return (codes_Stepped){.number = 0, .quiet = true, .bit = 0, .excess = 0};
     case flipping_runs_Next_Stuck:
-        return codes_refused_step(5);
+        return codes_refused_step((refusals_Refusal){.tag = refusals_Refusal_Stuck});
     case flipping_runs_Next_Flip:
     default: {
         uint64_t bit = next.as.Flip.field0;
         uint8_t excess = next.as.Flip.field1;
         codes_write_flipped(o, y, bit, out, out_len);
-        uint32_t place = (uint32_t)bit;
-        return (codes_Stepped){.number = 0, .quiet = false, .bit = place, .excess = signed8(excess)};
+        return (codes_Stepped){.number = 0, .quiet = false, .bit = (uint32_t)bit, .excess = signed8(excess)};
     }
     }
 }
@@ -3161,11 +4129,16 @@ static inline codes_Stepped codes_step(uint8_t code, const uint8_t *word, uint64
         uint64_t out_len)
 {
     catalogue_offer_Offer o = catalogue_offer_of(code);
-    uint8_t number = refusals_refusal(o.steps, word_len, o.word, out_len, o.word);
-    if (number != 0) {
-        return codes_refused_step(number);
+    refusals_Result_unit_Refusal t = refusals_admit(o.steps, word_len, o.word, out_len, o.word);
+    switch (t.tag) {
+    case refusals_Result_unit_Refusal_Ok:
+        return codes_step_taken(o, word, word_len, out, out_len);
+    case refusals_Result_unit_Refusal_Err:
+    default: {
+        refusals_Refusal refusal = t.as.Err.field0;
+        return codes_refused_step(refusal);
     }
-    return codes_step_taken(o, word, word_len, out, out_len);
+    }
 }
 
 /* ---- lists ------------------------------------------------------------------------------------------ */
@@ -3175,11 +4148,12 @@ static inline codes_Stepped codes_step(uint8_t code, const uint8_t *word, uint64
 /* For a flip: its bit number, its excess, and the broken checks left after it. */
 typedef pandoricchia_fliprecord lists_listing_FlipRecord;
 
-/* Correct's numbers, then bit and excess of the reason. */
+/* Correct's numbers, then bit and excess of the reason. A record of C's: its number says whether the rest counts. */
 typedef pandoricchia_listed lists_listing_Listed;
 
 /* A list that is being written. Where it goes on, a flip was made, and its record belongs at this place; else the
- * answer is made. */
+ * answer is made. A flag, not an enum: the definitions `Lists` and `Goes` hold this form, and both ends need the
+ * record and the answer so far. */
 typedef struct lists_listing_Listing {
     bool goes;
     uint64_t place;
@@ -3188,15 +4162,6 @@ typedef struct lists_listing_Listing {
     uint16_t limit;
     catalogue_offer_Offer offer;
 } lists_listing_Listing;
-
-/* What a refused list gives besides its number. */
-static inline lists_listing_Listing lists_listing_refused(uint8_t number)
-{
-    return (lists_listing_Listing){.goes = false, .place = 0,
-            .record = (lists_listing_FlipRecord){.bit = 0, .excess = 0, .left = 0},
-            .answer = (lists_listing_Listed){.number = number, .flips = 0, .first = 0, .last = 0, .unlike = 0,
-            .lowest = 0, .bit = 0, .excess = 0}, .limit = 0, .offer = catalogue_offer_of(0)};
-}
 
 /* The list before the first flip, of a word of which so many checks are broken, and this the lowest. */
 static inline lists_listing_Listing lists_listing_begun(catalogue_offer_Offer o, uint16_t limit, uint32_t first,
@@ -3252,6 +4217,16 @@ static inline bool lists_listing_serves(catalogue_offer_Offer o, const uint8_t *
         return true;
     }
     return lists_listing_count_flips(o, word, word_len, limit) <= room;
+}
+
+/* What a refused list gives besides its number. */
+static inline lists_listing_Listing lists_listing_refused(refusals_Refusal refusal)
+{
+    return (lists_listing_Listing){.goes = false, .place = 0,
+            .record = (lists_listing_FlipRecord){.bit = 0, .excess = 0, .left = 0},
+            .answer = (lists_listing_Listed){.number = refusals_Refusal_number(refusal), .flips = 0,
+            .first = 0, .last = 0, .unlike = 0, .lowest = 0, .bit = 0, .excess = 0}, .limit = 0,
+            .offer = catalogue_offer_of(0)};
 }
 
 /* What comes next for the word whose syndrome is z. */
@@ -3335,7 +4310,7 @@ static inline lists_listing_Listing lists_listing_begin_taken(catalogue_offer_Of
     lists_listing_Listing l = lists_listing_measured_list(o, word, word_len, limit, h, y, z);
     lists_listing_Listed answer = l.answer;
     if (!lists_listing_serves(o, word, word_len, limit, answer.first, room)) {
-        return lists_listing_refused(10);
+        return lists_listing_refused((refusals_Refusal){.tag = refusals_Refusal_Places});
     }
     return lists_listing_pass(&l, 0, word, word_len, h, y, z);
 }
@@ -3346,11 +4321,16 @@ static inline lists_listing_Listing lists_listing_begin(uint8_t code, const uint
         uint16_t limit, uint64_t room, uint16_t *restrict h, uint64_t *restrict y, uint64_t *restrict z)
 {
     catalogue_offer_Offer o = catalogue_offer_of(code);
-    uint8_t number = refusals_refusal(o.offered, word_len, o.word, 0, 0);
-    if (number != 0) {
-        return lists_listing_refused(number);
+    refusals_Result_unit_Refusal t = refusals_admit(o.offered, word_len, o.word, 0, 0);
+    switch (t.tag) {
+    case refusals_Result_unit_Refusal_Ok:
+        return lists_listing_begin_taken(o, word, word_len, limit, room, h, y, z);
+    case refusals_Result_unit_Refusal_Err:
+    default: {
+        refusals_Refusal refusal = t.as.Err.field0;
+        return lists_listing_refused(refusal);
     }
-    return lists_listing_begin_taken(o, word, word_len, limit, room, h, y, z);
+    }
 }
 
 /* The next record of the list, or its end. */
@@ -3380,15 +4360,31 @@ static inline lists_listing_Listed lists_list(uint8_t code, const uint8_t *word,
 /* The nearest command of code 1, by plain search: which few bits, flipped, give a codeword. The search carries the
  * broken checks in one word, and a flip adds the bit's column to it. */
 
-/* The places of bits that are not used are 0. */
-typedef pandoricchia_reached nearest_Reached;
-
-/* A list of up to three bits, or none. */
-typedef struct nearest_Listed {
-    bool found;
+/* Up to three bits to flip; the places that are not used are 0. */
+typedef struct nearest_Flips {
     uint32_t count;
     uint32_t bits[3];
-} nearest_Listed;
+} nearest_Flips;
+
+enum { nearest_Result_Flips_Refusal_Ok = 0, nearest_Result_Flips_Refusal_Err = 1 };
+typedef struct nearest_Result_Flips_Refusal {
+    uint8_t tag;
+    union {
+        struct { nearest_Flips field0; } Ok;
+        struct { refusals_Refusal field0; } Err;
+    } as;
+} nearest_Result_Flips_Refusal;
+
+enum { nearest_Option_Flips_None = 0, nearest_Option_Flips_Some = 1 };
+typedef struct nearest_Option_Flips {
+    uint8_t tag;
+    union {
+        struct { nearest_Flips field0; } Some;
+    } as;
+} nearest_Option_Flips;
+
+/* The places of bits that are not used are 0. A record of C's: its number says whether the rest counts. */
+typedef pandoricchia_reached nearest_Reached;
 
 /* Column n has a one for each check that covers bit n: check 0 is the most significant. */
 static const uint64_t nearest_COLUMNS[128] = {
@@ -3437,131 +4433,156 @@ static const uint64_t nearest_COLUMNS[128] = {
     UINT64_C(0x0002010000100000), UINT64_C(0x0001008000080000),
 };
 
-/* What a refused call gives besides its number. */
-static inline nearest_Reached nearest_refused_by(uint8_t number)
+static inline nearest_Result_Flips_Refusal nearest_ResultFromResidualErrResidual_from_residual_Fli(
+        refusals_ErrResidual_Refusal p0)
 {
-    nearest_Reached result;
-    result.number = number;
-    result.least = 0;
-    memset(result.bits, 0, 3 * sizeof(uint32_t));
-    return result;
+    return (nearest_Result_Flips_Refusal){.tag = nearest_Result_Flips_Refusal_Err,
+            .as.Err = {.field0 = refusals_AnyFrom_from_Refusal(p0.field0)}};
 }
 
 /* The broken checks of a word. */
-static inline uint64_t nearest_syndrome(const uint64_t *columns, const uint64_t *y)
+static inline uint64_t nearest_syndrome(const uint64_t *columns, uint64_t columns_len, const uint64_t *y)
 {
     uint64_t z = 0;
     uint64_t n = 0;
-    while (n < 128) {
+    uint64_t t = columns_len;
+    while (n < t) {
+        const uint64_t *column = columns + n;
         if (vectors_is_set(y, n)) {
-            z ^= columns[n];
+            z ^= *column;
         }
         n += 1;
     }
     return z;
 }
 
-/* The lowest bit from a bit on that is covered by just these checks; 128 if none is. Most of a search's time goes
- * here. */
-static inline uint64_t nearest_only(const uint64_t *columns, uint64_t z, uint64_t from)
+/* The lowest bit from a bit on that is covered by just these checks. Most of a search's time goes here. */
+static inline core_Option_u64 nearest_only(const uint64_t *columns, uint64_t z, uint64_t from)
 {
     uint64_t n = from;
     while (n < 128) {
         if (columns[n] == z) {
-            return n;
+            return (core_Option_u64){.tag = core_Option_u64_Some, .as.Some = {.field0 = n}};
         }
         n += 1;
     }
-    return 128;
+    return (core_Option_u64){.tag = core_Option_u64_None};
 }
 
-/* No list. */
-static inline nearest_Listed nearest_no_list(void)
+static inline nearest_Option_Flips nearest_OptionFromResidualNoValue_from_residual_Flips(core_option_NoValue p0)
 {
-    nearest_Listed result;
-    result.found = false;
-    result.count = 0;
-    memset(result.bits, 0, 3 * sizeof(uint32_t));
-    return result;
+    (void)p0;
+    return (nearest_Option_Flips){.tag = nearest_Option_Flips_None};
 }
 
-/* The first list of so many bits from a bit on that, flipped, leave no check broken: by choosing a bit, and
- * searching behind it with one flip fewer left. */
-static inline nearest_Listed nearest_search(const uint64_t *columns, uint64_t z, uint64_t from, uint8_t left)
+/* The first so many bits from a bit on that, flipped, leave no check broken: by choosing a bit, and searching behind
+ * it with one flip fewer left. */
+static inline nearest_Option_Flips nearest_search(const uint64_t *columns, uint64_t z, uint64_t from, uint8_t left)
 {
     if (left == 0) {
-        nearest_Listed result;
-        result.found = z == 0;
-        result.count = 0;
-        memset(result.bits, 0, 3 * sizeof(uint32_t));
+        if (z != 0) {
+            return (nearest_Option_Flips){.tag = nearest_Option_Flips_None};
+        }
+        nearest_Option_Flips result;
+        result.tag = nearest_Option_Flips_Some;
+        result.as.Some.field0.count = 0;
+        memset(result.as.Some.field0.bits, 0, 3 * sizeof(uint32_t));
         return result;
     }
     if (left == 1) {
-        uint64_t n = nearest_only(columns, z, from);
-        if (n == 128) {
-            return nearest_no_list();
+        core_ControlFlow_NoValue_u64 t = core_OptionTry_branch_u64(nearest_only(columns, z, from));
+        uint64_t t2;
+        switch (t.tag) {
+        case core_ControlFlow_NoValue_u64_Continue: {
+            uint64_t n = t.as.Continue.field0;
+            t2 = n;
+            break;
         }
-        nearest_Listed result2;
-        result2.found = true;
-        result2.count = 1;
-        result2.bits[0] = (uint32_t)n;
-        result2.bits[1] = 0;
-        result2.bits[2] = 0;
+        case core_ControlFlow_NoValue_u64_Break:
+        default: {
+            core_option_NoValue behind = t.as.Break.field0;
+            return nearest_OptionFromResidualNoValue_from_residual_Flips(behind);
+        }
+        }
+        uint64_t n2 = t2;
+        nearest_Option_Flips result2;
+        result2.tag = nearest_Option_Flips_Some;
+        result2.as.Some.field0.count = 1;
+        result2.as.Some.field0.bits[0] = (uint32_t)n2;
+        result2.as.Some.field0.bits[1] = 0;
+        result2.as.Some.field0.bits[2] = 0;
         return result2;
     }
-    uint64_t n2 = from;
-    while (n2 < 128) {
-        nearest_Listed r = nearest_search(columns, z ^ columns[n2], n2 + 1, (uint8_t)(left - 1));
-        if (r.found) {
-            uint32_t b[3];
-            memcpy(b, r.bits, 3 * sizeof(uint32_t));
-            nearest_Listed result3;
-            result3.found = true;
-            result3.count = left;
-            result3.bits[0] = (uint32_t)n2;
-            result3.bits[1] = b[0];
-            result3.bits[2] = b[1];
+    uint64_t b = from;
+    while (b < 128) {
+        nearest_Option_Flips t3 = nearest_search(columns, z ^ columns[b], b + 1, (uint8_t)(left - 1));
+        switch (t3.tag) {
+        case nearest_Option_Flips_Some: {
+            uint32_t t4[3];
+            memcpy(t4, t3.as.Some.field0.bits, 3 * sizeof(uint32_t));
+            nearest_Option_Flips result3;
+            result3.tag = nearest_Option_Flips_Some;
+            result3.as.Some.field0.count = left;
+            result3.as.Some.field0.bits[0] = (uint32_t)b;
+            result3.as.Some.field0.bits[1] = t4[0];
+            result3.as.Some.field0.bits[2] = t4[1];
             return result3;
         }
-        n2 += 1;
+        case nearest_Option_Flips_None:
+        default:
+            break;
+        }
+        b += 1;
     }
-    return nearest_no_list();
+    return (nearest_Option_Flips){.tag = nearest_Option_Flips_None};
 }
 
-/* Lists of no bits, then of one more each time, up to the reach. */
-static inline nearest_Listed nearest_fewest_of(const uint64_t *columns, uint64_t z, uint8_t reach)
+/* No bits, then one more each time, up to the reach. */
+static inline nearest_Option_Flips nearest_fewest_of(const uint64_t *columns, uint64_t z, uint8_t reach)
 {
     if (reach == 0) {
         return nearest_search(columns, z, 0, 0);
     }
-    nearest_Listed r = nearest_fewest_of(columns, z, (uint8_t)(reach - 1));
-    if (r.found) {
-        return r;
+    nearest_Option_Flips t = nearest_fewest_of(columns, z, (uint8_t)(reach - 1));
+    switch (t.tag) {
+    case nearest_Option_Flips_Some: {
+        nearest_Flips fewer = t.as.Some.field0;
+        nearest_Option_Flips result;
+        result.tag = nearest_Option_Flips_Some;
+        result.as.Some.field0 = fewer;
+        return result;
     }
-    return nearest_search(columns, z, 0, reach);
+    case nearest_Option_Flips_None:
+    default:
+        return nearest_search(columns, z, 0, reach);
+    }
 }
 
-/* The list for a word. The columns are lent as a copy, since a constant is made anew wherever it is read. */
-static inline nearest_Listed nearest_list_for(const uint64_t *y, uint8_t reach)
+/* The flips for a word. The columns are lent as a copy, since a constant is made anew wherever it is read. */
+static inline nearest_Option_Flips nearest_list_for(const uint64_t *y, uint8_t reach)
 {
-    uint64_t z = nearest_syndrome(nearest_COLUMNS, y);
+    uint64_t z = nearest_syndrome(nearest_COLUMNS, 128, y);
     return nearest_fewest_of(nearest_COLUMNS, z, reach);
 }
 
 /* Flips the bits of a list. */
-static inline void nearest_flip_listed(uint64_t *restrict y, const nearest_Listed *l)
+static inline void nearest_flip_listed(uint64_t *restrict y, const nearest_Flips *l)
 {
     uint32_t bits[3];
     memcpy(bits, l->bits, 3 * sizeof(uint32_t));
-    uint64_t k = 0;
-    while (k < (uint64_t)l->count) {
-        vectors_flip_bit(y, bits[k]);
-        k += 1;
+    uint64_t count = l->count;
+    lent_uint32_t t = (lent_uint32_t){bits, count};
+    uint64_t bit = 0;
+    uint64_t t2 = t.len;
+    while (bit < t2) {
+        const uint32_t *t3 = t.at + bit;
+        vectors_flip_bit(y, *t3);
+        bit += 1;
     }
 }
 
 /* The word with the bits of its list flipped, handed out. */
-static inline void nearest_hand_out(uint64_t *restrict y, const nearest_Listed *l, uint8_t *restrict out,
+static inline void nearest_hand_out(uint64_t *restrict y, const nearest_Flips *l, uint8_t *restrict out,
         uint64_t out_len)
 {
     nearest_flip_listed(y, l);
@@ -3569,25 +4590,28 @@ static inline void nearest_hand_out(uint64_t *restrict y, const nearest_Listed *
 }
 
 /* A word, an output of the right length, and a reach that is offered. */
-static inline nearest_Reached nearest_mended(uint64_t *restrict y, uint8_t reach, uint8_t *restrict out,
+static inline nearest_Result_Flips_Refusal nearest_mended(uint64_t *restrict y, uint8_t reach, uint8_t *restrict out,
         uint64_t out_len)
 {
-    nearest_Listed l = nearest_list_for(y, reach);
-    if (!l.found) {
-        return nearest_refused_by(17);
+    nearest_Option_Flips t = nearest_list_for(y, reach);
+    switch (t.tag) {
+    case nearest_Option_Flips_Some: {
+        nearest_Flips l = t.as.Some.field0;
+        nearest_hand_out(y, &l, out, out_len);
+        nearest_Result_Flips_Refusal result;
+        result.tag = nearest_Result_Flips_Refusal_Ok;
+        result.as.Ok.field0 = l;
+        return result;
     }
-    nearest_hand_out(y, &l, out, out_len);
-    uint32_t b[3];
-    memcpy(b, l.bits, 3 * sizeof(uint32_t));
-    nearest_Reached result;
-    result.number = 0;
-    result.least = l.count;
-    memcpy(result.bits, b, 3 * sizeof(uint32_t));
-    return result;
+    case nearest_Option_Flips_None:
+    default:
+        return (nearest_Result_Flips_Refusal){.tag = nearest_Result_Flips_Refusal_Err,
+                .as.Err = {.field0 = (refusals_Refusal){.tag = refusals_Refusal_NoneNear}}};
+    }
 }
 
 /* The same of a word's octets. */
-static inline nearest_Reached nearest_searched(const uint8_t *word, uint64_t word_len, uint8_t reach,
+static inline nearest_Result_Flips_Refusal nearest_searched(const uint8_t *word, uint64_t word_len, uint8_t reach,
         uint8_t *restrict out, uint64_t out_len)
 {
     uint64_t y[3] = {0};
@@ -3595,19 +4619,53 @@ static inline nearest_Reached nearest_searched(const uint8_t *word, uint64_t wor
     return nearest_mended(y, reach, out, out_len);
 }
 
+/* The same of a word, a reach and an output of any length. */
+static inline nearest_Result_Flips_Refusal nearest_nearest_flips(const uint8_t *word, uint64_t word_len, uint8_t reach,
+        uint8_t *restrict out, uint64_t out_len)
+{
+    refusals_ControlFlow_ErrResidual_Refusal_unit t = refusals_ResultTry_branch_unit_Refusal(refusals_admit(true,
+            word_len, 16, out_len, 16));
+    switch (t.tag) {
+    case refusals_ControlFlow_ErrResidual_Refusal_unit_Continue:
+        break;
+    case refusals_ControlFlow_ErrResidual_Refusal_unit_Break:
+    default:
+        return nearest_ResultFromResidualErrResidual_from_residual_Fli(t.as.Break.field0);
+    }
+    if (3 < reach) {
+        return (nearest_Result_Flips_Refusal){.tag = nearest_Result_Flips_Refusal_Err,
+                .as.Err = {.field0 = (refusals_Refusal){.tag = refusals_Refusal_Reach}}};
+    }
+    return nearest_searched(word, word_len, reach, out, out_len);
+}
+
 /* The fewest flips up to a reach that give a codeword, the first such list of bits in increasing order, and the
  * mended word. */
 static inline nearest_Reached nearest_nearest(const uint8_t *word, uint64_t word_len, uint8_t reach,
         uint8_t *restrict out, uint64_t out_len)
 {
-    uint8_t refused = refusals_refusal(true, word_len, 16, out_len, 16);
-    if (refused != 0) {
-        return nearest_refused_by(refused);
+    nearest_Result_Flips_Refusal t = nearest_nearest_flips(word, word_len, reach, out, out_len);
+    switch (t.tag) {
+    case nearest_Result_Flips_Refusal_Ok: {
+        nearest_Flips l = t.as.Ok.field0;
+        uint32_t bits[3];
+        memcpy(bits, l.bits, 3 * sizeof(uint32_t));
+        nearest_Reached result;
+        result.number = 0;
+        result.least = l.count;
+        memcpy(result.bits, bits, 3 * sizeof(uint32_t));
+        return result;
     }
-    if (3 < reach) {
-        return nearest_refused_by(18);
+    case nearest_Result_Flips_Refusal_Err:
+    default: {
+        refusals_Refusal refusal = t.as.Err.field0;
+        nearest_Reached result2;
+        result2.number = refusals_Refusal_number(refusal);
+        result2.least = 0;
+        memset(result2.bits, 0, 3 * sizeof(uint32_t));
+        return result2;
     }
-    return nearest_searched(word, word_len, reach, out, out_len);
+    }
 }
 
 /* ---- quick ------------------------------------------------------------------------------------------ */
@@ -3615,13 +4673,8 @@ static inline nearest_Reached nearest_nearest(const uint8_t *word, uint64_t word
 /* A quick no: the checks in order, up to the first group with a broken one. A group is worked out at once; the
  * number reported is the definition's. */
 
+/* A record of C's: its number says whether the rest counts. */
 typedef pandoricchia_answered quick_Answered;
-
-/* What a refused call gives besides its number. */
-static inline quick_Answered quick_refused(uint8_t number)
-{
-    return (quick_Answered){.number = number, .yes = false, .evaluated = 0};
-}
 
 /* The 64 bits of the octets from bit p on, of nine octets. */
 static inline uint64_t quick_lowest_wide_octets_from(const uint8_t *octets, uint64_t p)
@@ -3670,7 +4723,8 @@ static inline uint64_t quick_lowest_wide_first_group(const uint8_t *octets, uint
 {
     uint64_t v = 0;
     uint64_t k = 0;
-    while (k < 2 * sh.blocks) {
+    uint64_t t = 2 * sh.blocks;
+    while (k < t) {
         v ^= quick_lowest_wide_wide_entry(octets, u, k / 2 * sh.size, sh.size, h[k]);
         k += 1;
     }
@@ -3690,7 +4744,8 @@ static inline void quick_lowest_wide_double_block(const uint64_t *y, uint64_t p,
 static inline void quick_lowest_wide_double_blocks(const uint64_t *y, layout_Shape sh, uint64_t *restrict d)
 {
     uint64_t b = 0;
-    while (b < sh.blocks) {
+    uint64_t t = sh.blocks;
+    while (b < t) {
         uint64_t at = 16 * b;
         uint64_t end = at + 16;
         quick_lowest_wide_double_block(y, b * sh.size, sh.size, d + at, end - at);
@@ -3704,7 +4759,8 @@ static inline void quick_lowest_wide_begin_row(const uint16_t *h, layout_Shape s
         uint64_t *restrict begins)
 {
     uint64_t k = 0;
-    while (k < 2 * sh.blocks) {
+    uint64_t t = 2 * sh.blocks;
+    while (k < t) {
         begins[k] = 1024 * (k / 2) + (uint64_t)h[2 * (r * sh.blocks) + k];
         k += 1;
     }
@@ -3714,10 +4770,12 @@ static inline void quick_lowest_wide_begin_row(const uint16_t *h, layout_Shape s
 static inline uint64_t quick_lowest_wide_wide_group(const uint64_t *d, const uint64_t *begins, uint64_t begins_len)
 {
     uint64_t v = 0;
-    uint64_t k = 0;
-    while (k < begins_len) {
-        v ^= vectors_window(d, begins[k]);
-        k += 1;
+    uint64_t t = 0;
+    uint64_t t2 = begins_len;
+    while (t < t2) {
+        const uint64_t *begin = begins + t;
+        v ^= vectors_window(d, *begin);
+        t += 1;
     }
     return v;
 }
@@ -3727,7 +4785,8 @@ static inline uint64_t quick_lowest_wide_groups_lowest(const uint64_t *d, const 
         uint64_t m)
 {
     uint64_t g = 0;
-    while (64 * g < m) {
+    uint64_t t = (m + 63) / 64;
+    while (g < t) {
         uint64_t v = quick_lowest_wide_wide_group(d + g, begins, begins_len);
         if (v != 0) {
             uint64_t l = 64 * g + (uint64_t)leading_zeros64(v);
@@ -3754,7 +4813,8 @@ static inline uint64_t quick_lowest_wide_wide_row_lowest(const uint64_t *d, cons
 static inline uint32_t quick_lowest_wide_wide_rows_lowest(const uint64_t *d, const uint16_t *h, layout_Shape sh)
 {
     uint64_t row = 0;
-    while (row < sh.rows) {
+    uint64_t t = sh.rows;
+    while (row < t) {
         uint64_t l = quick_lowest_wide_wide_row_lowest(d, h, sh, row);
         if (l < sh.size) {
             return (uint32_t)(row * sh.size + l);
@@ -3816,7 +4876,8 @@ static inline uint64_t quick_lowest_narrow_narrow_group(const uint64_t *y, const
 {
     uint64_t v = 0;
     uint64_t b = 0;
-    while (b < sh.blocks) {
+    uint64_t t = sh.blocks;
+    while (b < t) {
         v ^= quick_lowest_narrow_narrow_block(y, h, sh, b, r);
         b += 1;
     }
@@ -3827,7 +4888,8 @@ static inline uint64_t quick_lowest_narrow_narrow_group(const uint64_t *y, const
 static inline uint32_t quick_lowest_narrow_rows_lowest(const uint64_t *y, const uint16_t *h, layout_Shape sh)
 {
     uint64_t r = 0;
-    while (r < sh.rows) {
+    uint64_t t = sh.rows;
+    while (r < t) {
         uint64_t v = vectors_front(quick_lowest_narrow_narrow_group(y, h, sh, r), sh.size);
         if (v != 0) {
             return (uint32_t)(r * sh.size) + leading_zeros64(v);
@@ -3867,17 +4929,34 @@ static inline quick_Answered quick_answer(uint32_t lowest, uint32_t all)
     return (quick_Answered){.number = 0, .yes = false, .evaluated = lowest + 1};
 }
 
+/* Whether every check of a word of the right length is met, and how many were evaluated. */
+static inline quick_Answered quick_quick_taken(catalogue_offer_Offer o, const uint8_t *word, uint64_t word_len)
+{
+    layout_Shape sh = o.shape;
+    uint32_t lowest = quick_lowest_broken(o, word, word_len);
+    return quick_answer(lowest, (uint32_t)(sh.rows * sh.size));
+}
+
+/* What a refused call gives besides its number. */
+static inline quick_Answered quick_refused(refusals_Refusal refusal)
+{
+    return (quick_Answered){.number = refusals_Refusal_number(refusal), .yes = false, .evaluated = 0};
+}
+
 /* Whether every check is met, and how many were evaluated. */
 static inline quick_Answered quick_quick(uint8_t code, const uint8_t *word, uint64_t word_len)
 {
     catalogue_offer_Offer o = catalogue_offer_of(code);
-    uint8_t number = refusals_refusal(o.offered, word_len, o.word, 0, 0);
-    if (number != 0) {
-        return quick_refused(number);
+    refusals_Result_unit_Refusal t = refusals_admit(o.offered, word_len, o.word, 0, 0);
+    switch (t.tag) {
+    case refusals_Result_unit_Refusal_Ok:
+        return quick_quick_taken(o, word, word_len);
+    case refusals_Result_unit_Refusal_Err:
+    default: {
+        refusals_Refusal refusal = t.as.Err.field0;
+        return quick_refused(refusal);
     }
-    layout_Shape sh = o.shape;
-    uint32_t lowest = quick_lowest_broken(o, word, word_len);
-    return quick_answer(lowest, (uint32_t)(sh.rows * sh.size));
+    }
 }
 
 /* ---- samples ---------------------------------------------------------------------------------------- */
@@ -3899,13 +4978,51 @@ typedef struct samples_sizing_Ended {
     uint32_t unlike;
 } samples_sizing_Ended;
 
-/* What comes next: number 0, the bit that is flipped and by how many checks fewer are broken then; or the number
- * that the run ends with. */
-typedef struct samples_sizing_Chosen {
-    uint8_t number;
+/* The bounds of the blocks, and for each block its smallest bit at that bound; or UNKNOWN. */
+typedef struct samples_raising_Kept {
+    flipping_bounds_Bounds bounds;
+    uint64_t bits[16];
+} samples_raising_Kept;
+
+/* The bit that is flipped next, and by how many checks fewer are broken then. */
+typedef struct samples_sizing_Flip {
     uint64_t bit;
     uint32_t fewer;
-} samples_sizing_Chosen;
+} samples_sizing_Flip;
+
+enum { samples_Result_Flip_Ending_Ok = 0, samples_Result_Flip_Ending_Err = 1 };
+typedef struct samples_Result_Flip_Ending {
+    uint8_t tag;
+    union {
+        struct { samples_sizing_Flip field0; } Ok;
+        struct { flipping_runs_Ending field0; } Err;
+    } as;
+} samples_Result_Flip_Ending;
+
+enum { samples_ControlFlow_ErrResidual_Ending_Flip_Continue = 0,
+        samples_ControlFlow_ErrResidual_Ending_Flip_Break = 1 };
+typedef struct samples_ControlFlow_ErrResidual_Ending_Flip {
+    uint8_t tag;
+    union {
+        struct { samples_sizing_Flip field0; } Continue;
+        struct { flipping_ErrResidual_Ending field0; } Break;
+    } as;
+} samples_ControlFlow_ErrResidual_Ending_Flip;
+
+/* What a pass comes to: the broken checks that are left, and in how many bits the word differs then. */
+typedef struct samples_sizing_Passed {
+    uint32_t left;
+    uint32_t unlike;
+} samples_sizing_Passed;
+
+enum { samples_Result_Passed_Ending_Ok = 0, samples_Result_Passed_Ending_Err = 1 };
+typedef struct samples_Result_Passed_Ending {
+    uint8_t tag;
+    union {
+        struct { samples_sizing_Passed field0; } Ok;
+        struct { flipping_runs_Ending field0; } Err;
+    } as;
+} samples_Result_Passed_Ending;
 
 /* How many of its checks every bit of a block has met at least, and the smallest bit that has met no more; or
  * UNKNOWN. */
@@ -3914,18 +5031,19 @@ typedef struct samples_raising_Low {
     uint64_t bit;
 } samples_raising_Low;
 
-/* What a pass comes to: number 0, the broken checks that are left and in how many bits the word differs then; or the
- * number that the run ends with. */
-typedef struct samples_sizing_Passed {
-    uint8_t number;
-    uint32_t left;
-    uint32_t unlike;
-} samples_sizing_Passed;
+static const uint64_t samples_sizing_run_bounded_table[16] = {
+    UINT64_C(0x0000000000001FF0), UINT64_C(0x0000000000001FF0), UINT64_C(0x0000000000001FF0),
+    UINT64_C(0x0000000000001FF0), UINT64_C(0x0000000000001FF0), UINT64_C(0x0000000000001FF0),
+    UINT64_C(0x0000000000001FF0), UINT64_C(0x0000000000001FF0), UINT64_C(0x0000000000001FF0),
+    UINT64_C(0x0000000000001FF0), UINT64_C(0x0000000000001FF0), UINT64_C(0x0000000000001FF0),
+    UINT64_C(0x0000000000001FF0), UINT64_C(0x0000000000001FF0), UINT64_C(0x0000000000001FF0),
+    UINT64_C(0x0000000000001FF0),
+};
 
-/* The number that refuses so many samples and an output of so many octets; 0 if they are taken. */
-static inline uint8_t samples_refusal(catalogue_offer_Offer o, uint64_t samples, uint64_t octets)
+/* Admits so many samples and an output of so many octets. */
+static inline refusals_Result_unit_Refusal samples_admit(catalogue_offer_Offer o, uint64_t samples, uint64_t octets)
 {
-    return refusals_refusal(o.steps, samples, o.bits, octets, o.word);
+    return refusals_admit(o.steps, samples, o.bits, octets, o.word);
 }
 
 /* The parity table of blocks of this size into h, and the syndrome of the bits that y holds into z, which is handed
@@ -3937,20 +5055,24 @@ static inline samples_Begun samples_begin(uint64_t size, const uint64_t *y, uint
 }
 
 /* A run that ends. */
-static inline samples_sizing_Ended samples_sizing_at_end(uint8_t number, uint32_t flips, uint32_t last, uint32_t unlike)
+static inline samples_sizing_Ended samples_sizing_at_end(flipping_runs_Ending ending, uint32_t flips, uint32_t last,
+        uint32_t unlike)
 {
-    return (samples_sizing_Ended){.ran = (flipping_runs_Ran){.number = number, .flips = flips}, .last = last,
-            .unlike = unlike};
-}
-
-/* The first words of y. */
-static inline void samples_sizing_keep(const uint64_t *y, uint64_t *restrict x)
-{
-    uint64_t j = 0;
-    while (j < 16) {
-        x[j] = y[j];
-        j += 1;
+    uint8_t t;
+    switch (ending.tag) {
+    case flipping_runs_Ending_Quiet:
+        t = 0;
+        break;
+    case flipping_runs_Ending_Stuck:
+        t = 5;
+        break;
+    case flipping_runs_Ending_Limit:
+    default:
+        t = 6;
+        break;
     }
+    return (samples_sizing_Ended){.ran = (flipping_runs_Ran){.number = t, .flips = flips}, .last = last,
+            .unlike = unlike};
 }
 
 /* The run of `runs` that ended so, and in how many bits the words y at its end differ from x, as they were read. */
@@ -3958,9 +5080,8 @@ static inline samples_sizing_Ended samples_sizing_ended_narrow(const float *samp
         const uint64_t *x, const uint64_t *y, flipping_runs_Ended end)
 {
     (void)samples;
-    flipping_runs_Ran ran = end.ran;
-    uint64_t unlike = word_unlike_unlike_words(x, y, (samples_len + 63) / 64);
-    return samples_sizing_at_end(ran.number, ran.flips, end.last, (uint32_t)unlike);
+    return (samples_sizing_Ended){.ran = end.ran, .last = end.last,
+            .unlike = (uint32_t)word_unlike_unlike_words(x, y, (samples_len + 63) / 64)};
 }
 
 /* The same where one word holds a block: the run of `runs`, and the words as they were read beside those at its end. */
@@ -3968,7 +5089,7 @@ static inline samples_sizing_Ended samples_sizing_run_narrow(const float *sample
         uint64_t *restrict y, const uint64_t *z, const uint16_t *h, layout_Shape sh, uint16_t limit, uint32_t first)
 {
     uint64_t x[16] = {0};
-    samples_sizing_keep(y, x);
+    core_copy_from_slice_u64(x, 16, y);
     flipping_runs_Ended end = flipping_runs_run_narrow(samples, samples_len, y, z, h, sh, 0, limit, first);
     return samples_sizing_ended_narrow(samples, samples_len, x, y, end);
 }
@@ -3991,15 +5112,6 @@ static inline uint64_t samples_smallest_lead(const float *samples, uint64_t samp
     return bit;
 }
 
-/* 1 for a bit that is set. */
-static inline uint8_t samples_raising_one(bool b)
-{
-    if (b) {
-        return 1;
-    }
-    return 0;
-}
-
 /* How many of the n checks of bit k of a block are broken. */
 static inline uint8_t samples_raising_broken_of(const uint64_t *d, const uint16_t *starts, uint64_t from, uint8_t n,
         uint64_t k)
@@ -4008,7 +5120,8 @@ static inline uint8_t samples_raising_broken_of(const uint64_t *d, const uint16_
     uint8_t broken = 0;
     uint64_t e = 0;
     while (e < end) {
-        broken = (uint8_t)(broken + samples_raising_one(vectors_is_set(d, (uint64_t)starts[from + e] + k)));
+        broken = (uint8_t)(broken
+                + core_convert_others_U8FromBool_from(vectors_is_set(d, (uint64_t)starts[from + e] + k)));
         e += 1;
     }
     return broken;
@@ -4048,15 +5161,6 @@ static inline uint64_t samples_smallest_none_met(const uint64_t *d, uint64_t a, 
     return y & vectors_window(d, c) & vectors_window(d, e);
 }
 
-/* Of 64 bits from bit `at` on, how many stand before bit m. */
-static inline uint64_t samples_smallest_left(uint64_t m, uint64_t at)
-{
-    if (m - at < 64) {
-        return m - at;
-    }
-    return 64;
-}
-
 /* The smallest of a bit, if it is one, and of the bits that are set in mask, which begins with bit `first`. */
 static inline uint64_t samples_smallest_among(const float *samples, uint64_t samples_len, uint64_t mask,
         uint64_t first, uint64_t bit)
@@ -4079,14 +5183,16 @@ static inline uint64_t samples_smallest_smallest_none(const float *samples, uint
     uint64_t s2 = starts[from + 2];
     uint64_t s3 = starts[from + 3];
     uint64_t best = samples_len;
-    uint64_t at = 0;
-    while (at < m) {
+    uint64_t k = 0;
+    uint64_t t = (m + 63) / 64;
+    while (k < t) {
+        uint64_t at = 64 * k;
         uint64_t v = samples_smallest_none_met(d, s0 + at, s1 + at, s2 + at, s3 + at);
         if (v != 0) {
-            best = samples_smallest_among(samples, samples_len, vectors_front(v, samples_smallest_left(m, at)), first
+            best = samples_smallest_among(samples, samples_len, vectors_front(v, flipping_bounds_ahead(m, at)), first
                     + at, best);
         }
-        at += 64;
+        k += 1;
     }
     return best;
 }
@@ -4096,11 +5202,13 @@ static inline uint64_t samples_smallest_smallest_in(const float *samples, uint64
         const uint16_t *starts, uint64_t from, uint64_t n, uint64_t met, uint64_t m, uint64_t first)
 {
     uint64_t best = samples_len;
-    uint64_t at = 0;
-    while (at < m) {
+    uint64_t k = 0;
+    uint64_t t = (m + 63) / 64;
+    while (k < t) {
+        uint64_t at = 64 * k;
         uint64_t mask = flipping_bounds_weigh(d, starts, from, n, met, at, 0, m);
         best = samples_smallest_among(samples, samples_len, mask, first + at, best);
-        at += 64;
+        k += 1;
     }
     return best;
 }
@@ -4115,91 +5223,101 @@ static inline uint64_t samples_smallest_smallest_light(const float *samples, uin
     return samples_smallest_smallest_in(samples, samples_len, d, starts, from, n, met, m, first);
 }
 
-/* The smallest of a bit and of those of block b that have no more checks met than is kept of it. If there is none of
- * these, one more is met. */
-static inline uint64_t samples_smallest_weigh(const float *samples, uint64_t samples_len, const uint64_t *d,
-        const uint16_t *starts, const uint8_t *counts, uint8_t *restrict met, uint64_t *restrict kept, layout_Shape sh,
-        uint64_t b, uint64_t best)
+static inline uint64_t samples_raising_Kept_weigh(samples_raising_Kept *restrict p0, const float *p1, uint64_t p1_len,
+        const uint64_t *p2, uint64_t p3, uint64_t p4)
 {
-    uint64_t end = samples_len;
-    uint64_t n = counts[b];
-    uint64_t bit = samples_smallest_smallest_light(samples, samples_len, d, starts, 8 * b, n, met[b], sh.size,
-            b * sh.size);
-    kept[b] = bit;
-    if (bit < end) {
-        return samples_smallest_lead(samples, samples_len, best, bit);
+    uint64_t t = p0->bounds.places.shape.size;
+    uint64_t t2 = samples_smallest_smallest_light(p1, p1_len, p2, p0->bounds.places.starts, 8 * p3,
+            p0->bounds.places.counts[p3], p0->bounds.met[p3], t, p3 * t);
+    p0->bits[p3] = t2;
+    if (t2 < p1_len) {
+        return samples_smallest_lead(p1, p1_len, p4, t2);
     }
-    met[b] = (uint8_t)(met[b] + 1);
-    return best;
+    p0->bounds.met[p3] = (uint8_t)(p0->bounds.met[p3] + 1);
+    return p4;
 }
 
-/* The same, by the bit that is known of the block; the block is weighed only if that does not tell. */
-static inline uint64_t samples_smallest_at_bound(const float *samples, uint64_t samples_len, const uint64_t *d,
-        const uint16_t *starts, const uint8_t *counts, uint8_t *restrict met, uint64_t *restrict kept, layout_Shape sh,
-        uint64_t b, uint64_t best)
+static inline uint64_t samples_raising_Kept_at_bound(samples_raising_Kept *restrict p0, const float *p1,
+        uint64_t p1_len, const uint64_t *p2, uint64_t p3, uint64_t p4)
 {
-    uint64_t r = samples_smallest_still(samples, samples_len, d, starts, 8 * b, counts[b], met[b], sh.size, kept[b],
-            best);
-    if (r < samples_len) {
-        return r;
+    uint64_t t = samples_smallest_still(p1, p1_len, p2, p0->bounds.places.starts, 8 * p3, p0->bounds.places.counts[p3],
+            p0->bounds.met[p3], p0->bounds.places.shape.size, p0->bits[p3], p4);
+    if (t < p1_len) {
+        return t;
     }
-    return samples_smallest_weigh(samples, samples_len, d, starts, counts, met, kept, sh, b, best);
+    return samples_raising_Kept_weigh(p0, p1, p1_len, p2, p3, p4);
 }
 
-/* The smallest of a bit and of those of block b that have the score `top`, where no bit of the block has a greater
- * one. */
-static inline uint64_t samples_smallest_settle(const float *samples, uint64_t samples_len, const uint64_t *d,
-        const uint16_t *starts, const uint8_t *counts, uint8_t *restrict met, uint64_t *restrict kept, layout_Shape sh,
-        uint64_t b, uint8_t top, uint64_t best)
+static inline uint64_t samples_raising_Kept_settle(samples_raising_Kept *restrict p0, const float *p1, uint64_t p1_len,
+        const uint64_t *p2, uint64_t p3, uint8_t p4, uint64_t p5)
 {
-    if (flipping_choice_bound_of(counts, met, b) != top) {
-        return best;
+    if (flipping_bounds_Bounds_bound_of(&p0->bounds, p3) != p4) {
+        return p5;
     }
-    return samples_smallest_at_bound(samples, samples_len, d, starts, counts, met, kept, sh, b, best);
+    return samples_raising_Kept_at_bound(p0, p1, p1_len, p2, p3, p5);
 }
 
-/* The smallest bit of score `top`, where no bit has a greater one; if there is none, the number of samples. */
-static inline uint64_t samples_smallest_smallest_at(const float *samples, uint64_t samples_len, const uint64_t *d,
-        const uint16_t *starts, const uint8_t *counts, uint8_t *restrict met, uint64_t *restrict kept, layout_Shape sh,
-        uint8_t top)
+static inline uint64_t samples_raising_Kept_smallest_at(samples_raising_Kept *restrict p0, const float *p1,
+        uint64_t p1_len, const uint64_t *p2, uint8_t p3)
 {
-    uint64_t best = samples_len;
-    uint64_t b = 0;
-    while (b < sh.blocks) {
-        best = samples_smallest_settle(samples, samples_len, d, starts, counts, met, kept, sh, b, top, best);
-        b += 1;
+    uint64_t t = p1_len;
+    uint64_t t2 = 0;
+    uint64_t t3 = p0->bounds.places.shape.blocks;
+    while (t2 < t3) {
+        t = samples_raising_Kept_settle(p0, p1, p1_len, p2, t2, p3, t);
+        t2 += 1;
     }
-    return best;
+    return t;
 }
 
-/* The smallest bit of the greatest score: the bounds go down until one is found. */
-static inline flipping_choice_Best samples_smallest_choose(const float *samples, uint64_t samples_len,
-        const uint64_t *d, const uint16_t *starts, const uint8_t *counts, uint8_t *restrict met,
-        uint64_t *restrict kept, layout_Shape sh)
+static inline flipping_choice_Best samples_raising_Kept_choose(samples_raising_Kept *restrict p0, const float *p1,
+        uint64_t p1_len, const uint64_t *p2)
 {
     for (;;) {
-        uint8_t top = flipping_choice_greatest(counts, met, sh.blocks);
-        uint64_t bit = samples_smallest_smallest_at(samples, samples_len, d, starts, counts, met, kept, sh, top);
-        if (bit < samples_len) {
-            return (flipping_choice_Best){.score = top, .bit = bit};
+        uint8_t t = flipping_bounds_Bounds_greatest(&p0->bounds);
+        uint64_t t2 = samples_raising_Kept_smallest_at(p0, p1, p1_len, p2, t);
+        if (t2 < p1_len) {
+            return (flipping_choice_Best){.score = t, .bit = t2};
         }
     }
 }
 
-/* What comes next for a word of which d, starts, counts, met and kept are kept, and that has a broken check: the bit
- * that is flipped; or the run ends, with 5 if it is stuck, or with 6 if it has flipped as many as the limit allows. */
-static inline samples_sizing_Chosen samples_sizing_comes_next(const float *samples, uint64_t samples_len,
-        const uint64_t *d, const uint16_t *starts, const uint8_t *counts, uint8_t *restrict met,
-        uint64_t *restrict kept, layout_Shape sh, uint16_t limit, uint32_t flips)
+/* What comes next for a word of which rows and blocks are kept, and that has a broken check: the bit that is
+ * flipped; or the run ends, stuck, or with as many flips as the limit allows. */
+static inline samples_Result_Flip_Ending samples_sizing_comes_next(const float *samples, uint64_t samples_len,
+        const uint64_t *rows, samples_raising_Kept *restrict kept, uint16_t limit, uint32_t flips)
 {
-    flipping_choice_Best best = samples_smallest_choose(samples, samples_len, d, starts, counts, met, kept, sh);
+    flipping_choice_Best best = samples_raising_Kept_choose(kept, samples, samples_len, rows);
     if (best.score <= 8) {
-        return (samples_sizing_Chosen){.number = 5, .bit = best.bit, .fewer = 0};
+        return (samples_Result_Flip_Ending){.tag = samples_Result_Flip_Ending_Err,
+                .as.Err = {.field0 = (flipping_runs_Ending){.tag = flipping_runs_Ending_Stuck}}};
     }
     if ((uint32_t)limit <= flips) {
-        return (samples_sizing_Chosen){.number = 6, .bit = best.bit, .fewer = 0};
+        return (samples_Result_Flip_Ending){.tag = samples_Result_Flip_Ending_Err,
+                .as.Err = {.field0 = (flipping_runs_Ending){.tag = flipping_runs_Ending_Limit}}};
     }
-    return (samples_sizing_Chosen){.number = 0, .bit = best.bit, .fewer = best.score - 8};
+    return (samples_Result_Flip_Ending){.tag = samples_Result_Flip_Ending_Ok,
+            .as.Ok = {.field0 = (samples_sizing_Flip){.bit = best.bit, .fewer = best.score - 8}}};
+}
+
+static inline samples_ControlFlow_ErrResidual_Ending_Flip samples_ResultTry_branch_Flip_Ending(
+        samples_Result_Flip_Ending p0)
+{
+    switch (p0.tag) {
+    case samples_Result_Flip_Ending_Ok:
+        return (samples_ControlFlow_ErrResidual_Ending_Flip){.tag = samples_ControlFlow_ErrResidual_Ending_Flip_Continue, .as.Continue = {.field0 = p0.as.Ok.field0}};
+    case samples_Result_Flip_Ending_Err:
+    default:
+        return (samples_ControlFlow_ErrResidual_Ending_Flip){.tag = samples_ControlFlow_ErrResidual_Ending_Flip_Break,
+                .as.Break = {.field0 = (flipping_ErrResidual_Ending){.field0 = p0.as.Err.field0}}};
+    }
+}
+
+static inline samples_Result_Passed_Ending samples_ResultFromResidualErrResidual_from_residual_Pas(
+        flipping_ErrResidual_Ending p0)
+{
+    return (samples_Result_Passed_Ending){.tag = samples_Result_Passed_Ending_Err,
+            .as.Err = {.field0 = flipping_AnyFrom_from_Ending(p0.field0)}};
 }
 
 /* In how many bits the word y differs from the one that was read, once bit `bit` is flipped; before that in so many. */
@@ -4292,145 +5410,129 @@ static inline samples_raising_Low samples_raising_raise_in(const float *samples,
 }
 
 /* What is known of block b when the bits that the check at p covers are seen too; what is known of the others stays. */
-static inline void samples_raising_raise_block(const float *samples, uint64_t samples_len, const uint64_t *d,
-        const uint16_t *starts, const uint8_t *counts, uint8_t *restrict met, uint64_t *restrict kept, layout_Shape sh,
-        uint64_t p, uint64_t b)
+static inline void samples_raising_Kept_raise_block(samples_raising_Kept *restrict self, const float *samples,
+        uint64_t samples_len, const uint64_t *rows, uint64_t p, uint64_t b)
 {
-    samples_raising_Low was = (samples_raising_Low){.met = met[b], .bit = kept[b]};
-    samples_raising_Low low = samples_raising_raise_in(samples, samples_len, d, starts, 8 * b, counts[b], sh.size,
-            b * sh.size, p, was);
-    met[b] = low.met;
-    kept[b] = low.bit;
+    uint64_t m = self->bounds.places.shape.size;
+    samples_raising_Low was = (samples_raising_Low){.met = self->bounds.met[b], .bit = self->bits[b]};
+    samples_raising_Low low = samples_raising_raise_in(samples, samples_len, rows, self->bounds.places.starts, 8 * b,
+            self->bounds.places.counts[b], m, b * m, p, was);
+    self->bounds.met[b] = low.met;
+    self->bits[b] = low.bit;
 }
 
 /* What is known of every block when the bits that the check at p covers are seen too. */
-static inline void samples_raising_raise_all(const float *samples, uint64_t samples_len, const uint64_t *d,
-        const uint16_t *starts, const uint8_t *counts, uint8_t *restrict met, uint64_t *restrict kept, layout_Shape sh,
-        uint64_t p)
+static inline void samples_raising_Kept_raise_all(samples_raising_Kept *restrict self, const float *samples,
+        uint64_t samples_len, const uint64_t *rows, uint64_t p)
 {
     uint64_t b = 0;
-    while (b < sh.blocks) {
-        samples_raising_raise_block(samples, samples_len, d, starts, counts, met, kept, sh, p, b);
+    uint64_t t = self->bounds.places.shape.blocks;
+    while (b < t) {
+        samples_raising_Kept_raise_block(self, samples, samples_len, rows, p, b);
         b += 1;
     }
 }
 
 /* The same, if the check at p is broken. */
-static inline void samples_raising_raise_check(const float *samples, uint64_t samples_len, const uint64_t *d,
-        const uint16_t *starts, const uint8_t *counts, uint8_t *restrict met, uint64_t *restrict kept, layout_Shape sh,
-        uint64_t p)
+static inline void samples_raising_Kept_raise_check(samples_raising_Kept *restrict self, const float *samples,
+        uint64_t samples_len, const uint64_t *rows, uint64_t p)
 {
-    if (!vectors_is_set(d, p)) {
+    if (!vectors_is_set(rows, p)) {
         return;
     }
-    samples_raising_raise_all(samples, samples_len, d, starts, counts, met, kept, sh,
-            samples_raising_nearer(p, sh.size));
+    uint64_t m = self->bounds.places.shape.size;
+    samples_raising_Kept_raise_all(self, samples, samples_len, rows, samples_raising_nearer(p, m));
 }
 
-/* What is known of every block when the bits are seen too that a broken check of bit k covers; the starts of its
- * block begin with start `from`. */
-static inline void samples_raising_raise(const float *samples, uint64_t samples_len, const uint64_t *d,
-        const uint16_t *starts, const uint8_t *counts, uint8_t *restrict met, uint64_t *restrict kept, layout_Shape sh,
-        uint64_t from, uint64_t n, uint64_t k)
+/* What is known of every block when the bits are seen too that a broken check of bit k of block b covers. */
+static inline void samples_raising_Kept_raise(samples_raising_Kept *restrict self, const float *samples,
+        uint64_t samples_len, const uint64_t *rows, uint64_t b, uint64_t k)
 {
+    uint64_t n = self->bounds.places.counts[b];
     uint64_t e = 0;
     while (e < n) {
-        samples_raising_raise_check(samples, samples_len, d, starts, counts, met, kept, sh, (uint64_t)starts[from + e]
-                + k);
+        uint64_t p = (uint64_t)self->bounds.places.starts[8 * b + e] + k;
+        samples_raising_Kept_raise_check(self, samples, samples_len, rows, p);
         e += 1;
     }
 }
 
 /* Flips the checks of a bit. Only the bits that a check covers which is broken then have fewer checks met than
  * before: these are seen anew. */
-static inline void samples_raising_flip(const float *samples, uint64_t samples_len, uint64_t *restrict d,
-        const uint16_t *starts, const uint8_t *counts, uint8_t *restrict met, uint64_t *restrict kept, layout_Shape sh,
-        uint64_t bit)
+static inline void samples_raising_Kept_flip(samples_raising_Kept *restrict self, const float *samples,
+        uint64_t samples_len, uint64_t *restrict rows, uint64_t bit)
 {
-    uint64_t b = bit / sh.size;
-    uint64_t k = bit % sh.size;
-    uint64_t n = counts[b];
-    flipping_bounds_flip_checks(d, starts, 8 * b, n, k, sh.size);
-    samples_raising_raise(samples, samples_len, d, starts, counts, met, kept, sh, 8 * b, n, k);
+    uint64_t m = self->bounds.places.shape.size;
+    uint64_t b = bit / m;
+    uint64_t k = bit % m;
+    uint64_t n = self->bounds.places.counts[b];
+    flipping_bounds_flip_checks(rows, self->bounds.places.starts, 8 * b, n, k, m);
+    samples_raising_Kept_raise(self, samples, samples_len, rows, b, k);
 }
 
 /* Flips a bit in y, and in what is kept if a check is broken then: so many fewer than before are. */
 static inline samples_sizing_Passed samples_sizing_pass(const float *samples, uint64_t samples_len,
-        uint64_t *restrict y, uint64_t *restrict d, const uint16_t *starts, const uint8_t *counts,
-        uint8_t *restrict met, uint64_t *restrict kept, layout_Shape sh, uint64_t bit, uint32_t fewer,
+        uint64_t *restrict y, uint64_t *restrict rows, samples_raising_Kept *restrict kept, samples_sizing_Flip flip,
         uint32_t was, uint32_t unlike)
 {
-    uint32_t now = samples_sizing_flip_counted(samples, y, bit, unlike);
-    uint32_t left = was - fewer;
+    uint32_t now = samples_sizing_flip_counted(samples, y, flip.bit, unlike);
+    uint32_t left = was - flip.fewer;
     if (0 < left) {
-        samples_raising_flip(samples, samples_len, d, starts, counts, met, kept, sh, bit);
+        samples_raising_Kept_flip(kept, samples, samples_len, rows, flip.bit);
     }
-    return (samples_sizing_Passed){.number = 0, .left = left, .unlike = now};
+    return (samples_sizing_Passed){.left = left, .unlike = now};
 }
 
 /* A pass of the run, for a word y with so many broken checks, one or more: a bit is flipped, or the run ends. */
-static inline samples_sizing_Passed samples_sizing_go_once(const float *samples, uint64_t samples_len,
-        uint64_t *restrict y, uint64_t *restrict d, const uint16_t *starts, const uint8_t *counts,
-        uint8_t *restrict met, uint64_t *restrict kept, const uint16_t *h, layout_Shape sh, uint16_t limit,
-        uint32_t flips, uint32_t left, uint32_t unlike)
+static inline samples_Result_Passed_Ending samples_sizing_go_once(const float *samples, uint64_t samples_len,
+        uint64_t *restrict y, uint64_t *restrict rows, samples_raising_Kept *restrict kept, const uint16_t *h,
+        uint16_t limit, uint32_t flips, uint32_t left, uint32_t unlike)
 {
     (void)h;
-    samples_sizing_Chosen next = samples_sizing_comes_next(samples, samples_len, d, starts, counts, met, kept, sh,
-            limit, flips);
-    if (next.number != 0) {
-        return (samples_sizing_Passed){.number = next.number, .left = left, .unlike = unlike};
+    samples_Result_Flip_Ending t = samples_sizing_comes_next(samples, samples_len, rows, kept, limit, flips);
+    samples_ControlFlow_ErrResidual_Ending_Flip t2 = samples_ResultTry_branch_Flip_Ending(t);
+    samples_sizing_Flip t3;
+    switch (t2.tag) {
+    case samples_ControlFlow_ErrResidual_Ending_Flip_Continue:
+        t3 = t2.as.Continue.field0;
+        break;
+    case samples_ControlFlow_ErrResidual_Ending_Flip_Break:
+    default:
+        return samples_ResultFromResidualErrResidual_from_residual_Pas(t2.as.Break.field0);
     }
-    return samples_sizing_pass(samples, samples_len, y, d, starts, counts, met, kept, sh, next.bit, next.fewer, left,
-            unlike);
+    samples_sizing_Flip flip = t3;
+    samples_sizing_Passed t4 = samples_sizing_pass(samples, samples_len, y, rows, kept, flip, left, unlike);
+    return (samples_Result_Passed_Ending){.tag = samples_Result_Passed_Ending_Ok, .as.Ok = {.field0 = t4}};
 }
 
-/* The run from the word y that was read, of which d, starts, counts, met and kept are kept, under a limit: flips
- * until it ends. So many checks are broken. */
+/* The run from the word y that was read, of which rows and blocks are kept, under a limit: flips until it ends. So
+ * many checks are broken. */
 static inline samples_sizing_Ended samples_sizing_go_on(const float *samples, uint64_t samples_len,
-        uint64_t *restrict y, uint64_t *restrict d, const uint16_t *starts, const uint8_t *counts,
-        uint8_t *restrict met, uint64_t *restrict kept, const uint16_t *h, layout_Shape sh, uint16_t limit,
-        uint32_t first)
+        uint64_t *restrict y, uint64_t *restrict rows, samples_raising_Kept *restrict kept, const uint16_t *h,
+        uint16_t limit, uint32_t first)
 {
     uint32_t flips = 0;
     uint32_t left = first;
     uint32_t unlike = 0;
     while (0 < left) {
-        samples_sizing_Passed passed = samples_sizing_go_once(samples, samples_len, y, d, starts, counts, met, kept, h,
-                sh, limit, flips, left, unlike);
-        if (passed.number != 0) {
-            return samples_sizing_at_end(passed.number, flips, left, unlike);
+        samples_Result_Passed_Ending t = samples_sizing_go_once(samples, samples_len, y, rows, kept, h, limit, flips,
+                left, unlike);
+        switch (t.tag) {
+        case samples_Result_Passed_Ending_Ok: {
+            samples_sizing_Passed passed = t.as.Ok.field0;
+            left = passed.left;
+            unlike = passed.unlike;
+            break;
         }
-        left = passed.left;
-        unlike = passed.unlike;
+        case samples_Result_Passed_Ending_Err:
+        default: {
+            flipping_runs_Ending ending = t.as.Err.field0;
+            return samples_sizing_at_end(ending, flips, left, unlike);
+        }
+        }
         flips += 1;
     }
-    return samples_sizing_at_end(0, flips, 0, unlike);
-}
-
-/* The run from the word y that was read, with the syndrome z, of which d, starts and counts are kept. No bit is
- * known yet, and no met check is counted on. */
-static inline samples_sizing_Ended samples_sizing_run_begun(const float *samples, uint64_t samples_len,
-        uint64_t *restrict y, const uint64_t *z, uint64_t *restrict d, const uint16_t *starts, const uint8_t *counts,
-        const uint16_t *h, layout_Shape sh, uint16_t limit, uint32_t first)
-{
-    (void)z;
-    uint8_t met[16] = {0};
-    uint64_t kept[16];
-    for (size_t i = 0; i < 16; i++) {
-        kept[i] = 8176;
-    }
-    return samples_sizing_go_on(samples, samples_len, y, d, starts, counts, met, kept, h, sh, limit, first);
-}
-
-/* The same from the start: the rows are doubled, and the starts of every block gathered. */
-static inline samples_sizing_Ended samples_sizing_run_gathered(const float *samples, uint64_t samples_len,
-        uint64_t *restrict y, const uint64_t *z, uint64_t *restrict d, const uint16_t *h, layout_Shape sh,
-        uint16_t limit, uint32_t first)
-{
-    uint16_t starts[128] = {0};
-    uint8_t counts[16] = {0};
-    flipping_bounds_begin(z, h, sh, d, starts, counts);
-    return samples_sizing_run_begun(samples, samples_len, y, z, d, starts, counts, h, sh, limit, first);
+    return samples_sizing_at_end((flipping_runs_Ending){.tag = flipping_runs_Ending_Quiet}, flips, 0, unlike);
 }
 
 /* The run from the word y that was read, with the syndrome z, of which so many checks are broken, by the bounds of
@@ -4438,8 +5540,12 @@ static inline samples_sizing_Ended samples_sizing_run_gathered(const float *samp
 static inline samples_sizing_Ended samples_sizing_run_bounded(const float *samples, uint64_t samples_len,
         uint64_t *restrict y, const uint64_t *z, const uint16_t *h, layout_Shape sh, uint16_t limit, uint32_t first)
 {
-    uint64_t d[65] = {0};
-    return samples_sizing_run_gathered(samples, samples_len, y, z, d, h, sh, limit, first);
+    uint64_t rows[65] = {0};
+    flipping_bounds_Bounds t = flipping_bounds_begin(z, h, sh, rows);
+    samples_raising_Kept kept;
+    kept.bounds = t;
+    memcpy(kept.bits, samples_sizing_run_bounded_table, 16 * sizeof(uint64_t));
+    return samples_sizing_go_on(samples, samples_len, y, rows, &kept, h, limit, first);
 }
 
 /* The run from the word y that was read, with the syndrome z, of which so many checks are broken, under a limit:
@@ -4448,7 +5554,7 @@ static inline samples_sizing_Ended samples_sizing_run(const float *samples, uint
         const uint64_t *z, const uint16_t *h, layout_Shape sh, uint16_t limit, uint32_t first)
 {
     if (first == 0) {
-        return samples_sizing_at_end(0, 0, 0, 0);
+        return samples_sizing_at_end((flipping_runs_Ending){.tag = flipping_runs_Ending_Quiet}, 0, 0, 0);
     }
     if (sh.words == 1) {
         return samples_sizing_run_narrow(samples, samples_len, y, z, h, sh, limit, first);
@@ -4516,11 +5622,16 @@ static inline flipping_endings_Corrected samples_correct_patterns(uint8_t code, 
         uint64_t samples_len, uint16_t limit, uint8_t *restrict out, uint64_t out_len)
 {
     catalogue_offer_Offer o = catalogue_offer_of(code);
-    uint8_t number = samples_refusal(o, samples_len, out_len);
-    if (number != 0) {
-        return flipping_endings_refused_correct(number);
+    refusals_Result_unit_Refusal t = samples_admit(o, samples_len, out_len);
+    switch (t.tag) {
+    case refusals_Result_unit_Refusal_Ok:
+        return samples_correct_taken(o, samples, samples_len, limit, out, out_len);
+    case refusals_Result_unit_Refusal_Err:
+    default: {
+        refusals_Refusal refusal = t.as.Err.field0;
+        return flipping_endings_refused_correct(refusals_Refusal_number(refusal));
     }
-    return samples_correct_taken(o, samples, samples_len, limit, out, out_len);
+    }
 }
 
 /* ---- randomiser ------------------------------------------------------------------------------------- */
@@ -4557,11 +5668,13 @@ static inline void randomiser_add_word(uint8_t *restrict octets, uint64_t octets
 static inline void randomiser_add_words(uint8_t *restrict octets, uint64_t octets_len, const uint8_t *sequence,
         uint64_t from)
 {
-    uint64_t at = 0;
-    while (at < octets_len) {
+    uint64_t k = 0;
+    uint64_t t = octets_len / 8;
+    while (k < t) {
+        uint64_t at = 8 * k;
         uint64_t end = at + 8;
         randomiser_add_word(octets + at, end - at, sequence, from + at);
-        at = end;
+        k += 1;
     }
 }
 
@@ -4570,8 +5683,10 @@ static inline void randomiser_add_octets(uint8_t *restrict octets, uint64_t octe
         uint64_t from)
 {
     uint64_t i = 0;
-    while (i < octets_len) {
-        octets[i] = (uint8_t)(octets[i] ^ sequence[from + i]);
+    uint64_t t = octets_len;
+    while (i < t) {
+        uint8_t *octet = octets + i;
+        *octet = (uint8_t)(*octet ^ sequence[from + i]);
         i += 1;
     }
 }
@@ -4600,7 +5715,7 @@ static inline void randomiser_randomise(uint8_t *restrict octets, uint64_t octet
  * was told, the octets. */
 typedef pandoricchia_taking telemetry_taker_Taker;
 
-/* A taker for an edition, and 19 where that is not known. */
+/* A taker for an edition, and 19 where that is not known. A record of C's: its number says whether the rest counts. */
 typedef pandoricchia_made telemetry_taker_Made;
 
 /* How far a search went: the place then, and the octets searched. */
@@ -4609,7 +5724,8 @@ typedef struct telemetry_taker_Searched {
     uint64_t at;
 } telemetry_taker_Searched;
 
-/* A call's answer: the moved taker, the octets taken, whether a word is complete, correct's numbers and the word. */
+/* A call's answer: the moved taker, the octets taken, whether a word is complete, correct's numbers and the word. A
+ * record of C's: `complete` says whether the numbers and the word count. */
 typedef pandoricchia_taken telemetry_taker_Taken;
 
 /* The first octets of the second sequence. Octet i is the sum of those 24 and 136 places before it. */
@@ -4663,7 +5779,7 @@ static inline telemetry_taker_Made telemetry_taker_Taker_told(uint8_t edition, u
 {
     if (5 < edition) {
         telemetry_taker_Made result;
-        result.number = 19;
+        result.number = refusals_Refusal_number((refusals_Refusal){.tag = refusals_Refusal_Edition});
         result.taker = telemetry_taker_fresh(0, limit);
         return result;
     }
@@ -4685,13 +5801,14 @@ static inline uint64_t telemetry_taker_read_place(uint64_t place)
 static inline uint64_t telemetry_taker_skip(const uint8_t *part, uint64_t part_len, uint64_t from)
 {
     uint64_t i = from;
-    while (i < part_len) {
+    uint64_t t = part_len;
+    while (i < t) {
         if (part[i] == 26) {
             return i;
         }
         i += 1;
     }
-    return i;
+    return part_len;
 }
 
 /* The same where nothing is matched; else the next octet counts, whatever it is. */
@@ -4706,28 +5823,46 @@ static inline uint64_t telemetry_taker_jump(uint64_t m, const uint8_t *part, uin
 /* The octets of the marker matched after one octet more. Only the marker's first octet begins one. */
 static inline uint64_t telemetry_taker_matched(uint64_t m, uint8_t octet)
 {
-    if (octet == 26) {
-        return 1;
-    }
-    if (m == 0) {
-        return 0;
-    }
-    if (m == 1) {
-        if (octet == 207) {
-            return 2;
+    uint64_t t = m;
+    uint8_t t2 = octet;
+    uint64_t t3;
+    switch (t2) {
+    case 26:
+        t3 = 1;
+        goto end;
+    case 207:
+        switch (t) {
+        case 1:
+            t3 = 2;
+            goto end;
+        default:
+            break;
         }
-        return 0;
-    }
-    if (m == 2) {
-        if (octet == 252) {
-            return 3;
+        break;
+    case 252:
+        switch (t) {
+        case 2:
+            t3 = 3;
+            goto end;
+        default:
+            break;
         }
-        return 0;
+        break;
+    case 29:
+        switch (t) {
+        case 3:
+            t3 = 4;
+            goto end;
+        default:
+            break;
+        }
+        break;
+    default:
+        break;
     }
-    if (octet == 29) {
-        return 4;
-    }
-    return 0;
+    t3 = 0;
+    end:;
+    return t3;
 }
 
 /* Searches a part until the marker is whole or the part is used up. A taker that holds octets of a word searches
@@ -4774,11 +5909,8 @@ static inline telemetry_taker_Taken telemetry_taker_waiting(uint64_t taken, uint
 /* Octets of a part into their places behind those held. */
 static inline void telemetry_taker_hold(uint8_t *restrict octets, uint64_t held, const uint8_t *part, uint64_t part_len)
 {
-    uint64_t i = 0;
-    while (i < part_len) {
-        octets[held + i] = part[i];
-        i += 1;
-    }
+    uint64_t end = held + part_len;
+    core_copy_from_slice_u8(octets + held, end - held, part);
 }
 
 /* Whether an edition has the second sequence. */
@@ -4792,21 +5924,12 @@ static inline void telemetry_sequences_buffer(uint8_t *restrict result)
     memset(result, 0, 1020);
 }
 
-/* The first octets of the second sequence, laid into longer ones. */
-static inline void telemetry_sequences_lay(uint8_t *restrict octets, const uint8_t *start, uint64_t start_len)
-{
-    uint64_t i = 0;
-    while (i < start_len) {
-        octets[i] = start[i];
-        i += 1;
-    }
-}
-
 /* The others, each from two before it. */
 static inline void telemetry_sequences_extend(uint8_t *restrict octets, uint64_t octets_len)
 {
     uint64_t i = 136;
-    while (i < octets_len) {
+    uint64_t t = octets_len;
+    while (i < t) {
         octets[i] = (uint8_t)(octets[i - 24] ^ octets[i - 136]);
         i += 1;
     }
@@ -4815,7 +5938,7 @@ static inline void telemetry_sequences_extend(uint8_t *restrict octets, uint64_t
 /* As many octets of the second sequence. */
 static inline void telemetry_sequences_lay_second(uint8_t *restrict octets, uint64_t octets_len)
 {
-    telemetry_sequences_lay(octets, telemetry_sequences_START, 136);
+    core_copy_from_slice_u8(octets, 136, telemetry_sequences_START);
     telemetry_sequences_extend(octets, octets_len);
 }
 
@@ -4831,11 +5954,12 @@ static inline void telemetry_sequences_add_second(uint8_t *restrict word, uint64
 /* The first sequence, added to a word of 1020 octets in place. */
 static inline void telemetry_sequences_add_first(uint8_t *restrict word)
 {
-    uint64_t at = 0;
-    while (at < 1020) {
+    uint64_t k = 0;
+    while (k < 4) {
+        uint64_t at = 255 * k;
         uint64_t end = at + 255;
         randomiser_add(word + at, end - at, telemetry_sequences_SEQUENCE, 0);
-        at = end;
+        k += 1;
     }
 }
 
@@ -4901,7 +6025,8 @@ static inline telemetry_taker_Taken telemetry_taker_Taker_take(const telemetry_t
 /* Telecommand transmission units of codes 1 and 3, written, and their lengths. */
 
 /* What a code number fixes of units: whether they are of this code, the octets of a codeblock, of its information
- * and of the tail, and how many codeblocks no length can hold. */
+ * and of the tail, and how many codeblocks no length can hold. A flag, and no Option: the definition `unit_offer_of`
+ * gives every number an offer, and `room` speaks of any. */
 typedef struct units_unitoffers_UnitOffer {
     bool offered;
     uint64_t word;
@@ -4914,7 +6039,8 @@ typedef struct units_unitoffers_UnitOffer {
  * codeblocks handed out. */
 typedef pandoricchia_reading units_readings_Reading;
 
-/* An asking's answer: correct's numbers, whether there is none, and the reading from here on. */
+/* An asking's answer: correct's numbers, whether there is none, and the reading from here on. A record of C's:
+ * `none`, and the number in `corrected`, say whether the rest counts. */
 typedef pandoricchia_handed units_readings_Handed;
 
 static const uint8_t units_unitoffers_START[8] = {
@@ -4967,23 +6093,27 @@ static inline bool units_unitoffers_is_unit_code(uint8_t code)
     return u.offered;
 }
 
-/* The number of a writing: of so much information, into so much room. */
-static inline uint8_t units_write_number(uint8_t code, uint64_t long_, uint64_t room)
+/* Whether so much information can be written into so much room. */
+static inline refusals_Result_unit_Refusal units_writable(uint8_t code, uint64_t long_, uint64_t room)
 {
     if (!units_unitoffers_is_unit_code(code)) {
-        return 1;
+        return (refusals_Result_unit_Refusal){.tag = refusals_Result_unit_Refusal_Err,
+                .as.Err = {.field0 = (refusals_Refusal){.tag = refusals_Refusal_Code}}};
     }
     if (long_ == 0) {
-        return 2;
+        return (refusals_Result_unit_Refusal){.tag = refusals_Result_unit_Refusal_Err,
+                .as.Err = {.field0 = (refusals_Refusal){.tag = refusals_Refusal_InputLength}}};
     }
     uint64_t needed = units_unit_octets(code, long_);
     if (needed == 0) {
-        return 3;
+        return (refusals_Result_unit_Refusal){.tag = refusals_Result_unit_Refusal_Err,
+                .as.Err = {.field0 = (refusals_Refusal){.tag = refusals_Refusal_OutputLength}}};
     }
     if (room != needed) {
-        return 3;
+        return (refusals_Result_unit_Refusal){.tag = refusals_Result_unit_Refusal_Err,
+                .as.Err = {.field0 = (refusals_Refusal){.tag = refusals_Refusal_OutputLength}}};
     }
-    return 0;
+    return (refusals_Result_unit_Refusal){.tag = refusals_Result_unit_Refusal_Ok};
 }
 
 static inline uint64_t units_unitoffers_tail_octets(uint8_t code)
@@ -4992,9 +6122,9 @@ static inline uint64_t units_unitoffers_tail_octets(uint8_t code)
     return u.tail;
 }
 
-static inline void units_write_start(uint8_t *restrict out)
+static inline void units_write_start(uint8_t *restrict out, uint64_t out_len)
 {
-    vectors_copying_copy(units_unitoffers_START, 8, out);
+    core_copy_from_slice_u8(out, out_len, units_unitoffers_START);
 }
 
 static inline uint64_t units_unitoffers_word_octets(uint8_t code)
@@ -5023,7 +6153,8 @@ static inline void units_write_last(uint8_t code, const uint8_t *rest, uint64_t 
 {
     uint8_t part[32];
     memcpy(part, units_write_last_table, 32);
-    vectors_copying_copy(rest, rest_len, part);
+    uint64_t long_ = rest_len;
+    core_copy_from_slice_u8(part, long_, rest);
     units_write_part(code, part, size, used, out, out_len);
 }
 
@@ -5048,11 +6179,11 @@ static inline void units_write_blocks(uint8_t code, const uint8_t *information, 
 {
     uint64_t word = units_unitoffers_word_octets(code);
     uint64_t k = 0;
-    uint64_t at = 0;
-    while (at < out_len) {
+    uint64_t t = out_len / word;
+    while (k < t) {
+        uint64_t at = k * word;
         uint64_t end = at + word;
         units_write_block(code, information, information_len, k, at, out + at, end - at);
-        at = end;
         k += 1;
     }
 }
@@ -5061,15 +6192,14 @@ static inline void units_write_blocks(uint8_t code, const uint8_t *information, 
 static inline void units_write_front(uint8_t code, const uint8_t *information, uint64_t information_len,
         uint8_t *restrict out, uint64_t out_len)
 {
-    units_write_start(out);
+    units_write_start(out, 8);
     units_write_blocks(code, information, information_len, out + 8, out_len - 8);
 }
 
-static inline void units_write_tail(uint8_t code, uint8_t *restrict out)
+static inline void units_write_tail(uint8_t code, uint8_t *restrict out, uint64_t out_len)
 {
-    if (units_unitoffers_tail_octets(code) != 0) {
-        vectors_copying_copy(units_unitoffers_TAIL, 16, out);
-    }
+    (void)code;
+    core_copy_from_slice_u8(out, out_len, units_unitoffers_TAIL);
 }
 
 /* The tail behind them. */
@@ -5078,43 +6208,37 @@ static inline void units_write_taken(uint8_t code, const uint8_t *information, u
 {
     uint64_t room = out_len - units_unitoffers_tail_octets(code);
     units_write_front(code, information, information_len, out, room);
-    units_write_tail(code, out + room);
+    units_write_tail(code, out + room, out_len - room);
+}
+
+/* A unit of the information, or why there is none. */
+static inline refusals_Result_unit_Refusal units_written(uint8_t code, const uint8_t *information,
+        uint64_t information_len, uint8_t *restrict out, uint64_t out_len)
+{
+    refusals_ControlFlow_ErrResidual_Refusal_unit t = refusals_ResultTry_branch_unit_Refusal(units_writable(code,
+            information_len, out_len));
+    switch (t.tag) {
+    case refusals_ControlFlow_ErrResidual_Refusal_unit_Continue:
+        break;
+    case refusals_ControlFlow_ErrResidual_Refusal_unit_Break:
+    default:
+        return refusals_ResultFromResidualErrResidual_from_residual_un(t.as.Break.field0);
+    }
+    units_write_taken(code, information, information_len, out, out_len);
+    return (refusals_Result_unit_Refusal){.tag = refusals_Result_unit_Refusal_Ok};
 }
 
 /* A unit of the information. */
 static inline uint8_t units_write_unit(uint8_t code, const uint8_t *information, uint64_t information_len,
         uint8_t *restrict out, uint64_t out_len)
 {
-    uint8_t number = units_write_number(code, information_len, out_len);
-    if (number != 0) {
-        return number;
-    }
-    units_write_taken(code, information, information_len, out, out_len);
-    return 0;
-}
-
-/* Whether two slices hold the same octets. */
-static inline bool units_readings_same(const uint8_t *a, uint64_t a_len, const uint8_t *b, uint64_t b_len)
-{
-    if (a_len != b_len) {
-        return false;
-    }
-    uint64_t i = 0;
-    while (i < a_len) {
-        if (a[i] != b[i]) {
-            return false;
-        }
-        i += 1;
-    }
-    return true;
+    refusals_Result_unit_Refusal t = units_written(code, information, information_len, out, out_len);
+    return refusals_number(t);
 }
 
 static inline bool units_readings_is_started(const uint8_t *unit, uint64_t unit_len)
 {
-    if (unit_len < 8) {
-        return false;
-    }
-    return units_readings_same(unit, 8, units_unitoffers_START, 8);
+    return core_starts_with_u8(unit, unit_len, units_unitoffers_START, 8);
 }
 
 /* The octets between the start and the tail of a unit of so many octets. */
@@ -5129,10 +6253,9 @@ static inline uint64_t units_readings_between(uint8_t code, uint64_t long_)
 
 static inline bool units_readings_is_tail(uint8_t code, const uint8_t *end, uint64_t end_len)
 {
-    if (units_unitoffers_tail_octets(code) != 0) {
-        return units_readings_same(end, end_len, units_unitoffers_TAIL, 16);
-    }
-    return units_readings_same(end, end_len, units_unitoffers_TAIL, 0);
+    lent_uint8_t long_ = (lent_uint8_t){end, end_len};
+    lent_uint8_t t = (lent_uint8_t){units_unitoffers_TAIL, units_unitoffers_tail_octets(code)};
+    return core_RefSlicePartialEq_eq_u8(&long_, &t);
 }
 
 /* Whether what follows the start is one or more whole codeblocks and the tail. */
@@ -5150,32 +6273,35 @@ static inline bool units_readings_is_shaped(uint8_t code, const uint8_t *unit, u
     return units_readings_is_tail(code, unit + end, unit_len - end);
 }
 
-/* The number of a reader over a unit. */
-static inline uint8_t units_readings_reader_number(uint8_t code, const uint8_t *unit, uint64_t unit_len)
+/* Whether a unit can be read. */
+static inline refusals_Result_unit_Refusal units_readings_readable(uint8_t code, const uint8_t *unit, uint64_t unit_len)
 {
     if (!units_unitoffers_is_unit_code(code)) {
-        return 1;
+        return (refusals_Result_unit_Refusal){.tag = refusals_Result_unit_Refusal_Err,
+                .as.Err = {.field0 = (refusals_Refusal){.tag = refusals_Refusal_Code}}};
     }
     if (!units_readings_is_started(unit, unit_len)) {
-        return 11;
+        return (refusals_Result_unit_Refusal){.tag = refusals_Result_unit_Refusal_Err,
+                .as.Err = {.field0 = (refusals_Refusal){.tag = refusals_Refusal_NoStart}}};
     }
     if (!units_readings_is_shaped(code, unit, unit_len)) {
-        return 12;
+        return (refusals_Result_unit_Refusal){.tag = refusals_Result_unit_Refusal_Err,
+                .as.Err = {.field0 = (refusals_Refusal){.tag = refusals_Refusal_NoTail}}};
     }
-    return 0;
+    return (refusals_Result_unit_Refusal){.tag = refusals_Result_unit_Refusal_Ok};
 }
 
 /* Correct's numbers where there was no run. */
-static inline flipping_endings_Corrected units_readings_numbered(uint8_t number)
+static inline flipping_endings_Corrected units_readings_numbered(refusals_Result_unit_Refusal done)
 {
-    return flipping_endings_refused_correct(number);
+    return flipping_endings_refused_correct(refusals_number(done));
 }
 
 /* A reader over a unit: its number is that of `kept`. */
 static inline units_readings_Reading units_readings_reader(uint8_t code, const uint8_t *unit, uint64_t unit_len,
         uint16_t limit)
 {
-    flipping_endings_Corrected kept = units_readings_numbered(units_readings_reader_number(code, unit, unit_len));
+    flipping_endings_Corrected kept = units_readings_numbered(units_readings_readable(code, unit, unit_len));
     return (units_readings_Reading){.kept = kept, .code = code, .limit = limit, .place = 0};
 }
 
@@ -5205,17 +6331,16 @@ static inline void units_readings_receive(uint8_t code, const uint8_t *unit, uin
     uint64_t size = word_len;
     uint64_t used = k * size;
     uint64_t at = 8 + used;
-    uint64_t end = at + size;
-    vectors_copying_copy(unit + at, end - at, word);
+    core_copy_from_slice_u8(word, word_len, unit + at);
     randomiser_randomise(word, word_len, used);
 }
 
 /* The information of a word that is taken; of a refused one nothing. */
-static inline void units_readings_hand_out(uint8_t number, const uint8_t *information, uint64_t information_len,
-        uint8_t *restrict out)
+static inline void units_readings_hand_out(uint8_t number, const uint8_t *information, uint8_t *restrict out,
+        uint64_t out_len)
 {
     if (number == 0) {
-        vectors_copying_copy(information, information_len, out);
+        core_copy_from_slice_u8(out, out_len, information);
     }
 }
 
@@ -5227,8 +6352,7 @@ static inline flipping_endings_Corrected units_readings_correct_part(uint8_t cod
     uint8_t mended[64];
     units_readings_word_buffer(mended);
     flipping_endings_Corrected r = codes_correct(code, word, word_len, limit, mended, size);
-    uint64_t long_ = out_len;
-    units_readings_hand_out(r.number, mended, long_, out);
+    units_readings_hand_out(r.number, mended, out, out_len);
     return r;
 }
 
@@ -5283,7 +6407,8 @@ static inline units_readings_Handed units_readings_read_on(units_readings_Readin
     }
     uint64_t blocks = units_readings_blocks_in(state.code, unit_len);
     if (blocks <= (uint64_t)state.place) {
-        return units_readings_handed_again(state, units_readings_numbered(0), true);
+        return units_readings_handed_again(state,
+                units_readings_numbered((refusals_Result_unit_Refusal){.tag = refusals_Result_unit_Refusal_Ok}), true);
     }
     return units_readings_read_next(state, unit, out, out_len);
 }
@@ -5294,10 +6419,14 @@ static inline units_readings_Handed units_readings_read(units_readings_Reading s
 {
     uint8_t code = state.code;
     if (!units_unitoffers_is_unit_code(code)) {
-        return units_readings_handed_again(state, units_readings_numbered(1), false);
+        return units_readings_handed_again(state,
+                units_readings_numbered((refusals_Result_unit_Refusal){.tag = refusals_Result_unit_Refusal_Err,
+                .as.Err = {.field0 = (refusals_Refusal){.tag = refusals_Refusal_Code}}}), false);
     }
     if (out_len != units_unitoffers_information_octets(code)) {
-        return units_readings_handed_again(state, units_readings_numbered(3), false);
+        return units_readings_handed_again(state,
+                units_readings_numbered((refusals_Result_unit_Refusal){.tag = refusals_Result_unit_Refusal_Err,
+                .as.Err = {.field0 = (refusals_Refusal){.tag = refusals_Refusal_OutputLength}}}), false);
     }
     return units_readings_read_on(state, unit, unit_len, out, out_len);
 }
@@ -5306,7 +6435,8 @@ static inline units_readings_Handed units_readings_read(units_readings_Reading s
 
 /* The calls for C and Rust. A slice is handed over as a pointer and its length; the records are those of the calls. */
 
-/* What open gives, with the number of leading octets for the part: a returned reference has no form in C. */
+/* What open gives, with the number of leading octets for the part: a returned reference has no form in C. A record
+ * of C's: its number says whether the rest counts. */
 typedef pandoricchia_opened capi_Opened;
 
 /* The version that the header names: 65536 times its major number, 256 times its minor number, and its patch number.
@@ -5368,10 +6498,9 @@ pandoricchia_opened pandoricchia_open(uint8_t code, const uint8_t *word, size_t 
     if (word_len == 0) {
         word = no_uint8_t;
     }
-    uint8_t number = 0;
-    uint32_t lowest = 0;
-    lent_uint8_t part = codes_open(code, word, word_len, &number, &lowest);
-    return (capi_Opened){.number = number, .lowest = lowest, .octets = (size_t)part.len};
+    codes_Opened opened = codes_open(code, word, word_len);
+    lent_uint8_t part = opened.part;
+    return (capi_Opened){.number = opened.number, .lowest = opened.lowest, .octets = (size_t)part.len};
 }
 
 pandoricchia_corrected pandoricchia_correct(uint8_t code, const uint8_t *word, size_t word_len, uint16_t limit,

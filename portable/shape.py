@@ -5,7 +5,7 @@ reads. What the machine computes once is computed once, and what it does not com
 """
 import copy
 
-from mir import (AddrOf, Aggregate, Assign, Block, Call, Const, Deref, Exit, Field, FloatConst, If, Loop, Op1, Op2, Repeat, Return,
+from mir import (AddrOf, Aggregate, Assign, Block, Call, Const, Deref, Exit, Field, FloatConst, If, Loop, Op1, Op2, Repeat, Return, Stuck,
                  Switch, Use, Variant, BOOL, UNIT)
 
 
@@ -247,6 +247,8 @@ class Apart:
                 if statement.value.ty != UNIT:
                     self.reads(statement.value, state)
                 return None
+            elif isinstance(statement, Stuck):
+                return None
             else:
                 raise AssertionError(statement)
         return state
@@ -270,7 +272,7 @@ def leaves(body, target):
 
 def ends(statement):
     """Whether nothing behind a statement is reached from it."""
-    if isinstance(statement, (Exit, Return, Loop)):
+    if isinstance(statement, (Exit, Return, Loop, Stuck)):
         return True
     if isinstance(statement, Block):
         return bool(statement.body) and ends(statement.body[-1]) and not leaves(statement.body, statement)
@@ -578,15 +580,15 @@ class Fold:
         return made
 
 
-def settled(body):
+def settled(body, effects):
     """Drops assignments to variables that are not read; a call is kept for what it writes."""
     made = []
     for statement in body:
         for inner in lists_in(statement):
-            inner[:] = settled(inner)
+            inner[:] = settled(inner, effects)
         if isinstance(statement, Assign) and isinstance(statement.place, Use) and not statement.place.var.addressed:
             if statement.place.var.read == 0:
-                if any(isinstance(e, Call) for e in within(statement.value)):
+                if effects.value_writes(statement.value):
                     made.append(Compute(statement.value))
                 continue
         made.append(statement)
@@ -775,7 +777,7 @@ def shaped(function, effects, names, bulky):
     fold = Fold(effects, bulky)
     for _ in range(4):
         count(body)
-        body = fold.body(settled(body))
+        body = fold.body(settled(body, effects))
         count(body)
         body = joined(body)
     count(body)

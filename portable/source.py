@@ -6,6 +6,9 @@ import os
 import re
 
 TOKEN = re.compile(r"//[^\n]*|\"(?:\\.|[^\"\\])*\"|'(?:\\.|[^'\\])'|0x[0-9A-Fa-f_]+(?:[ui]\w+)?|\d[\d_]*(?:[ui]\w+)?|[^\W\d]\w*|::|->|=>|\S")
+# The variants of std's enums, whose source does not lie here.
+VARIANTS = {"core::option::Option": ["None", "Some"], "core::result::Result": ["Ok", "Err"], "core::cmp::Ordering": ["Less", "Equal", "Greater"],
+            "core::ops::ControlFlow": ["Continue", "Break"]}
 OPEN, CLOSE = {"(": ")", "[": "]", "{": "}"}, {")", "]", "}"}
 
 
@@ -14,6 +17,32 @@ class Item:
 
     def __init__(self, comment, params, bound):
         self.comment, self.params, self.bound = comment, params, bound
+
+
+class Each:
+    """The names that a loop over elements binds; before their locals it has some without a name."""
+
+    def __init__(self, names, counted):
+        self.names, self.counted = names, counted
+
+    def behind(self, types):
+        """The names with None for each local before them, by the types of the locals from there on."""
+        hidden = 0
+        if len(types) > 1 and types[0][0] == "named" and types[0] == types[1]:
+            hidden = 3      # the iterator, where it is kept, and what it gives
+        else:
+            lent = types[0][2] if types and types[0][0] == "ref" else types[0] if types else ("unit",)
+            hidden += lent[0] == "array"
+            hidden += not self.counted      # the index, which has a name in an enumeration
+        return [None] * hidden + self.names
+
+
+def named_locals(bound, types):
+    """The names of the locals behind the parameters, or None, from what a body binds."""
+    made = []
+    for name in bound:
+        made += name.behind(types[len(made):]) if isinstance(name, Each) else [name]
+    return made
 
 
 class Source:
@@ -31,6 +60,16 @@ class Source:
                     head = re.match(r"(?://[^\n]*\n)*", text).group()
                     self.crates[crate] = said(re.findall(r"//[^\n]*", head))
                 Scan(self, inside, text).items()
+
+    def spread(self, sources):
+        """An instance has the names and the comment of what it is one of."""
+        for name, symbol in sources.items():
+            if symbol in self.functions:
+                self.functions.setdefault(name, self.functions[symbol])
+            if symbol in self.types:
+                self.types.setdefault(name, self.types[symbol])
+            elif symbol in VARIANTS:
+                self.types.setdefault(name, ("", "enum", [(variant, []) for variant in VARIANTS[symbol]]))
 
 
 def said(comments):
@@ -107,10 +146,35 @@ class Scan:
         if word == "impl":
             start = self.find(at, "{")
             end = self.close(start)
-            self.items(start + 1, end - 1, path + "::" + self.tokens[start - 1] if self.tokens[start - 1] != ">" else path)
+            self.items(start + 1, end - 1, path + "::" + self.implementing(at + 1, start))
             return end
         end = self.find(at, ";", "{")
         return end + 1 if self.tokens[end] == ";" else self.close(end)
+
+    def behind_angles(self, at):
+        """The place behind what stands in angle brackets at a place, if something does."""
+        if self.tokens[at] != "<":
+            return at
+        depth = 0
+        while True:
+            depth += (self.tokens[at] == "<") - (self.tokens[at] == ">")
+            at += 1
+            if depth == 0:
+                return at
+
+    def implementing(self, at, end):
+        """What the toolchain puts before the methods of an impl: the type's name, and the trait's behind it if there is one."""
+        names, at = [""], self.behind_angles(at)
+        while at < end and self.tokens[at] != "where":
+            if self.tokens[at] == "<":
+                at = self.behind_angles(at)
+                continue
+            if self.tokens[at] == "for":
+                names.append("")
+            elif re.fullmatch(r"\w+", self.tokens[at]):
+                names[-1] = self.tokens[at]
+            at += 1
+        return "".join(reversed(names))
 
     def names_in(self, at, end):
         """The names of fields or parameters between two places: each before a colon, outside brackets. Ghost ones are left out."""
@@ -133,13 +197,13 @@ class Scan:
 
     def type(self, word, at, path, comment):
         name = path + "::" + self.tokens[at + 1]
-        start = self.find(at, "{", "(", ";")
+        start = self.find(self.behind_angles(at + 2), "{", "(", ";")
         if self.tokens[start] == ";":
             self.source.types[name] = (comment, word, [])
             return start + 1
         end = self.close(start)
         if word == "struct":
-            fields = self.names_in(start + 1, end - 1)
+            fields = self.names_in(start + 1, end - 1) if self.tokens[start] == "{" else []
         else:
             fields, here = [], start + 1
             while here < end - 1:
@@ -153,7 +217,7 @@ class Scan:
 
     def function(self, at, path, comment):
         name = path + "::" + self.tokens[at + 1]
-        start = self.find(at, "(")
+        start = self.find(self.behind_angles(at + 2), "(")
         end = self.close(start)
         params = self.names_in(start + 1, end - 1)
         at = end
@@ -181,11 +245,21 @@ class Scan:
                 last = self.find(at + 1, "=", ";", ":") if self.tokens[at + 2] != "::" else self.find(at + 1, "=")
                 made += names_of(self.tokens[at + 1:last])
             elif word == "for":
-                made += names_of(self.tokens[at + 1:self.find(at, "in")])
+                of = self.find(at, "in")
+                names, over = names_of(self.tokens[at + 1:of]), self.tokens[of + 1:self.find(of, "{")]
+                made += names if self.counts(of + 1) else [Each(names, "enumerate" in over)]
             elif word == "=>":
                 made += names_of(self.tokens[self.before(at):at])
             at += 1
         return made
+
+    def counts(self, at):
+        """Whether a loop goes over numbers from one to another, as they are."""
+        while self.tokens[at] != "{":
+            if self.tokens[at:at + 2] == [".", "."]:
+                return True
+            at = self.close(at) if self.tokens[at] in OPEN else at + 1
+        return False
 
     def before(self, at):
         """Where the pattern begins that an arrow is behind."""

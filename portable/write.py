@@ -7,8 +7,8 @@ or read and written between two sequence points. Arrays of arrays lie flat.
 import re
 import struct
 
-from mir import (COMPARISONS, AddrOf, Aggregate, Assign, Block, Call, Const, Deref, Exit, Field, FloatConst, If, Loop, Op1, Op2, Refused, Repeat, Return,
-                 Switch, Truth, Use, Variant, UNIT, BOOL)
+from mir import (COMPARISONS, AddrOf, Aggregate, Assign, Block, Call, Const, Deref, Exit, Field, FloatConst, If, Loop, NoElements, Op1, Op2, Refused,
+                 Repeat, Return, Stuck, Switch, Truth, Use, Variant, UNIT, BOOL)
 from shape import And, Compute, While, all_statements, all_values, base_of, count, ends, flat, lists_in, settled, uses_of, values_in, within
 
 WIDTH = 120
@@ -22,6 +22,7 @@ BINARY = {"Add": ("+", SUM), "Sub": ("-", SUM), "Mul": ("*", PRODUCT), "Div": ("
           "Or": ("|", BITOR), "Xor": ("^", BITXOR), "Shl": ("<<", SHIFT), "Shr": (">>", SHIFT), "Eq": ("==", EQUALITY),
           "Ne": ("!=", EQUALITY), "Lt": ("<", RELATION), "Le": ("<=", RELATION), "FloatEq": ("==", EQUALITY), "FloatNe": ("!=", EQUALITY),
           "FloatLt": ("<", RELATION), "FloatLe": ("<=", RELATION)}
+WRAPPED = {"WrapAdd": "+", "WrapSub": "-", "WrapMul": "*"}
 OPPOSITE = {"Eq": "!=", "Ne": "==", "Lt": ">=", "Le": ">"}
 SIGNED_RANGE = {8: 128, 16: 32768, 32: 1 << 31, 64: 1 << 63}
 
@@ -122,7 +123,7 @@ HELPER_ORDER = (["narrowed"] + ["signed%d" % b for b in (8, 16, 32, 64)] + ["shi
 
 
 def c_name(symbol):
-    return symbol.replace("::", "_")
+    return re.sub(r"::|\W", "_", symbol)
 
 
 def base_type(ty):
@@ -212,15 +213,19 @@ class Writer:
             return c_name(ty[1])
         if ty[0] == "slice":
             return self.slice_name(ty)
+        if ty[0] == "ref":
+            return self.pointer(base_type(ty[2])[0], ty[1], "")
         raise Refused("no C type for %s" % (ty,))
 
     def slice_name(self, ty):
         base, _ = base_type(ty[2])
-        name = ("lent_mut_" if ty[1] else "lent_") + self.scalar(base)
+        name = ("lent_mut_" if ty[1] else "lent_") + re.sub(r"\W+", "_", self.scalar(base))
         self.slices[name] = (ty[1], base)
         return name
 
     def pointer(self, base, mutable, name, restrict=False):
+        if base[0] == "ref":
+            return "%s%s*%s%s" % (self.scalar(base), "" if mutable else "const ", "restrict " if restrict else "", name)
         return "%s%s *%s%s" % ("" if mutable else "const ", self.scalar(base), "restrict " if restrict else "", name)
 
     def declared(self, ty, name):
@@ -260,12 +265,26 @@ class Writer:
         return kind_of(base_type(ty)[0])
 
     def has_array(self, ty):
-        return ty[0] == "named" and self.reader.shapes[ty[1]][0] == "struct" and any(
-            t[0] == "array" or self.has_array(t) for t in self.reader.shapes[ty[1]][1])
+        """Whether a struct or an enum has an array inside."""
+        if ty[0] != "named":
+            return False
+        kind, parts = self.reader.shapes[ty[1]]
+        return any(t[0] == "array" or self.has_array(t) for fields in ([parts] if kind == "struct" else parts) for t in fields)
+
+    def by_parts(self, value):
+        """Whether a struct, or a variant of an enum, is made by its fields one by one, since an array is among them."""
+        if not isinstance(value, Aggregate) or not self.has_array(value.ty):
+            return False
+        kind, parts = self.reader.shapes[value.ty[1]]
+        return any(ty[0] == "array" or self.has_array(ty) for ty in (parts if kind == "struct" else parts[value.items[0].value]))
 
     def bulky(self, ty):
         """Whether a value is handed over by its address."""
         return ty[0] == "array" or ty[0] == "named" and (self.reader.size(ty) > self.large or self.has_array(ty))
+
+    def empty(self, types):
+        """Whether fields of some types have nothing in them."""
+        return all(ty == UNIT for ty in types)
 
     def safe(self, name):
         return name + "_" if name in KEYWORDS else name
@@ -283,16 +302,19 @@ class Writer:
             for field, ty in zip(self.field_names(name), parts):
                 if ty != UNIT:
                     lines.append("    %s;" % self.declared(ty, field))
+            if self.empty(parts):
+                lines.append("    uint8_t nothing; /* it has no fields, but C asks for one */")
             return lines + ["} %s;" % c, ""]
         variants = self.variant_names(name)
-        lines.append("enum { %s };" % ", ".join("%s_%s = %d" % (c, v, i) for i, v in enumerate(variants)))
+        if variants:
+            lines += wrap("enum { %s };" % ", ".join("%s_%s = %d" % (c, v, i) for i, v in enumerate(variants)))
         lines.append("typedef struct %s {" % c)
         lines.append("    uint8_t tag;")
-        if any(parts):
+        if not all(self.empty(types) for types in parts):
             lines.append("    union {")
             for variant, types in zip(variants, parts):
-                if types:
-                    inside = " ".join(self.declared(ty, "field%d" % i) + ";" for i, ty in enumerate(types))
+                if not self.empty(types):
+                    inside = " ".join(self.declared(ty, "field%d" % i) + ";" for i, ty in enumerate(types) if ty != UNIT)
                     lines.append("        struct { %s } %s;" % (inside, variant))
             lines.append("    } as;")
         return lines + ["} %s;" % c, ""]
@@ -348,6 +370,12 @@ def comment_lines(text, indent=""):
             line = indent + " *"
         line += " " + word
     return lines + [line + " */"]
+
+
+def without_elements(arg):
+    """Whether a slice is one of no elements."""
+    first = arg.items[0] if isinstance(arg, Aggregate) and arg.ty[0] == "slice" else None
+    return isinstance(first, AddrOf) and isinstance(first.of, NoElements)
 
 
 class Routine:
@@ -427,9 +455,12 @@ class Routine:
                     raise Refused("floats whose patterns are read are kept by %s" % self.function.name)
             for value in values_in(statement):
                 for e in within(value):
+                    for part in e.items if isinstance(e, Aggregate) and e.ty[0] == "named" else []:
+                        if part.ty[0] in ("slice", "ref", "ptr") and getattr(self.lender(part), "pattern", False):
+                            raise Refused("floats whose patterns are read are kept by %s" % self.function.name)
                     for arg, var in zip(e.args, self.writer.shapes[e.name].params) if isinstance(e, Call) else []:
                         lender = self.lender(arg) if var.pattern else None
-                        if var.pattern and not (lender and (lender.pattern or base_type(lender.ty)[1] == 0)):
+                        if var.pattern and not without_elements(arg) and not (lender and (lender.pattern or base_type(lender.ty)[1] == 0)):
                             raise Refused("%s is handed floats, and numbers that are none" % e.name)
 
     # -- lengths
@@ -473,7 +504,7 @@ class Routine:
                                 arg.items[1], found = Const(64, 0), True
         if found:
             count(self.body)
-            self.body = settled(self.body)
+            self.body = settled(self.body, self.writer.effects)
         return found
 
     # -- the head
@@ -499,7 +530,9 @@ class Routine:
             params.append(w.pointer(base_type(function.result)[0], True, "result", True))
             result = "void"
         result = result or ("%s" % w.declared(function.result, "").strip())
-        return wrap("static inline %s%s%s(%s)" % (result, "" if result.endswith("*") else " ", c_name(function.name), ", ".join(params) or "void"))
+        name = "%s(%s)" % (c_name(function.name), ", ".join(params) or "void")
+        made = wrap("static inline %s%s%s" % (result, "" if result.endswith("*") else " ", name))
+        return made if len(made[0]) <= WIDTH else ["static inline %s" % result] + wrap(name)
 
     def exported_head(self):
         name = self.function.name.split("::")[-1]
@@ -573,9 +606,15 @@ class Routine:
                 return Value(w.table(self.crate, self.function.name, e.var.table, e.ty), POSTFIX, "array")
             if e.var.by_address and e.ty[0] != "array":
                 return Value("*" + e.var.name, UNARY, "named")
+            if e.var.param and e.ty[0] == "slice":
+                return Value("(%s){%s, %s_len}" % (w.scalar(e.ty), e.var.name, e.var.name), POSTFIX, "slice")
             return Value(e.var.name, POSTFIX, getattr(e.var, "kind", None) or kind_of(e.ty))
         if isinstance(e, Field):
             return self.field(e)
+        if isinstance(e, Call):
+            return self.call(e)
+        if isinstance(e, Aggregate):
+            return self.aggregate(e)
         if isinstance(e, Deref):
             start, n = self.counted(e.of)
             element = isinstance(e.of, Op2) and n is None
@@ -633,6 +672,13 @@ class Routine:
         start, n = self.counted(e)
         if n is not None:
             return Value("%s + %s" % (self.address(start).at(SUM), self.value(n).at(SUM + 1)), SUM, "ptr")
+        if isinstance(start, AddrOf) and isinstance(start.of, NoElements):
+            base = base_type(start.of.ty)[0]
+            if base[0] not in ("int", "bool", "float"):
+                raise Refused("no elements of %s are lent" % (base,))
+            name = self.writer.scalar(base)
+            self.writer.nothings.add(name)
+            return Value("(%s *)no_%s" % (name, name), UNARY, "ptr")
         if isinstance(start, AddrOf):
             place = start.of
             made = self.place(place)
@@ -643,6 +689,8 @@ class Routine:
             return self.place(start)
         if isinstance(start, Deref):
             return self.place(start)
+        if isinstance(start, Call):
+            return self.call(start)
         raise Refused("no address: %s" % type(start).__name__)
 
     # -- values
@@ -788,6 +836,10 @@ class Routine:
     def op2(self, e, word=None):
         if e.sign == "Signed":
             return self.op2_signed(e, word)
+        if e.op in WRAPPED:
+            left, right = self.wide(e.a, True), self.wide(e.b, True)
+            text = "(uint%d_t)%s %s (uint%d_t)%s" % (max(e.ty[1], 32), left.at(UNARY), WRAPPED[e.op], max(e.ty[1], 32), right.at(UNARY))
+            return Value("(uint%d_t)(%s)" % (e.ty[1], text), UNARY, kind_of(e.ty))
         op, binds = BINARY[e.op]
         op = word or op
         kind = "bool" if e.ty == BOOL else kind_of(e.ty)
@@ -797,6 +849,8 @@ class Routine:
             return Value("(uint%d_t)((uint32_t)%s << %s)" % (e.ty[1], left.at(UNARY), right.at(SHIFT + 1)), UNARY, kind)
         if e.a.ty == BOOL and e.op in ("And", "Or", "Xor"):
             kind = "bool"
+            if e.op != "Xor" and any(isinstance(part, Call) for part in within(e.b)):  # clang would rather have the second call left out
+                left = Value("(int)" + left.at(UNARY), UNARY, "bool")
         elif kind in ("u8", "u16"):
             kind = "int"
         return Value("%s %s %s" % (self.side(left, e.op, binds, False), op, self.side(right, e.op, binds, True)), binds, kind)
@@ -846,7 +900,7 @@ class Routine:
 
     def lent_elements(self, arg, var):
         lender = self.lender(arg) if var.pattern else None
-        if lender and not lender.pattern:
+        if var.pattern and without_elements(arg) or lender and not lender.pattern:
             self.writer.nothings.add("float")
             return "no_float"
         return self.slice_part(arg, 0).text
@@ -885,14 +939,14 @@ class Routine:
                     raise Refused("a struct with an array inside is assigned by its fields")
                 if parts[i] != UNIT:
                     inside.append(".%s = %s" % (field, self.as_type(item, parts[i], w.field_kind(name, i) if parts[i][0] == "int" else None).text))
-            return Value("(%s){%s}" % (c_name(name), ", ".join(inside)), POSTFIX, "named")
+            return Value("(%s){%s}" % (c_name(name), ", ".join(inside) or "0"), POSTFIX, "named")
         tag = e.items[0].value
         variant = w.variant_names(name)[tag]
         text = ".tag = %s_%s" % (c_name(name), variant)
-        if parts[tag]:
+        if not w.empty(parts[tag]):
             if any(ty[0] == "array" or w.has_array(ty) and not isinstance(item, (Use, Field, Deref)) for item, ty in zip(e.items[1:], parts[tag])):
                 raise Refused("an enum with an array inside")
-            inside = [".field%d = %s" % (i, self.as_type(item, ty).text) for i, (item, ty) in enumerate(zip(e.items[1:], parts[tag]))]
+            inside = [".field%d = %s" % (i, self.as_type(item, ty).text) for i, (item, ty) in enumerate(zip(e.items[1:], parts[tag])) if ty != UNIT]
             text += ", .as.%s = {%s}" % (variant, ", ".join(inside))
         return Value("(%s){%s}" % (c_name(name), text), POSTFIX, "named")
 
@@ -955,7 +1009,7 @@ class Routine:
             own = {use.var for e in values_in(statement) for use in uses_of(e)}
             inner = lists_in(statement)
             for var in sorted(refs[at] - known, key=lambda v: v.name or ""):
-                if var.table is not None:
+                if var.table is not None or var.ty == UNIT:
                     continue
                 later = any(var in r for r in refs[at + 1:])
                 holders = [i for i in inner if any(var in set(self.refs(s)) for s in i)]
@@ -988,7 +1042,7 @@ class Routine:
         """Whether what a pointer points to may be written."""
         if isinstance(e, AddrOf):
             base = base_of(e.of)
-            return base.var.table is None if isinstance(base, Use) else self.writable(base.of)
+            return base.var.table is None if isinstance(base, Use) else isinstance(base, NoElements) or self.writable(base.of)
         if isinstance(e, Op2):
             return self.writable(e.a)
         if e.ty[0] == "ref":
@@ -1015,6 +1069,8 @@ class Routine:
             self.loop(s, None)
         elif isinstance(s, Exit):
             self.exit(s)
+        elif isinstance(s, Stuck):
+            raise Refused("a way that is not gone has a jump before its end")
         else:
             raise AssertionError(s)
 
@@ -1049,7 +1105,7 @@ class Routine:
             self.depth += 1
             before = len(self.out)
             self.statements(body)
-            if any(id(x) in self.declared_at or ("before", id(x)) in self.declared_at for x in body):
+            if any(id(x) in self.declared_at or ("before", id(x)) in self.declared_at for x in body) or self.declares(before):
                 self.out[before - 1] += " {"
                 if not (body and ends(body[-1])):
                     self.line("break;")
@@ -1061,6 +1117,11 @@ class Routine:
             self.depth -= 1
         self.breaks.pop()
         self.line("}")
+
+    def declares(self, at):
+        """Whether one of the lines from a place on declares a variable, beside those that lie deeper."""
+        start = re.compile(r" {%d}(?!return|goto)(const )?\w+ \*?\w+(\[\d+\])?( = .*)?;" % (4 * self.depth))
+        return any(start.match(line) for line in self.out[at:])
 
     def block(self, s):
         if len(s.body) == 1 and isinstance(s.body[0], (Loop, While)):
@@ -1099,7 +1160,7 @@ class Routine:
         elif s.value.ty[0] == "array":
             self.fill("result", s.value)
             self.line("return;")
-        elif isinstance(s.value, Aggregate) and self.writer.has_array(s.value.ty):
+        elif self.writer.by_parts(s.value):
             name = self.fresh("result")
             self.line("%s %s;" % (self.writer.scalar(s.value.ty), name))
             self.fill_struct(name, s.value)
@@ -1122,18 +1183,26 @@ class Routine:
             head = w.declared(self.var_type(var), var.name)
             if var.ty[0] == "array":
                 self.declare_array(head, var, value)
-            elif isinstance(value, Aggregate) and w.has_array(value.ty):
+            elif w.by_parts(value):
                 self.line(head + ";")
                 self.fill_struct(var.name, value)
             else:
                 self.line("%s = %s;" % (head, self.as_type(value, place.ty).text))
             return
         made = self.place(place) if not (isinstance(place, Use) and place.ty[0] in ("ref", "ptr")) else Value(place.var.name, POSTFIX, "ptr")
-        if place.ty[0] == "array":
+        if place.ty[0] == "array" and isinstance(value, (Aggregate, Repeat)) and self.made_of(place, value):
+            name = self.fresh("t")
+            self.line(w.declared(place.ty, name) + ";")
+            self.fill(name, value)
+            self.line("memcpy(%s, %s, sizeof %s);" % (made.text, name, name))
+        elif place.ty[0] == "array":
             self.fill(made.at(POSTFIX), value, place)
-        elif isinstance(value, Aggregate) and w.has_array(value.ty):
-            if any(use.var is base_of(place).var for use in uses_of(value)) if isinstance(base_of(place), Use) else True:
-                raise Refused("a struct with an array inside is made of itself")
+        elif w.by_parts(value) and self.made_of(place, value):
+            name = self.fresh("t")
+            self.line(w.declared(place.ty, name) + ";")
+            self.fill_struct(name, value)
+            self.line("%s = %s;" % (made.text, name))
+        elif w.by_parts(value):
             self.fill_struct(made.at(POSTFIX), value)
         else:
             self.store(made, place, value)
@@ -1149,7 +1218,9 @@ class Routine:
     def declare_array(self, head, var, value):
         if isinstance(value, Repeat) and isinstance(value.item, Const) and value.item.value == 0:
             self.line("%s = {0};" % head)
-        elif isinstance(value, Aggregate) and value.ty[1][0] != "array":
+        elif isinstance(value, Aggregate) and not value.items:
+            self.line("%s = {0};" % head)
+        elif isinstance(value, Aggregate) and value.ty[1][0] != "array" and not self.writer.has_array(value.ty[1]):
             self.line("%s = {%s};" % (head, ", ".join(self.as_type(item, value.ty[1]).text for item in value.items)))
         else:
             self.line(head + ";")
@@ -1159,6 +1230,7 @@ class Routine:
         """The elements of an array. What a call makes goes through a copy if the call could see the place that it is for."""
         w = self.writer
         base, n = base_type(value.ty)
+        alone = into[1:-1] if into.startswith("(") else into
         if n == 0:
             self.line("memset(%s, 0, sizeof %s); /* it has no elements, but C asks for one */" % (into, into))
             return
@@ -1168,11 +1240,21 @@ class Routine:
                 name = self.fresh("t")
                 self.line(w.declared(value.ty, name) + ";")
                 self.line(self.call(value, name).text + ";")
-                self.line("memcpy(%s, %s, %s);" % (into, name, octets))
+                self.line("memcpy(%s, %s, %s);" % (alone, name, octets))
             else:
-                self.line(self.call(value, into).text + ";")
+                self.line(self.call(value, alone).text + ";")
         elif isinstance(value, Repeat) and isinstance(value.item, Const) and value.item.value == 0:
-            self.line("memset(%s, 0, %s);" % (into, octets))
+            self.line("memset(%s, 0, %s);" % (alone, octets))
+        elif isinstance(value, Repeat) and value.item.ty[0] == "array":
+            i = self.fresh("i")
+            self.line("for (size_t %s = 0; %s < %d; %s++) {" % (i, i, value.count, i))
+            self.depth += 1
+            self.fill("(%s + %s * %d)" % (into, i, base_type(value.item.ty)[1]), value.item)
+            self.depth -= 1
+            self.line("}")
+        elif isinstance(value, Aggregate) and value.ty[1][0] == "array":
+            for i, item in enumerate(value.items):
+                self.fill("(%s + %d)" % (into, i * base_type(item.ty)[1]), item)
         elif isinstance(value, Repeat) and value.item.ty[0] != "array":
             i = self.fresh("i")
             self.line("for (size_t %s = 0; %s < %d; %s++) {" % (i, i, n, i))
@@ -1180,11 +1262,21 @@ class Routine:
             self.line("}")
         elif isinstance(value, Aggregate) and value.ty[1][0] != "array":
             for i, item in enumerate(value.items):
+                if w.by_parts(item):
+                    self.fill_struct("%s[%d]" % (into, i), item)
+                    continue
                 self.line("%s[%d] = %s;" % (into, i, self.as_type(item, base).text))
         elif isinstance(value, (Use, Field, Deref)):
-            self.line("memcpy(%s, %s, %s);" % (into, self.place(value).text, octets))
+            self.line("memcpy(%s, %s, %s);" % (alone, self.place(value).text, octets))
         else:
             raise Refused("an array that is made in a way not known")
+
+    def made_of(self, place, value):
+        """Whether a value that is written part by part may read the place that it is for."""
+        base = base_of(place)
+        if isinstance(base, Use) and any(use.var is base.var for use in uses_of(value)):
+            return True
+        return (isinstance(base, Deref) or base.var.addressed) and self.writer.effects.reads_memory(value)
 
     def seen_by(self, place, call):
         base = base_of(place)
@@ -1195,15 +1287,21 @@ class Routine:
     def fill_struct(self, into, value):
         w = self.writer
         name = value.ty[1]
-        for i, (field, ty) in enumerate(zip(w.field_names(name), w.reader.shapes[name][1])):
-            item = value.items[i]
+        kind, parts = w.reader.shapes[name]
+        fields, items = w.field_names(name) if kind == "struct" else [], value.items
+        if kind == "enum":
+            tag, items = items[0].value, items[1:]
+            variant, parts = w.variant_names(name)[tag], parts[tag]
+            fields = ["as.%s.field%d" % (variant, i) for i in range(len(parts))]
+            self.line("%s.tag = %s_%s;" % (into, c_name(name), variant))
+        for i, (field, ty, item) in enumerate(zip(fields, parts, items)):
             if ty[0] == "array":
                 self.fill("%s.%s" % (into, field), item)
-            elif isinstance(item, Aggregate) and w.has_array(ty):
+            elif w.by_parts(item):
                 self.fill_struct("%s.%s" % (into, field), item)
             elif ty != UNIT:
-                kind = w.field_kind(name, i) if ty[0] == "int" else None
-                self.line("%s.%s = %s;" % (into, field, self.as_type(item, ty, kind).text))
+                number = w.field_kind(name, i) if ty[0] == "int" and kind == "struct" else None
+                self.line("%s.%s = %s;" % (into, field, self.as_type(item, ty, number).text))
 
 
 def wrap(line):
@@ -1221,7 +1319,10 @@ def wrap(line):
             if best is None or depth <= best[0]:
                 best = (depth, at)
     if best is None:
-        return [line]
+        at = line.rfind("(", indent, WIDTH) + 1
+        if at <= indent + 20 or line.endswith("{"):
+            return [line]
+        return [line[:at]] + wrap_rest(" " * (indent + 8) + line[at:], indent + 8)
     at = best[1]
     rest = " " * (indent + (8 if not line.startswith(" " * (indent) + "\0") else 0)) + line[at + 1:]
     return [line[:at]] + wrap_rest(rest, indent + 8)

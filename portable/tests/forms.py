@@ -549,19 +549,19 @@ def library():
 
 
 def program(calls):
-    """A program in Rattle that calls them, and writes a line for each function: what it gave, mixed."""
+    """A program in Rattle that calls them, each with its crate before it, and writes a line for each function: what it gave, mixed."""
     lines = ["#![tactic(auto)]", "", "use std::io;", "", "fn mix(h: u64, x: u64) -> u64 {", "    (h << 5) ^ (h >> 59) ^ x", "}", "",
              "fn bits(x: i64) -> u64 {", "    if x < 0 { !((-(x + 1)) as u64) } else { x as u64 }", "}", ""]
-    for name, result, types, rows in calls:
+    for crate, name, result, types, rows in calls:
         for at, ty in enumerate(types):
             texts = [("true" if row[at] else "false") if ty == "bool" else str(row[at]) for row in rows]
             lines.append("const %s_%d: [%s; %d] = [%s];" % (name.upper(), at, ty, len(rows), ", ".join(texts)))
-        call = "forms::%s(%s)" % (name, ", ".join("%s_%d[i]" % (name.upper(), at) for at in range(len(types))))
+        call = "%s::%s(%s)" % (crate, name, ", ".join("%s_%d[i]" % (name.upper(), at) for at in range(len(types))))
         value = "bits(%s as i64)" % call if result[0] == "i" else "%s as u64" % call if result != "u64" else call
         value = value.replace(" as i64)", ")") if result == "i64" else value
         lines += ["fn all_%s() -> u64 {" % name, "    let mut h = 0;", "    let mut i = 0;", "    while i < %d {" % len(rows),
                   "        h = mix(h, %s);" % value, "        i += 1;", "    }", "    h", "}", ""]
-    lines += ["fn main(rt: HostRuntime) -> io::Result<()> {"] + ['    println!(rt; "%s {}", all_%s())?;' % (c[0], c[0]) for c in calls] + ["    Ok(())", "}"]
+    lines += ["fn main(rt: HostRuntime) -> io::Result<()> {"] + ['    println!(rt; "%s {}", all_%s())?;' % (c[1], c[1]) for c in calls] + ["    Ok(())", "}"]
     return "\n".join(lines) + "\n"
 
 
@@ -569,14 +569,14 @@ def main_in_c(calls):
     """The same in C, below what the translator gives for the library. A number of any sign is its bits, unsigned."""
     lines = ["#include <inttypes.h>", "#include <stdio.h>", ""]
     widths = dict(BITS, usize=64)
-    for name, result, types, rows in calls:
+    for crate, name, result, types, rows in calls:
         for at, ty in enumerate(types):
             kind = "bool" if ty == "bool" else "uint%d_t" % widths[ty]
             texts = ["%d" % row[at] if ty == "bool" else "UINT%d_C(%d)" % (widths[ty], row[at] % 2 ** widths[ty]) for row in rows]
             lines.append("static const %s %s_%d[%d] = {%s};" % (kind, name.upper(), at, len(rows), ", ".join(texts)))
-        call = "forms_%s(%s)" % (name, ", ".join("%s_%d[i]" % (name.upper(), at) for at in range(len(types))))
+        call = "%s_%s(%s)" % (crate, name, ", ".join("%s_%d[i]" % (name.upper(), at) for at in range(len(types))))
         value = "(uint64_t)(int64_t)(int%d_t)%s" % (widths[result], call) if result[0] == "i" else "(uint64_t)%s" % call
         lines += ["", "static uint64_t all_%s(void)" % name, "{", "    uint64_t h = 0;", "    for (int i = 0; i < %d; i++) {" % len(rows),
                   "        h = (h << 5) ^ (h >> 59) ^ %s;" % value, "    }", "    return h;", "}", ""]
-    lines += ["int main(void)", "{"] + ['    printf("%s %%" PRIu64 "\\n", all_%s());' % (c[0], c[0]) for c in calls] + ["    return 0;", "}"]
+    lines += ["int main(void)", "{"] + ['    printf("%s %%" PRIu64 "\\n", all_%s());' % (c[1], c[1]) for c in calls] + ["    return 0;", "}"]
     return "\n".join(lines) + "\n"

@@ -7,8 +7,12 @@ ghost use Rattle.std.specs.Prelude.{◌≡◌, ◌&&◌, ◌^◌, ◌≤◌, ◌
 ghost use Rattle.bits.specs.Bits.{Word, bit, digit, tally, sum};
 ghost use Rattle.vectors.specs.Vectors.{Holds};
 ghost use Rattle.bch.specs.Bch.{remainder, written, judged, bch_encode_answer, bch_check_answer};
-ghost use Rattle.bch.specs.Answers.{alone, as_encoded, as_mended};
+ghost use Rattle.refusals.specs.Numbers.{number_in};
+ghost use Rattle.bch.specs.Answers.{alone, as_encoded, as_judged, as_mended};
 
+use refusals::Refusal;
+
+// A record of C's: its number says whether the rest counts.
 #[repr(C)]
 #[derive(Clone, Copy)]
 pub struct Mended {
@@ -46,10 +50,8 @@ fn divide(v: u64) -> u64
     ensures { (result < 2 ^ 7) × ((x : Word) → Holds v x → result ≡ remainder 63 x) }
 {
     let mut r: u64 = 0;
-    let mut j: usize = 0;
-    while j < 7 {
-        r = 2 * r + odd(ROWS[j] & v);
-        j += 1;
+    for row in ROWS {
+        r = 2 * r + odd(row & v);
     }
     r
 }
@@ -60,14 +62,12 @@ fn places(r: u64) -> u64
     ensures { Holds result (λ i. ltb i 63 && eqb r (alone i)) }
 {
     let mut m: u64 = SENT;
-    let mut j: usize = 0;
-    while j < 7 {
+    for (j, row) in ROWS.iter().enumerate() {
         if (r >> (6 - j)) % 2 == 1 {
-            m &= ROWS[j];
+            m &= *row;
         } else {
-            m &= ROWS[j] ^ ALL;
+            m &= *row ^ ALL;
         }
-        j += 1;
     }
     m
 }
@@ -92,71 +92,73 @@ fn write(v: u64, out: &mut [u8])
     vectors::store(&y, 0, out);
 }
 
-// Information in, word out.
-pub fn bch_encode(information: &[u8], word: &mut [u8]) -> u8
-    ensures { as_encoded result word.new ≡ bch_encode_answer information.now word.old }
+// The word of the information, or why there is none.
+fn encoded(information: &[u8], word: &mut [u8]) -> Result<(), Refusal>
+    ensures { as_encoded (number_in result) word.new ≡ bch_encode_answer information.now word.old }
 {
     if information.len() != 7 {
-        return 2;
+        return Err(Refusal::InputLength);
     }
     if word.len() != 8 {
-        return 3;
+        return Err(Refusal::OutputLength);
     }
     let v = taken(information);
     let r = divide(v);
     write(v ^ (r * 2) ^ PARITY, word);
-    0
+    Ok(())
 }
 
-// A word of the right length, into an output of the right length.
-fn judge(detect_only: bool, word: &[u8], out: &mut [u8]) -> Mended
+// Information in, word out.
+pub fn bch_encode(information: &[u8], word: &mut [u8]) -> u8
+    ensures { as_encoded result word.new ≡ bch_encode_answer information.now word.old }
+{
+    refusals::number(encoded(information, word))
+}
+
+// How many bits are mended of a word of the right length, which goes into an output of the right length.
+fn judge(detect_only: bool, word: &[u8], out: &mut [u8]) -> Result<u8, Refusal>
     requires { (length word.now ≡ 8) × (length out.old ≡ 8) }
-    ensures { as_mended result out.new ≡ judged detect_only (bit word.now) out.old }
+    ensures { as_judged result out.new ≡ judged detect_only (bit word.now) out.old }
 {
     let v = taken(word);
     let r = divide(v ^ PARITY);
     if r == 0 {
         write(v, out);
-        return Mended {
-            number: 0,
-            mended: 0,
-        };
+        return Ok(0);
     }
     if detect_only {
-        return Mended {
-            number: 13,
-            mended: 0,
-        };
+        return Err(Refusal::NoBchWord);
     }
     let m = places(r);
     if m == 0 {
-        return Mended {
-            number: 13,
-            mended: 0,
-        };
+        return Err(Refusal::NoBchWord);
     }
     write(v ^ m, out);
-    Mended {
-        number: 0,
-        mended: 1,
+    Ok(1)
+}
+
+// The same of a word and an output of any length.
+fn checked(detect_only: bool, word: &[u8], out: &mut [u8]) -> Result<u8, Refusal>
+    ensures { as_judged result out.new ≡ bch_check_answer detect_only word.now out.old }
+{
+    if word.len() != 8 {
+        return Err(Refusal::InputLength);
     }
+    if out.len() != 8 {
+        return Err(Refusal::OutputLength);
+    }
+    judge(detect_only, word, out)
 }
 
 // Single error correction, or detect-only: the word out, or 13.
 pub fn bch_check(detect_only: bool, word: &[u8], out: &mut [u8]) -> Mended
     ensures { as_mended result out.new ≡ bch_check_answer detect_only word.now out.old }
 {
-    if word.len() != 8 {
-        return Mended {
-            number: 2,
+    match checked(detect_only, word, out) {
+        Ok(mended) => Mended { number: 0, mended },
+        Err(refusal) => Mended {
+            number: refusal.number(),
             mended: 0,
-        };
+        },
     }
-    if out.len() != 8 {
-        return Mended {
-            number: 3,
-            mended: 0,
-        };
-    }
-    judge(detect_only, word, out)
 }

@@ -1,40 +1,36 @@
 -- Lists in parts.
 use mathlib.Core.Path.{◌≡◌, refl, sym, ap, ap₂, ◌∙◌}
-use mathlib.Core.Bool.{true, false, ◌&&◌}
+use mathlib.Core.Bool.{Bool, true, false, ◌&&◌, and-false}
 use mathlib.Core.List.{List, [], ◌∷◌, ◌++◌, append_assoc}
-use Prim.Native.Nat.{ℕ, suc, ◌+◌, ◌-◌, ◌/◌, ◌%◌, ◌≤◌, ◌<◌}
+use Prim.Native.Nat.{ℕ, zero, suc, ◌+◌, ◌-◌, ◌≤◌, ◌<◌, zero-le}
 use native.Mathlib.Omega.{arith}
-use native.Mathlib.Numerals.{add-one}
-use lib.ListN.{length, get_or, take, drop, set, replicate, replicate-append-replicate, drop_of_length-le, length-append, length-drop}
+use lib.ListN.{length, get_or, take, drop, replicate, length-append, length-drop}
 use lib.ListN.{length-take, length-replicate}
-use lib.Seq.{take-suc-set, drop-cons, take-length, take_at, length-take-le}
+use lib.Seq.{take-length, take_at, length-take-le}
 use borrow.Author.Tests.{eq-eqb, ne_eqb}
-use lib.Pow.{shr-shr}
-use Rattle.blocks.specs.Blocks.{two, clear}
+use lib.Dec.{eqb}
+use Rattle.std.specs.Bool.{MatchBool}
+use Rattle.std.specs.List.{AllWithin, HoldsAt}
+use Rattle.blocks.specs.Blocks.{clear}
 
-pub two_set : (l : List ℕ) (a b : ℕ) → length l ≡ 2 → set (set l 0 a) 1 b ≡ a ∷ b ∷ []
-two_set [] a b e = absurd (omega arith)
-two_set (x ∷ []) a b e = absurd (omega arith)
-two_set (x ∷ y ∷ []) a b e = refl
-two_set (x ∷ y ∷ z ∷ l) a b e = absurd (omega arith)
-
-pub wiped_more : (out : List ℕ) (i : ℕ) → i < length out → take i out ≡ replicate i 0 → take (i + 1) (set out i 0) ≡ replicate (i + 1) 0
-wiped_more out i h e =
-    ap (λ z. take z (set out i 0)) (add-one i) ∙ take-suc-set out i 0 h ∙ ap (λ l. l ++ (0 ∷ [])) e ∙ replicate-append-replicate i 1 0
-
-pub clear_end : (octets : List ℕ) (i : ℕ) → length octets ≤ i → clear (drop i octets) ≡ true
+clear_zeros : (octets : List ℕ) → AllWithin (λ o. o ≡ 0) octets 0 (length octets) → clear octets ≡ true
 unfolding clear
-clear_end octets i h = ap clear (drop_of_length-le octets h)
+clear_zeros [] h = refl
+clear_zeros (o ∷ octets) h =
+    ap₂ ◌&&◌ (eq-eqb o 0 (h 0 0 zero-le (omega arith))) (clear_zeros octets (λ k d a l. h (suc k) d zero-le (omega arith)))
 
-pub clear_more : (octets : List ℕ) (i : ℕ) → i < length octets → get_or octets i 0 ≡ 0 → clear (drop (i + 1) octets) ≡ clear (drop i octets)
+clear_not : (octets : List ℕ) (k : ℕ) → k < length octets → (get_or octets k 0 ≡ 0 → ⊥) → clear octets ≡ false
 unfolding clear
-clear_more octets i h e =
-    ap (λ z. clear (drop z octets)) (add-one i)
-    ∙ sym (ap clear (drop-cons octets i 0 h) ∙ ap (λ b. b && clear (drop (suc i) octets)) (eq-eqb (get_or octets i 0) 0 e))
+clear_not [] k l d = absurd (omega arith)
+clear_not (o ∷ octets) zero l d = ap (λ b. b && clear octets) (ne_eqb o 0 d)
+clear_not (o ∷ octets) (suc k) l d = ap (λ b. eqb o 0 && b) (clear_not octets k (omega arith) d) ∙ and-false (eqb o 0)
 
-pub clear_not : (octets : List ℕ) (i : ℕ) → i < length octets → (get_or octets i 0 ≡ 0 → ⊥) → clear (drop i octets) ≡ false
-unfolding clear
-clear_not octets i h e = ap clear (drop-cons octets i 0 h) ∙ ap (λ b. b && clear (drop (suc i) octets)) (ne_eqb (get_or octets i 0) 0 e)
+-- all of them are zeros, or one is not
+pub clear_cases : (octets : List ℕ) (r : Bool)
+    → MatchBool r (AllWithin (λ o. o ≡ 0) octets 0 (length octets)) ((k : ℕ) × (k < length octets) × HoldsAt (λ o. o ≡ 0 → ⊥) octets k)
+    → r ≡ clear octets
+clear_cases octets true h = sym (clear_zeros octets h)
+clear_cases octets false h = sym (clear_not octets h.0 h.1 (h.2 0))
 
 -- what stands in front, and a part that is put behind it
 pub placed : (xs ys done : List ℕ) (a k : ℕ) → length done ≡ a → length ys ≡ k → take a xs ≡ done
@@ -86,10 +82,6 @@ pub room_behind : (o A : List ℕ) (p : ℕ) → length A ≡ p → p ≤ length
 room_behind o A p a h =
     length-take (length (A ++ drop p o) - p) (drop p (A ++ drop p o))
     ∙ omega (arith, first_length o A p a h, length-drop p (A ++ drop p o))
-
--- the two high octets of four
-pub high : (v : ℕ) → two (v / 65536) ≡ v / 16777216 % 256 ∷ v / 65536 % 256 ∷ []
-high v = ap (λ z. z % 256 ∷ v / 65536 % 256 ∷ []) (shr-shr v 16 8)
 
 -- octets in front and zeros behind them
 pub data_put : (o used D Z : List ℕ) → length used ≤ length o → D ≡ used

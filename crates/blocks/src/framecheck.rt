@@ -1,5 +1,5 @@
 // The CCSDS frame check over octets, by a table.
-ghost use Rattle.std.specs.Prelude.{◌≡◌, ◌<◌};
+ghost use Rattle.std.specs.Prelude.{◌≡◌};
 ghost use Rattle.blocks.specs.framecheck.FrameCheck.{frame_check};
 ghost use Rattle.blocks.specs.framecheck.Table.{table as table_of};
 
@@ -36,28 +36,14 @@ pub fn table() -> [u16; 256]
     TABLE
 }
 
-fn wide(x: u16) -> usize
-    ensures { (result ≡ x) × (result < 65536) }
-{
-    x as usize
-}
-
-fn octet(x: u8) -> usize
-    ensures { (result ≡ x) × (result < 256) }
-{
-    x as usize
-}
-
 // The frame check over octets; the table is lent.
-pub fn over(octets: &[u8], t: &[u16; 256]) -> usize
+pub fn over(octets: &[u8], t: &[u16; 256]) -> u16
     requires { t.now ≡ table_of }
     ensures { result ≡ frame_check octets.now }
 {
     let mut r: usize = 0xFFFF;
-    let mut i: usize = 0;
-    while i < octets.len() {
-        r = ((r % 256) * 256) ^ wide(t[(r / 256) ^ octet(octets[i])]);
-        i += 1;
+    for octet in octets {
+        r = ((r % 256) * 256) ^ t[(r / 256) ^ *octet as usize] as usize;
     }
-    r
+    r as u16
 }

@@ -4,16 +4,26 @@ ghost use Rattle.blocks.specs.framecheck.FrameCheck.{sound};
 ghost use Rattle.blocks.specs.framecheck.Table.{table as table_of};
 ghost use Rattle.blocks.specs.Blocks.{number_in, used_in, count_right_of, clear as clear_of, filling_in, fault as fault_of, first_fault_of};
 ghost use Rattle.blocks.specs.Blocks.{imported as imported_of, whole_blocks, import_answer, import_room};
-ghost use Rattle.blocks.specs.importing.Answers.{as_fault, as_imported, found_in};
+ghost use Rattle.refusals.specs.Numbers.{number_in as refused_in};
+ghost use Rattle.blocks.specs.importing.Answers.{as_faulty, as_taken, as_imported, found_in};
 
 use super::framecheck;
+use refusals::Refusal;
 use vectors::copying;
 
+// A record of C's: its number says whether the rest counts.
 #[repr(C)]
 #[derive(Clone, Copy)]
 pub struct Imported {
     pub number: u8,
     pub block: u32,
+}
+
+// Why octets are refused, and the place of the block at fault; 0 where no block is.
+#[derive(Clone, Copy)]
+struct Faulty {
+    refusal: Refusal,
+    block: u32,
 }
 
 // Whether so many octets are whole blocks, at most 128 of them.
@@ -23,19 +33,12 @@ fn is_whole(long: usize) -> bool
     long % 512 == 0 && long / 512 <= 128
 }
 
-// The number that two octets write, high octet first.
-fn pair(high: u8, last: u8) -> usize
-    ensures { (result ≡ 256 * high + last) × (result < 65536) }
-{
-    256 * high as usize + last as usize
-}
-
 // How many octets of a block are used.
 fn used(block: &[u8]) -> usize
     requires { length block.now ≡ 512 }
     ensures { (result ≡ used_in block.now) × (result < 65536) }
 {
-    pair(block[4], block[5])
+    u16::from_be_bytes([block[4], block[5]]) as usize
 }
 
 // The number that a block says of itself.
@@ -43,7 +46,7 @@ fn number(block: &[u8]) -> usize
     requires { length block.now ≡ 512 }
     ensures { result ≡ number_in block.now }
 {
-    65536 * pair(block[0], block[1]) + pair(block[2], block[3])
+    u32::from_be_bytes([block[0], block[1], block[2], block[3]]) as usize
 }
 
 // Whether the check of a block is right.
@@ -51,7 +54,7 @@ fn is_sound(block: &[u8], t: &[u16; 256]) -> bool
     requires { (length block.now ≡ 512) × (t.now ≡ table_of) }
     ensures { result ≡ sound 510 block.now }
 {
-    framecheck::over(&block[..510], t) == pair(block[510], block[511])
+    framecheck::over(&block[..510], t) == u16::from_be_bytes([block[510], block[511]])
 }
 
 fn count_right(last: bool, used: usize) -> bool
@@ -68,14 +71,7 @@ fn count_right(last: bool, used: usize) -> bool
 fn clear(octets: &[u8]) -> bool
     ensures { result ≡ clear_of octets.now }
 {
-    let mut i: usize = 0;
-    while i < octets.len() {
-        if octets[i] != 0 {
-            return false;
-        }
-        i += 1;
-    }
-    true
+    octets.iter().all(|octet| *octet == 0)
 }
 
 // Whether zeros stand after the used octets.
@@ -87,60 +83,57 @@ fn is_filled(block: &[u8], used: usize) -> bool
     clear(&block[from..510])
 }
 
-// The fault of a block at a place, 0 for none: 21 check, 22 number, 23 count or filling.
-fn fault(place: usize, last: bool, block: &[u8], t: &[u16; 256]) -> u8
+// The fault of a block at a place: its check, its number, its count or its filling.
+fn fault(place: usize, last: bool, block: &[u8], t: &[u16; 256]) -> Result<(), Refusal>
     requires { (length block.now ≡ 512) × (t.now ≡ table_of) }
-    ensures { result ≡ fault_of place last block.now }
+    ensures { refused_in result ≡ fault_of place last block.now }
 {
     if !is_sound(block, t) {
-        return 21;
+        return Err(Refusal::BlockCheck);
     }
     if number(block) != place {
-        return 22;
+        return Err(Refusal::BlockNumber);
     }
     let n = used(block);
     if !count_right(last, n) {
-        return 23;
+        return Err(Refusal::BlockCount);
     }
     if !is_filled(block, n) {
-        return 23;
+        return Err(Refusal::BlockCount);
     }
-    0
+    Ok(())
 }
 
 // The fault of the lowest block at fault, with its place.
-fn first_fault(blocks: &[u8], n: usize, t: &[u16; 256]) -> Imported
+fn first_fault(blocks: &[u8], n: usize, t: &[u16; 256]) -> Result<(), Faulty>
     requires { (length blocks.now ≡ 512 * n) × (n ≤ 128) × (t.now ≡ table_of) }
-    ensures { as_fault result ≡ first_fault_of n 0 blocks.now }
+    ensures { as_faulty result ≡ first_fault_of n 0 blocks.now }
 {
-    let mut k: usize = 0;
-    while k < n {
+    for k in 0..n {
         let at = k * 512;
         let past = at + 512;
-        let number = fault(k, k + 1 == n, &blocks[at..past], t);
-        if number != 0 {
-            return Imported {
-                number,
-                block: k as u32,
-            };
+        match fault(k, k + 1 == n, &blocks[at..past], t) {
+            Ok(()) => {}
+            Err(refusal) => {
+                return Err(Faulty {
+                    refusal,
+                    block: k as u32,
+                });
+            }
         }
-        k += 1;
     }
-    Imported {
-        number: 0,
-        block: 0,
-    }
+    Ok(())
 }
 
-// What is at fault with some octets, 0 for nothing: 20 for a length not of whole blocks or too many, then the lowest block at fault.
-fn found(blocks: &[u8]) -> Imported
-    ensures { as_fault result ≡ found_in blocks.now }
+// What is at fault with some octets: a length not of whole blocks or too many, then the lowest block at fault.
+fn found(blocks: &[u8]) -> Result<(), Faulty>
+    ensures { as_faulty result ≡ found_in blocks.now }
 {
     if !is_whole(blocks.len()) {
-        return Imported {
-            number: 20,
+        return Err(Faulty {
+            refusal: Refusal::TooLong,
             block: 0,
-        };
+        });
     }
     let t = framecheck::table();
     first_fault(blocks, blocks.len() / 512, &t)
@@ -166,8 +159,7 @@ fn take_data(blocks: &[u8], n: usize, out: &mut [u8])
     ensures { out.new ≡ imported_of n blocks.now }
 {
     let mut end: usize = 0;
-    let mut k: usize = 0;
-    while k < n {
+    for k in 0..n {
         let at = k * 512;
         let past = at + 512;
         let count = used(&blocks[at..past]);
@@ -176,8 +168,23 @@ fn take_data(blocks: &[u8], n: usize, out: &mut [u8])
         let start = end;
         end = start + count;
         copying::copy(&blocks[from..to], &mut out[start..end]);
-        k += 1;
     }
+}
+
+// The octets of a recording in blocks, or why there are none.
+fn take_blocks(blocks: &[u8], out: &mut [u8]) -> Result<(), Faulty>
+    ensures { as_taken result out.new ≡ import_answer blocks.now out.old }
+{
+    found(blocks)?;
+    let n = blocks.len() / 512;
+    if out.len() != room(blocks, n) {
+        return Err(Faulty {
+            refusal: Refusal::OutputLength,
+            block: 0,
+        });
+    }
+    take_data(blocks, n, out);
+    Ok(())
 }
 
 // The octets of a recording in blocks: 20 for a length not of whole blocks or too many, 21 to 23 for the lowest block at fault, 3 if the
@@ -185,21 +192,18 @@ fn take_data(blocks: &[u8], n: usize, out: &mut [u8])
 pub fn import_blocks(blocks: &[u8], out: &mut [u8]) -> Imported
     ensures { as_imported result out.new ≡ import_answer blocks.now out.old }
 {
-    let refused = found(blocks);
-    if refused.number != 0 {
-        return refused;
-    }
-    let n = blocks.len() / 512;
-    if out.len() != room(blocks, n) {
-        return Imported {
-            number: 3,
+    match take_blocks(blocks, out) {
+        Ok(()) => Imported {
+            number: 0,
             block: 0,
-        };
-    }
-    take_data(blocks, n, out);
-    Imported {
-        number: 0,
-        block: 0,
+        },
+        Err(faulty) => {
+            let refusal = faulty.refusal;
+            Imported {
+                number: refusal.number(),
+                block: faulty.block,
+            }
+        }
     }
 }
 
@@ -207,9 +211,8 @@ pub fn import_blocks(blocks: &[u8], out: &mut [u8]) -> Imported
 pub fn imported_octets(blocks: &[u8]) -> usize
     ensures { result ≡ import_room blocks.now }
 {
-    let refused = found(blocks);
-    if refused.number != 0 {
-        return 0;
+    match found(blocks) {
+        Ok(()) => room(blocks, blocks.len() / 512),
+        Err(_) => 0,
     }
-    room(blocks, blocks.len() / 512)
 }

@@ -92,6 +92,7 @@ pub extern "C" fn pandoricchia_quick(code: u8, word: &[u8]) -> Answered
 }
 
 // What open gives, with the number of leading octets for the part: a returned reference has no form in C.
+// A record of C's: its number says whether the rest counts.
 #[repr(C)]
 #[derive(Clone, Copy)]
 pub struct Opened {
@@ -105,12 +106,11 @@ pub extern "C" fn pandoricchia_open(code: u8, word: &[u8]) -> Opened
     ensures { (result.number ≡ (open_answer code word.now).number) × (result.lowest ≡ (open_answer code word.now).lowest)
         × (result.octets ≡ length (open_answer code word.now).part) }
 {
-    let mut number: u8 = 0;
-    let mut lowest: u32 = 0;
-    let part = codes::open(code, word, &mut number, &mut lowest);
+    let opened = codes::open(code, word);
+    let part = opened.part;
     Opened {
-        number: number,
-        lowest: lowest,
+        number: opened.number,
+        lowest: opened.lowest,
         octets: part.len(),
     }
 }

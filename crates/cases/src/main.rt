@@ -7,15 +7,8 @@ use flipping::endings;
 use std::io;
 use std::io::Write;
 
-fn text<W: Write>(output: &mut W, bytes: &[u8]) -> io::Result<()> {
-    output.write_all(bytes)
-}
-
-fn number<W: Write>(output: &mut W, n: u64) -> io::Result<()> {
-    write!(output, "{n}")
-}
-
-fn octet(octets: &[u8], i: usize) -> u8 {
+// Behind the octets there are zeros.
+fn octet_or_zero(octets: &[u8], i: usize) -> u8 {
     if i < octets.len() { octets[i] } else { 0 }
 }
 
@@ -23,7 +16,7 @@ fn octet(octets: &[u8], i: usize) -> u8 {
 fn bit(octets: &[u8], n: usize) -> u8
     ensures { result < 2 }
 {
-    (octet(octets, n / 8) >> (7 - n % 8)) % 2
+    (octet_or_zero(octets, n / 8) >> (7 - n % 8)) % 2
 }
 
 // Four bits as a number.
@@ -35,20 +28,18 @@ fn digit(octets: &[u8], n: usize) -> u8
 }
 
 // A hexadecimal digit as the tables print it.
-fn glyph(d: u8) -> u8
+fn spelled(d: u8) -> u8
     requires { d < 16 }
 {
-    if d < 10 { 48 + d } else { 55 + d }
+    if d < 10 { b'0' + d } else { b'A' + (d - 10) }
 }
 
 // As many digits as out has, from bit n on.
 fn spell(octets: &[u8], n: usize, out: &mut [u8])
     requires { (n < 32768) × (length out.old ≤ 128) }
 {
-    let mut i: usize = 0;
-    while i < out.len() {
-        out[i] = glyph(digit(octets, n + 4 * i));
-        i += 1;
+    for (i, glyph) in out.iter_mut().enumerate() {
+        *glyph = spelled(digit(octets, n + 4 * i));
     }
 }
 
@@ -71,11 +62,7 @@ fn encode_alone(code: u8, n: usize, information: &mut [u8], word: &mut [u8]) -> 
 }
 
 fn name_row<W: Write>(output: &mut W, code: u8, n: usize) -> io::Result<()> {
-    text(output, b"code ")?;
-    number(output, code as u64)?;
-    text(output, b", information bit ")?;
-    number(output, n as u64)?;
-    text(output, b":")
+    write!(output, "code {code}, information bit {n}:")
 }
 
 // A printed row of codes 1 to 3: all of the parity.
@@ -92,9 +79,9 @@ fn telecommand_row<W: Write>(
     encode_alone(code, n, information, word);
     name_row(output, code, n)?;
     spell(word, 8 * information.len(), out);
-    text(output, b" ")?;
-    text(output, out)?;
-    text(output, b"\n")
+    output.write_all(b" ")?;
+    output.write_all(out)?;
+    output.write_all(b"\n")
 }
 
 fn telecommand_rows<W: Write>(
@@ -123,9 +110,9 @@ fn near_earth_block<W: Write>(
     requires { (0 < n) × (n < 32768) × (length out.old ≡ 128) }
 {
     spell(word, n - 1, out);
-    out[0] = glyph(digit(word, n - 1) % 8);
-    text(output, b" ")?;
-    text(output, out)
+    out[0] = spelled(digit(word, n - 1) % 8);
+    output.write_all(b" ")?;
+    output.write_all(out)
 }
 
 // A printed pair of rows.
@@ -142,7 +129,7 @@ fn near_earth_row<W: Write>(
     name_row(output, 4, n)?;
     near_earth_block(output, word, 7154, out)?;
     near_earth_block(output, word, 7665, out)?;
-    text(output, b"\n")
+    output.write_all(b"\n")
 }
 
 fn near_earth_rows<W: Write>(
@@ -159,11 +146,6 @@ fn near_earth_rows<W: Write>(
     Ok(())
 }
 
-fn show<W: Write>(output: &mut W, n: u64) -> io::Result<()> {
-    text(output, b" ")?;
-    number(output, n)
-}
-
 fn octet_894<W: Write>(
     output: &mut W,
     value: u8,
@@ -173,27 +155,29 @@ fn octet_894<W: Write>(
     requires { length information.old ≡ 895 }
 {
     information[894] = value;
-    show(output, codes::encode(4, information, word) as u64)?;
+    let answer = codes::encode(4, information, word);
     information[894] = 0;
-    text(output, b"\n")
+    writeln!(output, "code 4, octet 894 equal to {value:02X}: {answer}")
 }
 
+// What correct says, to the end of the line.
 fn show_corrected<W: Write>(output: &mut W, a: endings::Corrected) -> io::Result<()> {
-    show(output, a.number as u64)?;
-    show(output, a.flips as u64)?;
-    show(output, a.first as u64)?;
-    show(output, a.last as u64)?;
-    text(output, b"\n")
+    let endings::Corrected {
+        number,
+        flips,
+        first,
+        last,
+        ..
+    } = a;
+    writeln!(output, " {number} {flips} {first} {last}")
 }
 
 // A word of code 4 as code 5 sends it: without its first 18 bits, and with two zeros at the end.
 fn shorten(word: &[u8], sent: &mut [u8])
     requires { length sent.old < 65536 }
 {
-    let mut i: usize = 0;
-    while i < sent.len() {
-        sent[i] = (octet(word, i + 2) << 2) | (octet(word, i + 3) >> 6);
-        i += 1;
+    for (i, octet) in sent.iter_mut().enumerate() {
+        *octet = (octet_or_zero(word, i + 2) << 2) | (octet_or_zero(word, i + 3) >> 6);
     }
 }
 
@@ -208,77 +192,34 @@ fn unsent_bit<W: Write>(
 {
     encode_alone(4, 0, information, word);
     shorten(word, sent);
-    text(
-        output,
-        b"code 4's word of information bit 0, sent by code 5, limit 1:",
-    )?;
+    output.write_all(b"code 4's word of information bit 0, sent by code 5, limit 1:")?;
     show_corrected(output, codes::correct(5, sent, 1, out))
 }
 
 fn one_broken<W: Write>(output: &mut W, code: u8, word: &[u8], out: &mut [u8]) -> io::Result<()> {
-    text(output, b"code ")?;
-    number(output, code as u64)?;
-    text(output, b", a word with one broken check:")?;
-    let checked = codes::check(code, word);
-    show(output, checked.broken as u64)?;
-    text(output, b", the lowest")?;
-    show(output, checked.lowest as u64)?;
-    text(output, b";")?;
+    let codes::Checked { broken, lowest, .. } = codes::check(code, word);
+    write!(
+        output,
+        "code {code}, a word with one broken check: {broken}, the lowest {lowest};"
+    )?;
     show_corrected(output, codes::correct(code, word, 65535, out))
 }
 
-// Parity that breaks check 0 alone, after zeros.
-fn broken_128() -> [u8; 16]
-    ensures { 16 ≡ length result }
-{
-    [
-        0, 0, 0, 0, 0, 0, 0, 0, 0x1C, 0xD6, 0xBE, 0x89, 0xFA, 0x26, 0xE1, 0xCD,
-    ]
-}
+// Zeros, and parity that breaks check 0 alone.
+const BROKEN_128: [u8; 16] = [
+    0, 0, 0, 0, 0, 0, 0, 0, 0x1C, 0xD6, 0xBE, 0x89, 0xFA, 0x26, 0xE1, 0xCD,
+];
 
-fn broken_256() -> [u8; 32]
-    ensures { 32 ≡ length result }
-{
-    [
-        0, 0, 0, 0, 0, 0, 0, 0, 0, 0, 0, 0, 0, 0, 0, 0, 0xE3, 0x5E, 0x13, 0xD9, 0x41, 0xD0, 0x14,
-        0x17, 0xEE, 0xC1, 0xFC, 0x77, 0xDE, 0xB3, 0x63, 0xED,
-    ]
-}
+const BROKEN_256: [u8; 32] = [
+    0, 0, 0, 0, 0, 0, 0, 0, 0, 0, 0, 0, 0, 0, 0, 0, 0xE3, 0x5E, 0x13, 0xD9, 0x41, 0xD0, 0x14, 0x17,
+    0xEE, 0xC1, 0xFC, 0x77, 0xDE, 0xB3, 0x63, 0xED,
+];
 
-fn broken_512() -> [u8; 64]
-    ensures { 64 ≡ length result }
-{
-    [
-        0, 0, 0, 0, 0, 0, 0, 0, 0, 0, 0, 0, 0, 0, 0, 0, 0, 0, 0, 0, 0, 0, 0, 0, 0, 0, 0, 0, 0, 0,
-        0, 0, 0xDD, 0x87, 0xD8, 0xF2, 0xD2, 0xD5, 0x1B, 0xA6, 0xD7, 0x30, 0x9E, 0xC8, 0x8C, 0x75,
-        0x56, 0x6D, 0x22, 0xF2, 0xE9, 0x27, 0xA8, 0xE1, 0xE7, 0x00, 0x22, 0x0F, 0xD4, 0xF0, 0x6E,
-        0xCE, 0x3D, 0xA3,
-    ]
-}
-
-fn information_space() -> [u8; 895]
-    ensures { 895 ≡ length result }
-{
-    [0; 895]
-}
-
-fn word_space() -> [u8; 1022]
-    ensures { 1022 ≡ length result }
-{
-    [0; 1022]
-}
-
-fn sent_space() -> [u8; 1020]
-    ensures { 1020 ≡ length result }
-{
-    [0; 1020]
-}
-
-fn digits_space() -> [u8; 128]
-    ensures { 128 ≡ length result }
-{
-    [0; 128]
-}
+const BROKEN_512: [u8; 64] = [
+    0, 0, 0, 0, 0, 0, 0, 0, 0, 0, 0, 0, 0, 0, 0, 0, 0, 0, 0, 0, 0, 0, 0, 0, 0, 0, 0, 0, 0, 0, 0, 0,
+    0xDD, 0x87, 0xD8, 0xF2, 0xD2, 0xD5, 0x1B, 0xA6, 0xD7, 0x30, 0x9E, 0xC8, 0x8C, 0x75, 0x56, 0x6D,
+    0x22, 0xF2, 0xE9, 0x27, 0xA8, 0xE1, 0xE7, 0x00, 0x22, 0x0F, 0xD4, 0xF0, 0x6E, 0xCE, 0x3D, 0xA3,
+];
 
 fn rows<W: Write>(output: &mut W) -> io::Result<()> {
     telecommand_rows(output, 1, 16, &mut [0u8; 8], &mut [0u8; 16], &mut [0u8; 16])?;
@@ -298,31 +239,24 @@ fn rows<W: Write>(output: &mut W) -> io::Result<()> {
         &mut [0u8; 64],
         &mut [0u8; 64],
     )?;
-    near_earth_rows(
-        output,
-        &mut information_space(),
-        &mut word_space(),
-        &mut digits_space(),
-    )
+    near_earth_rows(output, &mut [0u8; 895], &mut [0u8; 1022], &mut [0u8; 128])
 }
 
 fn main(rt: HostRuntime) -> io::Result<()> {
     let output = &mut rt.stdout();
     rows(output)?;
-    let mut information = information_space();
-    let mut word = word_space();
-    text(output, b"code 4, octet 894 equal to 01:")?;
+    let mut information = [0u8; 895];
+    let mut word = [0u8; 1022];
     octet_894(output, 0x01, &mut information, &mut word)?;
-    text(output, b"code 4, octet 894 equal to 40:")?;
     octet_894(output, 0x40, &mut information, &mut word)?;
     unsent_bit(
         output,
         &mut information,
         &mut word,
-        &mut sent_space(),
-        &mut sent_space(),
+        &mut [0u8; 1020],
+        &mut [0u8; 1020],
     )?;
-    one_broken(output, 1, &broken_128(), &mut [0u8; 16])?;
-    one_broken(output, 2, &broken_256(), &mut [0u8; 32])?;
-    one_broken(output, 3, &broken_512(), &mut [0u8; 64])
+    one_broken(output, 1, &BROKEN_128, &mut [0u8; 16])?;
+    one_broken(output, 2, &BROKEN_256, &mut [0u8; 32])?;
+    one_broken(output, 3, &BROKEN_512, &mut [0u8; 64])
 }

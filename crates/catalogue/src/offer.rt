@@ -1,12 +1,13 @@
 // What a code number fixes. No other function compares code numbers.
 ghost use Rattle.std.specs.Prelude.{◌≡◌, true, ◌≤◌};
 ghost use Rattle.rules.specs.Codes.{code as code_of, offered};
-ghost use Rattle.catalogue.specs.offer.Offers.{telecommand_offer, near_earth_offer, offer_of};
+ghost use Rattle.catalogue.specs.offer.Offers.{telecommand_shape as telecommand_shape_of, telecommand_offer, near_earth_offer, offer_of};
 
 use layout::Shape;
 
 #[derive(Clone, Copy)]
 pub struct Offer {
+    // Flags, and no Option: the definition `offer_of` gives every number an offer, and the three differ.
     // which calls offer the code: open and step leave out one each
     pub offered: bool,
     pub opens: bool,
@@ -25,6 +26,26 @@ pub struct Offer {
     pub shape: Shape,
 }
 
+// The shape of a near-Earth code's parity table: two rows of 16 blocks, each in eight words.
+pub const NEAR_EARTH: Shape = Shape {
+    size: 511,
+    words: 8,
+    blocks: 16,
+    rows: 2,
+};
+
+// And of a telecommand code's, by M: four rows of eight blocks, each in one word.
+pub fn telecommand_shape(size: usize) -> Shape
+    ensures { result ≡ telecommand_shape_of size }
+{
+    Shape {
+        size,
+        words: 1,
+        blocks: 8,
+        rows: 4,
+    }
+}
+
 // A telecommand code: its octets, its bits, and M.
 fn telecommand(word: usize, information: usize, bits: usize, size: usize) -> Offer
     ensures { result ≡ telecommand_offer word information bits size }
@@ -33,19 +54,14 @@ fn telecommand(word: usize, information: usize, bits: usize, size: usize) -> Off
         offered: true,
         opens: true,
         steps: true,
-        word: word,
-        information: information,
+        word,
+        information,
         multiple: 1,
-        bits: bits,
+        bits,
         unsent: 0,
         fill: 0,
         asked: false,
-        shape: Shape {
-            size: size,
-            words: 1,
-            blocks: 8,
-            rows: 4,
-        },
+        shape: telecommand_shape(size),
     }
 }
 
@@ -64,19 +80,14 @@ fn near_earth(
         offered: true,
         opens: !whole,
         steps: whole,
-        word: word,
-        information: information,
-        multiple: multiple,
+        word,
+        information,
+        multiple,
         bits: 8176,
-        unsent: unsent,
-        fill: fill,
+        unsent,
+        fill,
         asked: true,
-        shape: Shape {
-            size: 511,
-            words: 8,
-            blocks: 16,
-            rows: 2,
-        },
+        shape: NEAR_EARTH,
     }
 }
 
@@ -95,12 +106,7 @@ fn none() -> Offer
         unsent: 0,
         fill: 0,
         asked: false,
-        shape: Shape {
-            size: 16,
-            words: 1,
-            blocks: 8,
-            rows: 4,
-        },
+        shape: telecommand_shape(16),
     }
 }
 
@@ -122,8 +128,7 @@ pub fn of(code: u8) -> Offer
 pub fn is_offered(code: u8) -> bool
     ensures { result ≡ offered code }
 {
-    let o = of(code);
-    o.offered
+    of(code).offered
 }
 
 // The octets of a word.
@@ -131,8 +136,7 @@ pub fn word_octets(code: u8) -> usize
     requires { offered code ≡ true }
     ensures { (result ≡ (code_of code).octets_of_word) × (result ≤ 1022) }
 {
-    let o = of(code);
-    o.word
+    of(code).word
 }
 
 // The octets of a word's information.
@@ -140,6 +144,5 @@ pub fn information_octets(code: u8) -> usize
     requires { offered code ≡ true }
     ensures { (result ≡ (code_of code).octets_of_information) × (result ≤ (code_of code).octets_of_word) }
 {
-    let o = of(code);
-    o.information
+    of(code).information
 }

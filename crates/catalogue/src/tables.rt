@@ -1,11 +1,12 @@
 // The parity tables as nested constants, rows of blocks of shift pairs, and how they are lent to the engine.
-ghost use Rattle.std.specs.Prelude.{◌≡◌, true, ℕ, ◌+◌, ◌≤◌, ◌*◌, length};
+ghost use Rattle.std.specs.Prelude.{◌≡◌, true, ℕ, ◌+◌, ◌≤◌, ◌<◌, ◌*◌, length};
 ghost use Rattle.rules.specs.Codes.{offered};
 ghost use Rattle.rules.specs.Tables.{parity16, parity32, parity64, parity511};
 ghost use Rattle.catalogue.specs.offer.Offers.{offer_of};
-ghost use Rattle.catalogue.specs.tables.Flat.{RowLaid, pairs, flat8, flat16, Lends};
+ghost use Rattle.catalogue.specs.tables.Flat.{RowLaid, pairs, flat, flat8, flat16, Lends};
 ghost use Rattle.layout.specs.Rooms.{table_room};
 
+use super::offer::{NEAR_EARTH, telecommand_shape};
 use layout::Shape;
 
 // No entry: a number that is no shift of any table.
@@ -188,45 +189,33 @@ fn flatten_row(nested: &[[u16; 2]], h: &mut [u16], at: usize)
     requires { (at + 2 * length nested.now ≤ length h.old) × (length h.old ≡ table_room) }
     ensures { RowLaid nested.now (2 * length nested.now) at h.old h.new }
 {
-    let mut b: usize = 0;
-    while b < nested.len() {
-        h[at + 2 * b] = nested[b][0];
-        h[at + 2 * b + 1] = nested[b][1];
-        b += 1;
+    for (b, block) in nested.iter().enumerate() {
+        h[at + 2 * b] = block[0];
+        h[at + 2 * b + 1] = block[1];
     }
 }
 
-// Four rows of eight blocks, one place after another.
-fn flatten8(nested: &[[[u16; 2]; 8]; 4], h: &mut [u16])
-    requires { length h.old ≡ table_room }
-    ensures { h.new ≡ flat8 nested.now }
+// Rows of blocks that fill the places of h, one place after another.
+fn flatten<const BLOCKS: usize, const ROWS: usize>(
+    nested: &[[[u16; 2]; BLOCKS]; ROWS],
+    h: &mut [u16],
+)
+    requires { (length h.old ≡ table_room) × (0 < BLOCKS) × (2 * BLOCKS * ROWS ≡ table_room) }
+    ensures { h.new ≡ flat BLOCKS nested.now }
 {
-    let mut r: usize = 0;
-    while r < 4 {
-        flatten_row(&nested[r], h, 16 * r);
-        r += 1;
+    for (r, row) in nested.iter().enumerate() {
+        flatten_row(row, h, 2 * BLOCKS * r);
     }
 }
 
-// Two rows of 16 blocks, one place after another.
-fn flatten16(nested: &[[[u16; 2]; 16]; 2], h: &mut [u16])
-    requires { length h.old ≡ table_room }
-    ensures { h.new ≡ flat16 nested.now }
-{
-    let mut r: usize = 0;
-    while r < 2 {
-        flatten_row(&nested[r], h, 32 * r);
-        r += 1;
-    }
-}
-
-// The places of each table, laid flat.
+// The places of each table, laid flat, out of a copy: the compiler lays these itself then, which saves check 120 instructions.
+// A function for each, since the clause of each names its own table.
 pub fn lend16(h: &mut [u16])
     requires { length h.old ≡ table_room }
     ensures { h.new ≡ flat8 (pairs parity16) }
 {
     let nested = PARITY16;
-    flatten8(&nested, h);
+    flatten(&nested, h);
 }
 
 pub fn lend32(h: &mut [u16])
@@ -234,7 +223,7 @@ pub fn lend32(h: &mut [u16])
     ensures { h.new ≡ flat8 (pairs parity32) }
 {
     let nested = PARITY32;
-    flatten8(&nested, h);
+    flatten(&nested, h);
 }
 
 pub fn lend64(h: &mut [u16])
@@ -242,7 +231,7 @@ pub fn lend64(h: &mut [u16])
     ensures { h.new ≡ flat8 (pairs parity64) }
 {
     let nested = PARITY64;
-    flatten8(&nested, h);
+    flatten(&nested, h);
 }
 
 pub fn lend511(h: &mut [u16])
@@ -250,7 +239,7 @@ pub fn lend511(h: &mut [u16])
     ensures { h.new ≡ flat16 (pairs parity511) }
 {
     let nested = PARITY511;
-    flatten16(&nested, h);
+    flatten(&nested, h);
 }
 
 // The parity table whose blocks have this size, lent: its places into h, and its shape, in numbers that a compiler sees.
@@ -260,38 +249,18 @@ pub fn lend(size: usize, h: &mut [u16]) -> Shape
 {
     if size == 16 {
         lend16(h);
-        return Shape {
-            size: 16,
-            words: 1,
-            blocks: 8,
-            rows: 4,
-        };
+        return telecommand_shape(16);
     }
     if size == 32 {
         lend32(h);
-        return Shape {
-            size: 32,
-            words: 1,
-            blocks: 8,
-            rows: 4,
-        };
+        return telecommand_shape(32);
     }
     if size == 64 {
         lend64(h);
-        return Shape {
-            size: 64,
-            words: 1,
-            blocks: 8,
-            rows: 4,
-        };
+        return telecommand_shape(64);
     }
     lend511(h);
-    Shape {
-        size: 511,
-        words: 8,
-        blocks: 16,
-        rows: 2,
-    }
+    NEAR_EARTH
 }
 
 // The same where one word holds a row. `lend` has the one caller that its speed rests on, so it does not call this.
@@ -302,27 +271,12 @@ pub fn lend_narrow(size: usize, h: &mut [u16]) -> Shape
 {
     if size == 16 {
         lend16(h);
-        return Shape {
-            size: 16,
-            words: 1,
-            blocks: 8,
-            rows: 4,
-        };
+        return telecommand_shape(16);
     }
     if size == 32 {
         lend32(h);
-        return Shape {
-            size: 32,
-            words: 1,
-            blocks: 8,
-            rows: 4,
-        };
+        return telecommand_shape(32);
     }
     lend64(h);
-    Shape {
-        size: 64,
-        words: 1,
-        blocks: 8,
-        rows: 4,
-    }
+    telecommand_shape(64)
 }

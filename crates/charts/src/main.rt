@@ -9,25 +9,6 @@ use layout::TABLE;
 use std::io;
 use std::io::Write;
 
-fn text<W: Write>(output: &mut W, bytes: &[u8]) -> io::Result<()> {
-    output.write_all(bytes)
-}
-
-fn number<W: Write>(output: &mut W, n: u64) -> io::Result<()> {
-    text(output, b" ")?;
-    write!(output, "{n}")
-}
-
-// The first words of a line.
-fn line<W: Write>(output: &mut W, name: &[u8], code: u8) -> io::Result<()> {
-    text(output, name)?;
-    number(output, code as u64)
-}
-
-fn is_entry(shift: u16, size: usize) -> bool {
-    (shift as usize) < size
-}
-
 // An entry of a parity table: code, M, row, block, shift.
 fn entry<W: Write>(
     output: &mut W,
@@ -39,12 +20,9 @@ fn entry<W: Write>(
 ) -> io::Result<()>
     requires { 0 < blocks }
 {
-    line(output, b"entry", code)?;
-    number(output, size as u64)?;
-    number(output, (place / 2 / blocks) as u64)?;
-    number(output, (place / 2 % blocks) as u64)?;
-    number(output, shift as u64)?;
-    text(output, b"\n")
+    let row = place / 2 / blocks;
+    let block = place / 2 % blocks;
+    writeln!(output, "entry {code} {size} {row} {block} {shift}")
 }
 
 fn entries<W: Write>(
@@ -57,7 +35,7 @@ fn entries<W: Write>(
     requires { (0 < blocks) × (length h.now ≡ table_room) }
 {
     for (i, shift) in h.iter().enumerate() {
-        if is_entry(*shift, size) {
+        if (*shift as usize) < size {
             entry(output, code, size, blocks, i, *shift)?;
         }
     }
@@ -80,34 +58,16 @@ fn is_set(octet: u8, n: u32) -> bool
     octet & (128u8 >> n) != 0
 }
 
-fn wrong_bit<W: Write>(output: &mut W, code: u8, n: usize) -> io::Result<()> {
-    line(output, b"wrong", code)?;
-    number(output, n as u64)?;
-    text(output, b"\n")
-}
-
 // The bits of a word that are 1: what was sent is all zeros, so these are wrong.
 fn wrong<W: Write>(output: &mut W, code: u8, word: &[u8]) -> io::Result<()>
     requires { length word.now < 65536 }
 {
     for n in 0..8 * word.len() {
         if is_set(word[n / 8], (n % 8) as u32) {
-            wrong_bit(output, code, n)?;
+            writeln!(output, "wrong {code} {n}")?;
         }
     }
     Ok(())
-}
-
-// A bit that is flipped has an excess of 1 to 5.
-fn above(excess: i8) -> u64 {
-    match excess {
-        1 => 1,
-        2 => 2,
-        3 => 3,
-        4 => 4,
-        5 => 5,
-        _ => 0,
-    }
 }
 
 // One flip of the run: the bit, its excess, and the checks still broken.
@@ -116,11 +76,8 @@ fn flip<W: Write>(output: &mut W, code: u8, word: &[u8], out: &mut [u8]) -> io::
     if s.number != 0 || s.quiet {
         return Ok(false);
     }
-    line(output, b"flip", code)?;
-    number(output, s.bit as u64)?;
-    number(output, above(s.excess))?;
-    number(output, codes::check(code, out).broken as u64)?;
-    text(output, b"\n")?;
+    let broken = codes::check(code, out).broken;
+    writeln!(output, "flip {code} {} {} {broken}", s.bit, s.excess)?;
     Ok(true)
 }
 
@@ -146,21 +103,19 @@ fn flips<W: Write>(output: &mut W, code: u8, word: &mut [u8], other: &mut [u8]) 
 // What a log line would say of the word.
 fn answer<W: Write>(output: &mut W, code: u8, word: &[u8], out: &mut [u8]) -> io::Result<()> {
     let c = codes::correct(code, word, 65535, out);
-    line(output, b"answer", code)?;
-    number(output, c.number as u64)?;
-    number(output, c.flips as u64)?;
-    number(output, c.first as u64)?;
-    number(output, c.last as u64)?;
-    text(output, b"\n")
+    writeln!(
+        output,
+        "answer {code} {} {} {} {}",
+        c.number, c.flips, c.first, c.last
+    )
 }
 
 // Answer first, as the flips overwrite the word.
 fn run<W: Write>(output: &mut W, code: u8, word: &mut [u8], other: &mut [u8]) -> io::Result<()>
     requires { length word.old < 65536 }
 {
-    line(output, b"word", code)?;
-    number(output, codes::check(code, word).broken as u64)?;
-    text(output, b"\n")?;
+    let broken = codes::check(code, word).broken;
+    writeln!(output, "word {code} {broken}")?;
     wrong(output, code, word)?;
     answer(output, code, word, other)?;
     flips(output, code, word, other)
@@ -170,10 +125,8 @@ fn run<W: Write>(output: &mut W, code: u8, word: &mut [u8], other: &mut [u8]) ->
 fn spoil(word: &mut [u8], apart: usize)
     requires { (0 < apart) × (apart < 65536) × (length word.old < 65536) }
 {
-    let mut i: usize = 0;
-    while i < word.len() {
-        word[i] = 128;
-        i += apart;
+    for octet in word.iter_mut().step_by(apart) {
+        *octet = 128;
     }
 }
 

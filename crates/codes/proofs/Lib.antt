@@ -1,4 +1,4 @@
 pub mod Encoding
 pub mod Correcting
-pub mod Opened
+pub mod Opening
 pub mod Outcomes

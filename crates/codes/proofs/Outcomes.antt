@@ -30,10 +30,10 @@ pub check_outcome : (κs : Lfts 1) (a : ArgsD check.signature κs) (r₁ r₂ : 
     → check_reads.Post κs a r₁ s₁ → check_reads.Post κs a r₂ s₂ → r₁ ≡ r₂
 check_outcome κs a r₁ r₂ s₁ s₂ p q = ap (λ x. record { number = x.number; broken = x.broken; lowest = x.lowest }) (p ∙ sym q)
 
-pub open_outcome : (κs : Lfts 3) (a : ArgsD open_call.signature κs) (r₁ r₂ : ResD open_call.signature κs)
-    (s₁ s₂ : AtExit (ended_of 3 open_kinds.ps open_kinds.r) κs)
-    → open_reads.Post κs a r₁ s₁ → open_reads.Post κs a r₂ s₂ → (r₁.now ≡ r₂.now) × (s₁.1.1.0.now ≡ s₂.1.1.0.now)
-    × (s₁.1.1.1.0.now ≡ s₂.1.1.1.0.now)
+pub open_outcome : (κs : Lfts 1) (a : ArgsD open_call.signature κs) (r₁ r₂ : ResD open_call.signature κs)
+    (s₁ s₂ : AtExit (ended_of 1 open_kinds.ps open_kinds.r) κs)
+    → open_reads.Post κs a r₁ s₁ → open_reads.Post κs a r₂ s₂ → (r₁.part.now ≡ r₂.part.now) × (r₁.number ≡ r₂.number)
+    × (r₁.lowest ≡ r₂.lowest)
 open_outcome κs a r₁ r₂ s₁ s₂ p q = (ap (λ x. x.part) (p ∙ sym q), ap (λ x. x.number) (p ∙ sym q), ap (λ x. x.lowest) (p ∙ sym q))
 
 pub correct_outcome : (κs : Lfts 2) (a : ArgsD correct.signature κs) (r₁ r₂ : ResD correct.signature κs)

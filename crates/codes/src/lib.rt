@@ -8,12 +8,14 @@ ghost use Rattle.rules.specs.Codes.{code as code_of, offered};
 ghost use Rattle.rules.specs.Checks.{lowest};
 ghost use Rattle.rules.specs.Encoding.{lifted, written};
 ghost use Rattle.rules.specs.Flipping.{by_excess};
-ghost use Rattle.answers.specs.Calls.{six_set_of, fault, ran_from, stepped_from, next_step, refused_check_of, refused_step_of};
-ghost use Rattle.answers.specs.Calls.{encode_answer, check_answer, open_answer, correct_answer, step_answer};
+ghost use Rattle.answers.specs.Calls.{six_set_of, fault, checked_from, ran_from, stepped_from, next_step};
+ghost use Rattle.answers.specs.Calls.{refused_check_of, refused_step_of};
+ghost use Rattle.answers.specs.Calls.{encode_answer, check_answer, opened_from, open_answer, correct_answer, step_answer};
 ghost use Rattle.catalogue.specs.offer.Offers.{offer_of, Known};
 ghost use Rattle.vectors.specs.Vectors.{wbit};
 ghost use Rattle.flipping.specs.runs.Passes.{Within, comes_next_of};
 ghost use Rattle.flipping.specs.endings.Answers.{as_corrected};
+ghost use Rattle.refusals.specs.Numbers.{number_of, number_in};
 ghost use Rattle.codes.specs.Ends.{RunEnds};
 ghost use Rattle.codes.specs.Answers.{as_encoded, as_checked, as_opened, as_stepped};
 
@@ -24,9 +26,11 @@ use flipping::endings::Corrected;
 use flipping::runs::{Ended, Next};
 use flipping::{endings, runs};
 use layout::{SYNDROME, TABLE, WORD};
+use refusals::Refusal;
 use vectors::copying;
 use word::{judging, measured, received};
 
+// A record of C's: its number says whether the rest counts.
 #[repr(C)]
 #[derive(Clone, Copy)]
 pub struct Checked {
@@ -35,6 +39,7 @@ pub struct Checked {
     pub lowest: u32,
 }
 
+// A record of C's: its number, and whether it was quiet, say whether the rest counts.
 #[repr(C)]
 #[derive(Clone, Copy)]
 pub struct Stepped {
@@ -44,7 +49,16 @@ pub struct Stepped {
     pub excess: i8,
 }
 
-// What is wrong with a word, by number, and its lowest broken check.
+// What open gives: the number, the lowest broken check, and the information octets as a part of the word, lent back.
+// A number, and no Result: a word is refused by 9 together with its lowest broken check.
+#[derive(Clone, Copy)]
+pub struct Opened<'a> {
+    pub number: u8,
+    pub lowest: u32,
+    pub part: &'a [u8],
+}
+
+// What is wrong with a word, by the number that `judging::fault` gives, and its lowest broken check.
 #[derive(Clone, Copy)]
 struct Found {
     number: u8,
@@ -60,22 +74,22 @@ struct Course {
 }
 
 // What a refused check gives besides its number.
-fn refused_check(number: u8) -> Checked
-    ensures { as_checked result ≡ refused_check_of number }
+fn refused_check(refusal: Refusal) -> Checked
+    ensures { as_checked result ≡ refused_check_of (number_of refusal) }
 {
     Checked {
-        number: number,
+        number: refusal.number(),
         broken: 0,
         lowest: 0,
     }
 }
 
 // What a refused step gives besides its number.
-fn refused_step(number: u8) -> Stepped
-    ensures { (out : List ℕ) → as_stepped result out ≡ refused_step_of out number }
+fn refused_step(refusal: Refusal) -> Stepped
+    ensures { (out : List ℕ) → as_stepped result out ≡ refused_step_of out (number_of refusal) }
 {
     Stepped {
-        number: number,
+        number: refusal.number(),
         quiet: false,
         bit: 0,
         excess: 0,
@@ -91,37 +105,38 @@ fn six_set(o: Offer, information: &[u8]) -> bool
     information[last] % o.multiple != 0
 }
 
-// Information in, word out.
-pub fn encode(code: u8, information: &[u8], word: &mut [u8]) -> u8
-    ensures { as_encoded result word.new ≡ encode_answer code information.now word.old }
+// The word of the information, or why there is none.
+fn encoded(code: u8, information: &[u8], word: &mut [u8]) -> Result<(), Refusal>
+    ensures { as_encoded (number_in result) word.new ≡ encode_answer code information.now word.old }
 {
     let o = offer::of(code);
-    let number = refusals::refusal(
+    refusals::admit(
         o.offered,
         information.len(),
         o.information,
         word.len(),
         o.word,
-    );
-    if number != 0 {
-        return number;
-    }
+    )?;
     if six_set(o, information) {
-        return 4;
+        return Err(Refusal::LastSix);
     }
     solver::encode(o, information, word);
-    0
+    Ok(())
 }
 
-// How many checks are broken, and the lowest of them.
-pub fn check(code: u8, word: &[u8]) -> Checked
-    ensures { as_checked result ≡ check_answer code word.now }
+// Information in, word out.
+pub fn encode(code: u8, information: &[u8], word: &mut [u8]) -> u8
+    ensures { as_encoded result word.new ≡ encode_answer code information.now word.old }
 {
-    let o = offer::of(code);
-    let number = refusals::refusal(o.offered, word.len(), o.word, 0, 0);
-    if number != 0 {
-        return refused_check(number);
-    }
+    refusals::number(encoded(code, information, word))
+}
+
+// How many checks of a word of the right length are broken, and the lowest of them. This and each function that measures a word makes
+// room for it: a struct of that room would be returned as a copy.
+fn check_taken(o: Offer, word: &[u8]) -> Checked
+    requires { Known o × (length word.now ≡ o.word) }
+    ensures { (n : ℕ) → offered n ≡ true → o ≡ offer_of n → as_checked result ≡ checked_from n word.now }
+{
     let mut h = [0u16; TABLE];
     let mut y = [0u64; WORD];
     let mut z = [0u64; SYNDROME];
@@ -130,6 +145,17 @@ pub fn check(code: u8, word: &[u8]) -> Checked
         number: 0,
         broken: syndromes::broken(&z),
         lowest: syndromes::lowest(&z, sh),
+    }
+}
+
+// How many checks are broken, and the lowest of them.
+pub fn check(code: u8, word: &[u8]) -> Checked
+    ensures { as_checked result ≡ check_answer code word.now }
+{
+    let o = offer::of(code);
+    match refusals::admit(o.offered, word.len(), o.word, 0, 0) {
+        Ok(()) => check_taken(o, word),
+        Err(refusal) => refused_check(refusal),
     }
 }
 
@@ -149,25 +175,34 @@ fn fault_of(o: Offer, word: &[u8]) -> Found
     }
 }
 
+// The information octets of a word of the right length, where it is a codeword.
+fn open_taken<'a>(o: Offer, word: &'a [u8]) -> Opened<'a>
+    requires { Known o × (length word.now ≡ o.word) }
+    ensures { (n : ℕ) → offered n ≡ true → o ≡ offer_of n
+        → as_opened result.number result.lowest result.part.now ≡ opened_from n word.now }
+{
+    let f = fault_of(o, word);
+    let end = if f.number == 0 { o.information } else { 0 };
+    Opened {
+        number: f.number,
+        lowest: f.lowest,
+        part: &word[..end],
+    }
+}
+
 // The information octets of a codeword, lent back as a part of the word.
-pub fn open<'a>(code: u8, word: &'a [u8], number: &mut u8, lowest: &mut u32) -> &'a [u8]
-    ensures { as_opened number.new lowest.new result.now ≡ open_answer code word.now }
+pub fn open<'a>(code: u8, word: &'a [u8]) -> Opened<'a>
+    ensures { as_opened result.number result.lowest result.part.now ≡ open_answer code word.now }
 {
     let o = offer::of(code);
-    let refused = refusals::refusal(o.opens, word.len(), o.word, 0, 0);
-    if refused != 0 {
-        *number = refused;
-        *lowest = 0;
-        return &word[..0];
+    match refusals::admit(o.opens, word.len(), o.word, 0, 0) {
+        Ok(()) => open_taken(o, word),
+        Err(refusal) => Opened {
+            number: refusal.number(),
+            lowest: 0,
+            part: &word[..0],
+        },
     }
-    let f = fault_of(o, word);
-    *number = f.number;
-    *lowest = f.lowest;
-    if f.number != 0 {
-        return &word[..0];
-    }
-    let end = o.information;
-    &word[..end]
 }
 
 // The flipping run on a word of the right length; h, y and z are handed over as zeros, and y comes back as the word at its end.
@@ -187,9 +222,9 @@ fn run_taken(
     let lowest = syndromes::lowest(z, sh);
     let ended = runs::run(y, z, h, sh, o.unsent, limit, first);
     Course {
-        ended: ended,
-        first: first,
-        lowest: lowest,
+        ended,
+        first,
+        lowest,
     }
 }
 
@@ -216,11 +251,11 @@ fn finish(o: Offer, word: &[u8], y: &mut [u64; WORD], run: Course, out: &mut [u8
     let number = judging::judge(o, y, ran.number);
     write_taken(o, number, y, out);
     Corrected {
-        number: number,
+        number,
         flips: ran.flips,
         first: run.first,
         last: ended.last,
-        unlike: unlike,
+        unlike,
         lowest: run.lowest,
     }
 }
@@ -243,11 +278,10 @@ pub fn correct(code: u8, word: &[u8], limit: u16, out: &mut [u8]) -> Corrected
     ensures { as_corrected result out.new ≡ correct_answer code word.now limit out.old }
 {
     let o = offer::of(code);
-    let number = refusals::refusal(o.offered, word.len(), o.word, out.len(), o.word);
-    if number != 0 {
-        return endings::refused_correct(number);
+    match refusals::admit(o.offered, word.len(), o.word, out.len(), o.word) {
+        Ok(()) => correct_taken(o, word, limit, out),
+        Err(refusal) => endings::refused_correct(refusal.number()),
     }
-    correct_taken(o, word, limit, out)
 }
 
 // What comes next for a word of the right length; h, y and z are handed over as zeros, and y comes back as the word's bits.
@@ -294,15 +328,14 @@ fn step_out(o: Offer, word: &[u8], next: Next, y: &mut [u64; WORD], out: &mut [u
                 excess: 0,
             }
         }
-        Next::Stuck(_, _) => refused_step(5),
+        Next::Stuck(_, _) => refused_step(Refusal::Stuck),
         Next::Flip(bit, excess) => {
             write_flipped(o, y, bit, out);
-            let place = bit as u32;
             Stepped {
                 number: 0,
                 quiet: false,
-                bit: place,
-                excess: excess,
+                bit: bit as u32,
+                excess,
             }
         }
     }
@@ -326,9 +359,8 @@ pub fn step(code: u8, word: &[u8], out: &mut [u8]) -> Stepped
     ensures { as_stepped result out.new ≡ step_answer code word.now out.old }
 {
     let o = offer::of(code);
-    let number = refusals::refusal(o.steps, word.len(), o.word, out.len(), o.word);
-    if number != 0 {
-        return refused_step(number);
+    match refusals::admit(o.steps, word.len(), o.word, out.len(), o.word) {
+        Ok(()) => step_taken(o, word, out),
+        Err(refusal) => refused_step(refusal),
     }
-    step_taken(o, word, out)
 }

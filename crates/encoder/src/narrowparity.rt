@@ -81,10 +81,11 @@ fn turns(d: Pair, step: &[u16], size: usize) -> u64
     ensures { Holds result (copies size step.now (both d)) }
 {
     let mut sum: u64 = 0;
-    let mut k: usize = 2;
-    while k < 10 && (step[k] as usize) < size {
-        sum ^= vectors::funnel(d.first, d.second, step[k] as usize);
-        k += 1;
+    for shift in &step[2..] {
+        if *shift as usize >= size {
+            break;
+        }
+        sum ^= vectors::funnel(d.first, d.second, *shift as usize);
     }
     sum
 }
@@ -108,13 +109,11 @@ fn narrow_steps(size: usize) -> [[u16; 10]; 15]
     requires { (size ≡ 16 → ⊥) → (size ≡ 32 → ⊥) → size ≡ 64 }
     ensures { result ≡ steps_of size }
 {
-    if size == 16 {
-        return STEPS16;
+    match size {
+        16 => STEPS16,
+        32 => STEPS32,
+        _ => STEPS64,
     }
-    if size == 32 {
-        return STEPS32;
-    }
-    STEPS64
 }
 
 // The steps, one after the other, where one word holds a row.
@@ -125,10 +124,8 @@ fn walk_narrow(sh: Shape, z: &mut [u64; SYNDROME])
         → wbit z.new ≡ held sh (walked sh.size (steps_of sh.size) 15 f) }
 {
     let steps = narrow_steps(sh.size);
-    let mut k: usize = 0;
-    while k < 15 {
-        step_narrow(&steps[k], sh, z);
-        k += 1;
+    for step in &steps {
+        step_narrow(step, sh, z);
     }
 }
 
@@ -149,10 +146,8 @@ fn add_narrow(octets: &[u8], h: &[u16; TABLE], sh: Shape, z: &mut [u64; SYNDROME
 {
     let mut y = [0u64; 5];
     vectors::load(octets, &mut y);
-    let mut b: usize = 0;
-    while b < 4 {
+    for b in 0..4 {
         add_narrow_block(&y, h, sh, b, z);
-        b += 1;
     }
 }
 

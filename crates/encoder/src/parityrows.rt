@@ -29,10 +29,8 @@ fn put_row(z: &[u64; SYNDROME], sh: Shape, r: usize, y: &mut [u64; TAIL], p: usi
     ensures { (f : ℕ → Word) → wbit z.now ≡ held sh f
         → wbit y.new ≡ added (wbit y.old) p (p + sh.size) (f r) }
 {
-    let mut j: usize = 0;
-    while j < sh.words {
+    for j in 0..sh.words {
         put_word(z[r * sh.words + j], y, p + 64 * j);
-        j += 1;
     }
 }
 
@@ -42,10 +40,8 @@ fn put_rows(z: &[u64; SYNDROME], sh: Shape, first: usize, y: &mut [u64; TAIL], a
     ensures { (f : ℕ → Word) (x : Word) → wbit z.now ≡ held sh f → wbit y.old ≡ up_to at x
         → wbit y.new ≡ completed sh first f at x }
 {
-    let mut a: usize = 0;
-    while a < sh.rows {
+    for a in 0..sh.rows {
         put_row(z, sh, (a + first) % sh.rows, y, at + a * sh.size);
-        a += 1;
     }
 }
 

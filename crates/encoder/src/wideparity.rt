@@ -65,10 +65,11 @@ fn add_turns(
     ensures { wbit z.new ≡ added (wbit z.old) (64 * at) (64 * (at + w))
         (copies size step.now (wbit d.now)) }
 {
-    let mut k: usize = 2;
-    while k < 10 && (step[k] as usize) < size {
-        vectors::add_turned(d, step[k] as usize, z, at, w);
-        k += 1;
+    for shift in &step[2..] {
+        if *shift as usize >= size {
+            break;
+        }
+        vectors::add_turned(d, *shift as usize, z, at, w);
     }
 }
 
@@ -91,10 +92,8 @@ fn walk_wide(sh: Shape, z: &mut [u64; SYNDROME])
 {
     let steps = STEPS511;
     let mut d = [0u64; DOUBLED];
-    let mut k: usize = 0;
-    while k < 15 {
-        step_wide(&steps[k], sh, &mut d, z);
-        k += 1;
+    for step in &steps {
+        step_wide(step, sh, &mut d, z);
     }
 }
 
@@ -111,12 +110,11 @@ fn invert_row(z: &mut [u64; SYNDROME], r: usize, v: u64)
     ensures { (b : Bool) → Holds v (λ i. b)
         → wbit z.new ≡ added (wbit z.old) (512 * r) (512 * (r + 1)) (up_to 511 (λ i. b)) }
 {
-    let mut k: usize = 8 * r;
-    while k < 8 * r + 7 {
+    let last = 8 * r + 7;
+    for k in 8 * r..last {
         vectors::add_word(v, z, k);
-        k += 1;
     }
-    vectors::add_word(vectors::front(v, 63), z, k);
+    vectors::add_word(vectors::front(v, 63), z, last);
 }
 
 // Inverts the rows that end with every bit the other way, by a number that has a bit for each block, set where its bits are odd in number.
@@ -189,10 +187,8 @@ fn add_wide(
     let mut part = [0u64; BLOCK];
     let mut d = [0u64; DOUBLED];
     let mut odd: u64 = 0;
-    let mut b: usize = 0;
-    while b < 14 {
+    for b in 0..14 {
         odd = add_wide_block(octets, unsent, b, odd, h, sh, &mut part, &mut d, z);
-        b += 1;
     }
     odd
 }

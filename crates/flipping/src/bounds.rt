@@ -1,17 +1,31 @@
 // What a run keeps from flip to flip: the rows of the syndrome, each twice over; the starts of every block; and a bound for each block.
-ghost use Rattle.std.specs.Prelude.{◌≡◌, ℕ, ◌+◌, ◌-◌, ◌*◌, ◌/◌, ◌%◌, ◌^◌, ◌<◌, ◌≤◌, length, get_or, List, ◌&&◌, leb, ltb, eqb};
+ghost use Rattle.std.specs.Prelude.{◌≡◌, ℕ, ◌+◌, ◌-◌, ◌*◌, ◌/◌, ◌%◌, ◌^◌, ◌<◌, ◌≤◌, length, get_or, ◌&&◌, leb, ltb, eqb};
 ghost use Rattle.bits.specs.Bits.{Word, digit, sum, flipped, ◌⊕◌};
-ghost use Rattle.rules.specs.Codes.{Code};
-ghost use Rattle.rules.specs.Checks.{met_of};
 ghost use Rattle.vectors.specs.Vectors.{wbit, Holds, up_to, from};
-ghost use Rattle.layout.specs.Lent.{Fit, Lent};
-ghost use Rattle.flipping.specs.bounds.Reading.{Twice, Placed, other, hits, light, Noted, Listed, asked, Starts, Gathered};
-ghost use Rattle.flipping.specs.bounds.Keeping.{Ready, Kept};
-ghost use Rattle.layout.specs.Rooms.{blocks_room, rows_room, starts_room, syndrome_room};
+ghost use Rattle.layout.specs.Lent.{Fit};
+ghost use Rattle.flipping.specs.bounds.Reading.{Twice, Placed, other, hits, light, Noted, Listed, asked, Starts};
+ghost use Rattle.flipping.specs.bounds.Keeping.{Ready, Laid, Flips};
+ghost use Rattle.layout.specs.Rooms.{blocks_room, rows_room, starts_room};
 
 use layout::{BLOCK, BLOCKS, ROWS, STARTS, SYNDROME, Shape, TABLE};
 use planes::{add, all, spread};
 use vectors::{double, double_word, flip_bit, front, trim, window};
+
+// Where the checks of each block's bits are read, in words of this shape: the starts of every block, and how many it has.
+#[derive(Drop)]
+pub struct Places {
+    pub shape: Shape,
+    pub starts: [u16; STARTS],
+    pub counts: [u8; BLOCKS],
+}
+
+// Places, and for each block how many of its checks every bit has met at least.
+#[derive(Drop)]
+pub struct Bounds {
+    pub places: Places,
+    pub met: [u8; BLOCKS],
+    pub ghost ready: { Ready places.shape places.starts places.counts met },
+}
 
 // Writes one start more, if place `at` of h has an entry, and says how many there are then.
 fn note(h: &[u16], at: usize, m: usize, row: usize, starts: &mut [u16], n: usize) -> usize
@@ -46,23 +60,23 @@ fn gather(h: &[u16], sh: Shape, b: usize, starts: &mut [u16]) -> usize
         × ((e : ℕ) → e < 8 * b → get_or starts.new e 0 ≡ get_or starts.old e 0) }
 {
     let mut n = 8 * b;
-    let mut r: usize = 0;
-    while r < sh.rows {
-        n = note_row(h, sh, b, r, starts, n);
-        r += 1;
+    for row in 0..sh.rows {
+        n = note_row(h, sh, b, row, starts, n);
     }
     n - 8 * b
 }
 
-// The starts of every block, and how many each has.
-fn gather_all(h: &[u16], sh: Shape, starts: &mut [u16], counts: &mut [u8])
-    requires { Fit h.now sh × (length starts.old ≡ starts_room) × (length counts.old ≡ blocks_room) }
-    ensures { Gathered h.now sh starts.new counts.new sh.blocks }
-{
-    let mut b = 0;
-    while b < sh.blocks {
-        counts[b] = gather(h, sh, b, starts) as u8;
-        b += 1;
+impl Places {
+    // The starts of every block, and how many each has.
+    fn gather(&mut self, h: &[u16; TABLE])
+        requires { Fit h.now self.old.shape }
+        ensures { (self.new.shape ≡ self.old.shape) × (length self.new.starts ≡ starts_room) × (length self.new.counts ≡ blocks_room)
+            × Laid h.now self.new }
+    {
+        let sh = self.shape;
+        for b in 0..sh.blocks {
+            self.counts[b] = gather(h, sh, b, &mut self.starts) as u8;
+        }
     }
 }
 
@@ -71,10 +85,8 @@ fn row(z: &[u64], at: usize, words: usize, m: usize, v: &mut [u64])
     requires { (at + words ≤ length z.now) × (words ≤ length v.old) × (m ≤ 64 * words) }
     ensures { wbit v.new ≡ up_to m (from (64 * at) (wbit z.now)) }
 {
-    let mut k = 0;
-    while k < words {
+    for k in 0..words {
         v[k] = z[at + k];
-        k += 1;
     }
     trim(v, m);
 }
@@ -112,30 +124,29 @@ fn double_rows(z: &[u64; SYNDROME], sh: Shape, v: &mut [u64; BLOCK], d: &mut [u6
 {
     let words = sh.words;
     let m = sh.size;
-    let mut r = 0;
-    while r < sh.rows {
+    for r in 0..sh.rows {
         double_row(z, r * words, words, m, v, d, 16 * r);
-        r += 1;
     }
 }
 
-// The doubled rows of the syndrome z, and the starts of every block. The bounds begin with no met check.
-pub fn begin(
-    z: &[u64; SYNDROME],
-    h: &[u16; TABLE],
-    sh: Shape,
-    d: &mut [u64; ROWS],
-    starts: &mut [u16; STARTS],
-    counts: &mut [u8; BLOCKS],
-)
+// The doubled rows of the syndrome z, and the bounds of the blocks of this shape: no met check is counted on yet.
+pub fn begin(z: &[u64; SYNDROME], h: &[u16; TABLE], sh: Shape, rows: &mut [u64; ROWS]) -> Bounds
     requires { Fit h.now sh }
-    ensures { Twice sh sh.rows (wbit z.now) (wbit d.new)
-        × Gathered h.now sh starts.new counts.new sh.blocks
-        × (length starts.new ≡ starts_room) × (length counts.new ≡ blocks_room) }
+    ensures { Twice sh sh.rows (wbit z.now) (wbit rows.new) × (result.places.shape ≡ sh)
+        × Laid h.now result.places × ((b : ℕ) → get_or result.met b 0 ≡ 0) }
 {
     let mut v = [0u64; BLOCK];
-    double_rows(z, sh, &mut v, d);
-    gather_all(h, sh, starts, counts);
+    double_rows(z, sh, &mut v, rows);
+    let mut bounds = Bounds {
+        places: Places {
+            shape: sh,
+            starts: [0; STARTS],
+            counts: [0; BLOCKS],
+        },
+        met: [0; BLOCKS],
+    };
+    bounds.places.gather(h);
+    bounds
 }
 
 // Of 64 bits, those of which at most so many checks are met, none or one; mostly the first checks show that there is none.
@@ -147,15 +158,13 @@ fn few_met(d: &[u64], starts: &[u16], first: usize, n: usize, at: usize, met: us
 {
     let mut found = u64::MAX;
     let mut spare = spread(met);
-    let mut e = 0;
-    while e < n {
+    for e in 0..n {
         let x = window(d, starts[first + e] as usize + at);
         found = (found & x) | spare;
         if found == 0 {
             return 0;
         }
         spare &= x;
-        e += 1;
     }
     found
 }
@@ -168,24 +177,19 @@ fn many_broken(d: &[u64], starts: &[u16], first: usize, n: usize, at: usize, nee
 {
     let mut counts = all(8 - need);
     let mut over: u64 = 0;
-    let mut e = 0;
-    while e < n {
+    for e in 0..n {
         let more = add(counts, window(d, starts[first + e] as usize + at));
         counts = more.planes;
         over |= more.over;
-        e += 1;
     }
     over
 }
 
 // Of 64 bits from bit `at` on, how many stand ahead of bit k.
-fn ahead(k: usize, at: usize) -> usize
+pub fn ahead(k: usize, at: usize) -> usize
     ensures { (result ≤ 64) × ((i : ℕ) → i < 64 → ltb i result ≡ ltb (at + i) k) }
 {
-    if k <= at {
-        return 0;
-    }
-    if k - at < 64 { k - at } else { 64 }
+    k.saturating_sub(at).min(64)
 }
 
 // Of the bits that are set in v, which begins with bit `at`, those from bit `begin` to before bit m.
@@ -255,21 +259,9 @@ pub fn flip_checks(d: &mut [u64], starts: &[u16], first: usize, n: usize, k: usi
         ⊕ sum n (λ e. eqb p (get_or starts.now (first + e) 0 + k)
         ⊕ eqb p (other m (get_or starts.now (first + e) 0 + k))) }
 {
-    let mut e = 0;
-    while e < n {
+    for e in 0..n {
         flip_check(d, starts[first + e] as usize + k, m);
-        e += 1;
     }
-}
-
-// So many fewer, or none.
-fn fewer(v: u8, by: u8) -> u8
-    ensures { result ≡ v - by }
-{
-    if v < by {
-        return 0;
-    }
-    v - by
 }
 
 // After a flip that broke so many checks, the bits of each block may have so many met checks fewer.
@@ -277,33 +269,22 @@ fn raise(met: &mut [u8], by: u8)
     requires { length met.old ≡ blocks_room }
     ensures { (b : ℕ) → b < 16 → get_or met.new b 0 ≡ get_or met.old b 0 - by }
 {
-    let mut b = 0;
-    while b < 16 {
-        met[b] = fewer(met[b], by);
-        b += 1;
+    for m in met.iter_mut() {
+        *m = m.saturating_sub(by);
     }
 }
 
-// Flips the checks of a bit and raises the bounds; the bit has as many met checks as the bound of its block says.
-pub fn flip(
-    d: &mut [u64; ROWS],
-    starts: &[u16; STARTS],
-    counts: &[u8; BLOCKS],
-    met: &mut [u8; BLOCKS],
-    sh: Shape,
-    bit: usize,
-)
-    requires { Ready sh starts.now counts.now met.old × (bit < sh.blocks * sh.size) }
-    ensures { Ready sh starts.now counts.now met.new
-        × ((c : Code) (h : List ℕ) (from : ℕ) (x : Word) → Lent c h sh
-        → Gathered h sh starts.now counts.now sh.blocks
-        → Kept c sh from x d.old counts.now met.old
-        → met_of c x bit ≡ get_or met.old (bit / sh.size) 0
-        → Kept c sh from (flipped x bit) d.new counts.now met.new) }
-{
-    let b = bit / sh.size;
-    let n = counts[b] as usize;
-    flip_checks(d, starts, 8 * b, n, bit % sh.size, sh.size);
-    let by = met[b];
-    raise(met, by);
+impl Bounds {
+    // Flips the checks of a bit and raises the bounds; the bit has as many met checks as the bound of its block says.
+    pub fn flip(&mut self, rows: &mut [u64; ROWS], bit: usize)
+        requires { bit < self.old.places.shape.blocks * self.old.places.shape.size }
+        ensures { (self.new.places ≡ self.old.places) × Flips self.old.places bit rows.old self.old.met rows.new self.new.met }
+    {
+        let sh = self.places.shape;
+        let b = bit / sh.size;
+        let n = self.places.counts[b] as usize;
+        flip_checks(rows, &self.places.starts, 8 * b, n, bit % sh.size, sh.size);
+        let by = self.met[b];
+        raise(&mut self.met, by);
+    }
 }

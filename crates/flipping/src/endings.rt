@@ -13,6 +13,7 @@ use catalogue::offer::Offer;
 use layout::WORD;
 use word::unlike;
 
+// A record of C's: its number says whether the rest counts.
 #[repr(C)]
 #[derive(Clone, Copy)]
 pub struct Corrected {
@@ -29,7 +30,7 @@ pub fn refused_correct(number: u8) -> Corrected
     ensures { (out : List ℕ) → as_corrected result out ≡ refused_correct_of out number }
 {
     Corrected {
-        number: number,
+        number,
         flips: 0,
         first: 0,
         last: 0,

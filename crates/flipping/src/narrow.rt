@@ -4,13 +4,12 @@ ghost use Rattle.std.specs.Int.Count.{count_leading_zeros};
 ghost use Rattle.bits.specs.Bits.{Word, digit, flipped, tally, over, count_of, ◌⊕◌};
 ghost use Rattle.rules.specs.Codes.{Code};
 ghost use Rattle.vectors.specs.Vectors.{wbit, Holds, up_to, from as bits_from};
-ghost use Rattle.planes.specs.Ranges.{Top};
 ghost use Rattle.layout.specs.Lent.{Fit, Lent, laid, score, entries, shifts_of, total};
 ghost use Rattle.layout.specs.Rooms.{blocks_room, syndrome_room};
 ghost use Rattle.magnitudes.specs.Patterns.{smaller};
 ghost use Rattle.magnitudes.specs.Sizes.{smallest};
 ghost use Rattle.flipping.specs.narrow.Weighing.{around, Rows, Held, Weighs, broke, sent, Peaked};
-ghost use Rattle.flipping.specs.narrow.Weighing.{Weighed, Greatest, Marks, Marked, Told, Chosen};
+ghost use Rattle.flipping.specs.narrow.Weighing.{Weighed, Greatest, Marks, Marked, Told, Chosen, scores_of, masks_of};
 
 use super::choice::Best;
 use layout::{BLOCKS, Shape, TABLE, WORD};
@@ -29,9 +28,9 @@ struct Weights {
 
 // A score, and the bits that have it.
 #[derive(Clone, Copy)]
-struct Level {
-    score: u32,
-    mask: u64,
+pub struct Level {
+    pub score: u32,
+    pub mask: u64,
 }
 
 // The greatest score, and the first block that has it.
@@ -61,10 +60,8 @@ pub fn begin(z: &[u64], sh: Shape, rows: &mut [u64])
         × (length rows.old ≡ 4) }
     ensures { (c : Code) (x : Word) → wbit z.now ≡ laid c sh x → Rows c sh x rows.new }
 {
-    let mut r = 0;
-    while r < 4 {
+    for r in 0..4 {
         rows[r] = repeated(z[r], sh.size);
-        r += 1;
     }
 }
 
@@ -78,9 +75,9 @@ fn with_check(w: Weights, x: u64) -> Weights
     let one = (w.one & x) | w.none;
     let none = w.none & x;
     Weights {
-        none: none,
-        one: one,
-        two: two,
+        none,
+        one,
+        two,
         checks: w.checks + 1,
     }
 }
@@ -121,10 +118,8 @@ fn weigh(rows: &[u64], h: &[u16], sh: Shape, b: usize, mask: u64) -> Weights
         two: mask,
         checks: 0,
     };
-    let mut r = 0;
-    while r < 4 {
+    for r in 0..4 {
         w = with_row(w, rows[r], h, 2 * (r * sh.blocks + b), sh.size);
-        r += 1;
     }
     w
 }
@@ -169,25 +164,13 @@ fn sent_in(b: usize, from: usize, m: usize) -> u64
 }
 
 // For each block the greatest score above 8 of its bits, and the bits that have it; bits before bit `from` are not sent.
-pub fn weigh_all(
-    rows: &[u64],
-    h: &[u16],
-    sh: Shape,
-    from: usize,
-    scores: &mut [u32],
-    masks: &mut [u64],
-)
-    requires { Fit h.now sh × (sh.words ≡ 1) × (length rows.now ≡ 4) × (from < sh.size)
-        × (length scores.old ≡ blocks_room) × (length masks.old ≡ blocks_room) }
+pub fn weigh_all(rows: &[u64], h: &[u16], sh: Shape, from: usize, levels: &mut [Level])
+    requires { Fit h.now sh × (sh.words ≡ 1) × (length rows.now ≡ 4) × (from < sh.size) × (length levels.old ≡ blocks_room) }
     ensures { (c : Code) (x : Word) → Lent c h.now sh → Rows c sh x rows.now
-        → Weighed c sh from x scores.new masks.new sh.blocks }
+        → Weighed c sh from x (scores_of levels.new) (masks_of levels.new) sh.blocks }
 {
-    let mut b = 0;
-    while b < sh.blocks {
-        let l = highest(weigh(rows, h, sh, b, sent_in(b, from, sh.size)));
-        scores[b] = l.score;
-        masks[b] = l.mask;
-        b += 1;
+    for b in 0..sh.blocks {
+        levels[b] = highest(weigh(rows, h, sh, b, sent_in(b, from, sh.size)));
     }
 }
 
@@ -197,35 +180,29 @@ fn better(p: Peak, score: u32, b: usize) -> Peak
         × (score ≤ p.score → (result.score ≡ p.score) × (result.block ≡ p.block)) }
 {
     if p.score < score {
-        return Peak {
-            score: score,
-            block: b,
-        };
+        return Peak { score, block: b };
     }
     p
 }
 
 // The greatest of the scores, and the first block that has it; 8 if none is greater.
-pub fn greatest(scores: &[u32], blocks: usize) -> Peak
-    requires { (1 ≤ blocks) × (blocks ≤ length scores.now) × (length scores.now ≤ blocks_room) }
-    ensures { Greatest scores.now blocks result.score result.block }
+pub fn greatest(levels: &[Level], blocks: usize) -> Peak
+    requires { (1 ≤ blocks) × (blocks ≤ length levels.now) × (length levels.now ≤ blocks_room) }
+    ensures { Greatest (scores_of levels.now) blocks result.score result.block }
 {
     let mut p = Peak { score: 8, block: 0 };
-    let mut b = 0;
-    while b < blocks {
-        p = better(p, scores[b], b);
-        b += 1;
+    for b in 0..blocks {
+        p = better(p, levels[b].score, b);
     }
     p
 }
 
 // The first bit of this block that is set in its mask.
-pub fn first_bit(masks: &[u64], block: usize, m: usize) -> usize
-    requires { (block < 16) × (length masks.now ≡ blocks_room) × (m ≤ 64) }
-    ensures { (get_or masks.now block 0 < 2 ^ 64)
-        × (result ≡ block * m + count_leading_zeros 64 (get_or masks.now block 0)) }
+pub fn first_bit(mask: u64, block: usize, m: usize) -> usize
+    requires { (block < 16) × (m ≤ 64) }
+    ensures { (mask < 2 ^ 64) × (result ≡ block * m + count_leading_zeros 64 mask) }
 {
-    block * m + u64::leading_zeros(masks[block]) as usize
+    block * m + u64::leading_zeros(mask) as usize
 }
 
 // The smallest of a bit and of those that are set in the mask of a block which begins with bit `first`, if it has the score `top`.
@@ -243,54 +220,41 @@ fn peak_in(samples: &[u32], score: u32, mask: u64, top: u32, first: usize, bit: 
 }
 
 // The smallest of a bit and of those that the masks have of the blocks with this score.
-fn smallest_peak(
-    samples: &[u32],
-    scores: &[u32],
-    masks: &[u64],
-    sh: Shape,
-    top: u32,
-    bit: usize,
-) -> usize
-    requires { (sh.blocks ≤ 16) × (1 ≤ sh.size) × (sh.size ≤ 64) × (length scores.now ≡ blocks_room)
-        × (length masks.now ≡ blocks_room) × (length samples.now ≡ sh.blocks * sh.size) × (bit < length samples.now)
-        × Marked sh scores.now masks.now top }
-    ensures { (marked : ℕ → Bool) → Marks marked sh scores.now masks.now top
+fn smallest_peak(samples: &[u32], levels: &[Level], sh: Shape, top: u32, bit: usize) -> usize
+    requires { (sh.blocks ≤ 16) × (1 ≤ sh.size) × (sh.size ≤ 64) × (length levels.now ≡ blocks_room)
+        × (length samples.now ≡ sh.blocks * sh.size) × (bit < length samples.now)
+        × Marked sh (scores_of levels.now) (masks_of levels.now) top }
+    ensures { (marked : ℕ → Bool) → Marks marked sh (scores_of levels.now) (masks_of levels.now) top
         → result ≡ smallest (smaller samples.now) marked bit 0 (sh.blocks * sh.size) }
 {
     let mut best = bit;
-    let mut b = 0;
-    while b < sh.blocks {
-        best = peak_in(samples, scores[b], masks[b], top, b * sh.size, best);
-        b += 1;
+    for b in 0..sh.blocks {
+        let level = levels[b];
+        best = peak_in(samples, level.score, level.mask, top, b * sh.size, best);
     }
     best
 }
 
 // The bit of the greatest score above 8 where the blocks have been weighed; of several the one with the smallest sample, then the lowest
 // number; without samples the lowest. A score of 8 says that there is none.
-fn best_of(samples: &[u32], scores: &[u32; BLOCKS], masks: &[u64; BLOCKS], sh: Shape) -> Best
-    requires { Told sh samples.now scores.now masks.now }
+fn best_of(samples: &[u32], levels: &[Level; BLOCKS], sh: Shape) -> Best
+    requires { Told sh samples.now (scores_of levels.now) (masks_of levels.now) }
     ensures { (c : Code) (h : List ℕ) (from : ℕ) (x : Word) → Fit h sh → Lent c h sh → from < sh.size
         → (0 < length samples.now → from ≡ 0)
-        → Weighed c sh from x scores.now masks.now sh.blocks → Chosen c sh from x samples.now result }
+        → Weighed c sh from x (scores_of levels.now) (masks_of levels.now) sh.blocks → Chosen c sh from x samples.now result }
 {
-    let p = greatest(scores, sh.blocks);
-    let low = first_bit(masks, p.block, sh.size);
-    if p.score <= 8 {
-        return Best {
-            score: p.score,
-            bit: low,
-        };
+    let p = greatest(levels, sh.blocks);
+    let score = p.score;
+    let low = first_bit(levels[p.block].mask, p.block, sh.size);
+    if score <= 8 {
+        return Best { score, bit: low };
     }
     if samples.len() == 0 {
-        return Best {
-            score: p.score,
-            bit: low,
-        };
+        return Best { score, bit: low };
     }
     Best {
-        score: p.score,
-        bit: smallest_peak(samples, scores, masks, sh, p.score, low),
+        score,
+        bit: smallest_peak(samples, levels, sh, score, low),
     }
 }
 
@@ -307,10 +271,9 @@ pub fn choose(
     ensures { (c : Code) (x : Word) → Lent c h.now sh → Rows c sh x rows.now
         → Chosen c sh from x samples.now result }
 {
-    let mut scores = [0u32; BLOCKS];
-    let mut masks = [0u64; BLOCKS];
-    weigh_all(rows, h, sh, from, &mut scores, &mut masks);
-    best_of(samples, &scores, &masks, sh)
+    let mut levels = [Level { score: 0, mask: 0 }; BLOCKS];
+    weigh_all(rows, h, sh, from, &mut levels);
+    best_of(samples, &levels, sh)
 }
 
 // Flips the check of a row that covers bit k by the shift s; a number that is m or more is no shift. `each` has the first bit of
@@ -342,10 +305,8 @@ fn flip_rows(rows: &mut [u64], h: &[u16], sh: Shape, each: u64, b: usize, k: usi
     ensures { (q : ℕ) → q < 4 → (f : Word) → Holds (get_or rows.old q 0) f → Holds (get_or rows.new q 0)
         (λ i. f i ⊕ over (shifts_of sh h.now q b) (λ s. eqb (i % sh.size) ((k + (sh.size - s)) % sh.size))) }
 {
-    let mut r = 0;
-    while r < 4 {
+    for r in 0..4 {
         rows[r] = flip_row(rows[r], each, h, 2 * (r * sh.blocks + b), k, sh.size);
-        r += 1;
     }
 }
 

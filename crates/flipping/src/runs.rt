@@ -1,21 +1,22 @@
 // What comes next for a word whose syndrome is held, and the flipping run.
-ghost use Rattle.std.specs.Prelude.{◌≡◌, List, ℕ, ◌*◌, ◌/◌, ◌≤◌, ◌<◌, length, get_or};
+ghost use Rattle.std.specs.Prelude.{◌≡◌, ◌*◌, ◌/◌, ◌≤◌, ◌<◌, length};
 ghost use Rattle.bits.specs.Bits.{Word, flipped};
 ghost use Rattle.rules.specs.Codes.{Code};
-ghost use Rattle.rules.specs.Checks.{broken, met_of};
+ghost use Rattle.rules.specs.Checks.{broken};
 ghost use Rattle.rules.specs.Flipping.{by_excess};
 ghost use Rattle.vectors.specs.Vectors.{wbit};
 ghost use Rattle.layout.specs.Lent.{Fit, Lent, laid};
-ghost use Rattle.flipping.specs.bounds.Reading.{Gathered};
 ghost use Rattle.magnitudes.specs.Patterns.{smaller};
 ghost use Rattle.magnitudes.specs.Sizes.{by_size};
-ghost use Rattle.flipping.specs.bounds.Keeping.{Ready, Kept};
+ghost use Rattle.flipping.specs.bounds.Keeping.{Laid, Flips};
 ghost use Rattle.flipping.specs.runs.Passes.{Holding, Begins, Beginning, Carried, Continuing, CarriedNarrow, ContinuingNarrow};
+ghost use Rattle.flipping.specs.runs.Endings.{number_of};
 ghost use Rattle.flipping.specs.runs.Passes.{Within, comes_next_of, RunsTo};
 
+use super::bounds::Bounds;
 use super::narrow::NARROW_ROWS;
-use super::{bounds, choice, narrow};
-use layout::{BLOCKS, ROWS, STARTS, SYNDROME, Shape, TABLE, WORD};
+use super::{bounds, narrow};
+use layout::{ROWS, SYNDROME, Shape, TABLE, WORD};
 
 // What comes next: quiet; or stuck, with the greatest excess and the lowest bit that has it; or this bit, of this excess, is to be flipped.
 #[derive(Clone, Copy)]
@@ -25,6 +26,15 @@ pub enum Next {
     Flip(usize, i8),
 }
 
+// How a run ends: quiet, stuck, or with as many flips as the limit allows.
+#[derive(Clone, Copy)]
+pub enum Ending {
+    Quiet = 0,
+    Stuck = 5,
+    Limit = 6,
+}
+
+// The number is that of an ending; the calls' records give it on.
 #[derive(Clone, Copy)]
 pub struct Ran {
     pub number: u8,
@@ -45,12 +55,9 @@ fn next_bounded(z: &[u64; SYNDROME], h: &[u16; TABLE], sh: Shape, from: usize) -
         × ((c : Code) → Lent c h.now sh → c.unsent ≡ from → (x : Word) → wbit z.now ≡ laid c sh x
         → (broken c x ≡ 0 → ⊥) → by_excess c x ≡ comes_next_of result) }
 {
-    let mut d = [0u64; ROWS];
-    let mut starts = [0u16; STARTS];
-    let mut counts = [0u8; BLOCKS];
-    let mut met = [0u8; BLOCKS];
-    bounds::begin(z, h, sh, &mut d, &mut starts, &mut counts);
-    let best = choice::choose(&d, &starts, &counts, &mut met, sh, from);
+    let mut rows = [0u64; ROWS];
+    let mut bounds = bounds::begin(z, h, sh, &mut rows);
+    let best = bounds.choose(&rows, from);
     let excess = best.score as i8 - 8;
     if best.score <= 8 {
         return Next::Stuck(best.bit, excess);
@@ -92,79 +99,65 @@ pub fn comes_next(z: &[u64; SYNDROME], h: &[u16; TABLE], sh: Shape, from: usize)
 }
 
 // A run that ends.
-fn at_end(number: u8, flips: u32, last: u32) -> Ended
-    ensures { (result.ran.number ≡ number) × (result.ran.flips ≡ flips) × (result.last ≡ last) }
+fn at_end(ending: Ending, flips: u32, last: u32) -> Ended
+    ensures { (result.ran.number ≡ number_of ending) × (result.ran.flips ≡ flips) × (result.last ≡ last) }
 {
     Ended {
         ran: Ran {
-            number: number,
-            flips: flips,
+            number: ending as u8,
+            flips,
         },
-        last: last,
+        last,
     }
 }
 
 // Flips a bit of a word, and its checks in what is kept of it; the bit has as many met checks as the bound of its block says.
-fn flip(
-    y: &mut [u64; WORD],
-    d: &mut [u64; ROWS],
-    starts: &[u16; STARTS],
-    counts: &[u8; BLOCKS],
-    met: &mut [u8; BLOCKS],
-    sh: Shape,
-    bit: usize,
-)
-    requires { Ready sh starts.now counts.now met.old × (bit < sh.blocks * sh.size) × (sh.blocks * sh.size ≤ 8176) }
+fn flip(y: &mut [u64; WORD], rows: &mut [u64; ROWS], bounds: &mut Bounds, bit: usize)
+    requires { (bit < bounds.old.places.shape.blocks * bounds.old.places.shape.size)
+        × (bounds.old.places.shape.blocks * bounds.old.places.shape.size ≤ 8176) }
     ensures word { wbit y.new ≡ flipped (wbit y.old) bit }
-    ensures checks { Ready sh starts.now counts.now met.new
-        × ((c : Code) (h : List ℕ) (from : ℕ) (x : Word) → Lent c h sh
-        → Gathered h sh starts.now counts.now sh.blocks
-        → Kept c sh from x d.old counts.now met.old
-        → met_of c x bit ≡ get_or met.old (bit / sh.size) 0
-        → Kept c sh from (flipped x bit) d.new counts.now met.new) }
+    ensures checks { (bounds.new.places ≡ bounds.old.places)
+        × Flips bounds.old.places bit rows.old bounds.old.met rows.new bounds.new.met }
 {
     vectors::flip_bit(y, bit);
-    bounds::flip(d, starts, counts, met, sh, bit);
+    bounds.flip(rows, bit);
 }
 
-// The run from the word y, of which d, starts, counts and met are kept, under a limit: flips until it ends. So many checks are broken.
+// The run from the word y, of which rows and bounds are kept, under a limit: flips until it ends. So many checks are broken.
 fn go_on(
     y: &mut [u64; WORD],
-    d: &mut [u64; ROWS],
-    starts: &[u16; STARTS],
-    counts: &[u8; BLOCKS],
-    met: &mut [u8; BLOCKS],
+    rows: &mut [u64; ROWS],
+    bounds: &mut Bounds,
     h: &[u16; TABLE],
-    sh: Shape,
     from: usize,
     limit: u16,
     first: u32,
 ) -> Ended
-    requires { Fit h.now sh × Gathered h.now sh starts.now counts.now sh.blocks
-        × Ready sh starts.now counts.now met.old × (1 ≤ sh.blocks) × (from < sh.size)
-        × Continuing h.now sh from first (wbit y.old) d.old counts.now met.old }
-    ensures { (c : Code) → Lent c h.now sh → c.unsent ≡ from
-        → Carried c sh from first (wbit y.old) d.old counts.now met.old
-        → RunsTo (by_excess c) c sh limit (wbit y.old) result.ran (wbit y.new) (laid c sh (wbit y.new))
-        × (result.last ≡ broken c (wbit y.new)) }
+    requires { Fit h.now bounds.old.places.shape × Laid h.now bounds.old.places
+        × (1 ≤ bounds.old.places.shape.blocks) × (from < bounds.old.places.shape.size)
+        × Continuing h.now bounds.old.places.shape from first (wbit y.old) rows.old bounds.old.places.counts bounds.old.met }
+    ensures { (c : Code) → Lent c h.now bounds.old.places.shape → c.unsent ≡ from
+        → Carried c bounds.old.places.shape from first (wbit y.old) rows.old bounds.old.places.counts bounds.old.met
+        → RunsTo (by_excess c) c bounds.old.places.shape limit (wbit y.old) result.ran (wbit y.new)
+        (laid c bounds.old.places.shape (wbit y.new)) × (result.last ≡ broken c (wbit y.new)) }
 {
     let most = limit as u32;
     let mut flips: u32 = 0;
     let mut left = first;
     while left > 0 {
-        let best = choice::choose(d, starts, counts, met, sh, from);
+        let best = bounds.choose(rows, from);
         let top = best.score;
         if top <= 8 {
-            return at_end(5, flips, left);
+            return at_end(Ending::Stuck, flips, left);
         }
         if flips >= most {
-            return at_end(6, flips, left); // no flip more
+            return at_end(Ending::Limit, flips, left); // no flip more
         }
-        flip(y, d, starts, counts, met, sh, best.bit);
+        flip(y, rows, bounds, best.bit);
         left -= top - 8;
         flips += 1;
     }
-    at_end(0, flips, 0)
+    at_end(Ending::Quiet, flips, 0)
 }
 
 // The run by the sizes of the samples from the word y, whose blocks one word holds each and whose rows are kept, under a limit: flips until
@@ -194,16 +187,16 @@ fn go_on_narrow(
         let chosen = narrow::choose(samples, rows, h, sh, from);
         let high = chosen.score;
         if high <= 8 {
-            return at_end(5, flips, left);
+            return at_end(Ending::Stuck, flips, left);
         }
         if flips >= end {
-            return at_end(6, flips, left);
+            return at_end(Ending::Limit, flips, left);
         }
         narrow::flip(y, rows, h, sh, chosen.bit);
         left -= high - 8;
         flips += 1;
     }
-    at_end(0, flips, 0)
+    at_end(Ending::Quiet, flips, 0)
 }
 
 // The run from the word y with the syndrome z, of which so many checks are broken, by the bounds of its blocks.
@@ -221,14 +214,9 @@ fn run_bounded(
         → RunsTo (by_excess c) c sh limit (wbit y.old) result.ran (wbit y.new) (laid c sh (wbit y.new))
         × (result.last ≡ broken c (wbit y.new)) }
 {
-    let mut d = [0u64; ROWS];
-    let mut starts = [0u16; STARTS];
-    let mut counts = [0u8; BLOCKS];
-    let mut met = [0u8; BLOCKS]; // begun anew
-    bounds::begin(z, h, sh, &mut d, &mut starts, &mut counts);
-    go_on(
-        y, &mut d, &starts, &counts, &mut met, h, sh, from, limit, first,
-    )
+    let mut rows = [0u64; ROWS];
+    let mut bounds = bounds::begin(z, h, sh, &mut rows);
+    go_on(y, &mut rows, &mut bounds, h, from, limit, first)
 }
 
 // The run by the sizes of the samples, where one word holds a block: as many samples as bits, or none, where all bits have equal sizes.
@@ -270,7 +258,7 @@ pub fn run(
         × (result.last ≡ broken c (wbit y.new)) }
 {
     if first == 0 {
-        return at_end(0, 0, 0);
+        return at_end(Ending::Quiet, 0, 0);
     }
     if sh.words == 1 {
         let equal = [0u32; 0];

@@ -13,11 +13,6 @@ use std::rt::Env;
 use streams::Failure;
 use telemetry::taker::Taker;
 
-// A number behind a space.
-fn put<W: Write>(output: &mut W, n: u64) -> io::Result<()> {
-    write!(output, " {n}")
-}
-
 // The line of a word.
 fn line<W: Write>(
     output: &mut W,
@@ -25,89 +20,67 @@ fn line<W: Write>(
     offset: u64,
     r: endings::Corrected,
 ) -> io::Result<()> {
-    write!(output, "{index}")?;
-    put(output, offset)?;
-    put(output, r.number as u64)?;
-    put(output, r.flips as u64)?;
-    put(output, r.first as u64)?;
-    put(output, r.last as u64)?;
-    put(output, r.unlike as u64)?;
-    put(output, r.lowest as u64)?;
-    output.write_all(b"\n")
+    let endings::Corrected {
+        number,
+        flips,
+        first,
+        last,
+        unlike,
+        lowest,
+    } = r;
+    writeln!(
+        output,
+        "{index} {offset} {number} {flips} {first} {last} {unlike} {lowest}"
+    )
 }
 
-// Where the program stands after a call of the taker: the octets that the call took, whether it goes on, the words and octets so far.
+// Where the program stands after a call of the taker: the words and octets so far.
 #[derive(Drop)]
 struct Standing {
     taker: Taker,
-    taken: usize,
-    more: bool,
     words: u64,
     octets: u64,
 }
 
-// One call of the taker. A complete word has its line; its first octet lies 1020 before the octets taken so far.
-fn take<W: Write>(output: &mut W, s: Standing, part: &[u8]) -> Result<Standing, Failure>
+// One call of the taker, and how many octets it took. A complete word has its line; its first octet lies 1020 before the octets taken
+// so far.
+fn take<W: Write>(output: &mut W, s: Standing, part: &[u8]) -> Result<(Standing, usize), Failure>
     requires { 0 < length part.now }
-    ensures { IfOk result (λ next. (0 < next.taken) × (next.taken ≤ length part.now)) }
+    ensures { IfOk result (λ next. (0 < next.1) × (next.1 ≤ length part.now)) }
 {
     let taker = s.taker;
     let r = taker.take(part);
     let next = r.next;
     let corrected = r.corrected;
     let octets = s.octets.wrapping_add(r.taken as u64);
-    if !r.complete {
-        return Ok(Standing {
-            taker: next,
-            taken: r.taken,
-            more: s.more,
-            words: s.words,
-            octets,
-        });
+    let mut words = s.words;
+    if r.complete {
+        line(output, words, octets.wrapping_sub(1020), corrected).map_err(Failure::Output)?;
+        words = words.wrapping_add(1);
     }
-    line(output, s.words, octets.wrapping_sub(1020), corrected).map_err(Failure::Output)?;
-    Ok(Standing {
-        taker: next,
-        taken: r.taken,
-        more: true,
-        words: s.words.wrapping_add(1),
-        octets,
-    })
+    Ok((
+        Standing {
+            taker: next,
+            words,
+            octets,
+        },
+        r.taken,
+    ))
 }
 
 // Call after call until the part is used up; the rest of it is brought again.
 fn take_all<W: Write>(output: &mut W, s: Standing, part: &[u8]) -> Result<Standing, Failure> {
     let mut now = s;
-    let mut at: usize = 0;
-    while at < part.len() {
-        now = take(output, now, &part[at..])?;
-        at += now.taken;
+    let mut rest = part;
+    while !rest.is_empty() {
+        let (next, taken) = take(output, now, rest)?;
+        now = next;
+        rest = &rest[taken..];
     }
     Ok(now)
 }
 
-// The next part of the stream, as much as comes; none ends it.
-fn go_on<R: Read, W: Write>(
-    input: &mut R,
-    output: &mut W,
-    s: Standing,
-    part: &mut [u8],
-) -> Result<Standing, Failure> {
-    let n = streams::read(input, part)?;
-    if n == 0 {
-        let taker = s.taker;
-        return Ok(Standing {
-            taker,
-            taken: 0,
-            more: false,
-            words: s.words,
-            octets: s.octets,
-        });
-    }
-    take_all(output, s, &part[..n])
-}
-
-// Part after part.
+// Part after part, as much as comes; none ends the stream.
 fn stream<R: Read, W: Write>(
     input: &mut R,
     output: &mut W,
@@ -116,35 +89,25 @@ fn stream<R: Read, W: Write>(
 ) -> Result<(), Failure> {
     let mut s = Standing {
         taker,
-        taken: 0,
-        more: true,
         words: 0,
         octets: 0,
     };
     for _ in 0..0x8000000000000000u64 {
-        s = go_on(input, output, s, part)?;
-        if !s.more {
+        let n = streams::read(input, part)?;
+        if n == 0 {
             return Ok(());
         }
+        s = take_all(output, s, &part[..n])?;
     }
     Ok(())
 }
 
-// The limit, high octet first.
-fn limit_of(high: u8, low: u8) -> u16 {
-    256 * high as u16 + low as u16
-}
-
 // An edition is one digit; anything else is one that is not known.
 fn edition_of(text: &[u8]) -> u8 {
-    if text.len() != 1 {
-        return 255;
+    match text {
+        [digit] if *digit >= b'0' => *digit - b'0',
+        _ => 255,
     }
-    let digit = text[0];
-    if digit < 48 {
-        return 255;
-    }
-    digit - 48
 }
 
 // The edition of the first argument, 0 where there is none.
@@ -164,13 +127,6 @@ fn no_limit<R: Read, E: Write>(input: &mut R, errors: &mut E) -> Result<(), Fail
     Ok(())
 }
 
-// As much of the stream as one read may bring.
-fn part_buffer() -> [u8; 65536]
-    ensures { 65536 ≡ length result }
-{
-    [0; 65536]
-}
-
 // The lines of a stream.
 fn run<R: Read, W: Write, E: Write>(
     edition: u8,
@@ -183,7 +139,7 @@ fn run<R: Read, W: Write, E: Write>(
     if n < 2 {
         return no_limit(input, errors);
     }
-    let made = Taker::told(edition, limit_of(head[0], head[1]));
+    let made = Taker::told(edition, u16::from_be_bytes(head));
     if made.number != 0 {
         let _ = errors.write_all(b"frames: an edition that is not known\n");
         return Ok(());
@@ -192,7 +148,7 @@ fn run<R: Read, W: Write, E: Write>(
         output,
         b"word offset answer flips first last unlike lowest\n",
     )?;
-    let mut part = part_buffer();
+    let mut part = [0u8; 65536];
     let taker = made.taker;
     stream(input, output, taker, &mut part)
 }

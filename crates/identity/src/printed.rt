@@ -359,6 +359,7 @@ const GENERATOR511: [[[u64; 8]; 2]; 14] = [
     ],
 ];
 
+// A function for each table, since the clause of each names its own.
 pub fn rows16() -> [[u64; 4]; 4]
     ensures { result ≡ generator16 }
 {

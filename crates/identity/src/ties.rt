@@ -99,12 +99,8 @@ fn parity_meets(
 {
     let n = words_of(m);
     let mut sum = false;
-    let mut p = 0;
-    let mut number = at;
-    while p < parts {
-        sum = sum ^ block_meets(m, parity, place + 3 * p, d, generator, number);
-        number += n;
-        p += 1;
+    for part in 0..parts {
+        sum ^= block_meets(m, parity, place + 3 * part, d, generator, at + part * n);
     }
     sum
 }
@@ -166,21 +162,10 @@ fn block_tied(
     ensures { result ≡ below m (cancels m m (block m parity.now information) (row m parts parity.now first)
         (numbers m parts generator.now at)) }
 {
-    let mut above = m;
-    while above > 0 {
-        if !cancels_at(
-            m,
-            parts,
-            parity,
-            information,
-            first,
-            above - 1,
-            generator,
-            at,
-        ) {
+    for d in (0..m).rev() {
+        if !cancels_at(m, parts, parity, information, first, d, generator, at) {
             return false;
         }
-        above -= 1;
     }
     true
 }
@@ -201,16 +186,11 @@ fn row_tied(
 {
     let first = place + 3 * count;
     let step = row_words(m, parts);
-    let mut left = count;
-    let mut information = place;
-    let mut at = 0;
-    while left > 0 {
-        if !block_tied(m, parts, parity, information, first, generator, at) {
+    for k in 0..count {
+        let information = place + 3 * k;
+        if !block_tied(m, parts, parity, information, first, generator, k * step) {
             return false;
         }
-        information += 3;
-        at += step;
-        left -= 1;
     }
     true
 }
@@ -230,14 +210,10 @@ fn rows_tied(
         (generator_of m count parts generator.now) }
 {
     let step = 3 * (count + parts);
-    let mut left = rows;
-    let mut place = 0;
-    while left > 0 {
-        if !row_tied(m, count, parts, parity, place, generator) {
+    for k in 0..rows {
+        if !row_tied(m, count, parts, parity, k * step, generator) {
             return false;
         }
-        place += step;
-        left -= 1;
     }
     true
 }
@@ -255,14 +231,10 @@ fn numbers_padded(m: usize, parts: usize, generator: &[u64], at: usize) -> bool
     ensures { result ≡ padded m (numbers m parts generator.now at) }
 {
     let step = words_of(m);
-    let mut left = parts;
-    let mut number = at;
-    while left > 0 {
-        if !number_padded(m, generator, number) {
+    for p in 0..parts {
+        if !number_padded(m, generator, at + p * step) {
             return false;
         }
-        number += step;
-        left -= 1;
     }
     true
 }
@@ -272,14 +244,10 @@ fn all_padded(m: usize, count: usize, parts: usize, generator: &[u64]) -> bool
     ensures { result ≡ all_padded_of m (generator_of m count parts generator.now) }
 {
     let step = row_words(m, parts);
-    let mut left = count;
-    let mut at = 0;
-    while left > 0 {
-        if !numbers_padded(m, parts, generator, at) {
+    for k in 0..count {
+        if !numbers_padded(m, parts, generator, k * step) {
             return false;
         }
-        at += step;
-        left -= 1;
     }
     true
 }
@@ -297,8 +265,5 @@ pub fn tied(
     ensures { (printed : ℕ) → m ≤ printed
         → result ≡ flat_tied m printed rows count parts parity.now generator.now }
 {
-    if rows_tied(m, rows, count, parts, parity, generator) {
-        return all_padded(m, count, parts, generator);
-    }
-    false
+    rows_tied(m, rows, count, parts, parity, generator) && all_padded(m, count, parts, generator)
 }

@@ -9,6 +9,7 @@ ghost use Rattle.vectors.specs.Vectors.{wbit};
 ghost use Rattle.layout.specs.Lent.{Fit, Lent, laid};
 ghost use Rattle.catalogue.specs.offer.Offers.{offer_of, Known};
 ghost use Rattle.flipping.specs.runs.Passes.{Holding, Within, comes_next_of};
+ghost use Rattle.refusals.specs.Numbers.{number_of};
 ghost use Rattle.lists.specs.listing.Answers.{listed_as};
 ghost use Rattle.lists.specs.declared.listing.FlipRecord.{FlipRecord};
 ghost use Rattle.flipping.specs.endings.Ends.{word_of, run_of};
@@ -19,6 +20,7 @@ use catalogue::offer::Offer;
 use flipping::runs::Next;
 use flipping::{endings, runs};
 use layout::{SYNDROME, TABLE, WORD};
+use refusals::Refusal;
 use word::{judging, measured};
 
 // For a flip: its bit number, its excess, and the broken checks left after it.
@@ -31,6 +33,7 @@ pub struct FlipRecord {
 }
 
 // Correct's numbers, then bit and excess of the reason.
+// A record of C's: its number says whether the rest counts.
 #[repr(C)]
 #[derive(Clone, Copy)]
 pub struct Listed {
@@ -45,6 +48,7 @@ pub struct Listed {
 }
 
 // A list that is being written. Where it goes on, a flip was made, and its record belongs at this place; else the answer is made.
+// A flag, not an enum: the definitions `Lists` and `Goes` hold this form, and both ends need the record and the answer so far.
 #[derive(Clone, Copy)]
 pub struct Listing {
     pub goes: bool,
@@ -56,9 +60,9 @@ pub struct Listing {
 }
 
 // What a refused list gives besides its number.
-fn refused(number: u8) -> Listing
+fn refused(refusal: Refusal) -> Listing
     ensures { (result.goes ≡ false) × (result.place ≡ 0)
-        × ((table : List Entry) → listed_as result.answer table ≡ refused_list table number) }
+        × ((table : List Entry) → listed_as result.answer table ≡ refused_list table (number_of refusal)) }
 {
     Listing {
         goes: false,
@@ -69,7 +73,7 @@ fn refused(number: u8) -> Listing
             left: 0,
         },
         answer: Listed {
-            number: number,
+            number: refusal.number(),
             flips: 0, // however many there were
             first: 0,
             last: 0,
@@ -107,16 +111,16 @@ fn ended(
     Listing {
         goes: false, // no record is written past the list
         place: flips,
-        record: record,
+        record,
         answer: Listed {
             number: judged,
             flips: count,
             first: begun.first,
             last: record.left,
-            unlike: unlike,
+            unlike,
             lowest: begun.lowest,
-            bit: bit,
-            excess: excess,
+            bit,
+            excess,
         },
         limit: l.limit,
         offer: o,
@@ -133,11 +137,7 @@ fn went(l: Listing, flips: usize, bit: u32, excess: i8, left: u32) -> Listing
     Listing {
         goes: true,
         place: flips,
-        record: FlipRecord {
-            bit: bit,
-            excess: excess,
-            left: left,
-        },
+        record: FlipRecord { bit, excess, left },
         answer: begun,
         limit: l.limit,
         offer: o,
@@ -277,14 +277,14 @@ fn begun(o: Offer, limit: u16, first: u32, lowest: u32) -> Listing
         answer: Listed {
             number: 0,
             flips: 0,
-            first: first,
+            first,
             last: first,
             unlike: 0,
-            lowest: lowest,
+            lowest,
             bit: 0,
             excess: 0,
         },
-        limit: limit,
+        limit,
         offer: o,
     }
 }
@@ -326,7 +326,7 @@ fn begin_taken(
     let l = measured_list(o, word, limit, h, y, z);
     let answer = l.answer;
     if !serves(o, word, limit, answer.first, room) {
-        return refused(10);
+        return refused(Refusal::Places);
     }
     pass(l, 0, word, h, y, z)
 }
@@ -345,9 +345,8 @@ pub fn begin(
     ensures { (result.place ≡ 0) × Lists code word.now limit room result h.new y.new z.new }
 {
     let o = offer::of(code);
-    let number = refusals::refusal(o.offered, word.len(), o.word, 0, 0);
-    if number != 0 {
-        return refused(number);
+    match refusals::admit(o.offered, word.len(), o.word, 0, 0) {
+        Ok(()) => begin_taken(o, word, limit, room, h, y, z),
+        Err(refusal) => refused(refusal),
     }
-    begin_taken(o, word, limit, room, h, y, z)
 }

@@ -1,6 +1,6 @@
 -- Bits read from samples, mark by mark, and samples that are finite, part by part.
 use mathlib.Core.Path.{◌≡◌, refl, sym, ap, ap₂, ◌∙◌}
-use mathlib.Core.Bool.{Bool, true, false, not, ◌&&◌, ◌||◌}
+use mathlib.Core.Bool.{Bool, true, false, ◌&&◌, ◌||◌}
 use mathlib.Core.Logic.{⊎_elim}
 use Prim.Native.Nat.{ℕ, zero, suc, ◌+◌, ◌-◌, ◌*◌, ◌%◌, ◌^◌, ◌≤◌, ◌<◌}
 use native.Mathlib.Nat.{add-zero, add-suc, one-mul, mod-eq_of_lt, lt_of_not-le}
@@ -9,29 +9,12 @@ use native.Mathlib.Omega.{arith}
 use lib.Bits.{bit_or}
 use lib.Dec.{ltb, eqb}
 use lib.Pow.{pow-lt}
-use borrow.Author.Tests.{lt-ltb, le-ltb, le-leb, lt-leb, eq-eqb, ne_eqb}
+use borrow.Author.Tests.{lt-ltb, le-ltb, eq-eqb, ne_eqb}
 use Rattle.bits.specs.Bits.{Word, digit, below, when◌then◌else◌}
 use Rattle.bits.proofs.Octets.{digit_zero}
 use Rattle.bits.proofs.Orders.{le-or-lt}
 use Rattle.vectors.specs.Vectors.{Holds, up_to, from}
 use Rattle.vectors.proofs.Places.{or-none, place, place_or, place_above, place_cut, place_up, place_below, digit_or, digit_power}
-use Rattle.magnitudes.specs.Patterns.{unsigned, is_one}
-
--- a number of 32 bits is above the sign alone just where the sign is set and the rest is not 0
-pub above_sign : (p : ℕ) → p < 2 ^ 32 → ltb 0x8000_0000 p ≡ is_one p
-above_sign p h = go (dec_lt 0x8000_0000 p)
-  where
-    go : Dec (0x8000_0000 < p) → ltb 0x8000_0000 p ≡ is_one p
-    go (yes l) =
-        lt-ltb 0x8000_0000 p l
-        ∙ sym (ap₂ (λ a b. a && not b) (le-leb 0x8000_0000 p (omega arith)) (ne_eqb (unsigned p) 0 (λ e. omega arith)))
-    go (no g) = le-ltb 0x8000_0000 p (omega (arith, lt_of_not-le g)) ∙ by (dec_lt p 0x8000_0000)
-      where
-        by : Dec (p < 0x8000_0000) → false ≡ is_one p
-        by (yes l) = sym (ap (λ a. a && not (eqb (unsigned p) 0)) (lt-leb 0x8000_0000 p l))
-        by (no k) =
-            let is : p ≡ 0x8000_0000 = omega (arith, lt_of_not-le g, lt_of_not-le k) in
-            sym (ap is_one is)
 
 -- a power of 2 that fits
 pub raised : (i : ℕ) → i < 32 → (1 * 2 ^ i) % 2 ^ 32 ≡ 2 ^ i
@@ -66,10 +49,6 @@ marked_more x v i m h d e j l =
     go (no q) (no r) =
         ap₂ (λ a b. (a && x j) || (x i && b)) (le-ltb j i (omega (arith, lt_of_not-le r))) (ne_eqb j i q) ∙ off (x i)
         ∙ ap (λ a. a && x j) (sym (le-ltb j (i + 1) (omega (arith, lt_of_not-le r))))
-
--- no mark
-pub marked_none : (x : Word) (j : ℕ) → digit 32 0 j ≡ up_to 0 x j
-marked_none x j = digit_zero 32 j ∙ ap (λ a. a && x j) (sym (le-ltb j 0 (omega arith)))
 
 -- two halves make a word: the first has 32 bits, or it is all
 pub two_halves : (x : Word) (at m n u v : ℕ) → m ≤ 32 → (m < 32 → n ≡ m) → n ≤ 64 → m ≤ n → v < 2 ^ 32

@@ -13,14 +13,8 @@ ghost use Rattle.magnitudes.specs.Sizes.{smallest as smallest_in};
 
 // The bits of some samples, and whether all of these are finite.
 #[derive(Clone, Copy)]
-struct Narrow {
-    bits: u32,
-    finite: bool,
-}
-
-#[derive(Clone, Copy)]
-struct Wide {
-    bits: u64,
+struct Marked<T> {
+    bits: T,
     finite: bool,
 }
 
@@ -54,43 +48,31 @@ fn mark(p: u32, place: usize) -> u32
 }
 
 // The bits of the n samples from sample `at` on, in front, and whether these are finite.
-fn half(samples: &[u32], at: usize, n: usize) -> Narrow
+fn half(samples: &[u32], at: usize, n: usize) -> Marked<u32>
     requires { (n ≤ 32) × (at + n ≤ length samples.now) }
     ensures { ((i : ℕ) → i < 32 → digit 32 result.bits i ≡ up_to n (from at (read_of samples.now)) i)
         × (result.finite ≡ below n (λ i. is_finite (pattern_of samples.now (at + i)))) }
 {
     let mut bits: u32 = 0;
     let mut finite = true;
-    let mut i = 0;
-    while i < n {
+    // by index: C's floats are read by their patterns where they stand, and lent no further
+    for i in 0..n {
         bits |= mark(samples[at + i], 31 - i);
         finite = is_finite(samples[at + i]) & finite;
-        i += 1;
     }
-    Narrow {
-        bits: bits,
-        finite: finite,
-    }
-}
-
-// The less of 32 and n.
-fn front(n: usize) -> usize
-    requires { n ≤ 64 }
-    ensures { (result ≤ 32) × (result ≤ n) × (n ≤ result + 32) × (result < 32 → n ≡ result) }
-{
-    if n < 32 { n } else { 32 }
+    Marked { bits, finite }
 }
 
 // The same of up to 64 samples: in two halves, whose loops the compiler takes four samples at a time.
-fn word(samples: &[u32], at: usize, n: usize) -> Wide
+fn word(samples: &[u32], at: usize, n: usize) -> Marked<u64>
     requires { (n ≤ 64) × (at + n ≤ length samples.now) }
     ensures { Holds result.bits (up_to n (from at (read_of samples.now)))
         × (result.finite ≡ below n (λ i. is_finite (pattern_of samples.now (at + i)))) }
 {
-    let m = front(n);
+    let m = n.min(32);
     let a = half(samples, at, m);
     let b = half(samples, at + m, n - m);
-    Wide {
+    Marked {
         bits: ((a.bits as u64) << 32) | b.bits as u64,
         finite: b.finite & a.finite,
     }
@@ -105,12 +87,10 @@ fn read_whole(samples: &[u32], y: &mut [u64]) -> bool
 {
     let whole = samples.len() / 64;
     let mut finite = true;
-    let mut k = 0;
-    while k < whole {
+    for k in 0..whole {
         let w = word(samples, 64 * k, 64);
         y[k] = w.bits;
         finite = w.finite & finite;
-        k += 1;
     }
     finite
 }
@@ -144,7 +124,7 @@ pub fn first_set(v: u64) -> usize
     requires { 0 < v }
     ensures { (result < 64) × (digit 64 v result ≡ true) × ((i : ℕ) → i < result → digit 64 v i ≡ false) }
 {
-    u64::leading_zeros(v) as usize
+    v.leading_zeros() as usize
 }
 
 // v with bit n flipped.

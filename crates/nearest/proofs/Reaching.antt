@@ -1,6 +1,6 @@
 -- The answer, case by case. Assumes nothing.
 use mathlib.Core.Path.{◌≡◌, refl, sym, ap, ap₂, ◌∙◌, subst, fun_ext}
-use mathlib.Core.Bool.{true, false, true≢false}
+use mathlib.Core.Bool.{true}
 use mathlib.Core.List.{List}
 use Prim.Native.Nat.{ℕ, ◌≤◌, ◌<◌}
 use native.Mathlib.Nat.{zero-add}
@@ -12,8 +12,9 @@ use Rattle.vectors.specs.Vectors.{from}
 use Rattle.answers.specs.Calls.{refusal, unless}
 use Rattle.answers.proofs.Answers.{Right, unless_refused, unless_taken, unless_cases, refusal_not, refusal_right}
 use Rattle.nearest.specs.Nearest.{Found, none, list, Reached, refused, found, searched, reached, nearest_answer}
-use Rattle.nearest.specs.Answers.{held, HandedOut}
-use Rattle.nearest.specs.declared.Listed.{Listed}
+use Rattle.std.specs.Prelude.{Some, None}
+use Rattle.nearest.specs.Answers.{flips_of, held, HandedOut}
+use Rattle.nearest.specs.declared.Flips.{Flips}
 
 -- ---- refused by a length, by the reach, or searched
 
@@ -52,21 +53,22 @@ module _ (word : List ℕ) (reach : ℕ) (out : List ℕ) where
 pub from_first : (y : Word) → from 0 y ≡ y
 from_first y = fun_ext (λ n. ap y (zero-add n))
 
-module _ (x : Word) (out : List ℕ) (f : Found) (l : Listed) (is : l ≡ held f) where
-  pub found_none : l.found ≡ false → refused 17 out ≡ found x out f
+module _ (x : Word) (out : List ℕ) (f : Found) where
+  pub found_none : None ≡ held f → refused 17 out ≡ found x out f
   unfolding held found
-  found_none e = go f is
+  found_none is = go f is
     where
-      go : (f : Found) → l ≡ held f → refused 17 out ≡ found x out f
+      go : (f : Found) → None ≡ held f → refused 17 out ≡ found x out f
       go none q = refl
-      go (list bits) q = absurd (true≢false (sym (ap (λ (z : Listed). z.found) q) ∙ e))
+      go (list bits) q = cc
 
-  pub found_list : (out' : List ℕ) → l.found ≡ true → HandedOut l x out'
+  pub found_list : (l : Flips) → Some l ≡ held f → (out' : List ℕ) → HandedOut l x out'
       → record { number = 0; least = l.count; bits = l.bits; out = out' } ≡ found x out f
   unfolding held found
-  found_list out' e t = go f is
+  found_list l is out' t = go f is
     where
-      go : (f : Found) → l ≡ held f → record { number = 0; least = l.count; bits = l.bits; out = out' } ≡ found x out f
-      go none q = absurd (true≢false (sym e ∙ ap (λ (z : Listed). z.found) q))
+      go : (f : Found) → Some l ≡ held f → record { number = 0; least = l.count; bits = l.bits; out = out' } ≡ found x out f
+      go none q = cc
       go (list bits) q =
-          ap₂ (λ (z : Listed) o. record { number = 0; least = z.count; bits = z.bits; out = o }) q (t bits q)
+          let e : l ≡ flips_of bits = cc in
+          ap₂ (λ (z : Flips) o. record { number = 0; least = z.count; bits = z.bits; out = o }) e (t bits e)

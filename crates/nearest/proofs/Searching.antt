@@ -1,6 +1,6 @@
 -- The search by its steps, as the functions take them, and the lists as they hold them. Assumes nothing.
 use mathlib.Core.Path.{◌≡◌, refl, sym, ap, ap₂, ◌∙◌, subst}
-use mathlib.Core.Bool.{Bool, true, false, true≢false}
+use mathlib.Core.Bool.{Bool, true, false}
 use mathlib.Core.List.{List, [], ◌∷◌}
 use Prim.Native.Nat.{ℕ, zero, suc, ◌+◌, ◌-◌, ◌^◌, ◌≤◌, ◌<◌}
 use native.Mathlib.Numerals.{add-one}
@@ -13,24 +13,26 @@ use Rattle.bits.specs.Bits.{Word, flipped, when◌then◌else◌}
 use Rattle.rules.specs.Codes.{code}
 use Rattle.rules.specs.Encoding.{codeword}
 use Rattle.nearest.specs.Nearest.{Found, none, list, chosen, ◌or_else◌, first_list, fewest, flips, places}
-use Rattle.nearest.specs.Answers.{column_list, Broken, lowest_from, held}
-use Rattle.nearest.specs.declared.Listed.{Listed}
+use Rattle.std.specs.Prelude.{Some, None}
+use Rattle.nearest.specs.Answers.{column_list, Broken, lowest_from, flips_of, held}
+use Rattle.nearest.specs.declared.Flips.{Flips}
 use Rattle.nearest.proofs.Quiet.{broken_none, broken_column, broken_flipped}
 use Rattle.nearest.proofs.Lists.{rising_lt, Long, Within, within}
 
 -- ---- no bits left to choose
 
-pub search_none : (left z n b : ℕ) (x : Word) → left ≡ 0 → z < 2 ^ 64 → Broken z x
-    → record { found = eqb z 0; count = 0; bits = places [] } ≡ held (first_list left n b x)
-unfolding first_list held
-search_none left z n b x e small h =
-    ap (λ t. record { found = t; count = 0; bits = places [] }) (broken_none z x h small)
-    ∙ go (codeword (code 1) x)
-    ∙ ap (λ l. held (first_list l n b x)) (sym e)
-  where
-    go : (t : Bool) → record { found = t; count = 0; bits = places [] } ≡ held (when t then list [] else none)
-    go true = refl
-    go false = refl
+module _ (left z n b : ℕ) (x : Word) (e : left ≡ 0) (small : z < 2 ^ 64) (h : Broken z x) where
+  pub search_here : z ≡ 0 → Some (flips_of []) ≡ held (first_list left n b x)
+  unfolding first_list held
+  search_here q =
+      ap (λ t. held (when t then list [] else none)) (sym (eq-eqb z 0 q) ∙ broken_none z x h small)
+      ∙ ap (λ l. held (first_list l n b x)) (sym e)
+
+  pub search_not : (z ≡ 0 → ⊥) → None ≡ held (first_list left n b x)
+  unfolding first_list held
+  search_not d =
+      ap (λ t. held (when t then list [] else none)) (sym (ne_eqb z 0 d) ∙ broken_none z x h small)
+      ∙ ap (λ l. held (first_list l n b x)) (sym e)
 
 -- ---- one bit: the lowest whose column is the broken checks
 
@@ -67,20 +69,23 @@ one_bit (suc n) b z x small q h =
         ih ∙ sym (ap (λ t. when eqb (when t then b else lowest_from n (suc b) z) 128 then none else
         list ((when t then b else lowest_from n (suc b) z) ∷ [])) e)
 
-module _ (left z from n : ℕ) (x : Word) (one : left ≡ 1) (under : from ≤ 128) (small : z < 2 ^ 64)
-    (lowest : n ≡ lowest_from (128 - from) from z) (h : Broken z x) where
-  alone : first_list left (128 - from) from x ≡ (when eqb n 128 then none else list (n ∷ []))
-  alone =
-      ap (λ l. first_list l (128 - from) from x) one
-      ∙ one_bit (128 - from) from z x small (omega arith) h
-      ∙ ap (λ m. when eqb m 128 then none else list (m ∷ [])) (sym lowest)
+module _ (left z from : ℕ) (x : Word) (one : left ≡ 1) (under : from ≤ 128) (small : z < 2 ^ 64) (h : Broken z x) where
+  abbrev lowest : ℕ
+  lowest = lowest_from (128 - from) from z
 
-  pub alone_none : n ≡ 128 → held none ≡ held (first_list left (128 - from) from x)
-  alone_none e = ap held (sym (alone ∙ ap (λ t. when t then none else list (n ∷ [])) (eq-eqb n 128 e)))
+  alone : first_list left (128 - from) from x ≡ (when eqb lowest 128 then none else list (lowest ∷ []))
+  alone = ap (λ l. first_list l (128 - from) from x) one ∙ one_bit (128 - from) from z x small (omega arith) h
 
-  pub alone_some : (n ≡ 128 → ⊥) → record { found = true; count = 1; bits = n ∷ 0 ∷ 0 ∷ [] } ≡ held (first_list left (128 - from) from x)
+  pub alone_none : lowest ≡ 128 → None ≡ held (first_list left (128 - from) from x)
   unfolding held
-  alone_some d = ap held (sym (alone ∙ ap (λ t. when t then none else list (n ∷ [])) (ne_eqb n 128 d)))
+  alone_none e = ap held (sym (alone ∙ ap (λ t. when t then none else list (lowest ∷ [])) (eq-eqb lowest 128 e)))
+
+  pub alone_some : (n : ℕ) → n < 128 → n ≡ lowest
+      → Some (record { count = 1; bits = n ∷ 0 ∷ 0 ∷ [] }) ≡ held (first_list left (128 - from) from x)
+  unfolding held
+  alone_some n l e =
+      ap (λ m. held (list (m ∷ []))) e
+      ∙ ap held (sym (alone ∙ ap (λ t. when t then none else list (lowest ∷ [])) (ne_eqb lowest 128 (λ q. omega arith))))
 
 -- ---- a bit chosen, and the rest searched with one flip fewer left
 
@@ -103,45 +108,46 @@ search_end (suc l) b x d h =
     let e : 128 - b ≡ 0 = omega arith in
     sym (ap (λ k. first_list (suc l) k b x) e)
 
-module _ (b left : ℕ) (f g : Found) (r : Listed) (is : r ≡ held f) where
+module _ (b left : ℕ) (f g : Found) where
   -- what was found, behind the bit that was chosen
-  pub held_chosen : Long (left - 1) f → (left ≡ 0 → ⊥) → r.found ≡ true
-      → record { found = true; count = left; bits = b ∷ get_or r.bits 0 0 ∷ get_or r.bits 1 0 ∷ [] } ≡ held (chosen b f or_else g)
+  pub held_chosen : (r : Flips) → Some r ≡ held f → Long (left - 1) f → (left ≡ 0 → ⊥)
+      → Some (record { count = left; bits = b ∷ get_or r.bits 0 0 ∷ get_or r.bits 1 0 ∷ [] }) ≡ held (chosen b f or_else g)
   unfolding held
-  held_chosen long d e = go f is long
+  held_chosen r is long d = go f is long
     where
-      go : (f : Found) → r ≡ held f → Long (left - 1) f
-          → record { found = true; count = left; bits = b ∷ get_or r.bits 0 0 ∷ get_or r.bits 1 0 ∷ [] } ≡ held (chosen b f or_else g)
-      go none q l = absurd (true≢false (sym e ∙ ap (λ (z : Listed). z.found) q))
+      go : (f : Found) → Some r ≡ held f → Long (left - 1) f
+          → Some (record { count = left; bits = b ∷ get_or r.bits 0 0 ∷ get_or r.bits 1 0 ∷ [] }) ≡ held (chosen b f or_else g)
+      go none q l = cc
       go (list bits) q l =
           let m : left ≡ suc (length bits) = omega (arith, l) in
-          ap₂ (λ k (z : Listed). record { found = true; count = k; bits = b ∷ get_or z.bits 0 0 ∷ get_or z.bits 1 0 ∷ [] }) m q
+          let e : r ≡ flips_of bits = cc in
+          ap₂ (λ k (z : Flips). Some (record { count = k; bits = b ∷ get_or z.bits 0 0 ∷ get_or z.bits 1 0 ∷ [] })) m e
 
   -- nothing was found with the bit
-  pub held_passed : r.found ≡ false → (chosen b f or_else g) ≡ g
+  pub held_passed : None ≡ held f → (chosen b f or_else g) ≡ g
   unfolding held
-  held_passed e = go f is
+  held_passed is = go f is
     where
-      go : (f : Found) → r ≡ held f → (chosen b f or_else g) ≡ g
+      go : (f : Found) → None ≡ held f → (chosen b f or_else g) ≡ g
       go none q = refl
-      go (list bits) q = absurd (true≢false (ap (λ (z : Listed). z.found) (sym q) ∙ e))
+      go (list bits) q = cc
 
-module _ (f g : Found) (r : Listed) (is : r ≡ held f) where
-  pub held_first : r.found ≡ true → r ≡ held (f or_else g)
+module _ (f g : Found) where
+  pub held_first : (r : Flips) → Some r ≡ held f → Some r ≡ held (f or_else g)
   unfolding held
-  held_first e = go f is
+  held_first r is = go f is
     where
-      go : (f : Found) → r ≡ held f → r ≡ held (f or_else g)
-      go none q = absurd (true≢false (sym e ∙ ap (λ (z : Listed). z.found) q))
+      go : (f : Found) → Some r ≡ held f → Some r ≡ held (f or_else g)
+      go none q = cc
       go (list bits) q = q
 
-  pub held_else : r.found ≡ false → (f or_else g) ≡ g
+  pub held_else : None ≡ held f → (f or_else g) ≡ g
   unfolding held
-  held_else e = go f is
+  held_else is = go f is
     where
-      go : (f : Found) → r ≡ held f → (f or_else g) ≡ g
+      go : (f : Found) → None ≡ held f → (f or_else g) ≡ g
       go none q = refl
-      go (list bits) q = absurd (true≢false (ap (λ (z : Listed). z.found) (sym q) ∙ e))
+      go (list bits) q = cc
 
 -- ---- the fewest flips
 
@@ -158,22 +164,18 @@ fewest_more (suc k) x d =
 
 -- ---- a list that is held
 
-abbrev pub Small : Listed → Type 0
+abbrev pub Small : Flips → Type 0
 Small l = (l.count ≤ 3) × ((k : ℕ) → get_or l.bits k 0 < 128)
 
-pub held_small : (reach : ℕ) (x : Word) (l : Listed) → reach ≤ 3 → l ≡ held (fewest reach x) → Small l
+pub held_small : (reach : ℕ) (x : Word) (l : Flips) → reach ≤ 3 → Some l ≡ held (fewest reach x) → Small l
 unfolding held
-held_small reach x l h e = subst Small (sym e) (go (fewest reach x) (within reach x))
+held_small reach x l h e = go (fewest reach x) (within reach x) e
   where
-    go : (f : Found) → Within reach x f → Small (held f)
-    go none w = (omega arith, zeros)
-      where
-        zeros : (k : ℕ) → get_or (places []) k 0 < 128
-        zeros zero = lit< tt
-        zeros (suc zero) = lit< tt
-        zeros (suc (suc zero)) = lit< tt
-        zeros (suc (suc (suc k))) = lit< tt
-    go (list bits) w = (omega (arith, w.0), three)
+    go : (f : Found) → Within reach x f → Some l ≡ held f → Small l
+    go none w q = cc
+    go (list bits) w q =
+        let e : l ≡ flips_of bits = cc in
+        subst Small (sym e) (omega (arith, w.0), three)
       where
         three : (k : ℕ) → get_or (places bits) k 0 < 128
         three zero = rising_lt 0 128 bits (lit< tt) w.1.0.rising 0
@@ -205,11 +207,10 @@ places_at bits (suc zero) h = refl
 places_at bits (suc (suc zero)) h = refl
 places_at bits (suc (suc (suc k))) h = absurd (omega arith)
 
-pub held_are : (l : Listed) (bits : List ℕ) → l ≡ held (list bits) → (l.count ≡ length bits) × (l.bits ≡ places bits)
-unfolding held
-held_are l bits e = (ap (λ (z : Listed). z.count) e, ap (λ (z : Listed). z.bits) e)
+pub held_are : (l : Flips) (bits : List ℕ) → l ≡ flips_of bits → (l.count ≡ length bits) × (l.bits ≡ places bits)
+held_are l bits e = (ap (λ (z : Flips). z.count) e, ap (λ (z : Flips). z.bits) e)
 
-module _ (l : Listed) (bits : List ℕ) (is : l ≡ held (list bits)) (few : l.count ≤ 3) (k : ℕ) (y : Word) where
+module _ (l : Flips) (bits : List ℕ) (is : l ≡ flips_of bits) (few : l.count ≤ 3) (k : ℕ) (y : Word) where
   pub flip_more : (y' : Word) → k < l.count → y' ≡ flipped y (get_or l.bits k 0) → flips (drop k bits) y ≡ flips (drop (k + 1) bits) y'
   flip_more y' h e =
       let m = held_are l bits is in

@@ -1,12 +1,14 @@
 -- What the functions speak of between octets and answers, and the call's result as the definition's answer.
-use Rattle.std.specs.Prelude.{◌≡◌, true, false, List, [], ◌∷◌, ℕ, zero, suc, eqb, length, get_or}
+use Rattle.std.specs.Prelude.{◌≡◌, List, [], ◌∷◌, ℕ, zero, suc, eqb, length, get_or, Option, Some, None, Result, Ok, Err}
 use Rattle.bits.specs.Bits.{Word, when◌then◌else◌, octets}
 use Rattle.rules.specs.Codes.{code}
 use Rattle.rules.specs.Checks.{check}
 use Rattle.vectors.specs.Vectors.{Holds}
-use Rattle.nearest.specs.Nearest.{Found, none, list, places, flips, Reached as ReachedAnswer}
+use Rattle.nearest.specs.Nearest.{Found, none, list, places, flips, refused, Reached as ReachedAnswer}
 use Rattle.nearest.specs.declared.Reached.{Reached}
-use Rattle.nearest.specs.declared.Listed.{Listed}
+use Rattle.nearest.specs.declared.Flips.{Flips}
+use Rattle.refusals.specs.declared.Refusal.{Refusal}
+use Rattle.refusals.specs.Numbers.{number_of}
 
 -- The columns as the source has them.
 abbrev pub column_list : List ℕ
@@ -54,17 +56,25 @@ lowest_from zero b z = b
 lowest_from (suc n) b z = when eqb (get_or column_list b 0) z then b else lowest_from n (suc b) z
 
 -- A list as the functions hold it.
-unfoldable pub held : Found → Listed
-held none = record { found = false; count = 0; bits = places [] }
-held (list bits) = record { found = true; count = length bits; bits = places bits }
+abbrev pub flips_of : List ℕ → Flips
+flips_of bits = record { count = length bits; bits = places bits }
+
+unfoldable pub held : Found → Option Flips
+held none = None
+held (list bits) = Some (flips_of bits)
 
 -- The word that a list which is held makes of a word.
-abbrev pub held_flipped : Listed → Word → Word → Type 0
-held_flipped l x y = (bits : List ℕ) → l ≡ held (list bits) → y ≡ flips bits x
+abbrev pub held_flipped : Flips → Word → Word → Type 0
+held_flipped l x y = (bits : List ℕ) → l ≡ flips_of bits → y ≡ flips bits x
 
 -- The output octets where the word that it makes is handed out.
-abbrev pub HandedOut : Listed → Word → List ℕ → Type 0
-HandedOut l x out = (bits : List ℕ) → l ≡ held (list bits) → out ≡ octets 16 (flips bits x)
+abbrev pub HandedOut : Flips → Word → List ℕ → Type 0
+HandedOut l x out = (bits : List ℕ) → l ≡ flips_of bits → out ≡ octets 16 (flips bits x)
+
+-- What a search gives, with the output octets afterwards.
+abbrev pub as_searched : Result Flips Refusal → List ℕ → ReachedAnswer
+as_searched (Ok l) out = record { number = 0; least = l.count; bits = l.bits; out = out }
+as_searched (Err refusal) out = refused (number_of refusal) out
 
 -- the output octets afterwards are part of the answer
 abbrev pub as_reached : Reached → List ℕ → ReachedAnswer

@@ -3,13 +3,16 @@
 
 #![tactic(auto)]
 
-ghost use Rattle.std.specs.Prelude.{◌≡◌, List, ℕ, ◌-◌, ◌<◌, ◌≤◌, length, get_or};
+ghost use Rattle.std.specs.Prelude.{◌≡◌, ℕ, ◌-◌, ◌<◌, ◌≤◌, length, get_or, MatchOption};
 ghost use Rattle.bits.specs.Bits.{Word, bit};
 ghost use Rattle.vectors.specs.Vectors.{wbit};
-ghost use Rattle.nearest.specs.Nearest.{none, first_list, fewest, refused, searched as searched_for, nearest_answer};
-ghost use Rattle.nearest.specs.Answers.{column_list, Broken, lowest_from, held, held_flipped, HandedOut, as_reached};
+ghost use Rattle.nearest.specs.Nearest.{first_list, fewest, searched as searched_for, nearest_answer};
+ghost use Rattle.nearest.specs.Answers.{column_list, Broken, lowest_from, held, held_flipped, HandedOut, as_searched, as_reached};
+
+use refusals::Refusal;
 
 // The places of bits that are not used are 0.
+// A record of C's: its number says whether the rest counts.
 #[repr(C)]
 #[derive(Clone, Copy)]
 pub struct Reached {
@@ -18,10 +21,9 @@ pub struct Reached {
     pub bits: [u32; 3],
 }
 
-// A list of up to three bits, or none.
+// Up to three bits to flip; the places that are not used are 0.
 #[derive(Clone, Copy)]
-struct Listed {
-    found: bool,
+struct Flips {
     count: u32,
     bits: [u32; 3],
 }
@@ -164,123 +166,89 @@ fn syndrome(columns: &[u64], y: &[u64]) -> u64
     ensures { Broken result (wbit y.now) }
 {
     let mut z: u64 = 0;
-    let mut n: usize = 0;
-    while n < 128 {
+    for (n, column) in columns.iter().enumerate() {
         if vectors::is_set(y, n) {
-            z ^= columns[n];
+            z ^= *column;
         }
-        n += 1;
     }
     z
 }
 
-// The lowest bit from a bit on that is covered by just these checks; 128 if none is. Most of a search's time goes here.
-fn only(columns: &[u64], z: u64, from: usize) -> usize
+// The lowest bit from a bit on that is covered by just these checks. Most of a search's time goes here.
+fn only(columns: &[u64], z: u64, from: usize) -> Option<usize>
     requires { (columns.now ≡ column_list) × (from ≤ 128) }
-    ensures { (result ≤ 128) × (result ≡ lowest_from (128 - from) from z) }
+    ensures { MatchOption result (lowest_from (128 - from) from z ≡ 128) (λ n. (n < 128) × (n ≡ lowest_from (128 - from) from z)) }
 {
-    let mut n = from;
-    while n < 128 {
+    for n in from..128 {
         if columns[n] == z {
-            return n;
+            return Some(n);
         }
-        n += 1;
     }
-    128
+    None
 }
 
-// No list.
-fn no_list() -> Listed
-    ensures { result ≡ held none }
-{
-    Listed {
-        found: false,
-        count: 0,
-        bits: [0; 3],
-    }
-}
-
-// The first list of so many bits from a bit on that, flipped, leave no check broken: by choosing a bit, and searching behind it with
-// one flip fewer left.
-fn search(columns: &[u64], z: u64, from: usize, left: u8) -> Listed
+// The first so many bits from a bit on that, flipped, leave no check broken: by choosing a bit, and searching behind it with one flip
+// fewer left.
+fn search(columns: &[u64], z: u64, from: usize, left: u8) -> Option<Flips>
     requires { (columns.now ≡ column_list) × (from ≤ 128) × (left ≤ 3) }
     ensures { (x : Word) → Broken z x → result ≡ held (first_list left (128 - from) from x) }
 {
     if left == 0 {
-        return Listed {
-            found: z == 0,
+        if z != 0 {
+            return None;
+        }
+        return Some(Flips {
             count: 0,
             bits: [0; 3],
-        };
+        });
     }
     if left == 1 {
-        let n = only(columns, z, from);
-        if n == 128 {
-            return no_list();
-        }
-        return Listed {
-            found: true,
+        let n = only(columns, z, from)?;
+        return Some(Flips {
             count: 1,
             bits: [n as u32, 0, 0],
-        };
+        });
     }
-    let mut n = from;
-    while n < 128 {
-        let r = search(columns, z ^ columns[n], n + 1, left - 1);
-        if r.found {
-            let b = r.bits;
-            return Listed {
-                found: true,
+    for n in from..128 {
+        if let Some(behind) = search(columns, z ^ columns[n], n + 1, left - 1) {
+            let b = behind.bits;
+            return Some(Flips {
                 count: left as u32,
                 bits: [n as u32, b[0], b[1]],
-            };
+            });
         }
-        n += 1;
     }
-    no_list()
+    None
 }
 
-// Lists of no bits, then of one more each time, up to the reach.
-fn fewest_of(columns: &[u64], z: u64, reach: u8) -> Listed
+// No bits, then one more each time, up to the reach.
+fn fewest_of(columns: &[u64], z: u64, reach: u8) -> Option<Flips>
     requires { (columns.now ≡ column_list) × (reach ≤ 3) }
     ensures { (x : Word) → Broken z x → result ≡ held (fewest reach x) }
 {
     if reach == 0 {
         return search(columns, z, 0, 0);
     }
-    let r = fewest_of(columns, z, reach - 1);
-    if r.found {
-        return r;
+    match fewest_of(columns, z, reach - 1) {
+        Some(fewer) => Some(fewer),
+        None => search(columns, z, 0, reach),
     }
-    search(columns, z, 0, reach)
 }
 
 // Flips the bits of a list.
-fn flip_listed(y: &mut [u64], l: Listed)
+fn flip_listed(y: &mut [u64], l: Flips)
     requires { (length y.old ≡ 3) × (l.count ≤ 3) × ((k : ℕ) → get_or l.bits k 0 < 128) }
     ensures { held_flipped l (wbit y.old) (wbit y.new) }
 {
     let bits = l.bits;
-    let mut k: usize = 0;
-    while k < l.count as usize {
-        vectors::flip_bit(y, bits[k] as usize);
-        k += 1;
+    let count = l.count as usize;
+    for bit in &bits[..count] {
+        vectors::flip_bit(y, *bit as usize);
     }
 }
 
-// What a refused call gives besides its number.
-fn refused_by(number: u8) -> Reached
-    ensures { (out : List ℕ) → as_reached result out ≡ refused number out }
-{
-    Reached {
-        number: number,
-        least: 0,
-        bits: [0; 3],
-    }
-}
-
-// The list for a word. The columns are lent as a copy, since a constant is made anew wherever it is read.
-fn list_for(y: &[u64; 3], reach: u8) -> Listed
+// The flips for a word. The columns are lent as a copy, since a constant is made anew wherever it is read.
+fn list_for(y: &[u64; 3], reach: u8) -> Option<Flips>
     requires { reach ≤ 3 }
     ensures { result ≡ held (fewest reach (wbit y.now)) }
 {
@@ -290,7 +258,7 @@ fn list_for(y: &[u64; 3], reach: u8) -> Listed
 }
 
 // The word with the bits of its list flipped, handed out.
-fn hand_out(y: &mut [u64; 3], l: Listed, out: &mut [u8])
+fn hand_out(y: &mut [u64; 3], l: Flips, out: &mut [u8])
     requires { (length out.old ≡ 16) × (l.count ≤ 3) × ((k : ℕ) → get_or l.bits k 0 < 128) }
     ensures { HandedOut l (wbit y.old) out.new }
 {
@@ -299,43 +267,57 @@ fn hand_out(y: &mut [u64; 3], l: Listed, out: &mut [u8])
 }
 
 // A word, an output of the right length, and a reach that is offered.
-fn mended(y: &mut [u64; 3], reach: u8, out: &mut [u8]) -> Reached
+fn mended(y: &mut [u64; 3], reach: u8, out: &mut [u8]) -> Result<Flips, Refusal>
     requires { (length out.old ≡ 16) × (reach ≤ 3) }
-    ensures { as_reached result out.new ≡ searched_for reach (wbit y.old) out.old }
+    ensures { as_searched result out.new ≡ searched_for reach (wbit y.old) out.old }
 {
-    let l = list_for(y, reach);
-    if !l.found {
-        return refused_by(17);
-    }
-    hand_out(y, l, out);
-    let b = l.bits;
-    Reached {
-        number: 0,
-        least: l.count,
-        bits: b,
+    match list_for(y, reach) {
+        Some(l) => {
+            hand_out(y, l, out);
+            Ok(l)
+        }
+        None => Err(Refusal::NoneNear),
     }
 }
 
 // The same of a word's octets.
-fn searched(word: &[u8], reach: u8, out: &mut [u8]) -> Reached
+fn searched(word: &[u8], reach: u8, out: &mut [u8]) -> Result<Flips, Refusal>
     requires { (length word.now ≡ 16) × (length out.old ≡ 16) × (reach ≤ 3) }
-    ensures { as_reached result out.new ≡ searched_for reach (bit word.now) out.old }
+    ensures { as_searched result out.new ≡ searched_for reach (bit word.now) out.old }
 {
     let mut y = [0u64; 3];
     vectors::load(word, &mut y);
     mended(&mut y, reach, out)
 }
 
+// The same of a word, a reach and an output of any length.
+fn nearest_flips(word: &[u8], reach: u8, out: &mut [u8]) -> Result<Flips, Refusal>
+    ensures { as_searched result out.new ≡ nearest_answer word.now reach out.old }
+{
+    refusals::admit(true, word.len(), 16, out.len(), 16)?;
+    if reach > 3 {
+        return Err(Refusal::Reach);
+    }
+    searched(word, reach, out)
+}
+
 // The fewest flips up to a reach that give a codeword, the first such list of bits in increasing order, and the mended word.
 pub fn nearest(word: &[u8], reach: u8, out: &mut [u8]) -> Reached
     ensures { as_reached result out.new ≡ nearest_answer word.now reach out.old }
 {
-    let refused = refusals::refusal(true, word.len(), 16, out.len(), 16);
-    if refused != 0 {
-        return refused_by(refused);
+    match nearest_flips(word, reach, out) {
+        Ok(l) => {
+            let bits = l.bits;
+            Reached {
+                number: 0,
+                least: l.count,
+                bits,
+            }
+        }
+        Err(refusal) => Reached {
+            number: refusal.number(),
+            least: 0,
+            bits: [0; 3],
+        },
     }
-    if reach > 3 {
-        return refused_by(18);
-    }
-    searched(word, reach, out)
 }

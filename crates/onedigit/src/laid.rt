@@ -28,10 +28,8 @@ fn spread(h: &[u16]) -> [u16; 96]
     ensures { result ≡ threes h.now }
 {
     let mut p = [NO; 96];
-    let mut i: usize = 0;
-    while i < 96 {
+    for i in 0..96 {
         p[i] = place(h, i);
-        i += 1;
     }
     p
 }
@@ -41,10 +39,8 @@ fn flat4(nested: &[[u64; 4]; 4]) -> [u64; 16]
     ensures { result ≡ words4 nested.now }
 {
     let mut g = [0u64; 16];
-    let mut i: usize = 0;
-    while i < 16 {
+    for i in 0..16 {
         g[i] = nested[i / 4][i % 4];
-        i += 1;
     }
     g
 }
@@ -53,14 +49,13 @@ fn flat28(nested: &[[[u64; 8]; 2]; 14]) -> [u64; 224]
     ensures { result ≡ words28 nested.now }
 {
     let mut g = [0u64; 224];
-    let mut i: usize = 0;
-    while i < 224 {
+    for i in 0..224 {
         g[i] = nested[i / 16][i / 8 % 2][i % 8];
-        i += 1;
     }
     g
 }
 
+// A function for each table, since the clause of each names its own.
 pub fn parity_16() -> [u16; 96]
     ensures { parity_of 16 4 8 result ≡ parity16 }
 {

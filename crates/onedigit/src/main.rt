@@ -13,8 +13,8 @@ ghost use Rattle.identity.specs.ties.Flat.{Sizes, flat_tied};
 ghost use Rattle.onedigit.specs.Wrong.{in_block, wrong_entry_of, digit_noticed_of, place_noticed_of, entry_wrong, entry_noticed_of};
 
 use identity::ties;
-use std::io;
 use std::io::Write;
+use std::{fmt, io};
 
 // Whether the published tables of codes 1, 2 and 3 are tied.
 fn tied_16() -> bool
@@ -143,10 +143,8 @@ fn digits_noticed(
 {
     let n = generator.len() * digits * 15;
     let mut noticed = 0;
-    let mut t = 0;
-    while t < n {
+    for t in 0..n {
         noticed += one_if(digit_noticed(m, rows, count, parts, digits, parity, generator, t));
-        t += 1;
     }
     noticed
 }
@@ -205,10 +203,8 @@ fn entries_tried(m: usize, parity: &[u16]) -> usize
 {
     let n = parity.len() * (m + 1);
     let mut tried = 0;
-    let mut t = 0;
-    while t < n {
+    for t in 0..n {
         tried += one_if(wrong_entry(m, parity, t / (m + 1), t % (m + 1)));
-        t += 1;
     }
     tried
 }
@@ -229,8 +225,7 @@ fn entries_noticed(
 {
     let n = parity.len() * (m + 1);
     let mut noticed = 0;
-    let mut t = 0;
-    while t < n {
+    for t in 0..n {
         noticed += one_if(entry_noticed(
             m,
             rows,
@@ -241,46 +236,8 @@ fn entries_noticed(
             t / (m + 1),
             t % (m + 1),
         ));
-        t += 1;
     }
     noticed
-}
-
-fn text<W: Write>(output: &mut W, bytes: &[u8]) -> io::Result<()> {
-    output.write_all(bytes)
-}
-
-fn number<W: Write>(output: &mut W, n: usize) -> io::Result<()> {
-    write!(output, "{n}")
-}
-
-fn shown<W: Write>(output: &mut W, tried: usize, noticed: usize) -> io::Result<()> {
-    number(output, tried)?;
-    text(output, b" tried, ")?;
-    number(output, noticed)?;
-    text(output, b" noticed")
-}
-
-// The line of a code.
-fn line<W: Write>(
-    output: &mut W,
-    n: usize,
-    digits: usize,
-    caught: usize,
-    entries: usize,
-    found: usize,
-) -> io::Result<()>
-    requires { (digits < 2 ^ 62) × (caught < 2 ^ 62) × (entries < 2 ^ 62) × (found < 2 ^ 62) }
-{
-    text(output, b"code ")?;
-    number(output, n)?;
-    text(output, b": generator digits ")?;
-    shown(output, digits, caught)?;
-    text(output, b"; parity entries ")?;
-    shown(output, entries, found)?;
-    text(output, b"; in all ")?;
-    shown(output, digits + entries, caught + found)?;
-    text(output, b"\n")
 }
 
 // How many are tried, and how many of them noticed.
@@ -288,6 +245,13 @@ fn line<W: Write>(
 struct Tried {
     tried: usize,
     noticed: usize,
+}
+
+impl fmt::Display for Tried {
+    fn fmt<W: fmt::Write>(&self, f: &mut fmt::Formatter<W>) -> fmt::Result {
+        let Tried { tried, noticed } = *self;
+        write!(f, "{tried} tried, {noticed} noticed")
+    }
 }
 
 fn try_digits(
@@ -339,15 +303,18 @@ fn try_code<W: Write>(
 {
     let d = try_digits(m, rows, count, parts, digits, parity, generator);
     let e = try_entries(m, rows, count, parts, parity, generator);
-    line(output, n, d.tried, d.noticed, e.tried, e.noticed)
+    let all = Tried {
+        tried: d.tried + e.tried,
+        noticed: d.noticed + e.noticed,
+    };
+    writeln!(
+        output,
+        "code {n}: generator digits {d}; parity entries {e}; in all {all}"
+    )
 }
 
-fn answer<W: Write>(output: &mut W, tied: bool) -> io::Result<()> {
-    if tied {
-        text(output, b" yes")
-    } else {
-        text(output, b" no")
-    }
+fn answer(tied: bool) -> &'static str {
+    if tied { "yes" } else { "no" }
 }
 
 // Codes 1 to 3 have four rows of four information blocks and four parity blocks.
@@ -377,20 +344,15 @@ fn try_near_earth<W: Write>(
 
 fn main(rt: HostRuntime) -> io::Result<()> {
     let output = &mut rt.stdout();
-    text(
+    let near_earth = answer(tied_511());
+    writeln!(
         output,
-        b"The published tables of codes 1, 2, 3, 4 and 5 are tied:",
+        "The published tables of codes 1, 2, 3, 4 and 5 are tied: {} {} {} {near_earth} {near_earth}",
+        answer(tied_16()),
+        answer(tied_32()),
+        answer(tied_64()),
     )?;
-    answer(output, tied_16())?;
-    answer(output, tied_32())?;
-    answer(output, tied_64())?;
-    let near_earth = tied_511();
-    answer(output, near_earth)?;
-    answer(output, near_earth)?;
-    text(
-        output,
-        b"\nOne wrong digit, tried everywhere. Code 5 has the tables of code 4.\n",
-    )?;
+    output.write_all(b"One wrong digit, tried everywhere. Code 5 has the tables of code 4.\n")?;
     try_telecommand(
         output,
         1,

@@ -7,32 +7,13 @@ ghost use Rattle.std.specs.Prelude.{◌+◌, ◌*◌, ◌≤◌, ◌<◌, ◌≡
 use std::io;
 use std::io::Write;
 
-fn text<W: Write>(output: &mut W, bytes: &[u8]) -> io::Result<()> {
-    output.write_all(bytes)
-}
-
-fn number<W: Write>(output: &mut W, n: u64) -> io::Result<()> {
-    write!(output, "{n}")
-}
-
 // Flips bit n; bit 0 is the most significant bit of octet 0.
 fn flip(word: &mut [u8], n: usize)
     requires { n < 8 * length word.old }
     ensures { length word.new ≡ length word.old }
 {
     let at = n / 8;
-    word[at] = word[at] ^ (0x80 >> (n % 8));
-}
-
-fn is_zeros(octets: &[u8]) -> bool {
-    let mut i: usize = 0;
-    while i < octets.len() {
-        if octets[i] != 0 {
-            return false;
-        }
-        i += 1;
-    }
-    true
+    word[at] ^= 0x80 >> (n % 8);
 }
 
 // Whether correct makes zeros of the word, by two flips.
@@ -40,23 +21,7 @@ fn is_mended(code: u8, word: &[u8], out: &mut [u8]) -> bool
     ensures { length out.new ≡ length out.old }
 {
     let a = codes::correct(code, word, 65535, out);
-    if a.number != 0 {
-        return false;
-    }
-    if a.flips != 2 {
-        return false;
-    }
-    is_zeros(out)
-}
-
-fn show<W: Write>(output: &mut W, code: u8, a: usize, b: usize) -> io::Result<()> {
-    text(output, b"code ")?;
-    number(output, code as u64)?;
-    text(output, b": bits ")?;
-    number(output, a as u64)?;
-    text(output, b" and ")?;
-    number(output, b as u64)?;
-    text(output, b" are not mended\n")
+    a.number == 0 && a.flips == 2 && out.iter().all(|octet| *octet == 0)
 }
 
 // One if the word, zeros but for bits a and b, is mended; otherwise it is said.
@@ -74,7 +39,7 @@ fn attempt<W: Write>(
     if is_mended(code, word, out) {
         return Ok(1);
     }
-    show(output, code, a, b)?;
+    writeln!(output, "code {code}: bits {a} and {b} are not mended")?;
     Ok(0)
 }
 
@@ -113,13 +78,10 @@ fn all<W: Write>(output: &mut W, code: u8, word: &mut [u8], out: &mut [u8]) -> i
         mended += with_later(output, code, a, word, out)?;
         tried += (end - a - 1) as u64;
     }
-    text(output, b"code ")?;
-    number(output, code as u64)?;
-    text(output, b": ")?;
-    number(output, tried)?;
-    text(output, b" pairs tried, ")?;
-    number(output, mended)?;
-    text(output, b" mended by two flips\n")
+    writeln!(
+        output,
+        "code {code}: {tried} pairs tried, {mended} mended by two flips"
+    )
 }
 
 fn main(rt: HostRuntime) -> io::Result<()> {

@@ -15,10 +15,13 @@ ghost use Rattle.rules.specs.Encoding.{lifted};
 ghost use Rattle.catalogue.specs.offer.Offers.{offer_of, Known};
 ghost use Rattle.quick.specs.Quick.{read, as_read, refused_quick, quick_answer};
 ghost use Rattle.quick.specs.Answers.{as_quick};
+ghost use Rattle.refusals.specs.Numbers.{number_of};
 
 use catalogue::offer;
 use catalogue::offer::Offer;
+use refusals::Refusal;
 
+// A record of C's: its number says whether the rest counts.
 #[repr(C)]
 #[derive(Clone, Copy)]
 pub struct Answered {
@@ -28,11 +31,11 @@ pub struct Answered {
 }
 
 // What a refused call gives besides its number.
-fn refused(number: u8) -> Answered
-    ensures { as_quick result ≡ refused_quick number }
+fn refused(refusal: Refusal) -> Answered
+    ensures { as_quick result ≡ refused_quick (number_of refusal) }
 {
     Answered {
-        number: number,
+        number: refusal.number(),
         yes: false,
         evaluated: 0,
     }
@@ -70,16 +73,24 @@ fn lowest_broken(o: Offer, word: &[u8]) -> u32
     lowest_narrow::lowest(o, word)
 }
 
+// Whether every check of a word of the right length is met, and how many were evaluated.
+fn quick_taken(o: Offer, word: &[u8]) -> Answered
+    requires { Known o × (length word.now ≡ o.word) }
+    ensures { (n : ℕ) → offered n ≡ true → o ≡ offer_of n
+        → as_quick result ≡ as_read (read (checks (code_of n)) (check (code_of n) (lifted (code_of n) (bit word.now)))) }
+{
+    let sh = o.shape;
+    let lowest = lowest_broken(o, word);
+    answer(lowest, (sh.rows * sh.size) as u32)
+}
+
 // Whether every check is met, and how many were evaluated.
 pub fn quick(code: u8, word: &[u8]) -> Answered
     ensures { as_quick result ≡ quick_answer code word.now }
 {
     let o = offer::of(code);
-    let number = refusals::refusal(o.offered, word.len(), o.word, 0, 0);
-    if number != 0 {
-        return refused(number);
+    match refusals::admit(o.offered, word.len(), o.word, 0, 0) {
+        Ok(()) => quick_taken(o, word),
+        Err(refusal) => refused(refusal),
     }
-    let sh = o.shape;
-    let lowest = lowest_broken(o, word);
-    answer(lowest, (sh.rows * sh.size) as u32)
 }

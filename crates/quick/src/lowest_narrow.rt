@@ -43,10 +43,8 @@ fn narrow_group(y: &[u64], h: &[u16], sh: Shape, r: usize) -> u64
     ensures { Has sh.size result (group sh h.now (wbit y.now) r (2 * sh.blocks)) }
 {
     let mut v: u64 = 0;
-    let mut b = 0;
-    while b < sh.blocks {
+    for b in 0..sh.blocks {
         v ^= narrow_block(y, h, sh, b, r);
-        b += 1;
     }
     v
 }
@@ -56,13 +54,11 @@ fn rows_lowest(y: &[u64], h: &[u16], sh: Shape) -> u32
     requires { Fit h.now sh × (sh.size ≤ 64) × (length y.now ≡ 17) }
     ensures { (c : Code) → Lent c h.now sh → result ≡ lowest_of c (wbit y.now) }
 {
-    let mut r = 0;
-    while r < sh.rows {
+    for r in 0..sh.rows {
         let v = vectors::front(narrow_group(y, h, sh, r), sh.size);
         if v != 0 {
             return (r * sh.size) as u32 + u64::leading_zeros(v);
         }
-        r += 1;
     }
     (sh.rows * sh.size) as u32
 }

@@ -77,10 +77,8 @@ fn first_group(octets: &[u8], u: usize, h: &[u16], sh: Shape) -> u64
         (group sh h.now (lifted c (bit octets.now)) 0 (2 * sh.blocks)) }
 {
     let mut v: u64 = 0;
-    let mut k = 0;
-    while k < 2 * sh.blocks {
+    for k in 0..2 * sh.blocks {
         v ^= wide_entry(octets, u, k / 2 * sh.size, sh.size, h[k] as usize);
-        k += 1;
     }
     v
 }
@@ -101,12 +99,10 @@ fn double_blocks(y: &[u64], sh: Shape, d: &mut [u64])
         × (length d.old ≡ 256) }
     ensures { Twofold sh.blocks sh.size (wbit y.now) d.new }
 {
-    let mut b: usize = 0;
-    while b < sh.blocks {
+    for b in 0..sh.blocks {
         let at = 16 * b;
         let end = at + 16;
         double_block(y, b * sh.size, sh.size, &mut d[at..end]);
-        b += 1;
     }
 }
 
@@ -115,10 +111,8 @@ fn begin_row(h: &[u16], sh: Shape, r: usize, begins: &mut [usize])
     requires { Fit h.now sh × (r < sh.rows) × (length begins.old ≡ 2 * sh.blocks) }
     ensures { Begun (2 * sh.blocks) sh h.now r begins.new }
 {
-    let mut k = 0;
-    while k < 2 * sh.blocks {
+    for k in 0..2 * sh.blocks {
         begins[k] = 1024 * (k / 2) + h[2 * (r * sh.blocks) + k] as usize;
-        k += 1;
     }
 }
 
@@ -128,10 +122,8 @@ fn wide_group(d: &[u64], begins: &[usize]) -> u64
     ensures { Holds result (behind begins.now (wbit d.now)) }
 {
     let mut v: u64 = 0;
-    let mut k = 0;
-    while k < begins.len() {
-        v ^= vectors::window(d, begins[k]);
-        k += 1;
+    for begin in begins {
+        v ^= vectors::window(d, *begin);
     }
     v
 }
@@ -141,8 +133,7 @@ fn groups_lowest(d: &[u64], begins: &[usize], m: usize) -> usize
     requires { (m ≤ 512) × (8 ≤ length d.now) × Inside begins.now 9 d.now }
     ensures { result ≡ least m (behind begins.now (wbit d.now)) }
 {
-    let mut g: usize = 0;
-    while 64 * g < m {
+    for g in 0..(m + 63) / 64 {
         let v = wide_group(&d[g..], begins);
         if v != 0 {
             let l = 64 * g + u64::leading_zeros(v) as usize;
@@ -151,7 +142,6 @@ fn groups_lowest(d: &[u64], begins: &[usize], m: usize) -> usize
             }
             return m; // what is set is past the last check
         }
-        g += 1;
     }
     m
 }
@@ -173,13 +163,11 @@ fn wide_rows_lowest(d: &[u64], h: &[u16], sh: Shape) -> u32
     ensures { (c : Code) (x : Word) → Lent c h.now sh → Twofold sh.blocks sh.size x d.now
         → result ≡ lowest_of c x }
 {
-    let mut row = 0;
-    while row < sh.rows {
+    for row in 0..sh.rows {
         let l = wide_row_lowest(d, h, sh, row);
         if l < sh.size {
             return (row * sh.size + l) as u32;
         }
-        row += 1;
     }
     (sh.rows * sh.size) as u32
 }

@@ -46,11 +46,10 @@ fn add_words(octets: &mut [u8], sequence: &[u8], from: usize)
     requires { (length octets.old ≡ length octets.old / 8 * 8) × (from + length octets.old ≤ length sequence.now) }
     ensures { Added sequence.now from octets.old octets.new }
 {
-    let mut at: usize = 0;
-    while at < octets.len() {
+    for k in 0..octets.len() / 8 {
+        let at = 8 * k;
         let end = at + 8;
         add_word(&mut octets[at..end], sequence, from + at);
-        at = end;
     }
 }
 
@@ -59,10 +58,8 @@ fn add_octets(octets: &mut [u8], sequence: &[u8], from: usize)
     requires { from + length octets.old ≤ length sequence.now }
     ensures { Added sequence.now from octets.old octets.new }
 {
-    let mut i = 0;
-    while i < octets.len() {
-        octets[i] ^= sequence[from + i];
-        i += 1;
+    for (i, octet) in octets.iter_mut().enumerate() {
+        *octet ^= sequence[from + i];
     }
 }
 

@@ -1,2 +1,2 @@
-pub mod Rungs
 pub mod Admitted
+pub mod Numbers

@@ -10,6 +10,7 @@ ghost use Rattle.std.specs.Prelude.{◌≡◌, true, false, not, ◌&&◌, ℕ, 
 ghost use Rattle.rules.specs.Codes.{code as code_of, offered};
 ghost use Rattle.rules.specs.Checks.{broken as broken_of, lowest as lowest_of};
 ghost use Rattle.answers.specs.Calls.{refusal as refusal_of};
+ghost use Rattle.refusals.specs.Numbers.{number_in};
 ghost use Rattle.vectors.specs.Vectors.{wbit};
 ghost use Rattle.layout.specs.Lent.{Fit, laid};
 ghost use Rattle.catalogue.specs.offer.Offers.{offer_of, Known};
@@ -29,6 +30,7 @@ use catalogue::offer::Offer;
 use flipping::endings;
 use flipping::endings::Corrected;
 use layout::{SYNDROME, Shape, TABLE, WORD};
+use refusals::Refusal;
 use word::{judging, measured, received};
 
 // The most samples that a code takes.
@@ -81,10 +83,10 @@ fn run_judged(
     Corrected {
         number: judging::judge(o, y, ran.number),
         flips: ran.flips,
-        first: first,
+        first,
         last: end.last,
         unlike: end.unlike,
-        lowest: lowest,
+        lowest,
     }
 }
 
@@ -150,11 +152,11 @@ fn correct_taken(o: Offer, samples: &[u32], limit: u16, out: &mut [u8]) -> Corre
     correct_read(o, samples, limit, &mut y, out)
 }
 
-// The number that refuses so many samples and an output of so many octets; 0 if they are taken.
-fn refusal(o: Offer, samples: usize, octets: usize) -> u8
-    ensures { result ≡ refusal_of o.steps samples o.bits octets o.word }
+// Admits so many samples and an output of so many octets.
+fn admit(o: Offer, samples: usize, octets: usize) -> Result<(), Refusal>
+    ensures { number_in result ≡ refusal_of o.steps samples o.bits octets o.word }
 {
-    refusals::refusal(o.steps, samples, o.bits, octets, o.word)
+    refusals::admit(o.steps, samples, o.bits, octets, o.word)
 }
 
 // The run on samples by their bit patterns, one for each bit, under a limit.
@@ -162,11 +164,10 @@ pub fn correct_patterns(code: u8, samples: &[u32], limit: u16, out: &mut [u8]) -
     ensures { as_corrected result out.new ≡ samples_answer code (samples_of samples.now) limit out.old }
 {
     let o = offer::of(code);
-    let number = refusal(o, samples.len(), out.len());
-    if number != 0 {
-        return endings::refused_correct(number);
+    match admit(o, samples.len(), out.len()) {
+        Ok(()) => correct_taken(o, samples, limit, out),
+        Err(refusal) => endings::refused_correct(refusal.number()),
     }
-    correct_taken(o, samples, limit, out)
 }
 
 // The bit pattern of a sample; of what is not a number, one that is none either.
@@ -185,10 +186,8 @@ fn load(samples: &[f32], patterns: &mut [u32])
     ensures { (length patterns.new ≡ length patterns.old) × ((i : ℕ) → i < length samples.now
         → of_bits binary32 (pattern_of patterns.new i) ≡ sample_of samples.now i) }
 {
-    let mut i = 0;
-    while i < samples.len() {
-        patterns[i] = pattern(samples[i]);
-        i += 1;
+    for (i, s) in samples.iter().enumerate() {
+        patterns[i] = pattern(*s);
     }
 }
 
@@ -209,9 +208,8 @@ pub fn correct_samples(code: u8, samples: &[f32], limit: u16, out: &mut [u8]) ->
     ensures { as_corrected result out.new ≡ samples_answer code samples.now limit out.old }
 {
     let o = offer::of(code);
-    let number = refusal(o, samples.len(), out.len());
-    if number != 0 {
-        return endings::refused_correct(number);
+    match admit(o, samples.len(), out.len()) {
+        Ok(()) => correct_loaded(o, samples, limit, out),
+        Err(refusal) => endings::refused_correct(refusal.number()),
     }
-    correct_loaded(o, samples, limit, out)
 }

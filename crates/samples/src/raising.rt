@@ -1,32 +1,34 @@
 // What a run by sizes keeps of each block: a bound, and the block's smallest bit at that bound; and how a flip raises it.
 ghost use Rattle.std.specs.Prelude.{◌≡◌, Bool, true, ◌&&◌, ◌||◌, List, ◌⊎◌, ℕ, ◌+◌, ◌*◌, ◌%◌, ◌<◌, ◌≤◌, eqb, length, get_or};
-ghost use Rattle.bits.specs.Bits.{Word, tally, flipped};
+ghost use Rattle.bits.specs.Bits.{Word, flipped};
 ghost use Rattle.rules.specs.Codes.{Code};
 ghost use Rattle.vectors.specs.Vectors.{wbit};
 ghost use Rattle.layout.specs.Lent.{Lent, laid};
-ghost use Rattle.flipping.specs.bounds.Reading.{hits, Twice, Gathered};
-ghost use Rattle.flipping.specs.bounds.Keeping.{Ready};
+ghost use Rattle.flipping.specs.bounds.Reading.{hits, Twice};
+ghost use Rattle.flipping.specs.bounds.Keeping.{Laid};
 ghost use Rattle.magnitudes.specs.Patterns.{smaller};
-ghost use Rattle.samples.specs.raising.Knowing.{Within, Ahead, Known, Knows, whole, covered, nearer as nearer_of, raised};
+ghost use Rattle.samples.specs.raising.Knowing.{Within, Ahead, Known, whole, covered, nearer as nearer_of};
+ghost use Rattle.samples.specs.raising.Knowing.{Sampled, KnowsIn, covers, raises};
 
 use flipping::bounds;
-use layout::{BLOCKS, ROWS, STARTS, Shape};
+use flipping::bounds::Bounds;
+use layout::{BLOCKS, ROWS};
 
 // The number of no bit.
 pub const UNKNOWN: usize = 8176;
+
+// The bounds of the blocks, and for each block its smallest bit at that bound; or UNKNOWN.
+#[derive(Drop)]
+pub struct Kept {
+    pub bounds: Bounds,
+    pub bits: [usize; BLOCKS],
+}
 
 // How many of its checks every bit of a block has met at least, and the smallest bit that has met no more; or UNKNOWN.
 #[derive(Clone, Copy)]
 struct Low {
     met: u8,
     bit: usize,
-}
-
-// 1 for a bit that is set.
-fn one(b: bool) -> u8
-    ensures { result ≡ tally b }
-{
-    if b { 1 } else { 0 }
 }
 
 // How many of the n checks of bit k of a block are broken.
@@ -36,10 +38,8 @@ pub fn broken_of(d: &[u64], starts: &[u16], from: usize, n: u8, k: usize) -> u8
 {
     let end = n as usize;
     let mut broken: u8 = 0;
-    let mut e: usize = 0;
-    while e < end {
-        broken += one(vectors::is_set(d, starts[from + e] as usize + k));
-        e += 1;
+    for e in 0..end {
+        broken += u8::from(vectors::is_set(d, starts[from + e] as usize + k));
     }
     broken
 }
@@ -85,19 +85,13 @@ fn meet(samples: &[u32], n: u8, broken: u8, first: usize, k: usize, met: u8, kno
         };
     }
     if broken + met < n {
-        return Low {
-            met: met,
-            bit: known,
-        };
+        return Low { met, bit: known };
     }
     if known >= samples.len() {
-        return Low {
-            met: met,
-            bit: known,
-        };
+        return Low { met, bit: known };
     }
     Low {
-        met: met,
+        met,
         bit: lesser(samples, known, first + k),
     }
 }
@@ -156,82 +150,11 @@ fn raise_in(
 {
     let end = n as usize;
     let mut now = low;
-    let mut e: usize = 0;
-    while e < end {
+    for e in 0..end {
         let k = bit_at(p, starts[from + e] as usize, m);
         now = look(samples, d, starts, from, n, m, first, k, now);
-        e += 1;
     }
     now
-}
-
-// What is known of block b when the bits that the check at p covers are seen too; what is known of the others stays.
-fn raise_block(
-    samples: &[u32],
-    d: &[u64; ROWS],
-    starts: &[u16; STARTS],
-    counts: &[u8; BLOCKS],
-    met: &mut [u8],
-    kept: &mut [usize],
-    sh: Shape,
-    p: usize,
-    b: usize,
-)
-    requires { Ready sh starts.now counts.now met.old × (length kept.old ≡ 16) × (length samples.now ≡ sh.blocks * sh.size)
-        × (p < 4096) × (b < sh.blocks) }
-    ensures { Ready sh starts.now counts.now met.new × ((seen seen' : ℕ → ℕ → Bool)
-        → ((i : ℕ) → seen' b i ≡ true
-        → (seen b i || covered starts.now (8 * b) sh.size p (get_or counts.now b 0) i) ≡ true)
-        → ((j i : ℕ) → (j ≡ b → ⊥) → seen' j i ≡ true → seen j i ≡ true)
-        → Knows samples.now sh (wbit d.now) starts.now counts.now seen
-        met.old kept.old
-        → Knows samples.now sh (wbit d.now) starts.now counts.now seen'
-        met.new kept.new) }
-{
-    let was = Low {
-        met: met[b],
-        bit: kept[b],
-    };
-    let low = raise_in(
-        samples,
-        d,
-        starts,
-        8 * b,
-        counts[b],
-        sh.size,
-        b * sh.size,
-        p,
-        was,
-    );
-    met[b] = low.met;
-    kept[b] = low.bit;
-}
-
-// What is known of every block when the bits that the check at p covers are seen too.
-fn raise_all(
-    samples: &[u32],
-    d: &[u64; ROWS],
-    starts: &[u16; STARTS],
-    counts: &[u8; BLOCKS],
-    met: &mut [u8; BLOCKS],
-    kept: &mut [usize; BLOCKS],
-    sh: Shape,
-    p: usize,
-)
-    requires { Ready sh starts.now counts.now met.old × (length samples.now ≡ sh.blocks * sh.size)
-        × (p < 4096) }
-    ensures { Ready sh starts.now counts.now met.new × ((seen : ℕ → ℕ → Bool)
-        → Knows samples.now sh (wbit d.now) starts.now counts.now seen
-        met.old kept.old
-        → Knows samples.now sh (wbit d.now) starts.now counts.now
-        (λ j i. seen j i || covered starts.now (8 * j) sh.size p (get_or counts.now j 0) i)
-        met.new kept.new) }
-{
-    let mut b = 0;
-    while b < sh.blocks {
-        raise_block(samples, d, starts, counts, met, kept, sh, p, b);
-        b += 1;
-    }
 }
 
 // The first place of the check at p.
@@ -245,108 +168,101 @@ fn nearer(p: usize, m: usize) -> usize
     p - m
 }
 
-// The same, if the check at p is broken.
-fn raise_check(
-    samples: &[u32],
-    d: &[u64; ROWS],
-    starts: &[u16; STARTS],
-    counts: &[u8; BLOCKS],
-    met: &mut [u8; BLOCKS],
-    kept: &mut [usize; BLOCKS],
-    sh: Shape,
-    p: usize,
-)
-    requires { Ready sh starts.now counts.now met.old × (length samples.now ≡ sh.blocks * sh.size)
-        × (p < 4096) × (p % 1024 < 2 * sh.size) }
-    ensures { Ready sh starts.now counts.now met.new × ((seen : ℕ → ℕ → Bool)
-        → Knows samples.now sh (wbit d.now) starts.now counts.now seen
-        met.old kept.old
-        → Knows samples.now sh (wbit d.now) starts.now counts.now
-        (λ j i. seen j i || (wbit d.now p
-        && covered starts.now (8 * j) sh.size (nearer_of sh.size p) (get_or counts.now j 0) i))
-        met.new kept.new) }
-{
-    if !vectors::is_set(d, p) {
-        return;
-    }
-    raise_all(
-        samples,
-        d,
-        starts,
-        counts,
-        met,
-        kept,
-        sh,
-        nearer(p, sh.size),
-    );
-}
-
-// What is known of every block when the bits are seen too that a broken check of bit k covers; the starts of its block begin with
-// start `from`.
-fn raise(
-    samples: &[u32],
-    d: &[u64; ROWS],
-    starts: &[u16; STARTS],
-    counts: &[u8; BLOCKS],
-    met: &mut [u8; BLOCKS],
-    kept: &mut [usize; BLOCKS],
-    sh: Shape,
-    from: usize,
-    n: usize,
-    k: usize,
-)
-    requires { Ready sh starts.now counts.now met.old × (length samples.now ≡ sh.blocks * sh.size)
-        × (from + n ≤ length starts.now)
-        × ((e : ℕ) → e < n → (get_or starts.now (from + e) 0 + k < 4096) × ((get_or starts.now (from + e) 0 + k) % 1024 < 2 * sh.size)) }
-    ensures { Ready sh starts.now counts.now met.new × ((seen : ℕ → ℕ → Bool)
-        → Knows samples.now sh (wbit d.now) starts.now counts.now seen
-        met.old kept.old
-        → Knows samples.now sh (wbit d.now) starts.now counts.now
-        (λ j i. seen j i || raised sh (wbit d.now) starts.now counts.now from k n j i)
-        met.new kept.new) }
-{
-    let mut e = 0;
-    while e < n {
-        raise_check(
+impl Kept {
+    // What is known of block b when the bits that the check at p covers are seen too; what is known of the others stays.
+    fn raise_block(&mut self, samples: &[u32], rows: &[u64; ROWS], p: usize, b: usize)
+        requires { Sampled samples.now self.old.bounds.places × (p < 4096) × (b < self.old.bounds.places.shape.blocks) }
+        ensures { (self.new.bounds.places ≡ self.old.bounds.places) × ((seen seen' : ℕ → ℕ → Bool)
+            → ((i : ℕ) → seen' b i ≡ true → (seen b i || covers self.old.bounds.places p b i) ≡ true)
+            → ((j i : ℕ) → (j ≡ b → ⊥) → seen' j i ≡ true → seen j i ≡ true)
+            → KnowsIn samples.now self.old.bounds.places (wbit rows.now) seen self.old.bounds.met self.old.bits
+            → KnowsIn samples.now self.old.bounds.places (wbit rows.now) seen' self.new.bounds.met self.new.bits) }
+    {
+        let m = self.bounds.places.shape.size;
+        let was = Low {
+            met: self.bounds.met[b],
+            bit: self.bits[b],
+        };
+        let low = raise_in(
             samples,
-            d,
-            starts,
-            counts,
-            met,
-            kept,
-            sh,
-            starts[from + e] as usize + k,
+            rows,
+            &self.bounds.places.starts,
+            8 * b,
+            self.bounds.places.counts[b],
+            m,
+            b * m,
+            p,
+            was,
         );
-        e += 1;
+        self.bounds.met[b] = low.met;
+        self.bits[b] = low.bit;
     }
-}
 
-// Flips the checks of a bit. Only the bits that a check covers which is broken then have fewer checks met than before: these are
-// seen anew.
-pub fn flip(
-    samples: &[u32],
-    d: &mut [u64; ROWS],
-    starts: &[u16; STARTS],
-    counts: &[u8; BLOCKS],
-    met: &mut [u8; BLOCKS],
-    kept: &mut [usize; BLOCKS],
-    sh: Shape,
-    bit: usize,
-)
-    requires { Ready sh starts.now counts.now met.old × (length samples.now ≡ sh.blocks * sh.size)
-        × (bit < sh.blocks * sh.size) }
-    ensures { Ready sh starts.now counts.now met.new × ((c : Code) (h : List ℕ) (x : Word)
-        → Lent c h sh → Gathered h sh starts.now counts.now sh.blocks
-        → Twice sh sh.rows (laid c sh x) (wbit d.old)
-        → Twice sh sh.rows (laid c sh (flipped x bit)) (wbit d.new)
-        × (Knows samples.now sh (wbit d.old) starts.now counts.now whole
-        met.old kept.old
-        → Knows samples.now sh (wbit d.new) starts.now counts.now whole
-        met.new kept.new)) }
-{
-    let b = bit / sh.size;
-    let k = bit % sh.size;
-    let n = counts[b] as usize;
-    bounds::flip_checks(d, starts, 8 * b, n, k, sh.size);
-    raise(samples, d, starts, counts, met, kept, sh, 8 * b, n, k);
+    // What is known of every block when the bits that the check at p covers are seen too.
+    fn raise_all(&mut self, samples: &[u32], rows: &[u64; ROWS], p: usize)
+        requires { Sampled samples.now self.old.bounds.places × (p < 4096) }
+        ensures { (self.new.bounds.places ≡ self.old.bounds.places) × ((seen : ℕ → ℕ → Bool)
+            → KnowsIn samples.now self.old.bounds.places (wbit rows.now) seen self.old.bounds.met self.old.bits
+            → KnowsIn samples.now self.old.bounds.places (wbit rows.now)
+            (λ j i. seen j i || covers self.old.bounds.places p j i) self.new.bounds.met self.new.bits) }
+    {
+        for b in 0..self.bounds.places.shape.blocks {
+            self.raise_block(samples, rows, p, b);
+        }
+    }
+
+    // The same, if the check at p is broken.
+    fn raise_check(&mut self, samples: &[u32], rows: &[u64; ROWS], p: usize)
+        requires { Sampled samples.now self.old.bounds.places × (p < 4096) × (p % 1024 < 2 * self.old.bounds.places.shape.size) }
+        ensures { (self.new.bounds.places ≡ self.old.bounds.places) × ((seen : ℕ → ℕ → Bool)
+            → KnowsIn samples.now self.old.bounds.places (wbit rows.now) seen self.old.bounds.met self.old.bits
+            → KnowsIn samples.now self.old.bounds.places (wbit rows.now)
+            (λ j i. seen j i || (wbit rows.now p
+            && covers self.old.bounds.places (nearer_of self.old.bounds.places.shape.size p) j i))
+            self.new.bounds.met self.new.bits) }
+    {
+        if !vectors::is_set(rows, p) {
+            return;
+        }
+        let m = self.bounds.places.shape.size;
+        self.raise_all(samples, rows, nearer(p, m));
+    }
+
+    // What is known of every block when the bits are seen too that a broken check of bit k of block b covers.
+    fn raise(&mut self, samples: &[u32], rows: &[u64; ROWS], b: usize, k: usize)
+        requires { Sampled samples.now self.old.bounds.places
+            × (b < self.old.bounds.places.shape.blocks) × (k < self.old.bounds.places.shape.size) }
+        ensures { (self.new.bounds.places ≡ self.old.bounds.places) × ((seen : ℕ → ℕ → Bool)
+            → KnowsIn samples.now self.old.bounds.places (wbit rows.now) seen self.old.bounds.met self.old.bits
+            → KnowsIn samples.now self.old.bounds.places (wbit rows.now)
+            (λ j i. seen j i || raises self.old.bounds.places (wbit rows.now) b k (get_or self.old.bounds.places.counts b 0) j i)
+            self.new.bounds.met self.new.bits) }
+    {
+        let n = self.bounds.places.counts[b] as usize;
+        for e in 0..n {
+            let p = self.bounds.places.starts[8 * b + e] as usize + k;
+            self.raise_check(samples, rows, p);
+        }
+    }
+
+    // Flips the checks of a bit. Only the bits that a check covers which is broken then have fewer checks met than before: these are
+    // seen anew.
+    pub fn flip(&mut self, samples: &[u32], rows: &mut [u64; ROWS], bit: usize)
+        requires { Sampled samples.now self.old.bounds.places
+            × (bit < self.old.bounds.places.shape.blocks * self.old.bounds.places.shape.size) }
+        ensures { (self.new.bounds.places ≡ self.old.bounds.places) × ((c : Code) (h : List ℕ) (x : Word)
+            → Lent c h self.old.bounds.places.shape → Laid h self.old.bounds.places
+            → Twice self.old.bounds.places.shape self.old.bounds.places.shape.rows (laid c self.old.bounds.places.shape x) (wbit rows.old)
+            → Twice self.old.bounds.places.shape self.old.bounds.places.shape.rows
+            (laid c self.old.bounds.places.shape (flipped x bit)) (wbit rows.new)
+            × (KnowsIn samples.now self.old.bounds.places (wbit rows.old) whole self.old.bounds.met self.old.bits
+            → KnowsIn samples.now self.old.bounds.places (wbit rows.new) whole self.new.bounds.met self.new.bits)) }
+    {
+        let m = self.bounds.places.shape.size;
+        let b = bit / m;
+        let k = bit % m;
+        let n = self.bounds.places.counts[b] as usize;
+        bounds::flip_checks(rows, &self.bounds.places.starts, 8 * b, n, k, m);
+        self.raise(samples, rows, b, k);
+    }
 }

@@ -1,17 +1,18 @@
 // The smallest of the bits of greatest excess, by what a run keeps of each block: a bound, and the block's smallest bit at that bound.
-ghost use Rattle.std.specs.Prelude.{◌≡◌, true, false, ◌⊎◌, ℕ, ◌+◌, ◌-◌, ◌*◌, ◌/◌, ◌%◌, ◌<◌, ◌≤◌, ltb, length};
+ghost use Rattle.std.specs.Prelude.{◌≡◌, true, false, ◌⊎◌, ℕ, ◌+◌, ◌-◌, ◌*◌, ◌/◌, ◌%◌, ◌<◌, ◌≤◌, length};
 ghost use Rattle.bits.specs.Bits.{digit};
 ghost use Rattle.vectors.specs.Vectors.{wbit, Holds};
 ghost use Rattle.flipping.specs.bounds.Reading.{hits};
-ghost use Rattle.flipping.specs.bounds.Keeping.{bound, Ready, Scored};
+ghost use Rattle.flipping.specs.bounds.Keeping.{bound};
 ghost use Rattle.magnitudes.specs.Patterns.{smaller};
-ghost use Rattle.samples.specs.raising.Knowing.{Within, Ahead, Knows, whole};
-ghost use Rattle.samples.specs.smallest.Settling.{Leads, Lightest, Settled, all_set};
+ghost use Rattle.samples.specs.raising.Knowing.{Within, Ahead, whole, Sampled, KnowsIn};
+ghost use Rattle.samples.specs.smallest.Settling.{Lightest, all_set, SettledIn, LeadsIn, MostIn};
 
 use super::raising;
+use super::raising::Kept;
+use flipping::bounds;
 use flipping::choice::Best;
-use flipping::{bounds, choice};
-use layout::{BLOCKS, ROWS, STARTS, Shape};
+use layout::ROWS;
 
 // The smallest of a bit, if it is one, and of the bits that are set in mask, which begins with bit `first`.
 fn among(samples: &[u32], mask: u64, first: usize, bit: usize) -> usize
@@ -48,11 +49,10 @@ fn smallest_in(
     ensures { Lightest samples.now (wbit d.now) starts.now from n met m first m result }
 {
     let mut best = samples.len();
-    let mut at = 0;
-    while at < m {
+    for k in 0..(m + 63) / 64 {
+        let at = 64 * k;
         let mask = bounds::weigh(d, starts, from, n, met, at, 0, m);
         best = among(samples, mask, first + at, best);
-        at += 64;
     }
     best
 }
@@ -74,14 +74,6 @@ fn none_met(d: &[u64], a: usize, b: usize, c: usize, e: usize) -> u64
     y & vectors::window(d, c) & vectors::window(d, e)
 }
 
-// Of 64 bits from bit `at` on, how many stand before bit m.
-fn left(m: usize, at: usize) -> usize
-    requires { at < m }
-    ensures { (result ≤ 64) × ((i : ℕ) → i < 64 → ltb i result ≡ ltb (at + i) m) }
-{
-    if m - at < 64 { m - at } else { 64 }
-}
-
 // The smallest bit of a block that has none of its four checks met; if there is none, the number of samples.
 fn smallest_none(
     samples: &[u32],
@@ -99,13 +91,17 @@ fn smallest_none(
     let s2 = starts[from + 2] as usize;
     let s3 = starts[from + 3] as usize;
     let mut best = samples.len();
-    let mut at = 0;
-    while at < m {
+    for k in 0..(m + 63) / 64 {
+        let at = 64 * k;
         let v = none_met(d, s0 + at, s1 + at, s2 + at, s3 + at);
         if v != 0 {
-            best = among(samples, vectors::front(v, left(m, at)), first + at, best);
+            best = among(
+                samples,
+                vectors::front(v, bounds::ahead(m, at)),
+                first + at,
+                best,
+            );
         }
-        at += 64;
     }
     best
 }
@@ -177,163 +173,120 @@ fn still(
     bit
 }
 
-// The smallest of a bit and of those of block b that have no more checks met than is kept of it. If there is none of these, one more
-// is met.
-fn weigh(
-    samples: &[u32],
-    d: &[u64; ROWS],
-    starts: &[u16; STARTS],
-    counts: &[u8; BLOCKS],
-    met: &mut [u8],
-    kept: &mut [usize],
-    sh: Shape,
-    b: usize,
-    best: usize,
-) -> usize
-    requires { Ready sh starts.now counts.now met.old × (length kept.old ≡ 16) × (length samples.now ≡ sh.blocks * sh.size)
-        × (b < sh.blocks) }
-    ensures { Settled samples.now sh (wbit d.now) starts.now counts.now b
-        (bound counts.now met.old b) best result met.old met.new kept.old
-        kept.new }
-{
-    let end = samples.len();
-    let n = counts[b] as usize;
-    let bit = smallest_light(
-        samples,
-        d,
-        starts,
-        8 * b,
-        n,
-        met[b] as usize,
-        sh.size,
-        b * sh.size,
-    );
-    kept[b] = bit;
-    if bit < end {
-        return lead(samples, best, bit);
-    }
-    met[b] += 1;
-    best
-}
-
-// The same, by the bit that is known of the block; the block is weighed only if that does not tell.
-fn at_bound(
-    samples: &[u32],
-    d: &[u64; ROWS],
-    starts: &[u16; STARTS],
-    counts: &[u8; BLOCKS],
-    met: &mut [u8; BLOCKS],
-    kept: &mut [usize; BLOCKS],
-    sh: Shape,
-    b: usize,
-    best: usize,
-) -> usize
-    requires { Ready sh starts.now counts.now met.old × (length samples.now ≡ sh.blocks * sh.size)
-        × (b < sh.blocks) }
-    ensures { Settled samples.now sh (wbit d.now) starts.now counts.now b
-        (bound counts.now met.old b) best result met.old met.new kept.old
-        kept.new }
-{
-    let r = still(
-        samples,
-        d,
-        starts,
-        8 * b,
-        counts[b],
-        met[b],
-        sh.size,
-        kept[b],
-        best,
-    );
-    if r < samples.len() {
-        return r;
-    }
-    weigh(samples, d, starts, counts, met, kept, sh, b, best)
-}
-
-// The smallest of a bit and of those of block b that have the score `top`, where no bit of the block has a greater one.
-fn settle(
-    samples: &[u32],
-    d: &[u64; ROWS],
-    starts: &[u16; STARTS],
-    counts: &[u8; BLOCKS],
-    met: &mut [u8; BLOCKS],
-    kept: &mut [usize; BLOCKS],
-    sh: Shape,
-    b: usize,
-    top: u8,
-    best: usize,
-) -> usize
-    requires { Ready sh starts.now counts.now met.old × (length samples.now ≡ sh.blocks * sh.size)
-        × (b < sh.blocks) × (bound counts.now met.old b ≤ top) }
-    ensures { Settled samples.now sh (wbit d.now) starts.now counts.now b
-        top best result met.old met.new kept.old kept.new }
-{
-    if choice::bound_of(counts, met, b) != top {
-        return best;
-    }
-    at_bound(samples, d, starts, counts, met, kept, sh, b, best)
-}
-
-// The smallest bit of score `top`, where no bit has a greater one; if there is none, the number of samples.
-fn smallest_at(
-    samples: &[u32],
-    d: &[u64; ROWS],
-    starts: &[u16; STARTS],
-    counts: &[u8; BLOCKS],
-    met: &mut [u8; BLOCKS],
-    kept: &mut [usize; BLOCKS],
-    sh: Shape,
-    top: u8,
-) -> usize
-    requires { Ready sh starts.now counts.now met.old × (length samples.now ≡ sh.blocks * sh.size)
-        × ((b : ℕ) → b < sh.blocks → bound counts.now met.old b ≤ top) }
-    ensures { Ready sh starts.now counts.now met.new
-        × (length samples.now ≤ result → (b : ℕ) → b < sh.blocks → bound counts.now met.new b < top)
-        × (Knows samples.now sh (wbit d.now) starts.now counts.now whole
-        met.old kept.old
-        → Knows samples.now sh (wbit d.now) starts.now counts.now whole
-        met.new kept.new
-        × ((g : ℕ → ℕ) → Scored g sh (wbit d.now) starts.now counts.now
-        → Leads samples.now g top (sh.blocks * sh.size) result)) }
-{
-    let mut best = samples.len();
-    let mut b = 0;
-    while b < sh.blocks {
-        best = settle(samples, d, starts, counts, met, kept, sh, b, top, best);
-        b += 1;
-    }
-    best
-}
-
-// The smallest bit of the greatest score: the bounds go down until one is found.
-pub fn choose(
-    samples: &[u32],
-    d: &[u64; ROWS],
-    starts: &[u16; STARTS],
-    counts: &[u8; BLOCKS],
-    met: &mut [u8; BLOCKS],
-    kept: &mut [usize; BLOCKS],
-    sh: Shape,
-) -> Best
-    requires { Ready sh starts.now counts.now met.old × (1 ≤ sh.blocks) × (length samples.now ≡ sh.blocks * sh.size) }
-    ensures { Ready sh starts.now counts.now met.new × (result.bit < sh.blocks * sh.size)
-        × (Knows samples.now sh (wbit d.now) starts.now counts.now whole
-        met.old kept.old
-        → Knows samples.now sh (wbit d.now) starts.now counts.now whole
-        met.new kept.new
-        × ((g : ℕ → ℕ) → Scored g sh (wbit d.now) starts.now counts.now
-        → ((i : ℕ) → i < sh.blocks * sh.size → g i ≤ result.score)
-        × Leads samples.now g result.score (sh.blocks * sh.size) result.bit)) }
-{
-    loop {
-        let top = choice::greatest(counts, met, sh.blocks);
-        let bit = smallest_at(samples, d, starts, counts, met, kept, sh, top);
+impl Kept {
+    // The smallest of a bit and of those of block b that have no more checks met than is kept of it. If there is none of these, one more
+    // is met.
+    fn weigh(&mut self, samples: &[u32], rows: &[u64; ROWS], b: usize, best: usize) -> usize
+        requires { Sampled samples.now self.old.bounds.places × (b < self.old.bounds.places.shape.blocks) }
+        ensures { (self.new.bounds.places ≡ self.old.bounds.places)
+            × SettledIn samples.now self.old.bounds.places (wbit rows.now) b (bound self.old.bounds.places.counts self.old.bounds.met b)
+            best result self.old.bounds.met self.new.bounds.met self.old.bits self.new.bits }
+    {
+        let m = self.bounds.places.shape.size;
+        let n = self.bounds.places.counts[b] as usize;
+        let met = self.bounds.met[b] as usize;
+        let bit = smallest_light(
+            samples,
+            rows,
+            &self.bounds.places.starts,
+            8 * b,
+            n,
+            met,
+            m,
+            b * m,
+        );
+        self.bits[b] = bit;
         if bit < samples.len() {
-            return Best {
-                score: top as u32,
-                bit: bit,
-            };
+            return lead(samples, best, bit);
+        }
+        self.bounds.met[b] += 1;
+        best
+    }
+
+    // The same, by the bit that is known of the block; the block is weighed only if that does not tell.
+    fn at_bound(&mut self, samples: &[u32], rows: &[u64; ROWS], b: usize, best: usize) -> usize
+        requires { Sampled samples.now self.old.bounds.places × (b < self.old.bounds.places.shape.blocks) }
+        ensures { (self.new.bounds.places ≡ self.old.bounds.places)
+            × SettledIn samples.now self.old.bounds.places (wbit rows.now) b (bound self.old.bounds.places.counts self.old.bounds.met b)
+            best result self.old.bounds.met self.new.bounds.met self.old.bits self.new.bits }
+    {
+        let m = self.bounds.places.shape.size;
+        let n = self.bounds.places.counts[b];
+        let r = still(
+            samples,
+            rows,
+            &self.bounds.places.starts,
+            8 * b,
+            n,
+            self.bounds.met[b],
+            m,
+            self.bits[b],
+            best,
+        );
+        if r < samples.len() {
+            return r;
+        }
+        self.weigh(samples, rows, b, best)
+    }
+
+    // The smallest of a bit and of those of block b that have the score `top`, where no bit of the block has a greater one.
+    fn settle(
+        &mut self,
+        samples: &[u32],
+        rows: &[u64; ROWS],
+        b: usize,
+        top: u8,
+        best: usize,
+    ) -> usize
+        requires { Sampled samples.now self.old.bounds.places × (b < self.old.bounds.places.shape.blocks)
+            × (bound self.old.bounds.places.counts self.old.bounds.met b ≤ top) }
+        ensures { (self.new.bounds.places ≡ self.old.bounds.places)
+            × SettledIn samples.now self.old.bounds.places (wbit rows.now) b top best result
+            self.old.bounds.met self.new.bounds.met self.old.bits self.new.bits }
+    {
+        if self.bounds.bound_of(b) != top {
+            return best;
+        }
+        self.at_bound(samples, rows, b, best)
+    }
+
+    // The smallest bit of score `top`, where no bit has a greater one; if there is none, the number of samples.
+    fn smallest_at(&mut self, samples: &[u32], rows: &[u64; ROWS], top: u8) -> usize
+        requires { Sampled samples.now self.old.bounds.places × ((b : ℕ) → b < self.old.bounds.places.shape.blocks
+            → bound self.old.bounds.places.counts self.old.bounds.met b ≤ top) }
+        ensures { (self.new.bounds.places ≡ self.old.bounds.places)
+            × (length samples.now ≤ result → (b : ℕ) → b < self.old.bounds.places.shape.blocks
+            → bound self.old.bounds.places.counts self.new.bounds.met b < top)
+            × (KnowsIn samples.now self.old.bounds.places (wbit rows.now) whole self.old.bounds.met self.old.bits
+            → KnowsIn samples.now self.old.bounds.places (wbit rows.now) whole self.new.bounds.met self.new.bits
+            × LeadsIn samples.now self.old.bounds.places (wbit rows.now) top result) }
+    {
+        let mut best = samples.len();
+        for b in 0..self.bounds.places.shape.blocks {
+            best = self.settle(samples, rows, b, top, best);
+        }
+        best
+    }
+
+    // The smallest bit of the greatest score: the bounds go down until one is found.
+    pub fn choose(&mut self, samples: &[u32], rows: &[u64; ROWS]) -> Best
+        requires { (1 ≤ self.old.bounds.places.shape.blocks) × Sampled samples.now self.old.bounds.places }
+        ensures { (self.new.bounds.places ≡ self.old.bounds.places)
+            × (result.bit < self.old.bounds.places.shape.blocks * self.old.bounds.places.shape.size)
+            × (KnowsIn samples.now self.old.bounds.places (wbit rows.now) whole self.old.bounds.met self.old.bits
+            → KnowsIn samples.now self.old.bounds.places (wbit rows.now) whole self.new.bounds.met self.new.bits
+            × MostIn self.old.bounds.places (wbit rows.now) result.score
+            × LeadsIn samples.now self.old.bounds.places (wbit rows.now) result.score result.bit) }
+    {
+        loop {
+            let top = self.bounds.greatest();
+            let bit = self.smallest_at(samples, rows, top);
+            if bit < samples.len() {
+                return Best {
+                    score: top as u32,
+                    bit,
+                };
+            }
         }
     }
 }

@@ -16,6 +16,13 @@ pub enum Failure {
     Output(io::Error),
 }
 
+// A long array of zeros. Of one in place the check counts the octets one by one, of this one it knows their number.
+pub fn zeros<const N: usize>() -> [u8; N]
+    ensures { N ≡ length result }
+{
+    [0; N]
+}
+
 // One read: as much as comes, and nothing where the input has ended.
 pub fn read<R: Read>(input: &mut R, part: &mut [u8]) -> Result<usize, Failure>
     ensures { ReadsAtMost result part.new }
@@ -23,21 +30,14 @@ pub fn read<R: Read>(input: &mut R, part: &mut [u8]) -> Result<usize, Failure>
     input.read(part).map_err(Failure::Input)
 }
 
-// One read, behind the n octets that are there.
-fn read_more<R: Read>(input: &mut R, octets: &mut [u8], n: usize) -> Result<usize, Failure>
-    requires { n ≤ length octets.old }
-    ensures { IfOk result (λ more. n + more ≤ length octets.new) }
-{
-    read(input, &mut octets[n..])
-}
-
 // Reads until the octets are full or the input ends, and says how many there are.
 pub fn fill<R: Read>(input: &mut R, octets: &mut [u8]) -> Result<usize, Failure>
     ensures { ReadsAtMost result octets.new }
 {
-    let mut n: usize = 0;
+    let mut n = 0;
+    // no `for`: a read brings as many as come
     while n < octets.len() {
-        let more = read_more(input, octets, n)?;
+        let more = read(input, &mut octets[n..])?;
         if more == 0 {
             return Ok(n);
         }

@@ -88,8 +88,3 @@ module _ (w rows : ℕ) (some : 0 < w) (f : ℕ → Word) where
       long = long;
       bits = e ∙ ap (λ (y : Word). added y (w * r) (w * (r + 1)) (f r)) so_far.bits ∙ rowed_more w some x r f;
     }
-
-    pub reached_all : rows ≤ r → wbit ws ≡ plus x (rowed w rows f)
-    reached_all h =
-        let all : r ≡ rows = omega (arith, so_far.far) in
-        so_far.bits ∙ ap (λ (k : ℕ). plus x (rowed w k f)) all

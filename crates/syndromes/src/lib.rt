@@ -63,10 +63,8 @@ pub fn add_block(d: &[u64], h: &[u16], sh: Shape, b: usize, acc: &mut [u64])
     ensures { wbit acc.new ≡ plus (wbit acc.old)
         (rowed (wide sh) sh.rows (spread sh h.now b (turned (wbit d.now)))) }
 {
-    let mut r = 0;
-    while r < sh.rows {
+    for r in 0..sh.rows {
         add_row(d, h, sh, b, acc, r);
-        r += 1;
     }
 }
 
@@ -111,10 +109,8 @@ fn add_blocks(
     ensures { wbit acc.new ≡ rowed (wide sh) sh.rows
         (summed sh h.now (wbit y.now) sh.blocks) }
 {
-    let mut b = 0;
-    while b < sh.blocks {
+    for b in 0..sh.blocks {
         add_wide_block(y, h, sh, b, part, d, acc);
-        b += 1;
     }
 }
 
@@ -146,10 +142,8 @@ pub fn add_narrow_block(d: Pair, h: &[u16], sh: Shape, b: usize, acc: &mut [u64]
     ensures { wbit acc.new ≡ plus (wbit acc.old)
         (rowed (wide sh) sh.rows (spread sh h.now b (turned (both d)))) }
 {
-    let mut r = 0;
-    while r < sh.rows {
+    for r in 0..sh.rows {
         add_narrow_row(d, h, sh, b, acc, r);
-        r += 1;
     }
 }
 
@@ -159,11 +153,9 @@ fn add_narrow_blocks(y: &[u64; WORD], h: &[u16; TABLE], sh: Shape, acc: &mut [u6
     ensures { wbit acc.new ≡ rowed (wide sh) sh.rows
         (summed sh h.now (wbit y.now) sh.blocks) }
 {
-    let mut b = 0;
-    while b < sh.blocks {
+    for b in 0..sh.blocks {
         let v = vectors::front(vectors::window(y, b * sh.size), sh.size);
         add_narrow_block(vectors::double_word(v, sh.size), h, sh, b, acc);
-        b += 1;
     }
 }
 
@@ -201,10 +193,8 @@ pub fn trim_rows(z: &mut [u64], sh: Shape)
     requires { (1 ≤ sh.size) × (sh.size ≤ wide sh) × (wide sh < sh.size + 64) × (sh.rows * sh.words ≤ length z.old) }
     ensures { wbit z.new ≡ within (wide sh) sh.size sh.rows (wbit z.old) }
 {
-    let mut r = 0;
-    while r < sh.rows {
+    for r in 0..sh.rows {
         trim_row(z, sh, r);
-        r += 1;
     }
 }
 
@@ -279,10 +269,8 @@ fn flip_checks(z: &mut [u64], h: &[u16], sh: Shape, b: usize, k: usize)
     ensures { wbit z.new ≡ plus (wbit z.old)
         (rowed (wide sh) sh.rows (spread sh h.now b (covering sh.size k))) }
 {
-    let mut r = 0;
-    while r < sh.rows {
+    for r in 0..sh.rows {
         flip_row(z, h, sh, b, k, r);
-        r += 1;
     }
 }
 

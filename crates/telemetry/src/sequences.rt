@@ -1,5 +1,5 @@
 // Randomising of telemetry words: an edition's sequence, begun anew for each word, added to its octets in place.
-ghost use Rattle.std.specs.Prelude.{◌≡◌, ◌≤◌, length, take};
+ghost use Rattle.std.specs.Prelude.{◌≡◌, ◌≤◌, length};
 ghost use Rattle.randomiser.specs.Randomiser.{randomised};
 ghost use Rattle.telemetry.specs.sequences.Telemetry.{telemetry, second, newer, generator_of, Begins};
 
@@ -41,11 +41,10 @@ fn add_first(word: &mut [u8])
     requires { length word.old ≡ 1020 }
     ensures { word.new ≡ randomised telemetry 0 word.old }
 {
-    let mut at: usize = 0;
-    while at < 1020 {
+    for k in 0..4 {
+        let at = 255 * k;
         let end = at + 255;
         randomiser::add(&mut word[at..end], &SEQUENCE, 0);
-        at = end;
     }
 }
 
@@ -55,27 +54,13 @@ fn buffer() -> [u8; 1020]
     [0; 1020]
 }
 
-// The first octets of the second sequence, laid into longer ones.
-fn lay(octets: &mut [u8], start: &[u8])
-    requires { length start.now ≤ length octets.old }
-    ensures { take (length start.now) octets.new ≡ start.now }
-{
-    let mut i: usize = 0;
-    while i < start.len() {
-        octets[i] = start[i];
-        i += 1;
-    }
-}
-
 // The others, each from two before it.
 fn extend(octets: &mut [u8])
     requires { (136 ≤ length octets.old) × Begins 136 octets.old }
     ensures { Begins (length octets.old) octets.new }
 {
-    let mut i: usize = 136;
-    while i < octets.len() {
+    for i in 136..octets.len() {
         octets[i] = octets[i - 24] ^ octets[i - 136];
-        i += 1;
     }
 }
 
@@ -84,7 +69,7 @@ fn lay_second(octets: &mut [u8])
     requires { 136 ≤ length octets.old }
     ensures { Begins (length octets.old) octets.new }
 {
-    lay(octets, &START);
+    octets[..136].copy_from_slice(&START);
     extend(octets);
 }
 

@@ -11,6 +11,7 @@ ghost use Rattle.telemetry.specs.taker.Answers.{as_taker, as_made, as_taken};
 use super::sequences;
 use flipping::endings;
 use flipping::endings::Corrected;
+use refusals::Refusal;
 
 // A taker between two parts: its place (octets of the marker matched, or 4 and the octets held of the word), what it was told, the octets.
 #[repr(C)]
@@ -23,6 +24,7 @@ pub struct Taker {
 }
 
 // A taker for an edition, and 19 where that is not known.
+// A record of C's: its number says whether the rest counts.
 #[repr(C)]
 #[derive(Drop)]
 pub struct Made {
@@ -31,6 +33,7 @@ pub struct Made {
 }
 
 // A call's answer: the moved taker, the octets taken, whether a word is complete, correct's numbers and the word.
+// A record of C's: `complete` says whether the numbers and the word count.
 #[repr(C)]
 #[derive(Drop)]
 pub struct Taken {
@@ -65,19 +68,13 @@ fn matched(m: usize, octet: u8) -> usize
     requires { m < 4 }
     ensures { (result ≡ matched_by m octet) × (result ≤ 4) }
 {
-    if octet == 0x1A {
-        return 1;
+    match (m, octet) {
+        (_, 0x1A) => 1,
+        (1, 0xCF) => 2,
+        (2, 0xFC) => 3,
+        (3, 0x1D) => 4,
+        _ => 0,
     }
-    if m == 0 {
-        return 0;
-    }
-    if m == 1 {
-        return if octet == 0xCF { 2 } else { 0 };
-    }
-    if m == 2 {
-        return if octet == 0xFC { 3 } else { 0 };
-    }
-    if octet == 0x1D { 4 } else { 0 }
 }
 
 // The next place from `from` on where the marker's first octet stands, or the end of the part.
@@ -86,14 +83,12 @@ fn skip(part: &[u8], from: usize) -> usize
     ensures lower_bound { (from ≤ result) × (result ≤ length part.now) }
     ensures goes_on { GoesOn part.now from 0 result 0 }
 {
-    let mut i = from;
-    while i < part.len() {
+    for i in from..part.len() {
         if part[i] == 0x1A {
             return i;
         }
-        i += 1;
     }
-    i
+    part.len()
 }
 
 // The same where nothing is matched; else the next octet counts, whatever it is.
@@ -112,13 +107,11 @@ fn search(place: usize, part: &[u8]) -> Searched
     ensures goes_on { GoesOn part.now 0 place result.at result.place }
 {
     if place > 3 {
-        return Searched {
-            place: place,
-            at: 0,
-        };
+        return Searched { place, at: 0 };
     }
     let mut m = place;
     let mut i = jump(m, part, 0);
+    // no `for`: a jump passes over octets that begin no marker
     while i < part.len() {
         m = matched(m, part[i]);
         if m > 3 {
@@ -137,11 +130,8 @@ fn hold(octets: &mut [u8], held: usize, part: &[u8])
     requires { held + length part.now ≤ length octets.old }
     ensures { octets.new ≡ sets octets.old held part.now }
 {
-    let mut i: usize = 0;
-    while i < part.len() {
-        octets[held + i] = part[i];
-        i += 1;
-    }
+    let end = held + part.len();
+    octets[held..end].copy_from_slice(part);
 }
 
 // Correct's numbers where no word is complete.
@@ -155,19 +145,19 @@ fn waiting(taken: usize, place: usize, edition: u8, limit: u16, octets: [u8; 102
     ensures { as_taken result ≡ waiting_of taken (standing place (tell edition limit) octets) }
 {
     let next = Taker {
-        place: place,
-        edition: edition,
-        limit: limit,
-        octets: octets,
+        place,
+        edition,
+        limit,
+        octets,
     };
     let word = zeros();
     let corrected = none();
     Taken {
-        next: next,
-        taken: taken,
+        next,
+        taken,
         complete: false,
-        corrected: corrected,
-        word: word,
+        corrected,
+        word,
     }
 }
 
@@ -181,15 +171,15 @@ fn completed(taken: usize, edition: u8, limit: u16, octets: [u8; 1020]) -> Taken
     let corrected = codes::correct(5, &received, limit, &mut mended);
     let next = Taker {
         place: 0,
-        edition: edition,
-        limit: limit,
-        octets: octets,
+        edition,
+        limit,
+        octets,
     };
     Taken {
-        next: next,
-        taken: taken,
+        next,
+        taken,
         complete: true,
-        corrected: corrected,
+        corrected,
         word: mended,
     }
 }
@@ -200,9 +190,9 @@ fn fresh(edition: u8, limit: u16) -> Taker
     let octets = zeros();
     Taker {
         place: 0,
-        edition: edition,
-        limit: limit,
-        octets: octets,
+        edition,
+        limit,
+        octets,
     }
 }
 
@@ -221,15 +211,12 @@ impl Taker {
         if edition > 5 {
             let old = fresh(0, limit);
             return Made {
-                number: 19,
+                number: Refusal::Edition.number(),
                 taker: old,
             };
         }
         let taker = fresh(edition, limit);
-        Made {
-            number: 0,
-            taker: taker,
-        }
+        Made { number: 0, taker }
     }
 
     // Goes on with a part of the stream until a word is complete or the part is used up.

@@ -1,8 +1,6 @@
 // Reads a telecommand transmission unit: one octet code, two octets limit, then the unit. Prints a line for each codeblock.
 #![tactic(auto)]
 
-ghost use Rattle.std.specs.Prelude.{◌≡◌, ◌≤◌, ◌<◌, ◌*◌, length};
-
 use flipping::endings;
 use std::io;
 use std::io::{Read, Write};
@@ -11,17 +9,7 @@ use streams::Failure;
 use units::{readings, unitoffers};
 
 // The longest unit of 64 KiB of information, code 1's.
-fn unit_buffer() -> [u8; 131096]
-    ensures { 131096 ≡ length result }
-{
-    [0; 131096]
-}
-
-fn out_buffer() -> [u8; 32]
-    ensures { 32 ≡ length result }
-{
-    [0; 32]
-}
+const UNIT: usize = 131096;
 
 // Whether the input is at its end; if not, why it can't be taken is said.
 fn ended<R: Read, E: Write>(input: &mut R, errors: &mut E) -> Result<bool, Failure> {
@@ -32,55 +20,27 @@ fn ended<R: Read, E: Write>(input: &mut R, errors: &mut E) -> Result<bool, Failu
     Ok(false)
 }
 
-// A number behind a space.
-fn put<W: Write>(output: &mut W, n: u64) -> io::Result<()> {
-    write!(output, " {n}")
-}
-
-fn digit(d: u8) -> u8
-    requires { d < 16 }
-{
-    if d < 10 { 48 + d } else { 55 + d }
-}
-
-fn put_octet<W: Write>(output: &mut W, octet: u8) -> io::Result<()> {
-    let text = [digit(octet / 16), digit(octet % 16)];
-    output.write_all(&text)
-}
-
-fn put_octets<W: Write>(output: &mut W, octets: &[u8]) -> io::Result<()> {
-    for octet in octets {
-        put_octet(output, *octet)?;
+// The line of an asking's answer: index, correct's numbers, and the information where there is some.
+fn line<W: Write>(output: &mut W, index: u64, r: endings::Corrected, out: &[u8]) -> io::Result<()> {
+    let endings::Corrected {
+        number,
+        flips,
+        first,
+        last,
+        unlike,
+        lowest,
+    } = r;
+    write!(
+        output,
+        "{index} {number} {flips} {first} {last} {unlike} {lowest} "
+    )?;
+    if number != 0 {
+        return output.write_all(b"-\n");
+    }
+    for octet in out {
+        write!(output, "{octet:02X}")?;
     }
     output.write_all(b"\n")
-}
-
-// Index and correct's numbers.
-fn put_numbers<W: Write>(output: &mut W, index: u64, r: endings::Corrected) -> io::Result<()> {
-    write!(output, "{index}")?;
-    put(output, r.number as u64)?;
-    put(output, r.flips as u64)?;
-    put(output, r.first as u64)?;
-    put(output, r.last as u64)?;
-    put(output, r.unlike as u64)?;
-    put(output, r.lowest as u64)?;
-    output.write_all(b" ")
-}
-
-// The line of an asking's answer, and whether there may be more.
-fn line<W: Write>(
-    output: &mut W,
-    index: u64,
-    r: endings::Corrected,
-    out: &[u8],
-) -> io::Result<bool> {
-    put_numbers(output, index, r)?;
-    if r.number != 0 {
-        output.write_all(b"-\n")?;
-        return Ok(false);
-    }
-    put_octets(output, out)?;
-    Ok(true)
 }
 
 // One codeblock after another; no unit that is held has more than 8,192.
@@ -96,7 +56,9 @@ fn lines<W: Write>(
         if handed.none {
             return Ok(());
         }
-        if !line(output, index, handed.corrected, out)? {
+        let corrected = handed.corrected;
+        line(output, index, corrected, out)?;
+        if corrected.number != 0 {
             return Ok(());
         }
         state = handed.next;
@@ -104,20 +66,14 @@ fn lines<W: Write>(
     Ok(())
 }
 
-// The limit, high octet first.
-fn limit_of(high: u8, low: u8) -> u16 {
-    256 * high as u16 + low as u16
-}
-
 // The lines of a unit: the refusal's, or the codeblocks'.
 fn put_unit<W: Write>(output: &mut W, code: u8, limit: u16, unit: &[u8]) -> io::Result<()> {
     let state = readings::reader(code, unit, limit);
     let kept = state.kept;
     if kept.number != 0 {
-        line(output, 0, kept, b"")?;
-        return Ok(());
+        return line(output, 0, kept, b"");
     }
-    let mut out = out_buffer();
+    let mut out = [0u8; 32];
     let size = unitoffers::room(code);
     lines(output, state, unit, &mut out[..size])
 }
@@ -134,12 +90,18 @@ fn run<R: Read, W: Write, E: Write>(
     )?;
     let mut head = [0u8; 3];
     streams::fill(input, &mut head)?;
-    let mut unit = unit_buffer();
+    let mut unit = [0u8; UNIT];
     let n = streams::fill(input, &mut unit)?;
     if !ended(input, errors)? {
         return Ok(());
     }
-    put_unit(output, head[0], limit_of(head[1], head[2]), &unit[..n]).map_err(Failure::Output)
+    put_unit(
+        output,
+        head[0],
+        u16::from_be_bytes([head[1], head[2]]),
+        &unit[..n],
+    )
+    .map_err(Failure::Output)
 }
 
 fn main(rt: HostRuntime) -> ExitCode {

@@ -2,7 +2,8 @@
 use mathlib.Core.Path.{◌≡◌, refl, sym, ap, ap₂, ◌∙◌, subst}
 use mathlib.Core.Bool.{true, false}
 use mathlib.Core.List.{List, ◌++◌}
-use Prim.Native.Nat.{ℕ, ◌+◌, ◌-◌, ◌*◌, ◌≤◌, ◌<◌}
+use Prim.Native.Nat.{ℕ, ◌+◌, ◌-◌, ◌*◌, ◌≤◌, ◌<◌, ◌/◌}
+use native.Mathlib.Nat.{mul-le-mul_left}
 use native.Mathlib.Omega.{arith}
 use lib.ListN.{length, take, drop, replicate, length-append, length-replicate, length-drop}
 use lib.Seq.{take_all, take-append-le, drop-append-le, take-append-add}
@@ -130,17 +131,11 @@ goes long k n at word room u ew ea er h =
     (sym er)
     (goes_at long k n u (subst (λ r. k * (code n).octets_of_word < r) er (subst (λ a. a < room) ea h)))))
 
--- at the end every codeblock is there
-pub all_there : (n long k at room : ℕ) → unit_code n ≡ true → at ≡ k * (code n).octets_of_word
-    → room ≡ blocks_for n long * (code n).octets_of_word
-    → k ≤ blocks_for n long → room ≤ at → k ≡ blocks_for n long
-unfolding code code1 code3
-all_there n long k at room = both (λ n. at ≡ k * (code n).octets_of_word → room ≡ blocks_for n long * (code n).octets_of_word
-    → k ≤ blocks_for n long
-    → room ≤ at → k ≡ blocks_for n long)
-    (λ a b c d. omega arith) (λ a b c d. omega arith) n
+-- a part that is one of those that fill a room begins in it
+pub begins_in : (k room word : ℕ) → k < room / word → 0 < word → k * word < room
+begins_in k room word h some = omega (arith, mul-le-mul_left word h)
 
--- a codeblock's number is below its place
-pub k_small : (n k at : ℕ) → unit_code n ≡ true → at ≡ k * (code n).octets_of_word → k ≤ at
+-- as many codeblocks as fill the room
+pub all_there : (n blocks : ℕ) → unit_code n ≡ true → blocks * (code n).octets_of_word / (code n).octets_of_word ≡ blocks
 unfolding code code1 code3
-k_small n k at = both (λ n. at ≡ k * (code n).octets_of_word → k ≤ at) (λ e. omega arith) (λ e. omega arith) n
+all_there n blocks = both (λ n. blocks * (code n).octets_of_word / (code n).octets_of_word ≡ blocks) (omega arith) (omega arith) n

@@ -10,18 +10,19 @@ pub mod unitrules;
 ghost use Rattle.std.specs.Prelude.{◌≡◌, true, ◌++◌, ◌+◌, ◌-◌, ◌*◌, ◌<◌, ◌≤◌, length, replicate};
 ghost use Rattle.bits.specs.Bits.{bit};
 ghost use Rattle.rules.specs.Codes.{code as code_of};
-ghost use Rattle.rules.specs.Encoding.{lifted, encoded, written};
+ghost use Rattle.rules.specs.Encoding.{lifted, encoded, written as written_of};
 ghost use Rattle.codes.specs.Answers.{as_encoded};
+ghost use Rattle.refusals.specs.Numbers.{number_in};
 ghost use Rattle.randomiser.specs.Randomiser.{telecommand, randomised};
 ghost use Rattle.units.specs.unitrules.Units.{unit_code, start, tail as tail_of, blocks_for, codeblock};
 ghost use Rattle.units.specs.unitrules.Units.{codeblocks, unit as unit_of, unit_length};
 ghost use Rattle.units.specs.unitrules.Units.{unit_octets_of, write_answer};
 ghost use Rattle.units.specs.Numbers.{write_number_of};
 
+use refusals::Refusal;
 use unitoffers::{
     START, TAIL, information_octets, is_unit_code, tail_octets, unit_of, word_octets,
 };
-use vectors::copying;
 
 // The octets of a unit, 0 where there is none.
 pub fn unit_octets(code: u8, long: usize) -> usize
@@ -47,7 +48,7 @@ fn write_part(code: u8, part: &[u8], used: usize, out: &mut [u8])
     requires { (unit_code code ≡ true) × (length part.now ≡ (code_of code).octets_of_information)
         × (length out.old ≡ (code_of code).octets_of_word) }
     ensures { out.new ≡ randomised telecommand used
-        (written (code_of code) (encoded (code_of code) (lifted (code_of code) (bit part.now)))) }
+        (written_of (code_of code) (encoded (code_of code) (lifted (code_of code) (bit part.now)))) }
 {
     codes::encode(code, part, out);
     randomiser::randomise(out, used);
@@ -64,13 +65,13 @@ fn write_last(code: u8, rest: &[u8], size: usize, used: usize, out: &mut [u8])
     requires { (unit_code code ≡ true) × (size ≡ (code_of code).octets_of_information)
         × (length rest.now < (code_of code).octets_of_information) × (length out.old ≡ (code_of code).octets_of_word) }
     ensures { out.new ≡ randomised telecommand used
-        (written (code_of code) (encoded (code_of code)
+        (written_of (code_of code) (encoded (code_of code)
         (lifted (code_of code) (bit (rest.now ++ replicate
         ((code_of code).octets_of_information - length rest.now) 0x55))))) }
 {
     let mut part = fill();
     let long = rest.len();
-    copying::copy(rest, &mut part[..long]);
+    part[..long].copy_from_slice(rest);
     write_part(code, &part[..size], used, out);
 }
 
@@ -98,13 +99,10 @@ fn write_blocks(code: u8, information: &[u8], out: &mut [u8])
         (codeblocks code information.now (blocks_for code (length information.now))) }
 {
     let word = word_octets(code);
-    let mut k: usize = 0;
-    let mut at: usize = 0;
-    while at < out.len() {
+    for k in 0..out.len() / word {
+        let at = k * word;
         let end = at + word;
         write_block(code, information, k, at, &mut out[at..end]);
-        at = end;
-        k += 1;
     }
 }
 
@@ -112,16 +110,15 @@ fn write_tail(code: u8, out: &mut [u8])
     requires { (unit_code code ≡ true) × (length out.old ≡ length (tail_of code)) }
     ensures { out.new ≡ tail_of code }
 {
-    if tail_octets(code) != 0 {
-        copying::copy(&TAIL, out);
-    }
+    let long = tail_octets(code);
+    out.copy_from_slice(&TAIL[..long]);
 }
 
 fn write_start(out: &mut [u8])
     requires { length out.old ≡ 8 }
     ensures { out.new ≡ start }
 {
-    copying::copy(&START, out);
+    out.copy_from_slice(&START);
 }
 
 // The start and all codeblocks, into an output that they fill.
@@ -144,34 +141,38 @@ fn write_taken(code: u8, information: &[u8], out: &mut [u8])
     write_tail(code, &mut out[room..]);
 }
 
-// The number of a writing: of so much information, into so much room.
-fn write_number(code: u8, long: usize, room: usize) -> u8
-    ensures { result ≡ write_number_of code long room }
+// Whether so much information can be written into so much room.
+fn writable(code: u8, long: usize, room: usize) -> Result<(), Refusal>
+    ensures { number_in result ≡ write_number_of code long room }
 {
     if !is_unit_code(code) {
-        return 1;
+        return Err(Refusal::Code);
     }
     if long == 0 {
-        return 2;
+        return Err(Refusal::InputLength);
     }
     let needed = unit_octets(code, long);
     if needed == 0 {
-        return 3;
+        return Err(Refusal::OutputLength);
     }
     if room != needed {
-        return 3;
+        return Err(Refusal::OutputLength);
     }
-    0
+    Ok(())
+}
+
+// A unit of the information, or why there is none.
+fn written(code: u8, information: &[u8], out: &mut [u8]) -> Result<(), Refusal>
+    ensures { as_encoded (number_in result) out.new ≡ write_answer code information.now out.old }
+{
+    writable(code, information.len(), out.len())?;
+    write_taken(code, information, out);
+    Ok(())
 }
 
 // A unit of the information.
 pub fn write_unit(code: u8, information: &[u8], out: &mut [u8]) -> u8
     ensures { as_encoded result out.new ≡ write_answer code information.now out.old }
 {
-    let number = write_number(code, information.len(), out.len());
-    if number != 0 {
-        return number;
-    }
-    write_taken(code, information, out);
-    0
+    refusals::number(written(code, information, out))
 }

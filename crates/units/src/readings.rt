@@ -7,13 +7,14 @@ ghost use Rattle.flipping.specs.endings.Answers.{as_corrected};
 ghost use Rattle.units.specs.unitrules.Units.{unit_code, tail as tail_of, same as same_of, started, blocks_in_of};
 ghost use Rattle.units.specs.unitrules.Units.{shaped, received, handed_last_of};
 ghost use Rattle.units.specs.unitrules.Units.{handed_again_of, reader_number_of, reader_answer, read_next_of, read_answer};
+ghost use Rattle.refusals.specs.Numbers.{number_in};
 ghost use Rattle.units.specs.readings.Answers.{as_reading, as_handed};
 ghost use Rattle.units.specs.readings.Handing.{handed_part, handed_on_of};
 
 use super::unitoffers::{START, TAIL, information_octets, is_unit_code, tail_octets, word_octets};
 use flipping::endings;
 use flipping::endings::Corrected;
-use vectors::copying;
+use refusals::Refusal;
 
 // A reading of a unit: the answer that ended it (its number is 0 while it goes on), its code and limit, and the codeblocks handed out.
 #[repr(C)]
@@ -26,6 +27,7 @@ pub struct Reading {
 }
 
 // An asking's answer: correct's numbers, whether there is none, and the reading from here on.
+// A record of C's: `none`, and the number in `corrected`, say whether the rest counts.
 #[repr(C)]
 #[derive(Clone, Copy)]
 pub struct Handed {
@@ -34,30 +36,10 @@ pub struct Handed {
     pub next: Reading,
 }
 
-// Whether two slices hold the same octets.
-fn same(a: &[u8], b: &[u8]) -> bool
-    ensures { result ≡ same_of a.now b.now }
-{
-    if a.len() != b.len() {
-        return false;
-    }
-    let mut i: usize = 0;
-    while i < a.len() {
-        if a[i] != b[i] {
-            return false;
-        }
-        i += 1;
-    }
-    true
-}
-
 fn is_started(unit: &[u8]) -> bool
     ensures { result ≡ started unit.now }
 {
-    if unit.len() < 8 {
-        return false;
-    }
-    same(&unit[..8], &START)
+    unit.starts_with(&START)
 }
 
 // The octets between the start and the tail of a unit of so many octets.
@@ -81,11 +63,8 @@ fn is_tail(code: u8, end: &[u8]) -> bool
     requires { unit_code code ≡ true }
     ensures { result ≡ same_of end.now (tail_of code) }
 {
-    if tail_octets(code) != 0 {
-        same(end, &TAIL)
-    } else {
-        same(end, &TAIL[..0])
-    }
+    let long = tail_octets(code);
+    end == &TAIL[..long]
 }
 
 // Whether what follows the start is one or more whole codeblocks and the tail.
@@ -105,38 +84,38 @@ fn is_shaped(code: u8, unit: &[u8]) -> bool
     is_tail(code, &unit[end..])
 }
 
-// The number of a reader over a unit.
-fn reader_number(code: u8, unit: &[u8]) -> u8
-    ensures { result ≡ reader_number_of code unit.now }
+// Whether a unit can be read.
+fn readable(code: u8, unit: &[u8]) -> Result<(), Refusal>
+    ensures { number_in result ≡ reader_number_of code unit.now }
 {
     if !is_unit_code(code) {
-        return 1;
+        return Err(Refusal::Code);
     }
     if !is_started(unit) {
-        return 11;
+        return Err(Refusal::NoStart);
     }
     if !is_shaped(code, unit) {
-        return 12;
+        return Err(Refusal::NoTail);
     }
-    0
+    Ok(())
 }
 
 // Correct's numbers where there was no run.
-fn numbered(number: u8) -> Corrected
-    ensures { as_corrected result [] ≡ refused_correct_of [] number }
+fn numbered(done: Result<(), Refusal>) -> Corrected
+    ensures { as_corrected result [] ≡ refused_correct_of [] (number_in done) }
 {
-    endings::refused_correct(number)
+    endings::refused_correct(refusals::number(done))
 }
 
 // A reader over a unit: its number is that of `kept`.
 pub fn reader(code: u8, unit: &[u8], limit: u16) -> Reading
     ensures { as_reading result ≡ reader_answer code unit.now limit }
 {
-    let kept = numbered(reader_number(code, unit));
+    let kept = numbered(readable(code, unit));
     Reading {
-        kept: kept,
-        code: code,
-        limit: limit,
+        kept,
+        code,
+        limit,
         place: 0,
     }
 }
@@ -150,7 +129,7 @@ fn receive(code: u8, unit: &[u8], k: usize, word: &mut [u8])
     let used = k * size;
     let at = 8 + used;
     let end = at + size;
-    copying::copy(&unit[at..end], word);
+    word.copy_from_slice(&unit[at..end]);
     randomiser::randomise(word, used);
 }
 
@@ -166,7 +145,7 @@ fn hand_out(number: u8, information: &[u8], out: &mut [u8])
     ensures { out.new ≡ (when eqb number 0 then information.now else out.old) }
 {
     if number == 0 {
-        copying::copy(information, out);
+        out.copy_from_slice(information);
     }
 }
 
@@ -203,7 +182,7 @@ fn handed_again(state: Reading, answer: Corrected, none: bool) -> Handed
 {
     Handed {
         corrected: answer,
-        none: none,
+        none,
         next: state,
     }
 }
@@ -221,7 +200,7 @@ fn handed_last(state: Reading, answer: Corrected) -> Handed
     Handed {
         corrected: answer,
         none: false,
-        next: next,
+        next,
     }
 }
 
@@ -232,7 +211,7 @@ fn handed_on(state: Reading, answer: Corrected) -> Handed
 {
     let kept = state.kept;
     let next = Reading {
-        kept: kept,
+        kept,
         code: state.code,
         limit: state.limit,
         place: state.place + 1,
@@ -240,7 +219,7 @@ fn handed_on(state: Reading, answer: Corrected) -> Handed
     Handed {
         corrected: answer,
         none: false,
-        next: next,
+        next,
     }
 }
 
@@ -268,7 +247,7 @@ fn read_on(state: Reading, unit: &[u8], out: &mut [u8]) -> Handed
     }
     let blocks = blocks_in(state.code, unit.len());
     if state.place >= blocks {
-        return handed_again(state, numbered(0), true);
+        return handed_again(state, numbered(Ok(())), true);
     }
     read_next(state, unit, out)
 }
@@ -279,10 +258,10 @@ pub fn read(state: Reading, unit: &[u8], out: &mut [u8]) -> Handed
 {
     let code = state.code;
     if !is_unit_code(code) {
-        return handed_again(state, numbered(1), false);
+        return handed_again(state, numbered(Err(Refusal::Code)), false);
     }
     if out.len() != information_octets(code) {
-        return handed_again(state, numbered(3), false);
+        return handed_again(state, numbered(Err(Refusal::OutputLength)), false);
     }
     read_on(state, unit, out)
 }

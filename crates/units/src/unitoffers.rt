@@ -12,6 +12,7 @@ pub const TAIL: [u8; 16] = [
 
 // What a code number fixes of units: whether they are of this code, the octets of a codeblock, of its information and of the tail,
 // and how many codeblocks no length can hold.
+// A flag, and no Option: the definition `unit_offer_of` gives every number an offer, and `room` speaks of any.
 #[derive(Clone, Copy)]
 pub struct UnitOffer {
     pub offered: bool,

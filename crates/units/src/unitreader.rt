@@ -37,10 +37,10 @@ fn standing(place: usize, code: u8, limit: u16) -> Reading
 {
     let kept = endings::refused_correct(0);
     Reading {
-        kept: kept,
-        code: code,
-        limit: limit,
-        place: place,
+        kept,
+        code,
+        limit,
+        place,
     }
 }
 
@@ -52,10 +52,7 @@ pub fn block_at(unit: &[u8], place: usize, code: u8, limit: u16) -> Block
     let size = unitoffers::room(code);
     let mut octets = buffer();
     let handed = readings::read(state, unit, &mut octets[..size]);
-    Block {
-        handed: handed,
-        octets: octets,
-    }
+    Block { handed, octets }
 }
 
 // The number of a reader over a unit, and the octets that it stands on: none where it is refused.
@@ -72,7 +69,7 @@ fn begin<'a>(code: u8, unit: &'a [u8], limit: u16, number: &mut u8) -> &'a [u8]
     unit
 }
 
-// A reader over a unit, at its first codeblock, where the number is 0.
+// A reader over a unit, at its first codeblock, where the number is 0. The theorem `reader_over_says` holds the number's place.
 pub fn reader_over<'a>(code: u8, unit: &'a [u8], limit: u16, number: &mut u8) -> Reader<'a>
     ensures { as_made number.new result ≡ made_over code unit.now limit }
 {
@@ -80,8 +77,8 @@ pub fn reader_over<'a>(code: u8, unit: &'a [u8], limit: u16, number: &mut u8) ->
     Reader {
         unit: stands,
         place: 0,
-        code: code,
-        limit: limit,
+        code,
+        limit,
     }
 }
 

@@ -1,25 +1,15 @@
 // Writes a telecommand transmission unit: one octet code, then information to the end; the unit goes to standard output.
 #![tactic(auto)]
 
-ghost use Rattle.std.specs.Prelude.{◌≡◌, ◌≤◌, length};
-
 use std::io::{Read, Write};
 use std::process::ExitCode;
 use streams::Failure;
 
-// The most information, 64 KiB.
-fn information_buffer() -> [u8; 65536]
-    ensures { 65536 ≡ length result }
-{
-    [0; 65536]
-}
+// The most information.
+const INFORMATION: usize = 65536;
 
-// The longest unit of 64 KiB of information, code 1's.
-fn unit_buffer() -> [u8; 131096]
-    ensures { 131096 ≡ length result }
-{
-    [0; 131096]
-}
+// The longest unit of as much, code 1's.
+const UNIT: usize = 131096;
 
 // Whether the input is at its end; if not, why it can't be taken is said.
 fn ended<R: Read, E: Write>(input: &mut R, errors: &mut E) -> Result<bool, Failure> {
@@ -57,14 +47,14 @@ fn run<R: Read, W: Write, E: Write>(
 ) -> Result<(), Failure> {
     let mut code = [0u8; 1];
     streams::fill(input, &mut code)?;
-    let mut information = information_buffer();
+    let mut information = [0u8; INFORMATION];
     let n = streams::fill(input, &mut information)?;
     if !ended(input, errors)? {
         return Ok(());
     }
-    let mut unit = unit_buffer();
+    let mut unit = [0u8; UNIT];
     let long = units::unit_octets(code[0], n);
-    if long <= 131096 {
+    if long <= UNIT {
         write(
             output,
             errors,

@@ -6,3 +6,4 @@ pub mod Spans
 pub mod Doubling
 pub mod Octets
 pub mod Counts
+pub mod Clearing

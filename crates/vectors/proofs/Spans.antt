@@ -15,7 +15,7 @@ use Rattle.bits.specs.Bits.{Word, digit, flipped, ◌⊕◌}
 use Rattle.bits.proofs.Sums.{⊕-assoc, and-⊕, eqb_iff}
 use Rattle.vectors.specs.Vectors.{wbit, Holds, up_to, from, later, joined, twice, added}
 use Rattle.bits.proofs.Orders.{le-or-lt}
-use Rattle.vectors.proofs.Places.{or-none, and_none, xor_none, xor_same, digit_xor, digit_power, place, place_or, place_xor}
+use Rattle.vectors.proofs.Places.{or-none, xor_none, xor_same, digit_xor, digit_power, place, place_or, place_xor}
 use Rattle.vectors.proofs.Places.{place_up, place_down, place_below, place_above, place_cut, place_zero}
 use Rattle.vectors.proofs.Cells.{joined_below, joined_above, joined_start, joined_end}
 use Rattle.vectors.proofs.Filling.{word_at, word_holds, word_past, word_stored}
@@ -34,9 +34,6 @@ module _ (m n : ℕ) (x : Word) where
 
   pub later_back : m ≤ n → later m x n ≡ x (n - m)
   later_back h = ap (λ (b : Bool). not b && x (n - m)) (le-ltb n m h)
-
-pub up_to_past : (ws : List ℕ) (m n : ℕ) → 64 * length ws ≤ n → up_to m (wbit ws) n ≡ false
-up_to_past ws m n h = ap (λ (b : Bool). ltb n m && b) (word_past ws n h) ∙ and_none (ltb n m)
 
 -- what is cut off at bit m is as good as cut off there again
 pub up_to_again : (m : ℕ) (x y : Word) → y ≡ up_to m x → y ≡ up_to m y
@@ -371,16 +368,3 @@ later_next v k x h i hi =
 
 pub later_first : (x : Word) → Holds 0 (from (64 * 0) (later 64 x))
 later_first x i hi = place_zero (64 - suc i) ∙ sym (later_front 64 (64 * 0 + i) x (omega arith))
-
-pub later_past : (ws : List ℕ) (u : ℕ) → ((n : ℕ) → 64 * length ws ≤ n + u → wbit ws n ≡ false) → (n : ℕ) → 64 * length ws ≤ n
-    → later u (wbit ws) n ≡ false
-later_past ws u none n h =
-    ⊎_elim (λ (l : u ≤ n). later_back u n (wbit ws) l ∙ none (n - u) (omega arith)) (λ (l : n < u). later_front u n (wbit ws) l)
-    (le-or-lt u n)
-
-pub later_none : (u : ℕ) (x : Word) → u ≡ 0 → x ≡ later u x
-later_none u x e =
-    fun_ext
-    (λ n.
-    let d : n ≡ n - u = omega arith in
-    ap x d ∙ sym (later_back u n x (omega arith)))

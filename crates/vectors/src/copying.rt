@@ -5,9 +5,8 @@ pub fn copy(octets: &[u8], out: &mut [u8])
     requires { length octets.now ≡ length out.old }
     ensures { out.new ≡ octets.now }
 {
-    let mut i: usize = 0;
-    while i < octets.len() {
+    // by index: for the library's `copy_from_slice` the archive would ask for memmove
+    for i in 0..octets.len() {
         out[i] = octets[i];
-        i += 1;
     }
 }

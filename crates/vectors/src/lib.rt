@@ -41,10 +41,8 @@ fn gathered(octets: &[u8], at: usize, n: usize) -> u64
     ensures { (result < 2 ^ (8 * n)) × ((i : ℕ) → i < 8 * n → digit (8 * n) result i ≡ bit octets.now (8 * at + i)) }
 {
     let mut number: u64 = 0;
-    let mut j = 0;
-    while j < n {
-        number = number * 256 + octets[at + j] as u64;
-        j += 1;
+    for octet in &octets[at..at + n] {
+        number = number * 256 + *octet as u64;
     }
     number
 }
@@ -75,10 +73,8 @@ fn load_whole(octets: &[u8], ws: &mut [u64])
         (wbit ws.old) }
 {
     let whole = octets.len() / 8;
-    let mut k = 0;
-    while k < whole {
+    for k in 0..whole {
         ws[k] = eight(octets, 8 * k);
-        k += 1;
     }
 }
 
@@ -103,12 +99,10 @@ fn load_whole_later(octets: &[u8], u: usize, ws: &mut [u64]) -> u64
 {
     let whole = octets.len() / 8;
     let mut before: u64 = 0;
-    let mut k = 0;
-    while k < whole {
+    for k in 0..whole {
         let v = eight(octets, 8 * k);
         ws[k] = funnel(before, v, 64 - u);
         before = v;
-        k += 1;
     }
     before
 }
@@ -136,19 +130,6 @@ pub fn front(v: u64, t: usize) -> u64
     v ^ ((v << t) >> t)
 }
 
-// Clears the bits from bit n on.
-pub fn trim(ws: &mut [u64], n: usize)
-    ensures { wbit ws.new ≡ up_to n (wbit ws.old) }
-{
-    let mut k = n / 64;
-    let mut t = n % 64;
-    while k < ws.len() {
-        ws[k] = front(ws[k], t);
-        t = 0;
-        k += 1;
-    }
-}
-
 // Clears the bits from bit n on of the word that has it.
 pub fn trim_word(ws: &mut [u64], n: usize)
     requires { n / 64 < length ws.old }
@@ -159,6 +140,17 @@ pub fn trim_word(ws: &mut [u64], n: usize)
     ws[k] = front(ws[k], n % 64);
 }
 
+// Clears the bits from bit n on.
+pub fn trim(ws: &mut [u64], n: usize)
+    ensures { wbit ws.new ≡ up_to n (wbit ws.old) }
+{
+    let k = n / 64;
+    if k < ws.len() {
+        trim_word(ws, n);
+        ws[k + 1..].fill(0);
+    }
+}
+
 // The m bits from bit p on.
 pub fn cut(y: &[u64], p: usize, m: usize, v: &mut [u64])
     requires { (m ≤ 64 * length v.old) × (p / 64 + length v.old < length y.now) }
@@ -166,10 +158,8 @@ pub fn cut(y: &[u64], p: usize, m: usize, v: &mut [u64])
 {
     let q = p / 64;
     let t = p % 64;
-    let mut k = 0;
-    while k < v.len() {
-        v[k] = span(y, q + k, t);
-        k += 1;
+    for (k, word) in v.iter_mut().enumerate() {
+        *word = span(y, q + k, t);
     }
     trim(v, m);
 }
@@ -180,13 +170,11 @@ fn double_words(v: &[u64], n: usize, t: usize, d: &mut [u64])
     ensures { Doubled v.now n t (n - 1) d.new }
 {
     let mut a = v[0];
-    let mut k = 0;
-    while k + 1 < n {
+    for k in 0..n - 1 {
         let b = v[k + 1];
         d[k] = a;
         d[n + k] = funnel(a, b, t);
         a = b;
-        k += 1;
     }
 }
 
@@ -240,10 +228,8 @@ pub fn add_turned(d: &[u64], s: usize, acc: &mut [u64], at: usize, w: usize)
 {
     let q = s / 64;
     let t = s % 64;
-    let mut j = 0;
-    while j < w {
+    for j in 0..w {
         acc[at + j] ^= span(d, q + j, t);
-        j += 1;
     }
 }
 
@@ -253,10 +239,8 @@ pub fn ones(ws: &[u64]) -> usize
     ensures { result ≡ count (64 * length ws.now) (wbit ws.now) }
 {
     let mut n: usize = 0;
-    let mut k = 0;
-    while k < ws.len() {
-        n += u64::count_ones(ws[k]) as usize;
-        k += 1;
+    for word in ws {
+        n += word.count_ones() as usize;
     }
     n
 }
@@ -266,10 +250,8 @@ pub fn any(ws: &[u64]) -> bool
     ensures { result ≡ ltb 0 (count (64 * length ws.now) (wbit ws.now)) }
 {
     let mut v: u64 = 0;
-    let mut k = 0;
-    while k < ws.len() {
-        v |= ws[k];
-        k += 1;
+    for word in ws {
+        v |= *word;
     }
     v != 0
 }
@@ -279,14 +261,14 @@ fn skip(ws: &[u64]) -> usize
     requires { length ws.now ≤ 2 ^ 57 }
     ensures { (result ≤ length ws.now) × Clear ws.now result }
 {
-    let mut k = 0;
-    while k + 4 <= ws.len() {
+    let fours = ws.len() / 4;
+    for j in 0..fours {
+        let k = 4 * j;
         if (ws[k] | ws[k + 1]) | (ws[k + 2] | ws[k + 3]) != 0 {
             return k;
         }
-        k += 4;
     }
-    k
+    4 * fours
 }
 
 // The first bit that is set, or the number of bits if none is.
@@ -294,14 +276,12 @@ pub fn first(ws: &[u64]) -> usize
     requires { length ws.now ≤ 2 ^ 57 }
     ensures { result ≡ least (64 * length ws.now) (wbit ws.now) }
 {
-    let mut k = skip(ws);
-    while k < ws.len() {
+    for k in skip(ws)..ws.len() {
         if ws[k] != 0 {
-            return 64 * k + u64::leading_zeros(ws[k]) as usize;
+            return 64 * k + ws[k].leading_zeros() as usize;
         }
-        k += 1;
     }
-    64 * k
+    64 * ws.len()
 }
 
 // Flips bit n.
@@ -328,12 +308,10 @@ pub fn lift(ws: &mut [u64], u: usize)
 {
     if u > 0 {
         let mut before: u64 = 0;
-        let mut k = 0;
-        while k < ws.len() {
-            let v = ws[k];
-            ws[k] = funnel(before, v, 64 - u);
+        for word in ws.iter_mut() {
+            let v = *word;
+            *word = funnel(before, v, 64 - u);
             before = v;
-            k += 1;
         }
     }
 }
@@ -344,10 +322,8 @@ fn put(v: u64, n: usize, out: &mut [u8], at: usize)
     ensures { bit out.new ≡ joined (8 * (at + n)) (joined (8 * at) (bit out.old) (λ k. digit 64 v (k - 8 * at)))
         (bit out.old) }
 {
-    let mut j = 0;
-    while j < n {
+    for j in 0..n {
         out[at + j] = ((v >> (56 - 8 * j)) % 256) as u8;
-        j += 1;
     }
 }
 
@@ -359,10 +335,8 @@ pub fn store(ws: &[u64], u: usize, out: &mut [u8])
     let q = u / 64;
     let t = u % 64;
     let whole = out.len() / 8;
-    let mut k = 0;
-    while k < whole {
+    for k in 0..whole {
         put(span(ws, q + k, t), 8, out, 8 * k);
-        k += 1;
     }
     let rest = out.len() % 8;
     if rest > 0 {

@@ -3,8 +3,6 @@
 // refused word of code 1 the codeword that is nearest.
 #![tactic(auto)]
 
-ghost use Rattle.std.specs.Prelude.{◌≡◌, length};
-
 use catalogue::offer;
 use layout::{SYNDROME, TABLE, WORD};
 use lists::listing;
@@ -17,50 +15,22 @@ use wordlog::lines;
 // No run of any code has more flips than this.
 const PLACES: usize = 511;
 
-fn word_buffer() -> [u8; 1022]
-    ensures { 1022 ≡ length result }
-{
-    [0; 1022]
-}
-
-// After the last octet: one read more, which may fail.
-fn ended<R: Read>(input: &mut R) -> Result<(), Failure> {
-    streams::is_ended(input)?;
-    Ok(())
-}
-
-// A number behind a space.
-fn put<W: Write>(output: &mut W, n: u64) -> io::Result<()> {
-    write!(output, " {n}")
-}
-
-// The same of a signed one.
-fn put_signed<W: Write>(output: &mut W, n: i8) -> io::Result<()> {
-    write!(output, " {n}")
-}
-
-// The end of a line.
-fn put_end<W: Write>(output: &mut W) -> io::Result<()> {
-    output.write_all(b"\n")
-}
-
 // A word's line, as the bench logs it.
 fn put_line<W: Write>(output: &mut W, index: u64, a: listing::Listed) -> io::Result<()> {
-    write!(output, "{index}")?;
-    put(output, a.number as u64)?;
-    put(output, a.flips as u64)?;
-    put(output, a.first as u64)?;
-    put(output, a.last as u64)?;
-    put(output, a.unlike as u64)?;
-    put_end(output)
+    let listing::Listed {
+        number,
+        flips,
+        first,
+        last,
+        unlike,
+        ..
+    } = a;
+    writeln!(output, "{index} {number} {flips} {first} {last} {unlike}")
 }
 
 fn put_flip<W: Write>(output: &mut W, r: listing::FlipRecord) -> io::Result<()> {
-    output.write_all(b"  flip")?;
-    put(output, r.bit as u64)?;
-    put_signed(output, r.excess)?;
-    put(output, r.left as u64)?;
-    put_end(output)
+    let listing::FlipRecord { bit, excess, left } = r;
+    writeln!(output, "  flip {bit} {excess} {left}")
 }
 
 // The list of a word, to its end; where the flips are shown, each has its line.
@@ -89,31 +59,16 @@ fn put_reason<W: Write>(output: &mut W, a: listing::Listed) -> io::Result<()> {
     if a.number != 5 {
         return Ok(());
     }
-    output.write_all(b"  stuck")?;
-    put(output, a.bit as u64)?;
-    put_signed(output, a.excess)?;
-    put_end(output)
-}
-
-fn put_bit<W: Write>(output: &mut W, n: u32) -> io::Result<()> {
-    put(output, n as u64)
+    writeln!(output, "  stuck {} {}", a.bit, a.excess)
 }
 
 // How many flips lead to the nearest codeword, and their bits.
 fn put_reached<W: Write>(output: &mut W, r: nearest::Reached) -> io::Result<()> {
-    let bits = r.bits;
-    output.write_all(b"  nearest")?;
-    put(output, r.least as u64)?;
-    if r.least > 0 {
-        put_bit(output, bits[0])?;
+    write!(output, "  nearest {}", r.least)?;
+    for bit in r.bits.iter().take(r.least as usize) {
+        write!(output, " {bit}")?;
     }
-    if r.least > 1 {
-        put_bit(output, bits[1])?;
-    }
-    if r.least > 2 {
-        put_bit(output, bits[2])?;
-    }
-    put_end(output)
+    output.write_all(b"\n")
 }
 
 // For a word whose run stuck or came to its limit: the nearest codeword within three flips, or that there is none. Words of another
@@ -124,14 +79,11 @@ fn put_nearest<W: Write>(output: &mut W, word: &[u8], a: listing::Listed) -> io:
     }
     let mut out = [0u8; 16];
     let r = nearest::nearest(word, 3, &mut out);
-    if r.number == 2 {
-        return Ok(());
+    match r.number {
+        0 => put_reached(output, r),
+        2 => Ok(()),
+        _ => output.write_all(b"  nearest none\n"),
     }
-    if r.number == 0 {
-        return put_reached(output, r);
-    }
-    output.write_all(b"  nearest none")?;
-    put_end(output)
 }
 
 // A word's line, its flips and the reason. The line stands first, so the run is made twice.
@@ -171,36 +123,27 @@ fn words<R: Read, W: Write>(
     Ok(())
 }
 
-// The limit, high octet first.
-fn limit_of(high: u8, low: u8) -> u16 {
-    256 * high as u16 + low as u16
-}
-
-// The line that names the columns.
-fn put_header<W: Write>(output: &mut W) -> io::Result<()> {
-    output.write_all(b"word answer flips first last unlike")?;
-    put_end(output)
-}
-
 // A recording's words, each with its reason.
 fn run<R: Read, W: Write>(input: &mut R, output: &mut W) -> Result<(), Failure> {
-    put_header(output).map_err(Failure::Output)?;
+    streams::write(output, b"word answer flips first last unlike\n")?;
     let mut head = [0u8; 3];
     let n = streams::fill(input, &mut head)?;
     if n < 3 || !offer::is_offered(head[0]) {
         explain(output, 0, 0, 0, b"").map_err(Failure::Output)?;
-        return ended(input);
+    } else {
+        let mut word = [0u8; 1022];
+        let size = lines::word_octets(head[0]);
+        words(
+            input,
+            output,
+            head[0],
+            u16::from_be_bytes([head[1], head[2]]),
+            &mut word[..size],
+        )?;
     }
-    let mut word = word_buffer();
-    let size = lines::word_octets(head[0]);
-    words(
-        input,
-        output,
-        head[0],
-        limit_of(head[1], head[2]),
-        &mut word[..size],
-    )?;
-    ended(input)
+    // After the last octet one read more, which may fail.
+    streams::is_ended(input)?;
+    Ok(())
 }
 
 fn main(rt: HostRuntime) -> ExitCode {

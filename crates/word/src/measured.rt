@@ -55,6 +55,5 @@ pub fn measure(
     ensures { (result ≡ o.shape) × ((n : ℕ) → offered n ≡ true → o ≡ offer_of n
         → Measured n word.now h.new (wbit y.new) (wbit z.new) result) }
 {
-    let of = o.shape;
-    measure_by(o.unsent, of.size, word, h, y, z)
+    measure_by(o.unsent, o.shape.size, word, h, y, z)
 }

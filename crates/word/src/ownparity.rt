@@ -20,7 +20,7 @@ const SECOND: u64 = 0x0D7D;
 fn odd_word(v: u64) -> u64
     ensures { (result < 2) × ((w : ℕ) → v < 2 ^ w → result ≡ tally (sum w (digit w v))) }
 {
-    (u64::count_ones(v) % 2) as u64
+    (v.count_ones() % 2) as u64
 }
 
 // All words added up, place by place.
@@ -28,10 +28,8 @@ fn folded(ws: &[u64]) -> u64
     ensures { sum 64 (digit 64 result) ≡ sum (length ws.now * 64) (wbit ws.now) }
 {
     let mut v: u64 = 0;
-    let mut k = 0;
-    while k < ws.len() {
-        v ^= ws[k];
-        k += 1;
+    for word in ws {
+        v ^= *word;
     }
     v
 }
@@ -59,10 +57,8 @@ fn odd_blocks(y: &[u64]) -> u64
     ensures { result ≡ number 16 (odd_block (wbit y.now)) }
 {
     let mut v: u64 = 0;
-    let mut j = 0;
-    while j < 16 {
+    for j in 0..16 {
         v = 2 * v + odd(y, j * 511, 511);
-        j += 1;
     }
     v
 }

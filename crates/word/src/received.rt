@@ -62,10 +62,8 @@ fn cut(octets: &[u8], p: usize, v: &mut [u64])
 {
     let at = p / 8;
     let t = p % 8;
-    let mut k: usize = 0;
-    while k < 7 {
+    for k in 0..7 {
         v[k] = window(octets, at + 8 * k, t);
-        k += 1;
     }
     let last = p + 447;
     v[7] = vectors::funnel(window(octets, last / 8, last % 8), 0, 1);

@@ -10,7 +10,7 @@ fn apart(v: u64, w: u64) -> usize
     if v == w {
         return 0;
     }
-    u64::count_ones(v ^ w) as usize
+    (v ^ w).count_ones() as usize
 }
 
 // In how many of the first 64 k bits the octets differ from what stands in y from bit u on.
@@ -19,13 +19,11 @@ fn apart_whole(octets: &[u8], y: &[u64], u: usize, k: usize) -> usize
     ensures { (result ≡ count (64 * k) (λ i. bit octets.now i ⊕ wbit y.now (u + i))) × (result ≤ 64 * k) }
 {
     let mut sum: usize = 0;
-    let mut j = 0;
-    while j < k {
+    for j in 0..k {
         sum += apart(
             vectors::eight(octets, 8 * j),
             vectors::window(y, u + 64 * j),
         );
-        j += 1;
     }
     sum
 }
@@ -54,10 +52,8 @@ pub fn unlike_words(x: &[u64], y: &[u64], k: usize) -> usize
     ensures { (result ≡ count (64 * k) (λ i. wbit x.now i ⊕ wbit y.now i)) × (result ≤ 1024) }
 {
     let mut sum: usize = 0;
-    let mut j = 0;
-    while j < k {
+    for j in 0..k {
         sum += apart(x[j], y[j]);
-        j += 1;
     }
     sum
 }

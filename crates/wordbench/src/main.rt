@@ -9,25 +9,7 @@ use std::process::ExitCode;
 use streams::Failure;
 use wordlog::lines;
 
-// One block of words, before which so many octets were read: its lines are written, and whether another may follow is said.
-fn block<R: Read, W: Write>(
-    input: &mut R,
-    output: &mut W,
-    head: &[u8],
-    read: u64,
-    words: &mut [u8],
-    out: &mut [u8],
-    text: &mut [u8],
-) -> Result<bool, Failure>
-    requires { Taken head.now × Room head.now words.old out.old text.old × Counted head.now read words.old }
-{
-    let n = streams::fill(input, words)?;
-    let end = lines::go_on(head, read, &words[..n], out, text);
-    streams::write(output, &text[..end])?;
-    Ok(n == words.len())
-}
-
-// Block after block, each of as many words.
+// Block after block, each of as many words but the last: its lines are written behind those of the octets read before it.
 fn blocks<R: Read, W: Write>(
     input: &mut R,
     output: &mut W,
@@ -40,43 +22,26 @@ fn blocks<R: Read, W: Write>(
     requires head_len { (length words.old % size_in head.now ≡ 0) × (0 < length words.old) × (length words.old ≤ 65536) }
 {
     let mut read: u64 = 0;
+    // no `for`: the last block is shorter, and `read` counts octets
     while read < 0x8000000000000000 {
-        if !block(input, output, head, read, words, out, text)? {
+        let n = streams::fill(input, words)?;
+        let end = lines::go_on(head, read, &words[..n], out, text);
+        streams::write(output, &text[..end])?;
+        if n < words.len() {
             return Ok(());
         }
-        read += words.len() as u64;
+        read += n as u64;
     }
     Ok(())
-}
-
-// The longest word.
-fn out_buffer() -> [u8; 1022]
-    ensures { 1022 ≡ length result }
-{
-    [0; 1022]
-}
-
-// A block of words.
-fn words_buffer() -> [u8; 65536]
-    ensures { 65536 ≡ length result }
-{
-    [0; 65536]
-}
-
-// The lines of a block.
-fn text_buffer() -> [u8; 524416]
-    ensures { 524416 ≡ length result }
-{
-    [0; 524416]
 }
 
 // All words, in blocks of at most 64 KiB.
 fn all<R: Read, W: Write>(input: &mut R, output: &mut W, head: &[u8]) -> Result<(), Failure>
     requires { Taken head.now }
 {
-    let mut words = words_buffer();
-    let mut out = out_buffer();
-    let mut text = text_buffer();
+    let mut words = [0u8; 65536];
+    let mut out = [0u8; 1022];
+    let mut text = streams::zeros::<524416>();
     let size = lines::word_octets(head[0]);
     let full = lines::block_octets(head[0]);
     blocks(

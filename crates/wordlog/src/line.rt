@@ -7,37 +7,17 @@ ghost use Rattle.wordlog.specs.line.Line.{decimal, fields, numbers as numbers_of
 
 use flipping::endings;
 
-fn octet(n: u8) -> u64
-    ensures { (result ≡ n) × (result < 2 ^ 8) }
-{
-    n as u64
-}
-
-fn wide(n: u32) -> u64
-    ensures { (result ≡ n) × (result < 2 ^ 32) }
-{
-    n as u64
-}
-
-// One digit, as it is printed.
-fn glyph(d: u64) -> u8
-    requires { d < 10 }
-    ensures { result ≡ 48 + d }
-{
-    48 + d as u8
-}
-
 // A number behind the text so far: answers where the text ends then.
 fn put(n: u64, text: &mut [u8], at: usize) -> usize
     requires { at + length (decimal n) ≤ length text.old }
     ensures { (result ≡ at + length (decimal n)) × (take result text.new ≡ take at text.old ++ decimal n) }
 {
     if n < 10 {
-        text[at] = glyph(n);
+        text[at] = b'0' + n as u8;
         return at + 1;
     }
     let end = put(n / 10, text, at);
-    text[end] = glyph(n % 10);
+    text[end] = b'0' + (n % 10) as u8;
     end + 1
 }
 
@@ -57,10 +37,8 @@ fn put_fields(numbers: &[u64], text: &mut [u8], at: usize) -> usize
     ensures text_after { take result text.new ≡ take at text.old ++ fields numbers.now }
 {
     let mut end = at;
-    let mut k: usize = 0;
-    while k < numbers.len() {
-        end = put_field(numbers[k], text, end);
-        k += 1;
+    for n in numbers {
+        end = put_field(*n, text, end);
     }
     end
 }
@@ -70,11 +48,11 @@ fn numbers(a: endings::Corrected) -> [u64; 5]
     ensures { result ≡ numbers_of (as_corrected a []) }
 {
     [
-        octet(a.number),
-        wide(a.flips),
-        wide(a.first),
-        wide(a.last),
-        wide(a.unlike),
+        u64::from(a.number),
+        u64::from(a.flips),
+        u64::from(a.first),
+        u64::from(a.last),
+        u64::from(a.unlike),
     ]
 }
 
@@ -90,28 +68,14 @@ pub fn put_line(index: u64, a: endings::Corrected, text: &mut [u8], at: usize) -
     end + 1
 }
 
-// A text as it stands, behind the text so far.
-fn put_text(octets: &[u8], text: &mut [u8], at: usize) -> usize
-    requires { at + length octets.now ≤ length text.old }
-    ensures value { result ≡ at + length octets.now }
-    ensures text_after { take result text.new ≡ take at text.old ++ octets.now }
-{
-    let mut end = at;
-    let mut k: usize = 0;
-    while k < octets.len() {
-        text[end] = octets[k];
-        end += 1;
-        k += 1;
-    }
-    end
-}
-
 // The header, at the start of the text.
 pub fn put_header(text: &mut [u8]) -> usize
     requires { 128 ≤ length text.old }
     ensures { (result ≤ 128) × (take result text.new ≡ header) }
 {
-    put_text(b"word answer flips first last unlike\n", text, 0)
+    let names = b"word answer flips first last unlike\n";
+    text[..names.len()].copy_from_slice(names);
+    names.len()
 }
 
 // Corrects a word into out, and writes its line.

@@ -20,11 +20,43 @@ struct Block {
     count: usize,
 }
 
-// The lesser of two numbers.
-fn least(a: usize, b: usize) -> usize
-    ensures { result ≡ a - (a - b) }
-{
-    if a < b { a } else { b }
+impl Block {
+    // Corrects word k of the block's, and writes its line.
+    fn write_at(&self, k: usize, words: &[u8], out: &mut [u8], text: &mut [u8], at: usize) -> usize
+        requires numbered { Numbered self.now.code self.now.size self.now.index words.now × (k < counted self.now.size words.now) }
+        requires out_len { (length out.old ≡ self.now.size) × (at + 128 ≤ length text.old) }
+        ensures upper_bound { result ≤ at + 128 }
+        ensures text_after { take result text.new
+            ≡ take at text.old ++ word_line self.now.code self.now.limit (self.now.index + k) (word self.now.code words.now k) }
+    {
+        let from = k * self.size;
+        let to = (from + self.size).min(words.len());
+        line::write_word(
+            self.code,
+            self.limit,
+            self.index + k as u64,
+            &words[from..to],
+            out,
+            text,
+            at,
+        )
+    }
+
+    // Corrects its words, one after another, and writes their lines: answers where the text ends.
+    fn write(&self, words: &[u8], out: &mut [u8], text: &mut [u8]) -> usize
+        requires numbered { Numbered self.now.code self.now.size self.now.index words.now
+            × (self.now.count ≡ counted self.now.size words.now) }
+        requires out_len { (length out.old ≡ self.now.size) × (8 * length words.now + 128 ≤ length text.old) }
+        ensures upper_bound { result ≤ length text.new }
+        ensures text_after { take result text.new
+            ≡ lines_of self.now.code self.now.limit self.now.index words.now self.now.count }
+    {
+        let mut end: usize = 0;
+        for k in 0..self.count {
+            end = self.write_at(k, words, out, text, end);
+        }
+        end
+    }
 }
 
 // The octets of a word.
@@ -44,69 +76,6 @@ pub fn block_octets(code: u8) -> usize
     65536 / size * size
 }
 
-// Corrects word k of those that are numbered from index on, and writes its line.
-fn write_at(
-    code: u8,
-    limit: u16,
-    size: usize,
-    index: u64,
-    k: usize,
-    words: &[u8],
-    out: &mut [u8],
-    text: &mut [u8],
-    at: usize,
-) -> usize
-    requires numbered { Numbered code size index words.now × (k < counted size words.now) }
-    requires out_len { (length out.old ≡ size) × (at + 128 ≤ length text.old) }
-    ensures upper_bound { result ≤ at + 128 }
-    ensures text_after { take result text.new
-        ≡ take at text.old ++ word_line code limit (index + k) (word code words.now k) }
-{
-    let from = k * size;
-    let to = least(from + size, words.len());
-    line::write_word(
-        code,
-        limit,
-        index + k as u64,
-        &words[from..to],
-        out,
-        text,
-        at,
-    )
-}
-
-// Corrects words that are numbered from index on, one after another, and writes their lines: answers where the text ends.
-fn write_words(
-    code: u8,
-    limit: u16,
-    size: usize,
-    index: u64,
-    count: usize,
-    words: &[u8],
-    out: &mut [u8],
-    text: &mut [u8],
-) -> usize
-    requires numbered { Numbered code size index words.now × (count ≡ counted size words.now) }
-    requires out_len { (length out.old ≡ size) × (8 * length words.now + 128 ≤ length text.old) }
-    ensures upper_bound { result ≤ length text.new }
-    ensures text_after { take result text.new ≡ lines_of code limit index words.now count }
-{
-    let mut end: usize = 0;
-    let mut k: usize = 0;
-    while k < count {
-        end = write_at(code, limit, size, index, k, words, out, text, end);
-        k += 1;
-    }
-    end
-}
-
-// The limit, high octet first.
-fn limit(high: u8, low: u8) -> u16
-    ensures { result ≡ 256 * high + low }
-{
-    256 * high as u16 + low as u16
-}
-
 // A block of words, before which so many octets of words were read. Its last word may be short.
 fn block_at(head: &[u8], read: u64, words: &[u8]) -> Block
     requires { Taken head.now }
@@ -118,7 +87,7 @@ fn block_at(head: &[u8], read: u64, words: &[u8]) -> Block
     let count = (words.len() + (size - 1)) / size;
     Block {
         code,
-        limit: limit(head[1], head[2]),
+        limit: u16::from_be_bytes([head[1], head[2]]),
         size,
         index,
         count,
@@ -158,5 +127,5 @@ pub fn go_on(head: &[u8], read: u64, words: &[u8], out: &mut [u8], text: &mut [u
     ensures { (result ≤ length text.new) × Adds head.now read words.now (take result text.new) }
 {
     let b = block_at(head, read, words);
-    write_words(b.code, b.limit, b.size, b.index, b.count, words, out, text)
+    b.write(words, out, text)
 }

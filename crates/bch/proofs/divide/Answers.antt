@@ -11,27 +11,27 @@ use Rattle.bch.proofs.Division.{remainder_same, remainder_lt}
 use Rattle.bch.proofs.Words.{row_odd}
 use Rattle.bch.proofs.divide.Goals as goal
 
-pub loop-j-init : goal.loop-j-init
-loop-j-init c = (omega arith, omega arith, number_start (digit 7 (remainder 63 (digit 64 c.args.v))))
+pub loop-row-init : goal.loop-row-init
+loop-row-init c = (omega arith, number_start (digit 7 (remainder 63 (digit 64 c.args.v))))
 
-pub loop-j-preserved : goal.loop-j-preserved
-loop-j-preserved c =
-    let l = c.loop-j in
+pub loop-row-preserved : goal.loop-row-preserved
+loop-row-preserved c =
+    let l = c.loop-row in
     let u = c.args.v in
     let x = digit 7 (remainder 63 (digit 64 u)) in
     let r = 2 * l.r + c.odd.result in
-    let h : l.j < 7 = omega arith in
-    let e : r ≡ number (l.j + 1) x =
-    ap (λ (n : ℕ). 2 * l.r + n) (row_odd l.j u c.odd.result c.odd.ensures.1 h) ∙ number_more l.j l.r x l.invariant.2 in
-    (omega arith, fits (l.j + 1) 7 r (subst (λ (n : ℕ). n < 2 ^ (l.j + 1)) (sym e) (number_lt (l.j + 1) x)) (omega arith), e)
+    let h : l.row-index < 7 = omega arith in
+    let e : r ≡ number (l.row-index + 1) x =
+    ap (λ (n : ℕ). 2 * l.r + n) (row_odd l.row-index u c.odd.result c.odd.ensures.1 h) ∙ number_more l.row-index l.r x l.invariant.1 in
+    (fits (l.row-index + 1) 7 r (subst (λ (n : ℕ). n < 2 ^ (l.row-index + 1)) (sym e) (number_lt (l.row-index + 1) x)) (omega arith), e)
 
 pub returns : goal.returns
 returns c =
-    let l = c.loop-j in
+    let l = c.loop-row in
     let x = digit 64 c.args.v in
-    let e : l.j ≡ 7 = omega arith in (
-      l.invariant.1,
+    let e : l.row-index ≡ 7 = omega arith in (
+      l.invariant.0,
       λ y h.
-          l.invariant.2 ∙ ap (λ (n : ℕ). number n (digit 7 (remainder 63 x))) e ∙ number_digit 7 (remainder 63 x) (remainder_lt 63 x)
+          l.invariant.1 ∙ ap (λ (n : ℕ). number n (digit 7 (remainder 63 x))) e ∙ number_digit 7 (remainder 63 x) (remainder_lt 63 x)
           ∙ remainder_same 63 x y (λ i k. h i (omega arith)),
     )

@@ -5,5 +5,5 @@ use Rattle.capi.proofs.pandoricchia_open.Goals as goal
 
 pub returns : goal.returns
 returns c =
-    let e = c.open-part.ensures in
+    let e = c.open-opened.ensures in
     (ap (λ a. a.number) e, ap (λ a. a.lowest) e, ap (λ a. length a.part) e)

@@ -15,9 +15,6 @@ use Rattle.catalogue.specs.offer.Offers.{telecommand_offer, near_earth_offer, of
 
 -- ---- by number
 
-pub offer_as : (n k : ℕ) → n ≡ k → {o : Offer} → o ≡ offer_of k → o ≡ offer_of n
-offer_as n k e {o} q = subst (λ z. o ≡ offer_of z) (sym e) q
-
 pub offer_none : (n : ℕ) → (n ≡ 1 → ⊥) → (n ≡ 2 → ⊥) → (n ≡ 3 → ⊥) → (n ≡ 4 → ⊥) → (n ≡ 5 → ⊥) → offer_of 0 ≡ offer_of n
 offer_none n d1 d2 d3 d4 d5 = sym (go (eqb n 1) (eqb n 2) (eqb n 3) (eqb n 4) (eqb n 5) (ne_eqb n 1 d1) (ne_eqb n 2 d2) (ne_eqb n 3 d3)
     (ne_eqb n 4 d4) (ne_eqb n 5 d5))

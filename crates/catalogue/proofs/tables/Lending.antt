@@ -10,7 +10,7 @@ use Rattle.rules.specs.Codes.{code, code1, code2, code3, code4, code5, offered}
 use Rattle.rules.proofs.Numbers.{five}
 use Rattle.layout.specs.declared.Shape.{Shape}
 use Rattle.layout.proofs.Lending.{lent}
-use Rattle.catalogue.specs.offer.Offers.{offer_of}
+use Rattle.catalogue.specs.offer.Offers.{telecommand_shape, offer_of}
 use Rattle.catalogue.proofs.offer.Offers.{is_offered}
 use Rattle.catalogue.specs.tables.Flat.{pairs, flat8, flat16, Lends}
 
@@ -117,3 +117,43 @@ by_size_lem size h sh ch n o =
     (λ e. given 4 (flat16 (pairs parity511)) (ch.near e) lends4)
     (λ e. given 5 (flat16 (pairs parity511)) (ch.near e) lends5)
     n (is_offered n o)
+
+-- the same of each table, by its size
+abbrev Serves : ℕ → List ℕ → Shape → Type 0
+Serves size h sh = (n : ℕ) → offered n ≡ true → size ≡ (offer_of n).shape.size → (sh ≡ (offer_of n).shape) × Lends n h sh
+
+module _ (size : ℕ) (h : List ℕ) (sh : Shape) where
+  pub serves_16 : size ≡ 16 → h ≡ flat8 (pairs parity16) → sh ≡ telecommand_shape 16 → Serves size h sh
+  serves_16 e eh es = by_size_lem size h sh (record {
+    small = λ q. (eh, es);
+    middle = λ q. absurd (omega arith);
+    large = λ q. absurd (omega arith);
+    near = λ q. absurd (omega arith);
+  })
+
+  pub serves_32 : size ≡ 32 → h ≡ flat8 (pairs parity32) → sh ≡ telecommand_shape 32 → Serves size h sh
+  serves_32 e eh es = by_size_lem size h sh (record {
+    small = λ q. absurd (omega arith);
+    middle = λ q. (eh, es);
+    large = λ q. absurd (omega arith);
+    near = λ q. absurd (omega arith);
+  })
+
+  -- a size that is no other
+  pub serves_64 : (size ≡ 16 → ⊥) → (size ≡ 32 → ⊥) → (size ≡ 511 → ⊥) → h ≡ flat8 (pairs parity64) → sh ≡ telecommand_shape 64
+      → Serves size h sh
+  serves_64 e16 e32 e511 eh es = by_size_lem size h sh (record {
+    small = λ q. absurd (e16 q);
+    middle = λ q. absurd (e32 q);
+    large = λ q. (eh, es);
+    near = λ q. absurd (e511 q);
+  })
+
+  pub serves_511 : (size ≡ 16 → ⊥) → (size ≡ 32 → ⊥) → (size ≡ 64 → ⊥) → h ≡ flat16 (pairs parity511) → sh ≡ (offer_of 4).shape
+      → Serves size h sh
+  serves_511 e16 e32 e64 eh es = by_size_lem size h sh (record {
+    small = λ q. absurd (e16 q);
+    middle = λ q. absurd (e32 q);
+    large = λ q. absurd (e64 q);
+    near = λ q. (eh, es);
+  })

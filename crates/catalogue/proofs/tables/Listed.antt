@@ -1,13 +1,13 @@
 -- A list that is filled place by place.
-use mathlib.Core.Path.{◌≡◌, refl, sym, ap, ap₂, ◌∙◌, subst}
+use mathlib.Core.Path.{◌≡◌, refl, sym, ap, ap₂, ◌∙◌}
 use mathlib.Core.List.{List, [], ◌∷◌}
 use Prim.Native.Nat.{ℕ, zero, suc, ◌+◌, ◌-◌, ◌*◌, ◌/◌, ◌%◌, ◌<◌, ◌≤◌}
-use native.Mathlib.Nat.{zero-lt-suc, mul-suc}
+use native.Mathlib.Nat.{zero-lt-suc, mul-suc, mul_comm}
+use Rattle.std.proofs.lemmas.Nat.{div-mul-add, mod-mul-add}
 use native.Mathlib.Numerals.{add-one}
-use native.Mathlib.Decide.{ℕ_discrete, dec_lt}
+use native.Mathlib.Decide.{dec_lt}
 use native.Mathlib.Omega.{arith}
-use lib.ListN.{length, get_or, set, length-set}
-use lib.Seq.{get_or-set_same, get_or-set_other}
+use lib.ListN.{length, get_or}
 use Prim.Native.Nat.{suc-le-suc}
 use Rattle.catalogue.specs.tables.Flat.{listed, place_at, row_place, RowLaid}
 
@@ -18,39 +18,6 @@ block_place nested b k i eb ek = ap₂ (λ x y. get_or (get_or nested x []) y 0)
 pub row_place_lem : (h : List (List (List ℕ))) (r q b k j : ℕ) → q ≡ r → b ≡ j / 2 → k ≡ j % 2
     → row_place (get_or h r []) j ≡ place_at h q b k
 row_place_lem h r q b k j eq eb ek = sym (ap (λ x. place_at h x b k) eq ∙ block_place (get_or h r []) b k j eb ek)
-
--- nothing of a row is laid
-pub laid_none : (nested : List (List ℕ)) (at : ℕ) (h : List ℕ) → RowLaid nested 0 at h h
-laid_none nested at h = record { before = λ j l. refl; row = λ j l. absurd (omega arith); after = λ j l. refl }
-
--- place n of a row, at place p of the list
-laid_place : (nested : List (List ℕ)) (n at : ℕ) (h₀ h : List ℕ) (p v : ℕ) → RowLaid nested n at h₀ h → p ≡ at + n
-    → p < length h → v ≡ row_place nested n → RowLaid nested (n + 1) at h₀ (set h p v)
-laid_place nested n at h₀ h p v d here room e = record {
-  before = λ j l. get_or-set_other h p j v 0 (λ q. omega arith) ∙ d.before j l;
-  row = λ j l. go j l (ℕ_discrete j n);
-  after = λ j l. get_or-set_other h p j v 0 (λ q. omega arith) ∙ d.after j (omega arith);
-}
-  where
-    go : (j : ℕ) → j < n + 1 → Dec (j ≡ n) → get_or (set h p v) (at + j) 0 ≡ row_place nested j
-    go j l (yes q) =
-        let s : at + j ≡ p = omega arith in
-        ap (λ z. get_or (set h p v) z 0) s ∙ get_or-set_same h p v 0 room ∙ e ∙ ap (row_place nested) (sym q)
-    go j l (no q) = get_or-set_other h p (at + j) v 0 (λ z. q (omega arith)) ∙ d.row j (omega (arith, q))
-
--- both places of the next block
-pub laid_block : (nested : List (List ℕ)) (b at : ℕ) (h₀ h : List ℕ) (p q : ℕ) → RowLaid nested (2 * b) at h₀ h → p ≡ at + 2 * b
-    → q ≡ at + (2 * b + 1) → q < length h
-    → RowLaid nested (2 * (b + 1)) at h₀ (set (set h p (get_or (get_or nested b []) 0 0)) q (get_or (get_or nested b []) 1 0))
-laid_block nested b at h₀ h p q d ep eq room =
-    let u = get_or (get_or nested b []) 0 0 in
-    let v = get_or (get_or nested b []) 1 0 in
-    let long : length (set h p u) ≡ length h = length-set h p u in
-    let n : 2 * b + 1 + 1 ≡ 2 * (b + 1) = omega arith in
-    subst (λ k. RowLaid nested k at h₀ (set (set h p u) q v)) n
-    (laid_place nested (2 * b + 1) at h₀ (set h p u) q v
-    (laid_place nested (2 * b) at h₀ h p u d ep (omega arith) (block_place nested b 0 (2 * b) (omega arith) (omega arith)))
-    eq (omega arith) (block_place nested b 1 (2 * b + 1) (omega arith) (omega arith)))
 
 -- the first i places hold f
 pub record Filled (n : ℕ) (f : ℕ → ℕ) (h : List ℕ) (i : ℕ) : Type 0 where
@@ -93,3 +60,21 @@ filled_all n f h i d q = all_places n f h d.long (λ j l. d.places j (omega arit
 pub flat_as : (flat : List (List (List ℕ)) → List ℕ) (g : List (List (List ℕ))) {h : List ℕ} {nested : List (List (List ℕ))}
     → h ≡ flat nested → nested ≡ g → h ≡ flat g
 flat_as flat g e same = e ∙ ap flat same
+
+-- place j of row r, where a row has b blocks: its row, its block and which of the two
+pub place_of_row : (b r j : ℕ) → 0 < b → j < 2 * b
+    → ((2 * b * r + j) / (2 * b) ≡ r) × ((2 * b * r + j) / 2 % b ≡ j / 2) × ((2 * b * r + j) % 2 ≡ j % 2)
+place_of_row b r j some l = (
+  ap (λ n. n / (2 * b)) e ∙ div-mul-add r (2 * b) j l,
+  ap (λ n. n % b) half ∙ mod-mul-add r b (j / 2) (omega arith),
+  omega (arith, even),
+)
+  where
+    e : 2 * b * r + j ≡ r * (2 * b) + j
+    e = ap (λ n. n + j) (mul_comm (2 * b) r)
+
+    even : 2 * b * r + j ≡ 2 * (r * b) + j
+    even = grind arith
+
+    half : (2 * b * r + j) / 2 ≡ r * b + j / 2
+    half = omega (arith, even)

@@ -2,7 +2,12 @@
 use Rattle.std.specs.Prelude.{◌≡◌, Bool, true, false, not, ℕ, eqb}
 use Rattle.bits.specs.Bits.{when◌then◌else◌}
 use Rattle.rules.specs.Codes.{offered}
+use Rattle.layout.specs.declared.Shape.{Shape}
 use Rattle.catalogue.specs.declared.offer.Offer.{Offer}
+
+-- Four rows of eight blocks, each in one word.
+abbrev pub telecommand_shape : ℕ → Shape
+telecommand_shape size = record { size = size; words = 1; blocks = 8; rows = 4 }
 
 abbrev pub telecommand_offer : ℕ → ℕ → ℕ → ℕ → Offer
 telecommand_offer word information bits size = record {

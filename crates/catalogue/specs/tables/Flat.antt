@@ -1,5 +1,5 @@
 -- The constants' places as lists, how they are laid flat, and the shape of each code.
-use Rattle.std.specs.Prelude.{◌≡◌, List, [], ◌∷◌, ℕ, zero, suc, ◌+◌, ◌/◌, ◌%◌, ◌≤◌, ◌<◌, get_or}
+use Rattle.std.specs.Prelude.{◌≡◌, List, [], ◌∷◌, ℕ, zero, suc, ◌+◌, ◌*◌, ◌/◌, ◌%◌, ◌≤◌, ◌<◌, get_or}
 use Rattle.rules.specs.Codes.{code}
 use Rattle.layout.specs.declared.Shape.{Shape}
 use Rattle.layout.specs.Lent.{Fit, Lent}
@@ -36,6 +36,10 @@ pub record RowLaid (nested : List (List ℕ)) (n at : ℕ) (h h' : List ℕ) : T
   pub before : (j : ℕ) → j < at → get_or h' j 0 ≡ get_or h j 0
   pub row : (j : ℕ) → j < n → get_or h' (at + j) 0 ≡ row_place nested j
   pub after : (j : ℕ) → at + n ≤ j → get_or h' j 0 ≡ get_or h j 0
+
+-- All places of a table, row after row, with so many blocks in each.
+unfoldable pub flat : ℕ → List (List (List ℕ)) → List ℕ
+flat blocks nested = listed 64 (λ i. place_at nested (i / (2 * blocks)) (i / 2 % blocks) (i % 2))
 
 unfoldable pub flat8 : List (List (List ℕ)) → List ℕ
 flat8 nested = listed 64 (λ i. place_at nested (i / 16) (i / 2 % 8) (i % 2))

@@ -17,8 +17,8 @@ pub write_flipped-requires : goal.write_flipped-requires
 write_flipped-requires c =
     (c.requires.0, subst (Within 8176) c.in-Flip.is c.requires.3, c.requires.2)
 
-pub overflow_cast-place : goal.overflow_cast-place
-overflow_cast-place c =
+pub overflow_cast-result : goal.overflow_cast-result
+overflow_cast-result c =
     let l = subst (Within 8176) c.in-Flip.is c.requires.3 in
     search rules
 

@@ -486,3 +486,13 @@ pub walked_more : (M : ℕ) (steps : List (List ℕ)) (k : ℕ) (f : ℕ → Wor
     → stepped M (get_or steps k []) (walked M steps k f) ≡ walked M steps (k + 1) f
 unfolding walked
 walked_more M steps k f = ap (λ n. walked M steps n f) (sym (add-one k))
+
+-- the shifts of a step as a part of its places
+pub shift_at : (step : List ℕ) (k : ℕ) → length step ≡ 10 → k < 8
+    → get_or (take (length step - 2) (drop 2 step)) k 0 ≡ get_or step (k + 2) 0
+shift_at step k long h =
+    get_or-take (length step - 2) (drop 2 step) k 0 (omega arith) ∙ get_or-drop 2 step k 0
+    ∙ ap (λ n. get_or step n 0) (omega arith)
+
+pub shift_few : (step : List ℕ) → length step ≡ 10 → length (take (length step - 2) (drop 2 step)) ≡ 8
+shift_few step long = length-take (length step - 2) (drop 2 step) ∙ omega (arith, length-drop 2 step)

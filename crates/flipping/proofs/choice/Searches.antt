@@ -3,7 +3,7 @@
 use mathlib.Core.Path.{◌≡◌, refl, sym, ap, ap₂, ◌∙◌, subst}
 use mathlib.Core.Bool.{Bool, true, false, ◌&&◌, true≢false, and-eq-true_iff}
 use mathlib.Core.List.{List}
-use Prim.Native.Nat.{ℕ, zero, suc, ◌+◌, ◌-◌, ◌*◌, ◌/◌, ◌%◌, ◌≤◌, ◌<◌, zero-le}
+use Prim.Native.Nat.{ℕ, zero, suc, max, ◌+◌, ◌-◌, ◌*◌, ◌/◌, ◌%◌, ◌≤◌, ◌<◌, zero-le}
 use native.Mathlib.Nat.{mod-lt, div-add-mod', div-lt_iff_lt-mul, lt_of_not-le, le_refl, lt-suc_self, le_step, suc-mul, mul-le-mul_right}
 use native.Mathlib.Numerals.{add-one}
 use native.Mathlib.Decide.{dec_lt, ℕ_discrete}
@@ -214,10 +214,17 @@ module _ (sh : Shape) (from : ℕ) (d : Word) (starts counts met : List ℕ) (b 
 -- ---- the greatest bound
 
 pub highest_more : (counts met : List ℕ) (b v : ℕ)
-    → v ≡ (when ltb (highest counts met b) (bound counts met b) then bound counts met b else highest counts met b)
+    → v ≡ max (highest counts met b) (bound counts met b)
     → v ≡ highest counts met (b + 1)
 unfolding highest
-highest_more counts met b v e = e ∙ ap (highest counts met) (sym (add-one b))
+highest_more counts met b v e =
+    e ∙ greater (highest counts met b) (bound counts met b) (dec_lt _ _) ∙ ap (highest counts met) (sym (add-one b))
+  where
+    greater : (x y : ℕ) → Dec (x < y) → max x y ≡ (when ltb x y then y else x)
+    greater x y (yes l) = omega arith ∙ ap (λ t. when t then y else x) (sym (lt-ltb x y l))
+    greater x y (no u) =
+        let e : max x y ≡ x = omega (arith, lt_of_not-le u) in
+        e ∙ ap (λ t. when t then y else x) (sym (le-ltb x y (omega (arith, lt_of_not-le u))))
 
 pub highest_none : (counts met : List ℕ) → 0 ≡ highest counts met 0
 unfolding highest

@@ -11,7 +11,8 @@ use borrow.Author.Tests.{le-ltb, lt-ltb, ltb-true, le-leb, leb-true, eq-eqb, ne_
 use lib.Arith.{digits_lt}
 use lib.Count.{count_leading_zeros}
 use lib.Dec.{eqb, leb, ltb, lit<}
-use lib.ListN.{get_or, length, set}
+use lib.ListN.{get_or, get_or-map, length, set}
+use Rattle.std.proofs.lemmas.List.{length-map, map-set}
 use lib.Seq.{get_or-set_same, get_or-set_other}
 use Rattle.bits.specs.Bits.{Word, flipped, over, when◌then◌else◌, ◌⊕◌}
 use Rattle.bits.proofs.Orders.{le-or-lt}
@@ -29,7 +30,8 @@ use Rattle.layout.proofs.Laying.{laid_at}
 use Rattle.flipping.proofs.bounds.Entries.{within}
 use Rattle.magnitudes.specs.Patterns.{smaller}
 use Rattle.magnitudes.specs.Sizes.{smallest}
-use Rattle.flipping.specs.narrow.Weighing.{around, broke, sent, Peaked, Weighed, Greatest, Chosen}
+use Rattle.flipping.specs.narrow.Weighing.{around, broke, sent, Peaked, Weighed, Greatest, Chosen, scores_of, masks_of}
+use Rattle.flipping.specs.declared.narrow.Level.{Level}
 
 -- ---- rows
 
@@ -127,11 +129,11 @@ place_room h sh fit four r b hr hb =
     (omega (arith, fit.flat), omega (arith, fit.flat, fit.blocks))
 
 -- A block more is weighed.
-pub weighed_more : (c : Code) (sh : Shape) (from : ℕ) (x : Word) (scores masks : List ℕ) (b score' mask : ℕ) → b < length scores
+weighed_lists : (c : Code) (sh : Shape) (from : ℕ) (x : Word) (scores masks : List ℕ) (b score' mask : ℕ) → b < length scores
     → b < length masks → Weighed c sh from x scores masks b
     → Peaked (sent sh.size from b) (λ k. score c x (b * sh.size + k)) score' mask
     → Weighed c sh from x (set scores b score') (set masks b mask) (b + 1)
-weighed_more c sh from x scores masks b score' mask r m was here = record { each = λ q hq. go q hq (ℕ_discrete q b) }
+weighed_lists c sh from x scores masks b score' mask r m was here = record { each = λ q hq. go q hq (ℕ_discrete q b) }
   where
     g : ℕ → ℕ → ℕ
     g n k = score c x (n * sh.size + k)
@@ -146,6 +148,23 @@ weighed_more c sh from x scores masks b score' mask r m was here = record { each
         subst (λ v. Peaked (sent sh.size from q) (g q) v (get_or (set masks b mask) q 0)) (sym (get_or-set_other scores b q score' 0 d))
         (subst (λ v. Peaked (sent sh.size from q) (g q) (get_or scores q 0) v) (sym (get_or-set_other masks b q mask 0 d))
         (was.each q (omega arith)))
+
+pub weighed_more : (c : Code) (sh : Shape) (from : ℕ) (x : Word) (levels : List Level) (b : ℕ) (l : Level) → b < length levels
+    → Weighed c sh from x (scores_of levels) (masks_of levels) b
+    → Peaked (sent sh.size from b) (λ k. score c x (b * sh.size + k)) l.score l.mask
+    → Weighed c sh from x (scores_of (set levels b l)) (masks_of (set levels b l)) (b + 1)
+weighed_more c sh from x levels b l r was here =
+    subst (λ v. Weighed c sh from x v (masks_of (set levels b l)) (b + 1)) (sym (map-set (λ l. l.score) levels b l))
+    (subst (λ v. Weighed c sh from x (set (scores_of levels) b l.score) v (b + 1)) (sym (map-set (λ l. l.mask) levels b l))
+    (weighed_lists c sh from x (scores_of levels) (masks_of levels) b l.score l.mask (omega (arith, r, length-map levels (λ l. l.score)))
+    (omega (arith, r, length-map levels (λ l. l.mask))) was here))
+
+-- What stands at a place of the lists.
+pub score_at : (levels : List Level) (b : ℕ) → get_or (scores_of levels) b 0 ≡ (get_or levels b (record { score = 0; mask = 0 })).score
+score_at levels b = get_or-map (λ l. l.score) levels b (record { score = 0; mask = 0 })
+
+pub mask_at : (levels : List Level) (b : ℕ) → get_or (masks_of levels) b 0 ≡ (get_or levels b (record { score = 0; mask = 0 })).mask
+mask_at levels b = get_or-map (λ l. l.mask) levels b (record { score = 0; mask = 0 })
 
 -- ---- the greatest of the scores
 

@@ -13,9 +13,8 @@ use mir.Syntax.{w8}
 use mir.Val.{SFits, to_z, of_z}
 use mir.Facts.{to_z_pos}
 use mir.ValLaws.{to_z-of_z}
-use lib.ListN.{length, get_or, replicate}
+use lib.ListN.{length, get_or}
 use Rattle.bits.specs.Bits.{Word, flipped, when◌then◌else◌}
-use Rattle.bits.proofs.Octets.{zeros_at}
 use Rattle.rules.specs.Codes.{Code, bits}
 use Rattle.rules.specs.Checks.{broken, excess, met_of, degree_of}
 use Rattle.rules.specs.Flipping.{quiet, stuck, flip, Way, by_excess, ended, after, run}
@@ -26,10 +25,11 @@ use Rattle.layout.specs.declared.Shape.{Shape}
 use Rattle.vectors.specs.Vectors.{wbit}
 use Rattle.layout.specs.Lent.{Fit, Lent, laid, score}
 use Rattle.flipping.specs.bounds.Reading.{Twice, Gathered}
-use Rattle.flipping.specs.bounds.Keeping.{Scored, Kept, Ready}
+use Rattle.flipping.specs.declared.bounds.Places.{Places}
+use Rattle.flipping.specs.bounds.Keeping.{Scored, Kept, Laid}
 use Rattle.flipping.proofs.bounds.Turned.{scored, degree_is}
-use Rattle.flipping.proofs.bounds.Flipped.{ready, begun_under}
-use Rattle.flipping.specs.choice.Searching.{Lowered, Found}
+use Rattle.flipping.proofs.bounds.Flipped.{begun_under}
+use Rattle.flipping.specs.choice.Searching.{Lowered, Found, Lowers, Finds}
 use Rattle.planes.specs.Ranges.{Top}
 use Rattle.planes.proofs.Ranges.{top_ends}
 use Rattle.planes.proofs.Choice.{raised_above}
@@ -143,18 +143,23 @@ pub carried_narrow : {c : Code} {sh : Shape} {left : ℕ} {z y : Word} {rows : L
 carried_narrow {c} {sh} {left} {z} {y} {rows} e rows_are is = subst (λ w. CarriedNarrow c sh left w rows) (sym e)
     (record { rows_are = rows_are; left_is = is })
 
--- What is kept of a word at the start: no met check is counted on.
-pub begun_kept : (c : Code) (h : List ℕ) (sh : Shape) (lent : Lent c h sh) (starts counts : List ℕ)
-    → Gathered h sh starts counts sh.blocks → (from : ℕ) (x z : Word) (d : List ℕ)
-    → z ≡ laid c sh x → Twice sh sh.rows z (wbit d) → Kept c sh from x d counts (replicate 16 0)
-begun_kept c h sh lent starts counts g from x z d e two = record {
-  twice = subst (λ w. Twice sh sh.rows w (wbit d)) e two;
-  under = begun_under c h sh lent from starts counts g x (replicate 16 0) (zeros_at 16);
-}
+-- What is kept of a word at the start, where no met check is counted on, and what is chosen then.
+module _ (c : Code) (h : List ℕ) (sh : Shape) (lent : Lent c h sh) (fit : Fit h sh) (from : ℕ) (x z : Word)
+    (e : z ≡ laid c sh x) (p : Places) (of : p.shape ≡ sh) (g : Laid h p) (d met : List ℕ) (two : Twice sh sh.rows z (wbit d))
+    (none : (b : ℕ) → get_or met b 0 ≡ 0) where
+  lent_here : Lent c h p.shape
+  lent_here = subst (Lent c h) (sym of) lent
 
-pub begun_ready : {h : List ℕ} {sh : Shape} {starts counts : List ℕ} → Fit h sh → Gathered h sh starts counts sh.blocks
-    → length starts ≡ 128 → length counts ≡ 16 → Ready sh starts counts (replicate 16 0)
-begun_ready fit g a b = ready fit g a b refl (λ i hi. omega (arith, zeros_at 16 i))
+  pub begun_kept : Kept c p.shape from x d p.counts met
+  begun_kept = record {
+    twice = subst (λ s. Twice s s.rows (laid c s x) (wbit d)) (sym of) (subst (λ w. Twice sh sh.rows w (wbit d)) e two);
+    under = begun_under c h p.shape lent_here from p.starts p.counts g x met none;
+  }
+
+  pub begun_top : {top bit : ℕ} {met' : List ℕ} → Lowers p from (wbit d) met met' → Finds p from (wbit d) met top bit met'
+      → Top (score c x) from (bits c) bit top
+  begun_top {top} {bit} {met'} low found =
+      chosen_top c h p.shape lent_here (subst (Fit h) (sym of) fit) p.starts p.counts g from x d met met' top bit begun_kept low found
 
 -- ---- the run, flip by flip
 

@@ -1,12 +1,14 @@
 -- What is kept of a word from flip to flip.
-use Rattle.std.specs.Prelude.{◌≡◌, List, ℕ, ◌+◌, ◌-◌, ◌*◌, ◌%◌, ◌≤◌, ◌<◌, length, get_or}
-use Rattle.bits.specs.Bits.{Word}
+use Rattle.std.specs.Prelude.{◌≡◌, List, ℕ, ◌+◌, ◌-◌, ◌*◌, ◌/◌, ◌%◌, ◌≤◌, ◌<◌, length, get_or}
+use Rattle.bits.specs.Bits.{Word, flipped}
 use Rattle.rules.specs.Codes.{Code}
+use Rattle.rules.specs.Checks.{met_of}
 use Rattle.vectors.specs.Vectors.{wbit}
 use Rattle.layout.specs.declared.Shape.{Shape}
-use Rattle.layout.specs.Lent.{laid, score}
+use Rattle.layout.specs.Lent.{Lent, laid, score}
 use Rattle.layout.specs.Rooms.{blocks_room, starts_room}
-use Rattle.flipping.specs.bounds.Reading.{Twice, hits}
+use Rattle.flipping.specs.bounds.Reading.{Twice, Gathered, hits}
+use Rattle.flipping.specs.declared.bounds.Places.{Places}
 
 -- The bound of block b: the score of a bit of its, of which so many checks are met as `met` has for the block.
 abbrev pub bound : List ℕ → List ℕ → ℕ → ℕ
@@ -40,3 +42,13 @@ Under g sh from counts met = (b k : ℕ) → b < sh.blocks → k < sh.size → f
 pub record Kept (c : Code) (sh : Shape) (from : ℕ) (x : Word) (d counts met : List ℕ) : Type 0 where
   pub twice : Twice sh sh.rows (laid c sh x) (wbit d)
   pub under : Under (score c x) sh from counts met
+
+-- These places are those of the table h.
+abbrev pub Laid : List ℕ → Places → Type 0
+Laid h p = Gathered h p.shape p.starts p.counts p.shape.blocks
+
+-- The state of any word becomes that of the word with this bit flipped, where as many of its checks are met as `met` has for its block.
+abbrev pub Flips : Places → ℕ → List ℕ → List ℕ → List ℕ → List ℕ → Type 0
+Flips p bit d met d' met' = (c : Code) (h : List ℕ) (from : ℕ) (x : Word) → Lent c h p.shape
+    → Laid h p → Kept c p.shape from x d p.counts met
+    → met_of c x bit ≡ get_or met (bit / p.shape.size) 0 → Kept c p.shape from (flipped x bit) d' p.counts met'

@@ -3,6 +3,7 @@ use Rattle.std.specs.Prelude.{◌≡◌, List, ℕ, zero, suc, ◌+◌, ◌*◌,
 use Rattle.bits.specs.Bits.{Word, when◌then◌else◌}
 use Rattle.planes.specs.Ranges.{Top}
 use Rattle.layout.specs.declared.Shape.{Shape}
+use Rattle.flipping.specs.declared.bounds.Places.{Places}
 use Rattle.flipping.specs.bounds.Keeping.{bound, Ready, Scored, Under}
 
 -- The greatest bound of the first blocks.
@@ -42,3 +43,16 @@ pub record Sought (sh : Shape) (from : ℕ) (d : Word) (starts counts met : List
   pub lowered : Lowered sh from d starts counts met met'
   pub found : r < sh.blocks * sh.size → Found sh from d starts counts met top r met'
   pub none : sh.blocks * sh.size ≤ r → (b : ℕ) → b < sh.blocks → bound counts met' b < top
+
+-- The same in these places.
+abbrev pub Lowers : Places → ℕ → Word → List ℕ → List ℕ → Type 0
+Lowers p from d met met' = Lowered p.shape from d p.starts p.counts met met'
+
+abbrev pub Looks : Places → ℕ → Word → ℕ → ℕ → ℕ → List ℕ → List ℕ → Type 0
+Looks p from d b top k met met' = Looked p.shape from d p.starts p.counts b top k met met'
+
+abbrev pub Finds : Places → ℕ → Word → List ℕ → ℕ → ℕ → List ℕ → Type 0
+Finds p from d met top r met' = Found p.shape from d p.starts p.counts met top r met'
+
+abbrev pub Seeks : Places → ℕ → Word → List ℕ → ℕ → ℕ → List ℕ → Type 0
+Seeks p from d met top r met' = Sought p.shape from d p.starts p.counts met top r met'

@@ -1,5 +1,5 @@
 -- Rows and blocks that one word holds each, and what is seen of a block's bits at once.
-use Rattle.std.specs.Prelude.{◌≡◌, Bool, true, false, ◌&&◌, List, ℕ, ◌+◌, ◌-◌, ◌*◌, ◌%◌, ◌≤◌, ◌<◌, eqb, leb, ltb, length, get_or}
+use Rattle.std.specs.Prelude.{◌≡◌, Bool, true, false, ◌&&◌, List, ℕ, ◌+◌, ◌-◌, ◌*◌, ◌%◌, ◌≤◌, ◌<◌, eqb, leb, ltb, length, get_or, map}
 use Rattle.bits.specs.Bits.{Word, when◌then◌else◌, count_of}
 use Rattle.rules.specs.Codes.{Code}
 use Rattle.rules.specs.Checks.{check}
@@ -11,6 +11,7 @@ use Rattle.layout.specs.Lent.{Fit, Lent, total, shifts_of, score}
 use Rattle.magnitudes.specs.Patterns.{smaller}
 use Rattle.magnitudes.specs.Sizes.{smallest}
 use Rattle.flipping.specs.declared.narrow.Weights.{Weights}
+use Rattle.flipping.specs.declared.narrow.Level.{Level}
 
 -- The first m bits of a word, over and over.
 abbrev pub around : ℕ → Word → Word
@@ -57,6 +58,13 @@ pub record Peaked (counts : Word) (g : ℕ → ℕ) (score mask : ℕ) : Type 0 
 pub record Weighed (c : Code) (sh : Shape) (from : ℕ) (x : Word) (scores masks : List ℕ) (blocks : ℕ) : Type 0 where
   pub each : (b : ℕ) → b < blocks
       → Peaked (sent sh.size from b) (λ k. score c x (b * sh.size + k)) (get_or scores b 0) (get_or masks b 0)
+
+-- The scores of levels, and their masks.
+abbrev pub scores_of : List Level → List ℕ
+scores_of levels = map (λ l. l.score) levels
+
+abbrev pub masks_of : List Level → List ℕ
+masks_of levels = map (λ l. l.mask) levels
 
 -- Of the first scores none is greater than `top`, which is 8 or the score of this block, and those of lower blocks are less.
 pub record Greatest (scores : List ℕ) (blocks top block : ℕ) : Type 0 where

@@ -9,10 +9,10 @@ taken_is : (s : Taker) (part : List ℕ) (taken : ℕ) → taken ≡ (take_answe
     × (taken ≤ length part)
 taken_is s part taken e h = (subst (λ z. 0 < z) (sym e) (taken_some s part h), subst (λ z. z ≤ length part) (sym e) (taken_within s part))
 
-pub returns-then-not-r : goal.returns-then-not-r
-returns-then-not-r g c =
+pub returns-in_ok-map_err : goal.returns-in_ok-map_err
+returns-in_ok-map_err g c =
     taken_is (as_taker c.args.s.taker) c.args.part.now c.take-r.result.taken (ap (λ z. z.taken) c.take-r.ensures) c.requires
 
-pub returns : goal.returns
-returns g c =
+pub returns-else-r : goal.returns-else-r
+returns-else-r g c =
     taken_is (as_taker c.args.s.taker) c.args.part.now c.take-r.result.taken (ap (λ z. z.taken) c.take-r.ensures) c.requires

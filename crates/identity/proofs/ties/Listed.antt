@@ -11,12 +11,7 @@ use Rattle.bits.specs.Bits.{◌⊕◌, over, blocks, below}
 use Rattle.identity.specs.ties.Flat.{pieces}
 use Rattle.identity.proofs.ties.Sums.{xor_is, ⊕-assoc}
 
--- The last of n things of a size; and the room that another one needs.
-pub one_less : {n : ℕ} (size : ℕ) → 0 < n → n * size ≡ (n - 1) * size + size
-one_less {n} size h =
-    let e : n ≡ suc (n - 1) = omega arith in
-    ap (λ (x : ℕ). x * size) e ∙ suc-mul (n - 1) size
-
+-- The room that another one of a size needs.
 pub more_fits : {p n : ℕ} (size : ℕ) → p < n → p * size + size ≤ n * size
 more_fits {p} {n} size h = omega (arith, suc-mul p size, mul-le-mul_right size h)
 
@@ -51,6 +46,17 @@ module _ {A : Type 0} (f : ℕ → A) (step : ℕ) where
   pieces_more at (suc n) h =
       let e : n ≡ suc n - 1 = omega arith in
       ap (λ (x : ℕ). f at ∷ pieces f step (at + step) x) e
+
+  -- The k-th and those behind it: it stands at p, the next at q.
+  pub pieces_next : (k n p q : ℕ) → k < n → q ≡ p + step → pieces f step p (n - k) ≡ f p ∷ pieces f step q (n - (k + 1))
+  pieces_next k n p q h e =
+      let l : n - k - 1 ≡ n - (k + 1) = omega arith in
+      pieces_more p (n - k) (omega arith) ∙ ap₂ (λ (x y : ℕ). f p ∷ pieces f step x y) (sym e) l
+
+  pub pieces_start : (at n p : ℕ) → p ≡ at → pieces f step at n ≡ pieces f step p (n - 0)
+  pieces_start at n p e =
+      let l : n ≡ n - 0 = omega arith in
+      ap₂ (λ (x y : ℕ). pieces f step x y) (sym e) l
 
   pub pieces_none : (at n : ℕ) → n ≤ 0 → pieces f step at n ≡ []
   unfolding pieces

@@ -1,6 +1,6 @@
 -- `magnitudes::half`: the bits of the first i samples are marked, and these are finite or not. Assumes nothing.
 use mathlib.Core.Path.{◌≡◌}
-use Prim.Native.Nat.{ℕ, ◌+◌, ◌-◌, ◌≤◌, ◌<◌}
+use Prim.Native.Nat.{ℕ, ◌+◌, ◌<◌}
 use Rattle.bits.specs.Bits.{digit, below}
 use Rattle.vectors.specs.Vectors.{up_to, from}
 use Rattle.magnitudes.specs.Patterns.{read, pattern_of, is_finite}
@@ -8,8 +8,5 @@ use Rattle.magnitudes.proofs.half.Given as goal
 
 abbrev pub invariant-loop-i : goal.invariant-loop-i
 invariant-loop-i l =
-    (l.i ≤ l.n) × ((j : ℕ) → j < 32 → digit 32 l.bits j ≡ up_to l.i (from l.at (read l.samples)) j)
+    ((j : ℕ) → j < 32 → digit 32 l.bits j ≡ up_to l.i (from l.at (read l.samples)) j)
     × (l.finite ≡ below l.i (λ j. is_finite (pattern_of l.samples (l.at + j))))
-
-abbrev pub decreases-loop-i : goal.decreases-loop-i
-decreases-loop-i l = l.n - l.i

@@ -1,30 +1,11 @@
 -- `magnitudes::smallest_of`: what is left of the mask gives, from the best so far, what all of it gives. Assumes nothing.
-use mathlib.Core.Path.{refl, sym, ◌∙◌, subst}
+use mathlib.Core.Path.{sym, ◌∙◌, subst}
 use Prim.Native.Nat.{◌+◌, ◌<◌}
-use native.Mathlib.Nat.{pos_of_ne-zero}
-use native.Mathlib.Omega.{arith}
 use lib.ListN.{length}
 use Rattle.magnitudes.specs.Patterns.{smaller}
 use Rattle.magnitudes.proofs.Masks.{masked, masked_none, masked_more, left_less, left_set, smaller_in}
 use borrow.Author.Rules.{rules}
 use Rattle.magnitudes.proofs.smallest_of.Goals as goal
-
-pub loop-left-init : goal.loop-left-init
-loop-left-init c = (search rules, c.requires.0, c.requires.1, refl)
-
-pub first_set-i-requires : goal.first_set-i-requires
-first_set-i-requires c = pos_of_ne-zero c.loop-left-test.true
-
-pub overflow_add-first : goal.overflow_add-first
-overflow_add-first c =
-    let f = c.first_set-i in
-    omega (arith, c.loop-left.invariant.2 f.result f.ensures.0 f.ensures.1)
-
-pub smaller-best-requires : goal.smaller-best-requires
-smaller-best-requires c =
-    let f = c.first_set-i in
-    let l = c.loop-left in
-    (l.invariant.1, l.invariant.2 f.result f.ensures.0 f.ensures.1)
 
 pub loop-left-smaller : goal.loop-left-smaller
 loop-left-smaller c =

@@ -10,19 +10,17 @@ pub returns-then-reach-eq0 : goal.returns-then-reach-eq0
 returns-then-reach-eq0 t c =
     λ x h. c.search.ensures x h ∙ ap held (fewest_none c.args.reach x c.if-reach-eq0.true)
 
-pub returns-then-r : goal.returns-then-r
-returns-then-r t c =
+pub returns-in-Some : goal.returns-in-Some
+returns-in-Some t c =
     let a = c.args in
-    let r = c.fewest_of-r in
     λ x h.
-    held_first (fewest (a.reach - 1) x) (first_list a.reach 128 0 x) r.result (r.ensures x h) c.if-r.true
+    held_first (fewest (a.reach - 1) x) (first_list a.reach 128 0 x) c.in-Some.fewer (c.in-Some.ensures x h)
     ∙ ap held (sym (fewest_more a.reach x c.if-reach-eq0.false))
 
-pub returns : goal.returns
-returns t c =
+pub returns-in-None : goal.returns-in-None
+returns-in-None t c =
     let a = c.args in
-    let r = c.fewest_of-r in
     λ x h.
-    c.search-2.ensures x h
+    c.search-in-None.ensures x h
     ∙ ap held (sym (fewest_more a.reach x c.if-reach-eq0.false
-    ∙ held_else (fewest (a.reach - 1) x) (first_list a.reach 128 0 x) r.result (r.ensures x h) c.if-r.false))
+    ∙ held_else (fewest (a.reach - 1) x) (first_list a.reach 128 0 x) (c.in-None.ensures x h)))

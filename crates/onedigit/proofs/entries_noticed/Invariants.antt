@@ -1,6 +1,6 @@
 -- `onedigit::entries_noticed` meets its contract: those passed are counted, and the table is as it was.
 use mathlib.Core.Path.{◌≡◌}
-use Prim.Native.Nat.{ℕ, ◌-◌, ◌*◌, ◌≤◌}
+use Prim.Native.Nat.{ℕ, ◌*◌, ◌≤◌}
 use Rattle.bits.specs.Bits as bits
 use Rattle.onedigit.specs.Wrong.{entry_noticed_of}
 use Rattle.onedigit.proofs.entries_noticed.Given as goal
@@ -13,6 +13,3 @@ invariant-loop-t l =
     × (l.parity ≡ l.initial.parity)
     × ((printed : ℕ) → l.m ≤ printed
     → l.noticed ≡ bits.count l.t (entry_noticed_of l.m printed l.rows l.count l.parts l.initial.parity l.generator))
-
-abbrev pub decreases-loop-t : goal.decreases-loop-t
-decreases-loop-t l = l.n - l.t

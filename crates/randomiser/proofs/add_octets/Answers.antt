@@ -2,7 +2,8 @@
 use mathlib.Core.Path.{refl}
 use Prim.Native.Nat.{◌+◌}
 use native.Mathlib.Omega.{arith}
-use lib.ListN.{get_or, length-set}
+use lib.ListN.{get_or}
+use borrow.Author.Rules.{rules}
 use Rattle.randomiser.proofs.Randomising.{randomised_more}
 use Rattle.randomiser.proofs.Parts.{all_done}
 use Rattle.randomiser.specs.Randomiser.{randomised}
@@ -10,21 +11,18 @@ use Rattle.randomiser.proofs.add_octets.Goals as goal
 
 pub loop-i-init : goal.loop-i-init
 unfolding randomised
-loop-i-init c = (omega arith, refl, λ g used known. refl)
+loop-i-init c = λ g used known. refl
 
 pub loop-i-preserved : goal.loop-i-preserved
 loop-i-preserved c =
-    let h = c.loop-i in (
-      omega arith,
-      simp length-set h.invariant.1,
-      λ g used known. randomised_more g used c.args.octets.now h.octets h.i
-          (get_or c.args.sequence.now (c.args.from + h.i) 0) (omega arith) (c.slice_known-1.given h.i).fits
-          (h.invariant.2 g used known)
-          (known h.i (omega arith)),
-    )
+    let h = c.loop-i in
+    λ g used known. randomised_more g used c.args.octets.now h.octets h.i
+    (get_or c.args.sequence.now (c.args.from + h.i) 0) (omega arith) (search rules)
+    (h.invariant g used known)
+    (known h.i (omega arith))
 
 pub returns : goal.returns
 returns c g used known =
     let h = c.loop-i in
     let a = c.args in
-    all_done g used a.octets.now h.octets h.i (omega arith) (h.invariant.2 g used known)
+    all_done g used a.octets.now h.octets h.i (omega arith) (h.invariant g used known)

@@ -1,6 +1,6 @@
 -- `samples::load`: a pattern more at each pass. Assumes nothing.
 use mathlib.Core.Path.{◌≡◌}
-use Prim.Native.Nat.{ℕ, ◌-◌, ◌≤◌, ◌<◌}
+use Prim.Native.Nat.{ℕ, ◌<◌}
 use lib.Ieee.{of_bits, binary32}
 use lib.ListN.{length}
 use Rattle.magnitudes.specs.Samples.{sample_of}
@@ -9,8 +9,5 @@ use Rattle.samples.proofs.load.Given as goal
 
 abbrev pub invariant-loop-i : goal.invariant-loop-i
 invariant-loop-i l =
-    (l.i ≤ length l.samples) × (length l.patterns ≡ length l.initial.patterns)
+    (length l.patterns ≡ length l.initial.patterns)
     × ((j : ℕ) → j < l.i → of_bits binary32 (pattern_of l.patterns j) ≡ sample_of l.samples j)
-
-abbrev pub decreases-loop-i : goal.decreases-loop-i
-decreases-loop-i l = length l.samples - l.i

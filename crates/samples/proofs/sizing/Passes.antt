@@ -7,7 +7,6 @@ use native.Mathlib.Omega.{arith}
 use lib.ListN.{length, get_or, replicate}
 use Rattle.bits.specs.Bits.{Word, tally, ◌⊕◌, flipped}
 use Rattle.bits.proofs.Counting.{count-le}
-use Rattle.bits.proofs.Octets.{zeros_at}
 use Rattle.rules.specs.Codes.{Code, bits}
 use Rattle.rules.specs.Checks.{broken}
 use Rattle.answers.specs.Calls.{differing}
@@ -15,9 +14,13 @@ use Rattle.answers.proofs.Differing.{differ_flip}
 use Rattle.vectors.specs.Vectors.{wbit}
 use Rattle.layout.specs.declared.Shape.{Shape}
 use Rattle.layout.specs.Lent.{Fit, Lent, laid, score}
+use Rattle.flipping.specs.declared.bounds.Places.{Places}
 use Rattle.flipping.specs.bounds.Reading.{Twice, Gathered}
 use Rattle.flipping.specs.bounds.Keeping.{Scored}
 use Rattle.flipping.proofs.bounds.Turned.{scored}
+use Rattle.std.specs.Prelude.{Ok, Err}
+use Rattle.flipping.specs.declared.runs.Ending.{Ending}
+use Rattle.flipping.specs.runs.Endings.{number_of}
 use Rattle.flipping.specs.runs.Passes.{Going}
 use Rattle.flipping.proofs.runs.Passing.{ends_quiet, runs_as}
 use Rattle.flipping.proofs.runs.Sizes.{sized_quiet}
@@ -25,10 +28,10 @@ use Rattle.magnitudes.specs.Patterns.{read, smaller}
 use Rattle.magnitudes.specs.Sizes.{by_size}
 use Rattle.samples.specs.raising.Knowing.{Knows, whole}
 use Rattle.samples.specs.smallest.Settling.{Leads}
-use Rattle.samples.specs.declared.sizing.Chosen.{Chosen}
+use Rattle.samples.specs.declared.sizing.Flip.{Flip}
 use Rattle.samples.specs.declared.sizing.Passed.{Passed}
 use Rattle.samples.specs.declared.sizing.Ended.{Ended}
-use Rattle.samples.specs.sizing.Passing.{Stands, Coming, Chooses, Passes, SizesTo}
+use Rattle.samples.specs.sizing.Passing.{Stands, StandsIn, Coming, Chooses, Passes, SizesTo}
 
 few : (b : Bool) → tally b ≤ 1
 few true = omega arith
@@ -50,16 +53,21 @@ unknown zero i l = absurd (omega arith)
 unknown (suc n) zero l = refl
 unknown (suc n) (suc i) l = unknown n i (omega arith)
 
-pub begun_stands : (c : Code) (sh : Shape) (samples : List ℕ) (starts counts : List ℕ) (x z : Word) (d : List ℕ) → sh.blocks ≤ 16
-    → length samples ≤ 8176 → z ≡ laid c sh x → Twice sh sh.rows z (wbit d)
-    → Stands c sh samples x d starts counts (replicate 16 0) (replicate 16 8176)
-begun_stands c sh samples starts counts x z d blocks long e two = record {
-  twice = subst (λ w. Twice sh sh.rows w (wbit d)) e two;
+pub begun_stands : (c : Code) (sh : Shape) (samples : List ℕ) (x z : Word) (p : Places) (d met : List ℕ) → p.shape ≡ sh → sh.blocks ≤ 16
+    → length samples ≤ 8176 → z ≡ laid c sh x → Twice sh sh.rows z (wbit d) → ((b : ℕ) → get_or met b 0 ≡ 0)
+    → StandsIn c samples x p d met (replicate 16 8176)
+begun_stands c sh samples x z p d met of blocks long e two none = record {
+  twice = subst (λ s. Twice s s.rows (laid c s x) (wbit d)) (sym of) (subst (λ w. Twice sh sh.rows w (wbit d)) e two);
   knows = record {
     block = λ b hb.
-        let none : length samples ≤ get_or (replicate 16 8176) b 0 = omega (arith, unknown 16 b (omega arith)) in
+        let hb : b < 16 = omega (arith, hb, ap (λ s. s.blocks) of) in
+        let unseen : length samples ≤ get_or (replicate 16 8176) b 0 = omega (arith, unknown 16 b hb) in
         record {
-          under = λ k l t. omega (arith, zeros_at 16 b, count-le (get_or counts b 0) (λ e. wbit d (get_or starts (8 * b + e) 0 + k)));
+          under = λ k l t. omega (
+            arith,
+            none b,
+            count-le (get_or p.counts b 0) (λ e. wbit d (get_or p.starts (8 * b + e) 0 + k)),
+          );
           inside = λ u. absurd (omega arith);
           ahead = λ u. absurd (omega arith);
         };
@@ -77,16 +85,16 @@ module _ (c : Code) (h : List ℕ) (sh : Shape) (lent : Lent c h sh) (fit : Fit 
     (g : Gathered h sh starts counts sh.blocks) (samples : List ℕ) (y : Word) (d met kept : List ℕ)
     (was : Stands c sh samples y d starts counts met kept) {met' kept' : List ℕ} (r top : ℕ)
     (chose : Knows samples sh (wbit d) starts counts whole met kept → Knows samples sh (wbit d) starts counts whole met' kept'
-    × ((f : ℕ → ℕ) → Scored f sh (wbit d) starts counts
-    → ((i : ℕ) → i < sh.blocks * sh.size → f i ≤ top) × Leads samples f top (sh.blocks * sh.size) r)) where
+    × ((f : ℕ → ℕ) → Scored f sh (wbit d) starts counts → (i : ℕ) → i < sh.blocks * sh.size → f i ≤ top)
+    × ((f : ℕ → ℕ) → Scored f sh (wbit d) starts counts → Leads samples f top (sh.blocks * sh.size) r)) where
   scores : Scored (score c y) sh (wbit d) starts counts
   scores = scored c h sh lent y (wbit d) fit.held was.twice starts counts g
 
   pub chosen_most : (i : ℕ) → i < sh.blocks * sh.size → score c y i ≤ top
-  chosen_most = ((chose was.knows).1 (score c y) scores).0
+  chosen_most = (chose was.knows).1 (score c y) scores
 
   pub chosen_leads : Leads samples (score c y) top (sh.blocks * sh.size) r
-  chosen_leads = ((chose was.knows).1 (score c y) scores).1
+  chosen_leads = (chose was.knows).2 (score c y) scores
 
   pub chosen_stands : Stands c sh samples y d starts counts met' kept'
   chosen_stands = record { twice = was.twice; knows = (chose was.knows).0 }
@@ -95,38 +103,37 @@ module _ (c : Code) (h : List ℕ) (sh : Shape) (lent : Lent c h sh) (fit : Fit 
 
 -- one that flips the bit that comes next
 pub pass_goes : {c : Code} {h : List ℕ} {sh : Shape} {samples : List ℕ} {limit flips left unlike : ℕ} {x : Word}
-    {y y' d d' starts counts met met' kept kept' : List ℕ} {n : Chosen} {r : Passed} → Lent c h sh
-    → Coming c sh samples limit x flips y d starts counts met kept left unlike → Chooses c sh samples limit flips (wbit y) n
-    → n.number ≡ 0 → n.bit < sh.blocks * sh.size → r.number ≡ 0 → r.left ≡ left - n.fewer → wbit y' ≡ flipped (wbit y) n.bit
+    {y y' d d' starts counts met met' kept kept' : List ℕ} {n : Flip} {r : Passed} → Lent c h sh
+    → Coming c sh samples limit x flips y d starts counts met kept left unlike → Chooses c sh samples limit flips (wbit y) (Ok n)
+    → n.bit < sh.blocks * sh.size → r.left ≡ left - n.fewer → wbit y' ≡ flipped (wbit y) n.bit
     → (tally (read samples n.bit ⊕ wbit y n.bit) ≤ unlike
     → r.unlike + 2 * tally (read samples n.bit ⊕ wbit y n.bit) ≡ unlike + 1)
     → (0 < r.left → Stands c sh samples (flipped (wbit y) n.bit) d' starts counts met' kept')
-    → Passes c sh samples limit x flips y' d' starts counts met' kept' left unlike r
-pass_goes {c} {h} {sh} {samples} {limit} {flips} {left} {unlike} {x} {y} {n = n} {r = r} lent was next go inside none less word counted
-    stands =
+    → Passes c sh samples limit x flips y' d' starts counts met' kept' left unlike (Ok r)
+pass_goes {c} {h} {sh} {samples} {limit} {flips} {left} {unlike} {x} {y} {n = n} {r = r} lent was next inside less word counted stands =
     record {
-      goes = λ z. record {
+      goes = record {
         going = subst (λ v. Going (by_size (smaller samples) c) c sh limit x (flips + 1) v (laid c sh v)) (sym word)
-            (next.goes go x was.going);
-        left_is = omega (arith, less, next.fewer go, was.left_is, ap (broken c) word);
+            (next.goes x was.going);
+        left_is = omega (arith, less, next.fewer, was.left_is, ap (broken c) word);
         stands = λ some. stands_as (sym word) (stands some);
         differs = differs_flip c samples (wbit y) n.bit (omega (arith, lent.bits_are)) unlike r.unlike was.differs counted
             ∙ ap (differing c (read samples)) (sym word);
       };
-      ends = λ e. absurd (e none);
-      last = λ e. absurd (e none);
-      differs = λ e. absurd (e none);
+      ends = tt;
+      last = tt;
+      differs = tt;
     }
 
 module _ {c : Code} {sh : Shape} {samples : List ℕ} {limit flips left unlike : ℕ} {x : Word} {y d starts counts met kept : List ℕ} where
   -- one in which the run ends
-  pub pass_ends : {r : Passed} → Passes c sh samples limit x flips y d starts counts met kept left unlike r → (r.number ≡ 0 → ⊥)
-      → x ≡ read samples → (e : Ended) → e.ran.number ≡ r.number → e.ran.flips ≡ flips → e.last ≡ left → e.unlike ≡ unlike
+  pub pass_ends : {how : Ending} → Passes c sh samples limit x flips y d starts counts met kept left unlike (Err how)
+      → x ≡ read samples → (e : Ended) → e.ran.number ≡ number_of how → e.ran.flips ≡ flips → e.last ≡ left → e.unlike ≡ unlike
       → SizesTo c sh samples limit x e (wbit y)
-  pass_ends p end first e is_number is_flips is_last is_unlike = record {
-    runs = runs_as _ _ is_number is_flips (p.ends end);
-    last = is_last ∙ p.last end;
-    differs = is_unlike ∙ p.differs end ∙ ap (λ z. differing c z (wbit y)) (sym first);
+  pass_ends p first e is_number is_flips is_last is_unlike = record {
+    runs = runs_as _ _ is_number is_flips p.ends;
+    last = is_last ∙ p.last;
+    differs = is_unlike ∙ p.differs ∙ ap (λ z. differing c z (wbit y)) (sym first);
   }
 
   -- none is left to be made

@@ -3,6 +3,7 @@ use Rattle.std.specs.Prelude.{◌≡◌, Bool, true, false, ◌&&◌, ◌||◌, 
 use Rattle.std.specs.Prelude.{get_or}
 use Rattle.bits.specs.Bits.{Word, when◌then◌else◌}
 use Rattle.layout.specs.declared.Shape.{Shape}
+use Rattle.flipping.specs.declared.bounds.Places.{Places}
 use Rattle.flipping.specs.bounds.Reading.{hits}
 use Rattle.magnitudes.specs.Patterns.{smaller}
 
@@ -53,3 +54,16 @@ raised sh d starts counts from k zero j i = false
 raised sh d starts counts from k (suc n) j i =
     let p = get_or starts (from + n) 0 + k in
     raised sh d starts counts from k n j i || (d p && covered starts (8 * j) sh.size (nearer sh.size p) (get_or counts j 0) i)
+
+-- There are as many samples as bits in these places; and what is said above, of these places.
+abbrev pub Sampled : List ℕ → Places → Type 0
+Sampled samples p = length samples ≡ p.shape.blocks * p.shape.size
+
+abbrev pub KnowsIn : List ℕ → Places → Word → (ℕ → ℕ → Bool) → List ℕ → List ℕ → Type 0
+KnowsIn samples p d seen met kept = Knows samples p.shape d p.starts p.counts seen met kept
+
+abbrev pub covers : Places → ℕ → ℕ → ℕ → Bool
+covers p at j i = covered p.starts (8 * j) p.shape.size at (get_or p.counts j 0) i
+
+abbrev pub raises : Places → Word → ℕ → ℕ → ℕ → ℕ → ℕ → Bool
+raises p d b k n j i = raised p.shape d p.starts p.counts (8 * b) k n j i

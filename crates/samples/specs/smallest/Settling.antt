@@ -2,6 +2,7 @@
 use Rattle.std.specs.Prelude.{◌≡◌, ◌&&◌, List, ℕ, ◌+◌, ◌-◌, ◌*◌, ◌≤◌, ◌<◌, length, get_or}
 use Rattle.bits.specs.Bits.{Word}
 use Rattle.layout.specs.declared.Shape.{Shape}
+use Rattle.flipping.specs.declared.bounds.Places.{Places}
 use Rattle.flipping.specs.bounds.Reading.{hits}
 use Rattle.flipping.specs.bounds.Keeping.{bound, Ready, Scored}
 use Rattle.magnitudes.specs.Patterns.{smaller}
@@ -36,3 +37,13 @@ pub record Settled (samples : List ℕ) (sh : Shape) (d : Word) (starts counts :
   pub knows : Knows samples sh d starts counts whole met kept → Knows samples sh d starts counts whole met' kept'
   pub leads : Knows samples sh d starts counts whole met kept → (g : ℕ → ℕ) → Scored g sh d starts counts
       → Leads samples g top (b * sh.size) best → Leads samples g top (b * sh.size + sh.size) r
+
+-- That in these places; the bit r leads all bits of the score `top`; and no bit has a greater score.
+abbrev pub SettledIn : List ℕ → Places → Word → ℕ → ℕ → ℕ → ℕ → List ℕ → List ℕ → List ℕ → List ℕ → Type 0
+SettledIn samples p d b top best r met met' kept kept' = Settled samples p.shape d p.starts p.counts b top best r met met' kept kept'
+
+abbrev pub LeadsIn : List ℕ → Places → Word → ℕ → ℕ → Type 0
+LeadsIn samples p d top r = (g : ℕ → ℕ) → Scored g p.shape d p.starts p.counts → Leads samples g top (p.shape.blocks * p.shape.size) r
+
+abbrev pub MostIn : Places → Word → ℕ → Type 0
+MostIn p d top = (g : ℕ → ℕ) → Scored g p.shape d p.starts p.counts → (i : ℕ) → i < p.shape.blocks * p.shape.size → g i ≤ top

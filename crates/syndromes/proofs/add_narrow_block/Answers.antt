@@ -4,7 +4,7 @@ use borrow.Author.Rules.{rules}
 use Rattle.vectors.specs.Vectors.{wbit, both}
 use Rattle.syndromes.specs.Rows.{wide, spread, turned}
 use Rattle.syndromes.proofs.Bounds.{wide_some}
-use Rattle.syndromes.proofs.Rowwise.{reached_none, reached-more, reached_all}
+use Rattle.syndromes.proofs.Rowwise.{reached_none, reached-more}
 use Rattle.syndromes.proofs.add_narrow_block.Goals as goal
 
 pub loop-r-init : goal.loop-r-init
@@ -22,11 +22,3 @@ loop-r-preserved c =
     reached-more (wide a.sh) a.sh.rows some (spread a.sh a.h.now a.b (turned (both a.d))) (wbit a.acc.now) l.acc
     l.r l.invariant
     _ (omega arith) (search rules) c.add_narrow_row.ensures
-
-pub returns : goal.returns
-returns c =
-    let a = c.args in
-    let l = c.loop-r in
-    let some = wide_some a.h.now a.sh c.requires.0 in
-    reached_all (wide a.sh) a.sh.rows some (spread a.sh a.h.now a.b (turned (both a.d))) (wbit a.acc.now) l.acc
-    l.r l.invariant (omega arith)

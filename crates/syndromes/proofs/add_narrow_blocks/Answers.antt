@@ -1,30 +1,17 @@
 -- `syndromes::add_narrow_blocks` meets its contract: after b passes the rows have the first b blocks. Assumes nothing.
-use mathlib.Core.Path.{◌≡◌, ap, ap₂, ◌∙◌}
+use mathlib.Core.Path.{ap, ap₂, ◌∙◌}
 use mathlib.Core.Bool.{Bool, ◌&&◌}
-use Prim.Native.Nat.{ℕ, ◌*◌}
-use native.Mathlib.Omega.{arith}
+use Prim.Native.Nat.{◌*◌}
 use lib.Dec.{ltb}
 use Rattle.bits.specs.Bits.{Word}
 use Rattle.vectors.specs.Vectors.{wbit, Holds, up_to, from}
-use Rattle.syndromes.specs.Rows.{plus, rowed, wide, spread, turned, summed}
-use Rattle.syndromes.proofs.Bounds.{block_room}
+use Rattle.syndromes.specs.Rows.{plus, rowed, wide, spread, turned}
 use Rattle.syndromes.proofs.Laid.{summed_none, summed_more}
 use Rattle.syndromes.proofs.add_narrow_blocks.Goals as goal
 
 pub loop-b-init : goal.loop-b-init
 loop-b-init c =
-    (omega arith, c.requires.2 ∙ summed_none c.args.h.now c.args.sh c.requires.0 (wbit c.args.y.now))
-
-pub overflow_mul-b : goal.overflow_mul-b
-overflow_mul-b c =
-    omega (arith, block_room c.args.h.now c.args.sh c.requires.0 c.loop-b.b (omega arith))
-
-pub window-requires : goal.window-requires
-window-requires c =
-    omega (arith, block_room c.args.h.now c.args.sh c.requires.0 c.loop-b.b (omega arith))
-
-pub double_word-requires : goal.double_word-requires
-double_word-requires c = (omega arith, omega arith)
+    c.requires.2 ∙ summed_none c.args.h.now c.args.sh c.requires.0 (wbit c.args.y.now)
 
 pub loop-b-preserved : goal.loop-b-preserved
 loop-b-preserved c =
@@ -35,17 +22,8 @@ loop-b-preserved c =
     let M = sh.size in
     let block : Holds c.front-v.result (up_to M (from (l.b * M) y)) =
     λ i hi. c.front-v.ensures i hi
-    ∙ ap (λ (p : Bool). ltb i M && p) (c.window.ensures i hi) in (
-      omega arith,
-      c.add_narrow_block.ensures
-          ∙ ap₂ (λ (x d : Word). plus x (rowed (wide sh) sh.rows (spread sh h l.b (turned d)))) l.invariant.1
-          (c.double_word.ensures (from (l.b * M) y) block)
-          ∙ summed_more h sh c.requires.0 y l.b,
-    )
-
-pub returns : goal.returns
-returns c =
-    let a = c.args in
-    let l = c.loop-b in
-    let all : l.b ≡ a.sh.blocks = omega arith in
-    l.invariant.1 ∙ ap (λ (k : ℕ). rowed (wide a.sh) a.sh.rows (summed a.sh a.h.now (wbit a.y.now) k)) all
+    ∙ ap (λ (p : Bool). ltb i M && p) (c.window.ensures i hi) in
+    c.add_narrow_block.ensures
+    ∙ ap₂ (λ (x d : Word). plus x (rowed (wide sh) sh.rows (spread sh h l.b (turned d)))) l.invariant
+    (c.double_word.ensures (from (l.b * M) y) block)
+    ∙ summed_more h sh c.requires.0 y l.b

@@ -6,27 +6,16 @@ use Rattle.bits.specs.Bits.{Word, flipped}
 use Rattle.layout.specs.Lent.{laid}
 use Rattle.syndromes.specs.Rows.{plus, rowed, wide, spread, covering}
 use Rattle.syndromes.proofs.Laid.{laid_flipped}
-use borrow.Author.Rules.{rules}
 use Rattle.syndromes.proofs.flip.Goals as goal
 
-pub flip_checks-requires : goal.flip_checks-requires
-flip_checks-requires c =
-    let a = c.args in
-    let pre = c.requires in
-    (pre.0, (div-lt_iff_lt-mul pre.0.some).1 pre.1, mod-lt a.n pre.0.some, search rules)
-
-pub returns : goal.returns
-returns c =
+pub returns-clause-checks : goal.returns-clause-checks
+returns-clause-checks c code lent x e =
     let a = c.args in
     let pre = c.requires in
     let h = a.h.now in
     let M = a.sh.size in
-    let g = rowed (wide a.sh) a.sh.rows (spread a.sh h (a.n / M) (covering M (a.n % M))) in record {
-      word = c.flip_bit.ensures;
-      checks = λ code lent x e.
-          c.flip_checks.ensures
-          ∙ ap (λ (z : Word). plus z g) e
-          ∙ laid_flipped h a.sh pre.0 code lent x (a.n / M) (a.n % M) ((div-lt_iff_lt-mul pre.0.some).1 pre.1)
-          (mod-lt a.n pre.0.some)
-          ∙ ap (λ (n : ℕ). laid code a.sh (flipped x n)) (div-add-mod' a.n M);
-    }
+    let g = rowed (wide a.sh) a.sh.rows (spread a.sh h (a.n / M) (covering M (a.n % M))) in
+    c.flip_checks.ensures
+    ∙ ap (λ (z : Word). plus z g) e
+    ∙ laid_flipped h a.sh pre.0 code lent x (a.n / M) (a.n % M) ((div-lt_iff_lt-mul pre.0.some).1 pre.1) (mod-lt a.n pre.0.some)
+    ∙ ap (λ (n : ℕ). laid code a.sh (flipped x n)) (div-add-mod' a.n M)

@@ -1,20 +1,14 @@
 -- `syndromes::flip_entry` meets its contract: k + M - s, less M where that is M or more. Assumes nothing.
 use mathlib.Core.Path.{◌≡◌, ap, sym, ◌∙◌}
-use Prim.Native.Nat.{ℕ, ◌+◌, ◌-◌, ◌*◌, ◌%◌, ◌≤◌, ◌<◌}
+use Prim.Native.Nat.{ℕ, ◌+◌, ◌-◌, ◌*◌, ◌%◌, ◌<◌}
 use native.Mathlib.Nat.{mod-lt, mod-eq_of_lt}
 use native.Mathlib.Omega.{arith}
 use lib.Dec.{eqb}
 use Rattle.vectors.specs.Vectors.{wbit, added}
 use Rattle.syndromes.specs.Rows.{wide, covering}
-use Rattle.syndromes.proofs.Shifts.{entry-is, entry-none, once_around, flipped_row}
+use Rattle.syndromes.proofs.Shifts.{entry-is, once_around, flipped_row}
 use Rattle.syndromes.proofs.flip_entry.Goals as goal
 use Rattle.syndromes.proofs.flip_entry.Goals.{else-i-sh, then-i-sh}
-
-pub overflow_add-sh : goal.overflow_add-sh
-overflow_add-sh c = (elim c.if-i-sh.branch [ then-i-sh w ↦ omega arith | else-i-sh w ↦ omega arith ])
-
-pub flip_bit-requires : goal.flip_bit-requires
-flip_bit-requires c = (elim c.if-i-sh.branch [ then-i-sh w ↦ omega arith | else-i-sh w ↦ omega arith ])
 
 pub returns-after-i-sh : goal.returns-after-i-sh
 returns-after-i-sh c =
@@ -40,10 +34,3 @@ returns-after-i-sh c =
     ∙ flipped_row x from to i (omega (arith, mod-lt turn some))
     ∙ ap (λ (j : ℕ). added x from to (λ n. eqb n j)) at
     ∙ ap (added x from to) (entry-is M g a.s l)
-
-pub returns-else-s-sh : goal.returns-else-s-sh
-returns-else-s-sh c =
-    let a = c.args in
-    let w = wide a.sh in
-    let l : a.sh.size ≤ a.s = omega arith in
-    entry-none a.sh.size (covering a.sh.size a.k) a.s (wbit a.z.now) (w * a.r) (w * (a.r + 1)) l

@@ -1,25 +1,9 @@
 -- `syndromes::flip_row` meets its contract: both places of the block, one after the other. Assumes nothing.
 use Prim.Native.Nat.{◌+◌, ◌*◌}
-use borrow.Author.Rules.{rules}
 use Rattle.vectors.specs.Vectors.{wbit}
 use Rattle.syndromes.specs.Rows.{wide, covering}
-use Rattle.syndromes.proofs.Bounds.{row_room}
 use Rattle.syndromes.proofs.Shifts.{added_places}
 use Rattle.syndromes.proofs.flip_row.Goals as goal
-
-pub flip_entry-requires : goal.flip_entry-requires
-flip_entry-requires c =
-    let a = c.args in
-    let room = row_room a.h.now a.sh c.requires.0 a.r
-    c.requires.3 in
-    search rules
-
-pub flip_entry-requires-2 : goal.flip_entry-requires-2
-flip_entry-requires-2 c =
-    let a = c.args in
-    let room = row_room a.h.now a.sh c.requires.0 a.r
-    c.requires.3 in
-    search rules
 
 pub returns : goal.returns
 returns c =

@@ -28,32 +28,12 @@ sum : (sh : Shape) (place : ℕ) → place < 1024 → 1 ≤ sh.words → sh.size
     → place / (64 * sh.words) * sh.size + place % (64 * sh.words) ≤ 525000
 sum sh place l o s w = omega (arith, near sh place l s w, mod-lt place {m = 64 * sh.words} (omega arith))
 
-pub overflow_mul-result : goal.overflow_mul-result
-overflow_mul-result c =
-    omega (arith, few c.args.sh c.requires.2 c.requires.3 c.requires.1)
-
-pub overflow_cast-result : goal.overflow_cast-result
-overflow_cast-result c =
-    omega (arith, few c.args.sh c.requires.2 c.requires.3 c.requires.1)
-
 pub returns-then-place-ge1024 : goal.returns-then-place-ge1024
 returns-then-place-ge1024 c =
     λ code h x fit lent e.
     let long : length c.args.z.now ≡ 16 = search rules in
     let is : c.first-place.result ≡ least 1024 (laid code c.args.sh x) = c.first-place.ensures ∙ ap₂ least (ap (λ n. 64 * n) long) e in
     lowest_none h c.args.sh fit code lent x (omega (arith, c.if-place-ge1024.true))
-
-pub overflow_mul-result-2 : goal.overflow_mul-result-2
-overflow_mul-result-2 c =
-    omega (arith, near c.args.sh c.first-place.result (omega (arith, c.if-place-ge1024.false)) c.requires.3 c.requires.1)
-
-pub overflow_add-result : goal.overflow_add-result
-overflow_add-result c =
-    omega (arith, sum c.args.sh c.first-place.result (omega (arith, c.if-place-ge1024.false)) c.requires.0 c.requires.3 c.requires.1)
-
-pub overflow_cast-result-2 : goal.overflow_cast-result-2
-overflow_cast-result-2 c =
-    omega (arith, sum c.args.sh c.first-place.result (omega (arith, c.if-place-ge1024.false)) c.requires.0 c.requires.3 c.requires.1)
 
 pub returns : goal.returns
 returns c =

@@ -2,45 +2,36 @@
 use mathlib.Core.Path.{◌≡◌, refl, sym, ap, ap₂, ◌∙◌, subst}
 use mathlib.Core.Bool.{Bool, true, false, ◌&&◌}
 use mathlib.Core.List.{List, [], ◌∷◌}
-use Prim.Native.Nat.{ℕ, suc, ◌+◌, ◌-◌, ◌*◌, ◌/◌, ◌%◌, ◌≤◌, ◌<◌}
+use Prim.Native.Nat.{ℕ, ◌+◌, ◌-◌, ◌*◌, ◌/◌, ◌%◌, ◌≤◌, ◌<◌}
 use native.Mathlib.Omega.{arith}
 use lib.Dec.{eqb, leb}
-use lib.ListN.{length, take, drop, get_or, length-drop, drop_of_length-le}
-use lib.Seq.{drop-cons, take_all}
+use lib.Pointwise.{pointwise}
+use mathlib.Core.Logic.{⊎_elim}
+use lib.ListN.{length, take, drop, length-drop}
+use lib.Seq.{take_all}
 use borrow.Author.Tests.{eq-eqb, ne_eqb, le-leb}
+use Rattle.bits.proofs.Orders.{eq_or_not}
 use Rattle.rules.specs.Codes.{code, code1, code3}
 use Rattle.randomiser.specs.Randomiser.{telecommand, randomised}
-use Rattle.units.specs.unitrules.Units.{unit_code, start, tail, same, started, between, blocks_in_of, shaped, received}
+use Rattle.units.specs.unitrules.Units.{unit_code, tail, same, between, blocks_in_of, shaped, received}
 use Rattle.units.proofs.unitrules.Shapes.{both}
 
-pub other_length : (a b : List ℕ) → (length a ≡ length b → ⊥) → same a b ≡ false
-other_length [] [] d = absurd (d refl)
-other_length [] (y ∷ b) d = refl
-other_length (x ∷ a) [] d = refl
-other_length (x ∷ a) (y ∷ b) d = ap (λ z. eqb x y && z) (other_length a b (λ e. d (ap suc e))) ∙ and_none (eqb x y)
-  where
-    and_none : (p : Bool) → (p && false) ≡ false
-    and_none true = refl
-    and_none false = refl
+-- the library's comparison is the definition's, either way round
+pub same_is : (a b : List ℕ) → pointwise eqb a b ≡ same a b
+same_is [] [] = refl
+same_is [] (y ∷ b) = refl
+same_is (x ∷ a) [] = refl
+same_is (x ∷ a) (y ∷ b) = ap (λ z. eqb x y && z) (same_is a b)
 
--- from a place on
-module _ (a b : List ℕ) (i : ℕ) (ha : i < length a) (hb : i < length b) where
-  here : same (drop i a) (drop i b) ≡ (eqb (get_or a i 0) (get_or b i 0) && same (drop (suc i) a) (drop (suc i) b))
-  here = ap₂ same (drop-cons a i 0 ha) (drop-cons b i 0 hb)
+eqb_turned : (x y : ℕ) → eqb x y ≡ eqb y x
+eqb_turned x y = ⊎_elim (λ (e : x ≡ y). eq-eqb x y e ∙ sym (eq-eqb y x (sym e)))
+    (λ (d : x ≡ y → ⊥). ne_eqb x y d ∙ sym (ne_eqb y x (λ q. d (sym q)))) (eq_or_not x y)
 
-  pub same_here : get_or a i 0 ≡ get_or b i 0 → same (drop i a) (drop i b) ≡ same (drop (suc i) a) (drop (suc i) b)
-  same_here e = here ∙ ap (λ z. z && same (drop (suc i) a) (drop (suc i) b)) (eq-eqb (get_or a i 0) (get_or b i 0) e)
-
-  pub other_here : (get_or a i 0 ≡ get_or b i 0 → ⊥) → same (drop i a) (drop i b) ≡ false
-  other_here d = here ∙ ap (λ z. z && same (drop (suc i) a) (drop (suc i) b)) (ne_eqb (get_or a i 0) (get_or b i 0) d)
-
-pub same_past : (a b : List ℕ) (i : ℕ) → length a ≤ i → length b ≤ i → same (drop i a) (drop i b) ≡ true
-same_past a b i ha hb = ap₂ same (drop_of_length-le a ha) (drop_of_length-le b hb)
-
-pub short_start : (unit : List ℕ) → length unit < 8 → started unit ≡ false
-unfolding started
-short_start unit h = other_length (take 8 unit) start (λ e. let l : length (take 8 unit) ≡ length unit =
-    ap length (take_all 8 unit (omega arith)) in omega (arith, l, e))
+pub same_turned : (a b : List ℕ) → pointwise eqb a b ≡ same b a
+same_turned [] [] = refl
+same_turned [] (y ∷ b) = refl
+same_turned (x ∷ a) [] = refl
+same_turned (x ∷ a) (y ∷ b) = ap₂ ◌&&◌ (eqb_turned x y) (same_turned a b)
 
 -- ---- a codeblock of a unit
 

@@ -4,7 +4,7 @@ use mathlib.Core.Bool.{Bool, true, false, ◌||◌}
 use Prim.Native.Nat.{ℕ, ◌+◌, ◌-◌, ◌*◌, ◌/◌, ◌^◌, ◌≤◌, ◌<◌}
 use native.Mathlib.Omega.{arith}
 use lib.Dec.{eqb}
-use lib.ListN.{length}
+use lib.ListN.{length, take}
 use borrow.Author.Tests.{eq-eqb, ne_eqb}
 use Rattle.bits.specs.Bits.{when◌then◌else◌}
 use Rattle.rules.specs.Codes.{code, code1, code3}
@@ -92,6 +92,6 @@ module _ (n long : ℕ) (u : UnitOffer) (e : u ≡ unit_offer_of n) (o : unit_co
 -- ---- the tail
 
 -- one that is not empty is code 1's
-pub whole_tail : (n : ℕ) → unit_code n ≡ true → (r : ℕ) → r ≡ length (tail n) → (r ≡ 0 → ⊥) → tail 1 ≡ tail n
+pub front_tail : (n : ℕ) → unit_code n ≡ true → (r : ℕ) → r ≡ length (tail n) → take r (tail 1) ≡ tail n
 unfolding tail
-whole_tail n o r e d = both (λ n. r ≡ length (tail n) → tail 1 ≡ tail n) (λ e. refl) (λ e. absurd (d e)) n o e
+front_tail n o r = both (λ n. r ≡ length (tail n) → take r (tail 1) ≡ tail n) (ap (λ z. take z (tail 1))) (ap (λ z. take z (tail 1))) n o

@@ -17,20 +17,20 @@ slice_bounds-part-end c =
     let z = sizes c.args.code c.requires.0 in
     omega (arith, ap length c.fill-part.ensures, c.requires.2, z.few)
 
-pub slice_bounds-copy-end : goal.slice_bounds-copy-end
-slice_bounds-copy-end c =
+pub slice_bounds-copy_from_slice-end : goal.slice_bounds-copy_from_slice-end
+slice_bounds-copy_from_slice-end c =
     let z = sizes c.args.code c.requires.0 in
     sym (length-take-le (length c.args.rest.now) c.fill-part.result (omega (arith, ap length c.fill-part.ensures, c.requires.2, z.few)))
 
-pub copy-requires : goal.copy-requires
-copy-requires c =
+pub copy_from_slice-requires : goal.copy_from_slice-requires
+copy_from_slice-requires c =
     let z = sizes c.args.code c.requires.0 in
-    sym (length-take-le (length c.args.rest.now) c.fill-part.result (omega (arith, ap length c.fill-part.ensures, c.requires.2, z.few)))
+    length-take-le (length c.args.rest.now) c.fill-part.result (omega (arith, ap length c.fill-part.ensures, c.requires.2, z.few))
 
 pub slice_bounds-part-end-2 : goal.slice_bounds-part-end-2
 slice_bounds-part-end-2 c =
     let z = sizes c.args.code c.requires.0 in
-    let e = ap₂ (λ x y. length (x ++ drop (length c.args.rest.now) y)) c.copy.ensures (sym c.fill-part.ensures) in
+    let e = ap₂ (λ x y. length (x ++ drop (length c.args.rest.now) y)) c.copy_from_slice.ensures.after (sym c.fill-part.ensures) in
     omega (
       arith,
       e,
@@ -45,16 +45,16 @@ pub slice_bounds-write_part-end : goal.slice_bounds-write_part-end
 slice_bounds-write_part-end c =
     let z = sizes c.args.code c.requires.0 in
     let few : c.args.size ≤ 32 = omega (arith, c.requires.1, z.few) in
-    c.requires.1 ∙ sym (filled_part_length c.args.rest.now c.copy.new.out c.fill-part.result c.args.size
-    (code c.args.code).octets_of_information c.copy.ensures c.fill-part.ensures c.requires.2 c.requires.1 few)
+    c.requires.1 ∙ sym (filled_part_length c.args.rest.now c.copy_from_slice.new.self c.fill-part.result c.args.size
+    (code c.args.code).octets_of_information c.copy_from_slice.ensures.after c.fill-part.ensures c.requires.2 c.requires.1 few)
 
 pub write_part-requires : goal.write_part-requires
 write_part-requires c =
     let z = sizes c.args.code c.requires.0 in
     let few : c.args.size ≤ 32 = omega (arith, c.requires.1, z.few) in (
       c.requires.0,
-      filled_part_length c.args.rest.now c.copy.new.out c.fill-part.result c.args.size
-          (code c.args.code).octets_of_information c.copy.ensures c.fill-part.ensures c.requires.2 c.requires.1 few,
+      filled_part_length c.args.rest.now c.copy_from_slice.new.self c.fill-part.result c.args.size
+          (code c.args.code).octets_of_information c.copy_from_slice.ensures.after c.fill-part.ensures c.requires.2 c.requires.1 few,
       c.requires.3,
     )
 
@@ -63,5 +63,5 @@ returns c =
     let z = sizes c.args.code c.requires.0 in
     let few : c.args.size ≤ 32 = omega (arith, c.requires.1, z.few) in
     c.write_part.ensures ∙ ap (λ z. randomised telecommand c.args.used (encoded_of c.args.code z))
-    (filled_part c.args.rest.now c.copy.new.out c.fill-part.result c.args.size
-    (code c.args.code).octets_of_information c.copy.ensures c.fill-part.ensures c.requires.2 c.requires.1 few)
+    (filled_part c.args.rest.now c.copy_from_slice.new.self c.fill-part.result c.args.size
+    (code c.args.code).octets_of_information c.copy_from_slice.ensures.after c.fill-part.ensures c.requires.2 c.requires.1 few)

@@ -1,29 +1,10 @@
 -- `vectors::double` meets its contract: the words that have a right neighbour, the last in front, and the last of all. Assumes nothing.
 use mathlib.Core.Path.{◌≡◌, ◌∙◌}
-use Prim.Native.Nat.{◌+◌, ◌-◌, ◌*◌, ◌/◌, ◌^◌}
+use Prim.Native.Nat.{◌+◌, ◌-◌, ◌*◌, ◌/◌}
 use native.Mathlib.Omega.{arith}
-use lib.Bits.{bit_or}
-use lib.ListN.{get_or, length, set, length-set}
+use lib.ListN.{length}
 use Rattle.vectors.proofs.Doubling.{at_stored, end_stored}
 use Rattle.vectors.proofs.double.Goals as goal
-
-pub shape_of-d-then-n-d : goal.shape_of-d-then-n-d
-shape_of-d-then-n-d c =
-    let a = c.args in
-    let w = c.double_words in
-    let v = a.v.now in
-    let d = w.new.d in
-    let n = (a.m + 63) / 64 in
-    let t = 64 * n - a.m in
-    let p = bit_or (get_or v (n - 1) 0) (get_or v 0 0 / 2 / 2 ^ (63 - t)) in
-    omega (
-      arith,
-      c.d-then-n-d-1.given,
-      c.d-1.given,
-      length-set
-          (set d (n - 1) p) (2 * n - 1) c.funnel.result,
-      length-set d (n - 1) p,
-    )
 
 pub returns-then-n-d : goal.returns-then-n-d
 returns-then-n-d c =

@@ -1,37 +1,35 @@
--- `vectors::gathered` meets its contract: after j octets the number has their 8 j bits. Assumes nothing.
-use mathlib.Core.Path.{subst}
+-- `vectors::gathered` meets its contract: the number has the bits of the octets so far. Assumes nothing.
+use mathlib.Core.Path.{sym, subst}
 use Prim.Native.Nat.{ℕ, ◌+◌, ◌*◌, ◌^◌, ◌<◌}
 use native.Mathlib.Omega.{arith}
-use lib.Dec.{lit<}
+use Rattle.std.proofs.lemmas.List.Edits.{length-between, get_or-between}
 use Rattle.vectors.proofs.Octets.{Gathered, octet_more, fits}
 use Rattle.vectors.proofs.gathered.Goals as goal
 
-pub loop-j-init : goal.loop-j-init
-loop-j-init c = (omega arith, (lit< tt, λ i hi. absurd (omega arith)))
-
 pub overflow_mul-number : goal.overflow_mul-number
 overflow_mul-number c =
-    let l = c.loop-j in
-    let h : l.number < 2 ^ 56 = fits (8 * l.j) 56 l.number l.invariant.1.0 (omega arith) in
+    let a = c.args in
+    let l = c.loop-octet in
+    let h : l.number < 2 ^ 56 =
+    fits (8 * l.octet-index) 56 l.number l.invariant.0 (omega (arith, length-between a.octets.now a.at (a.at + a.n) c.requires.1)) in
     omega arith
 
-pub overflow_cast-number : goal.overflow_cast-number
-overflow_cast-number c = omega (arith, c.shared_slice_known-1.given (c.args.at + c.loop-j.j))
-
-pub overflow_add-number-in-loop-j : goal.overflow_add-number-in-loop-j
-overflow_add-number-in-loop-j c =
-    let l = c.loop-j in
-    let h : l.number < 2 ^ 56 = fits (8 * l.j) 56 l.number l.invariant.1.0 (omega arith) in
-    omega (arith, c.shared_slice_known-1.given (c.args.at + l.j))
-
-pub loop-j-preserved : goal.loop-j-preserved
-loop-j-preserved c =
+pub overflow_add-number : goal.overflow_add-number
+overflow_add-number c =
     let a = c.args in
-    let l = c.loop-j in
-    (omega arith, octet_more a.octets.now a.at l.j l.number (c.shared_slice_known-1.given (a.at + l.j)).fits l.invariant.1)
+    let l = c.loop-octet in
+    let o = a.octets.now in
+    let e = length-between o a.at (a.at + a.n) c.requires.1 in
+    let h : l.number < 2 ^ 56 = fits (8 * l.octet-index) 56 l.number l.invariant.0 (omega arith) in
+    let same = get_or-between o a.at (a.at + a.n) l.octet-index 0 (omega arith) in
+    omega (arith, c.type_inv.octets (a.at + l.octet-index))
 
-pub returns : goal.returns
-returns c =
+pub loop-octet-preserved : goal.loop-octet-preserved
+loop-octet-preserved c =
     let a = c.args in
-    let l = c.loop-j in
-    subst (λ (j : ℕ). Gathered a.octets.now a.at j l.number) (omega arith) l.invariant.1
+    let l = c.loop-octet in
+    let o = a.octets.now in
+    let k = l.octet-index in
+    let e = length-between o a.at (a.at + a.n) c.requires.1 in
+    subst (λ (b : ℕ). Gathered o a.at (k + 1) (l.number * 256 + b)) (sym (get_or-between o a.at (a.at + a.n) k 0 (omega arith)))
+    (octet_more o a.at k l.number (c.type_inv.octets (a.at + k)).fits l.invariant)

@@ -1,10 +1,6 @@
--- `vectors::gathered` meets its contract: after j octets the number has their 8 j bits. Assumes nothing.
-use Prim.Native.Nat.{◌-◌, ◌≤◌}
+-- `vectors::gathered` meets its contract: the number has the bits of the octets so far. Assumes nothing.
 use Rattle.vectors.proofs.Octets.{Gathered}
 use Rattle.vectors.proofs.gathered.Given as goal
 
-abbrev pub invariant-loop-j : goal.invariant-loop-j
-invariant-loop-j l = (l.j ≤ l.n) × Gathered l.octets l.at l.j l.number
-
-abbrev pub decreases-loop-j : goal.decreases-loop-j
-decreases-loop-j l = l.n - l.j
+abbrev pub invariant-loop-octet : goal.invariant-loop-octet
+invariant-loop-octet l = Gathered l.octets l.at l.octet-index l.number

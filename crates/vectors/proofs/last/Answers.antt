@@ -4,14 +4,8 @@ use Prim.Native.Nat.{ℕ, ◌+◌, ◌-◌, ◌*◌, ◌/◌, ◌%◌}
 use lib.ListN.{length}
 use native.Mathlib.Omega.{arith}
 use Rattle.bits.specs.Bits.{bit}
-use Rattle.vectors.proofs.Octets.{short_group, no_group}
+use Rattle.vectors.proofs.Octets.{short_group}
 use Rattle.vectors.proofs.last.Goals as goal
-
-pub returns-then-n-eq0 : goal.returns-then-n-eq0
-returns-then-n-eq0 c =
-    let o = c.args.octets.now in
-    let e : 8 * length o ≡ 64 * (length o / 8) = omega arith in
-    λ i hi. no_group o (length o) (omega arith) i hi ∙ ap (λ (p : ℕ). bit o (p + i)) e
 
 pub returns : goal.returns
 returns c =

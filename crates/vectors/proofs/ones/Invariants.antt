@@ -1,13 +1,9 @@
--- `vectors::ones` meets its contract: n counts the bits of the first k words. Assumes nothing.
+-- `vectors::ones` meets its contract: n counts the bits of the words so far. Assumes nothing.
 use mathlib.Core.Path.{◌≡◌}
-use Prim.Native.Nat.{◌-◌, ◌*◌, ◌≤◌}
-use lib.ListN.{length}
+use Prim.Native.Nat.{◌*◌}
 use Rattle.bits.specs.Bits.{count}
 use Rattle.vectors.specs.Vectors.{wbit}
 use Rattle.vectors.proofs.ones.Given as goal
 
-abbrev pub invariant-loop-k : goal.invariant-loop-k
-invariant-loop-k l = (l.k ≤ length l.ws) × (l.n ≡ count (64 * l.k) (wbit l.ws))
-
-abbrev pub decreases-loop-k : goal.decreases-loop-k
-decreases-loop-k l = length l.ws - l.k
+abbrev pub invariant-loop-word : goal.invariant-loop-word
+invariant-loop-word l = (l.n ≡ count (64 * l.word-index) (wbit l.ws))

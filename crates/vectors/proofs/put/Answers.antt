@@ -1,24 +1,14 @@
 -- `vectors::put` meets its contract: after j passes the first j octets stand there. Assumes nothing.
-use mathlib.Core.Path.{◌≡◌, refl, sym, ap, ◌∙◌}
+use mathlib.Core.Path.{◌≡◌, sym, ap, ◌∙◌}
 use Prim.Native.Nat.{ℕ, ◌+◌, ◌-◌, ◌*◌, ◌/◌, ◌%◌, ◌^◌}
 use native.Mathlib.Omega.{arith}
 use lib.Dec.{lit<}
 use lib.ListN.{length-set}
 use Rattle.bits.specs.Bits.{Word, bit, digit}
 use Rattle.vectors.specs.Vectors.{joined}
-use Rattle.vectors.proofs.Cells.{stored, joined_start, joined_below, joined_above}
+use Rattle.vectors.proofs.Cells.{stored, joined_above}
 use Rattle.vectors.proofs.Octets.{after, put_octet}
 use Rattle.vectors.proofs.put.Goals as goal
-
-pub loop-j-init : goal.loop-j-init
-loop-j-init c =
-    let a = c.args in
-    let z = bit a.out.now in (
-      omega arith,
-      refl,
-      joined_start (8 * (a.at + 0)) (after (8 * a.at) z a.v) z
-          (λ n h. sym (joined_below (8 * a.at) n z (λ k. digit 64 a.v (k - 8 * a.at)) (omega arith))),
-    )
 
 pub loop-j-preserved : goal.loop-j-preserved
 loop-j-preserved c =
@@ -30,9 +20,8 @@ loop-j-preserved c =
     let k = a.at + l.j in
     let v = a.v / 2 ^ (56 - 8 * l.j) % 256 in
     let e : k + 1 ≡ a.at + (l.j + 1) = omega arith in (
-      omega arith,
-      length-set l.out k v ∙ l.invariant.1,
-      stored 8 (lit< tt) l.out k x z l.invariant.2 v (omega (arith, l.invariant.1))
+      length-set l.out k v ∙ l.invariant.0,
+      stored 8 (lit< tt) l.out k x z l.invariant.1 v (omega (arith, l.invariant.0))
           (λ i hi.
           put_octet a.v l.j i (omega arith) hi
           ∙ ap (digit 64 a.v) (omega arith)
@@ -40,13 +29,10 @@ loop-j-preserved c =
           ∙ ap (λ (n : ℕ). joined (8 * n) x z) e,
     )
 
-pub shape_of-out : goal.shape_of-out
-shape_of-out c = c.loop-j.invariant.1
-
 pub returns : goal.returns
 returns c =
     let a = c.args in
     let l = c.loop-j in
     let e : l.j ≡ a.n = omega arith in
     let z = bit a.out.now in
-    l.invariant.2 ∙ ap (λ (j : ℕ). joined (8 * (a.at + j)) (after (8 * a.at) z a.v) z) e
+    l.invariant.1 ∙ ap (λ (j : ℕ). joined (8 * (a.at + j)) (after (8 * a.at) z a.v) z) e

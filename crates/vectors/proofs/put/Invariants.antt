@@ -1,6 +1,6 @@
 -- `vectors::put` meets its contract: after j passes the first j octets stand there. Assumes nothing.
 use mathlib.Core.Path.{◌≡◌}
-use Prim.Native.Nat.{◌+◌, ◌-◌, ◌*◌, ◌≤◌}
+use Prim.Native.Nat.{◌+◌, ◌*◌}
 use lib.ListN.{length}
 use Rattle.bits.specs.Bits.{bit}
 use Rattle.vectors.specs.Vectors.{joined}
@@ -8,8 +8,5 @@ use Rattle.vectors.proofs.Octets.{after}
 use Rattle.vectors.proofs.put.Given as goal
 
 abbrev pub invariant-loop-j : goal.invariant-loop-j
-invariant-loop-j l = (l.j ≤ l.n) × (length l.out ≡ length l.initial.out)
+invariant-loop-j l = (length l.out ≡ length l.initial.out)
     × (bit l.out ≡ joined (8 * (l.at + l.j)) (after (8 * l.at) (bit l.initial.out) l.v) (bit l.initial.out))
-
-abbrev pub decreases-loop-j : goal.decreases-loop-j
-decreases-loop-j l = l.n - l.j

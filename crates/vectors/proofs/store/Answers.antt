@@ -1,24 +1,13 @@
 -- `vectors::store` meets its contract: after k passes the first 8 k octets stand there, and the last few follow. Assumes nothing.
-use mathlib.Core.Path.{◌≡◌, refl, ap, ◌∙◌}
+use mathlib.Core.Path.{◌≡◌, ap, ◌∙◌}
 use Prim.Native.Nat.{ℕ, ◌+◌, ◌*◌, ◌/◌, ◌%◌}
 use native.Mathlib.Omega.{arith}
 use lib.ListN.{length}
 use borrow.Author.Rules.{rules}
 use Rattle.bits.specs.Bits.{bit}
 use Rattle.vectors.specs.Vectors.{wbit, from, joined}
-use Rattle.vectors.proofs.Cells.{joined_start}
 use Rattle.vectors.proofs.Octets.{put_more, written}
 use Rattle.vectors.proofs.store.Goals as goal
-
-pub loop-k-init : goal.loop-k-init
-loop-k-init c =
-    let a = c.args in (
-      omega arith,
-      refl,
-      joined_start 0 (from a.u (wbit a.ws.now)) (bit a.out.now) (λ n h. absurd (omega arith)),
-      λ i.
-          (c.slice_known-1.given i).fits,
-    )
 
 pub loop-k-preserved : goal.loop-k-preserved
 loop-k-preserved c =
@@ -29,9 +18,8 @@ loop-k-preserved c =
     let s = c.span in
     let y = bit a.out.now in
     let e : 8 * l.k + 8 ≡ 8 * (l.k + 1) = omega arith in (
-      omega arith,
       search rules,
-      put_more l.out p.new.out x y (8 * l.k) 8 s.result (omega arith) l.invariant.2
+      put_more l.out p.new.out x y (8 * l.k) 8 s.result (omega arith) l.invariant.1
           (λ i hi. s.ensures i hi ∙ ap (wbit a.ws.now) (omega arith)) p.ensures
           ∙ ap (λ (n : ℕ). joined (8 * n) x y) e,
       λ i. (c.slice_known-in-loop-k-1.given i).fits,
@@ -50,14 +38,11 @@ returns-then-rest-gt0 c =
     let e : l.k ≡ k = omega arith in
     let out = p.new.out in
     written a.out.now out x (8 * (8 * k + r)) (search rules) (λ i. (c.slice_known-then-rest-gt0-1.given i).fits) (omega arith)
-    (put_more l.out out x y (8 * k) r s.result (omega arith) (l.invariant.2 ∙ ap (λ (n : ℕ). joined (8 * (8 * n)) x y) e)
+    (put_more l.out out x y (8 * k) r s.result (omega arith) (l.invariant.1 ∙ ap (λ (n : ℕ). joined (8 * (8 * n)) x y) e)
     (λ i hi. s.ensures i hi ∙ ap (wbit a.ws.now) (omega arith)) p.ensures)
-
-pub shape_of-out-else-rest-gt0 : goal.shape_of-out-else-rest-gt0
-shape_of-out-else-rest-gt0 c = c.loop-k.invariant.1
 
 pub returns-else-rest-gt0 : goal.returns-else-rest-gt0
 returns-else-rest-gt0 c =
     let a = c.args in
     let l = c.loop-k in
-    written a.out.now l.out (from a.u (wbit a.ws.now)) (8 * (8 * l.k)) l.invariant.1 l.invariant.3 (omega arith) l.invariant.2
+    written a.out.now l.out (from a.u (wbit a.ws.now)) (8 * (8 * l.k)) l.invariant.0 l.invariant.2 (omega arith) l.invariant.1

@@ -20,7 +20,7 @@ use Rattle.rules.proofs.Published.{both, Published}
 use Rattle.rules.proofs.Codewords.{agree_all, own_encoded, own_codeword, codeword_own, sent_bit, sent_fill, lifted_sent_bit, lifted_sent}
 use Rattle.rules.proofs.Codewords.{parity_same}
 use Rattle.rules.proofs.Numbers.{published, met_own_telecommand, met_codeword}
-use Rattle.answers.proofs.Opening.{fault_broken, fault_two, fault_parity, fault_clear, telecommand_two}
+use Rattle.answers.proofs.Opening.{fault_two, fault_parity, fault_clear, telecommand_two}
 use Rattle.layout.specs.declared.Shape.{Shape}
 use Rattle.layout.specs.Lent.{Fit, Lent, laid}
 use Rattle.vectors.specs.Vectors.{up_to, from}
@@ -192,9 +192,6 @@ module _ (n : ℕ) (off : offered n ≡ true) (o : Offer) (is : o ≡ offer_of n
 
   met : q ≡ true → broken (code n) (lifted (code n) (bit word)) ≡ 0
   met e = eqb-true (broken (code n) (lifted (code n) (bit word))) 0 (sym found ∙ e)
-
-  pub finds_broken : q ≡ false → 9 ≡ fault n word
-  finds_broken f = sym (fault_broken n word (sym found ∙ f))
 
   pub finds_telecommand : q ≡ true → o.asked ≡ false → 0 ≡ fault n word
   finds_telecommand e f =

@@ -106,13 +106,3 @@ module _ (u : ℕ) (x : Word) where
   from_start p e = fun_ext (λ n.
       let same : n ≡ p + n = omega arith in
       ap (λ k. ltb n 511 && later u x k) same)
-
-  -- what is cut behind the unsent bits
-  pub later_block : (p : ℕ) → u ≤ p → up_to 511 (from (p - u) x) ≡ up_to 511 (from p (later u x))
-  later_block p h = fun_ext (λ n. ⊎_elim
-      (λ (l : 511 ≤ n). up_to_above 511 n (from (p - u) x) l ∙ sym (up_to_above 511 n (from p (later u x)) l))
-      (λ (l : n < 511).
-      up_to_below 511 n (from (p - u) x) l
-      ∙ ap x (omega arith)
-      ∙ sym (up_to_below 511 n (from p (later u x)) l ∙ later_back u (p + n) x (omega arith)))
-      (le-or-lt 511 n))

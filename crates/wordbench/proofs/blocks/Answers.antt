@@ -5,7 +5,7 @@ use Rattle.wordbench.proofs.blocks.Goals as goal
 
 pub loop-read-preserved : goal.loop-read-preserved
 loop-read-preserved g c =
-    let kept : length c.block.new.words ≡ length c.args.words.now = omega arith in
-    let whole : length c.block.new.words % size_in c.args.head.now ≡ 0 =
-    ap (λ n. n % size_in c.args.head.now) kept ∙ c.requires.head_len.0 in
-    whole_sum c.loop-read.read (length c.block.new.words) (size_in c.args.head.now) c.loop-read.invariant whole
+    let full : c.in_ok-n.n ≡ length c.args.words.now = omega arith in
+    let whole : c.in_ok-n.n % size_in c.args.head.now ≡ 0 =
+    ap (λ n. n % size_in c.args.head.now) full ∙ c.requires.head_len.0 in
+    whole_sum c.loop-read.read c.in_ok-n.n (size_in c.args.head.now) c.loop-read.invariant whole

@@ -1,5 +1,5 @@
 -- `wordbench::blocks`: whole words stand before each block, and their count fits.
-use Rattle.std.proofs.Common.{◌≡◌, ◌-◌, ◌%◌, ◌^◌, length}
+use Rattle.std.proofs.Common.{◌≡◌, ◌-◌, ◌%◌, ◌^◌}
 use Rattle.wordlog.specs.lines.Parts.{size_in}
 use Rattle.wordbench.proofs.blocks.Given as goal
 

@@ -15,8 +15,8 @@ loop-k-init c = (zero-le, c.requires.2, refl)
 pub put_block-requires : goal.put_block-requires
 put_block-requires c =
     let h = c.loop-k in (
-      subst (λ l. length l ≤ 504) (sym (piece_range h.k c.least-end.result c.args.octets.now (omega arith)
-          c.least-end.ensures))
+      subst (λ l. length l ≤ 504) (sym (piece_range h.k c.min-end.result c.args.octets.now (omega arith)
+          (omega (arith, c.min-end.ensures))))
           (piece_few h.k c.args.octets.now),
       block_room c.args.octets.now h.out c.args.n h.k (omega arith) h.invariant.1,
       c.requires.3,
@@ -25,10 +25,10 @@ put_block-requires c =
 pub loop-k-preserved : goal.loop-k-preserved
 loop-k-preserved c =
     let w = c.put_block in
-    let s = c.least-end in
+    let s = c.min-end in
     let h = c.loop-k in
     let o = c.args.octets.now in
-    let e = w.ensures ∙ ap (block h.k) (piece_range h.k s.result o (omega arith) s.ensures) in (
+    let e = w.ensures ∙ ap (block h.k) (piece_range h.k s.result o (omega arith) (omega (arith, s.ensures))) in (
       omega arith,
       still_long o h.out c.args.n h.k (omega arith) h.invariant.1 w.new.out e,
       blocks_more o h.out c.args.n h.k (omega arith) h.invariant.1 w.new.out e h.invariant.2,

@@ -1,4 +1,5 @@
 -- `exporting::put_check`: the check behind the octets. Assumes nothing.
+use mathlib.Core.Path.{◌∙◌}
 use native.Mathlib.Omega.{arith}
 use lib.ListN.{length-take}
 use Rattle.blocks.proofs.Writing.{check_put}
@@ -9,6 +10,6 @@ slice_bounds-over-end-2 c = simp length-take (omega arith)
 
 pub returns : goal.returns
 returns c =
-    let k = c.put_two in
+    let k = c.copy_from_slice in
     let f = c.over-check in
-    check_put c.args.out.now k.new.out f.result c.requires.0 f.ensures k.ensures
+    check_put c.args.out.now k.new.self f.result c.requires.0 f.ensures (k.ensures.after ∙ c.to_be_bytes.ensures)

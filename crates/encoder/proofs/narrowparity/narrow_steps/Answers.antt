@@ -1,16 +1,19 @@
 -- `narrowparity::narrow_steps` meets its contract: each size has its own list. Assumes nothing.
-use mathlib.Core.Path.{sym, ap}
+use mathlib.Core.Path.{◌≡◌, sym, ap}
+use native.Mathlib.Omega.{arith}
 use Rattle.encoder.specs.parityrows.Rows.{steps_of}
 use Rattle.encoder.proofs.narrowparity.narrow_steps.Goals as goal
 
-pub returns-then-size-eq16 : goal.returns-then-size-eq16
+pub returns-in-16 : goal.returns-in-16
 unfolding steps_of
-returns-then-size-eq16 c = sym (ap steps_of c.if-size-eq16.true)
+returns-in-16 c = sym (ap steps_of c.in-16.is)
 
-pub returns-then-size-eq32 : goal.returns-then-size-eq32
+pub returns-in-32 : goal.returns-in-32
 unfolding steps_of
-returns-then-size-eq32 c = sym (ap steps_of c.if-size-eq32.true)
+returns-in-32 c = sym (ap steps_of c.in-32.is)
 
-pub returns : goal.returns
+pub returns-in_default : goal.returns-in_default
 unfolding steps_of
-returns c = sym (ap steps_of (c.requires c.if-size-eq16.false c.if-size-eq32.false))
+returns-in_default c =
+    let last : c.args.size ≡ 64 = c.requires (λ e. omega arith) (λ e. omega arith) in
+    sym (ap steps_of last)

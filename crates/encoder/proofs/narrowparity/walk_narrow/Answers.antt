@@ -14,41 +14,39 @@ use Rattle.encoder.proofs.narrowparity.walk_narrow.Goals as goal
 pub narrow_steps-steps-requires : goal.narrow_steps-steps-requires
 narrow_steps-steps-requires c = c.requires.3
 
-pub loop-k-init : goal.loop-k-init
-loop-k-init c = (
-  omega arith,
+pub loop-step-init : goal.loop-step-init
+loop-step-init c = (
   sym c.narrow_steps-steps.ensures,
   λ f e. e
       ∙ ap (held c.args.sh) (walked_none c.args.sh.size (steps_of c.args.sh.size) f),
 )
 
 pub step_narrow-requires : goal.step_narrow-requires
-step_narrow-requires c = let l = c.loop-k in
-    let h : l.k < 15 = omega arith in (
+step_narrow-requires c = let l = c.loop-step in
+    let h : l.step-index < 15 = omega arith in (
       c.requires.0,
       c.requires.1,
       search rules,
-      subst (λ (z : List (List ℕ)). T (rows_in c.args.sh.rows (get_or z l.k []))) l.invariant.1
-          (c.requires.2 l.k h),
+      subst (λ (z : List (List ℕ)). T (rows_in c.args.sh.rows (get_or z l.step-index []))) l.invariant.0
+          (c.requires.2 l.step-index h),
     )
 
-pub loop-k-preserved : goal.loop-k-preserved
-loop-k-preserved c =
+pub loop-step-preserved : goal.loop-step-preserved
+loop-step-preserved c =
     let sh = c.args.sh in
-    let l = c.loop-k in
+    let l = c.loop-step in
     let step = c.step_narrow in (
-      omega arith,
-      l.invariant.1,
+      l.invariant.0,
       λ f e.
-          let before = walked sh.size (steps_of sh.size) l.k f in
-          step.ensures before (l.invariant.2 f e) ∙ ap (λ (z : List (List ℕ)). held sh (stepped sh.size (get_or z l.k []) before))
-          (sym l.invariant.1)
-          ∙ ap (held sh) (walked_more sh.size (steps_of sh.size) l.k f),
+          let before = walked sh.size (steps_of sh.size) l.step-index f in
+          step.ensures before (l.invariant.1 f e) ∙ ap (λ (z : List (List ℕ)). held sh (stepped sh.size (get_or z l.step-index []) before))
+          (sym l.invariant.0)
+          ∙ ap (held sh) (walked_more sh.size (steps_of sh.size) l.step-index f),
     )
 
 pub returns : goal.returns
 returns c = λ f e.
     let sh = c.args.sh in
-    let l = c.loop-k in
-    let all : l.k ≡ 15 = omega arith in
-    l.invariant.2 f e ∙ ap (λ (n : ℕ). held sh (walked sh.size (steps_of sh.size) n f)) all
+    let l = c.loop-step in
+    let all : l.step-index ≡ 15 = omega arith in
+    l.invariant.1 f e ∙ ap (λ (n : ℕ). held sh (walked sh.size (steps_of sh.size) n f)) all

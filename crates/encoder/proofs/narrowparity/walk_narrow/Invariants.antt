@@ -1,16 +1,13 @@
 -- `narrowparity::walk_narrow` meets its contract: after k passes the first k steps are taken. Assumes nothing.
 use mathlib.Core.Path.{◌≡◌}
-use Prim.Native.Nat.{ℕ, ◌-◌, ◌≤◌}
+use Prim.Native.Nat.{ℕ}
 use Rattle.bits.specs.Bits.{Word}
 use Rattle.vectors.specs.Vectors.{wbit}
 use Rattle.encoder.specs.steps.Steps.{walked}
 use Rattle.encoder.specs.parityrows.Rows.{held, steps_of}
 use Rattle.encoder.proofs.narrowparity.walk_narrow.Given as goal
 
-abbrev pub invariant-loop-k : goal.invariant-loop-k
-invariant-loop-k l =
-    (l.k ≤ 15) × (steps_of l.sh.size ≡ l.steps)
-    × ((f : ℕ → Word) → wbit l.initial.z ≡ held l.sh f → wbit l.z ≡ held l.sh (walked l.sh.size (steps_of l.sh.size) l.k f))
-
-abbrev pub decreases-loop-k : goal.decreases-loop-k
-decreases-loop-k l = 15 - l.k
+abbrev pub invariant-loop-step : goal.invariant-loop-step
+invariant-loop-step l =
+    (steps_of l.sh.size ≡ l.step-items)
+    × ((f : ℕ → Word) → wbit l.initial.z ≡ held l.sh f → wbit l.z ≡ held l.sh (walked l.sh.size (steps_of l.sh.size) l.step-index f))

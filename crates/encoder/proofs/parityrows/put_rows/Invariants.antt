@@ -10,6 +10,3 @@ abbrev pub invariant-loop-a : goal.invariant-loop-a
 invariant-loop-a l =
     (l.a ≤ l.sh.rows) × ((f : ℕ → Word) (x : Word) → wbit l.z ≡ held l.sh f → wbit l.initial.y ≡ up_to l.at x
     → wbit l.y ≡ up_to (l.at + l.a * l.sh.size) (joined l.at x (λ n. behind l.sh l.first f (n - l.at))))
-
-abbrev pub decreases-loop-a : goal.decreases-loop-a
-decreases-loop-a l = l.sh.rows - l.a

@@ -1,13 +1,10 @@
--- `wideparity::add_turns` meets its contract: what is added so far, and what the shifts from place k on add, are the whole. Assumes
+-- `wideparity::add_turns` meets its contract: what is added so far, and what the shifts from this one on add, are the whole. Assumes
 -- nothing.
-use Prim.Native.Nat.{◌+◌, ◌-◌, ◌*◌, ◌≤◌}
+use Prim.Native.Nat.{◌+◌, ◌*◌}
 use Rattle.vectors.specs.Vectors.{wbit}
 use Rattle.encoder.proofs.parityrows.Laws.{Added}
 use Rattle.encoder.proofs.wideparity.add_turns.Given as goal
 
-abbrev pub invariant-loop-k : goal.invariant-loop-k
-invariant-loop-k l =
-    (2 ≤ l.k) × (l.k ≤ 10) × Added l.size l.step (wbit l.d) (wbit l.initial.z) (64 * l.at) (64 * (l.at + l.w)) (wbit l.z) l.k
-
-abbrev pub decreases-loop-k : goal.decreases-loop-k
-decreases-loop-k l = 10 - l.k
+abbrev pub invariant-loop-shift : goal.invariant-loop-shift
+invariant-loop-shift l =
+    Added l.size l.step (wbit l.d) (wbit l.initial.z) (64 * l.at) (64 * (l.at + l.w)) (wbit l.z) (l.shift-index + 2)

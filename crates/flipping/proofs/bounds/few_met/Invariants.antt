@@ -2,7 +2,7 @@
 -- none is. Assumes nothing.
 use mathlib.Core.Path.{◌≡◌}
 use mathlib.Core.Bool.{◌&&◌}
-use Prim.Native.Nat.{ℕ, ◌+◌, ◌-◌, ◌%◌, ◌≤◌, ◌<◌}
+use Prim.Native.Nat.{ℕ, ◌+◌, ◌%◌, ◌≤◌, ◌<◌}
 use lib.Dec.{eqb, leb}
 use Rattle.bits.specs.Bits.{digit}
 use Rattle.vectors.specs.Vectors.{wbit}
@@ -14,6 +14,3 @@ invariant-loop-e l =
     (l.e ≤ l.n)
     × ((i : ℕ) → i < 64 → digit 64 l.found i ≡ leb l.e (hits (wbit l.d) l.starts l.first l.e (l.at + i) + l.met))
     × ((i : ℕ) → i < 64 → digit 64 l.spare i ≡ (eqb (l.met % 2) 1 && leb l.e (hits (wbit l.d) l.starts l.first l.e (l.at + i))))
-
-abbrev pub decreases-loop-e : goal.decreases-loop-e
-decreases-loop-e l = l.n - l.e

@@ -10,8 +10,8 @@ use Rattle.flipping.proofs.bounds.gather.Goals as goal
 pub overflow_mul-n : goal.overflow_mul-n
 overflow_mul-n c = omega (arith, c.requires.0.blocks)
 
-pub loop-r-init : goal.loop-r-init
-loop-r-init c =
+pub loop-row-init : goal.loop-row-init
+loop-row-init c =
     let a = c.args in
     let none : 0 ≡ 8 * a.b - 8 * a.b = omega arith in (
       omega arith,
@@ -25,11 +25,11 @@ loop-r-init c =
 
 pub note_row-n-requires : goal.note_row-n-requires
 note_row-n-requires c =
-    (c.requires.0, c.requires.1, search rules, c.loop-r.invariant.3, omega (arith, c.requires.0.blocks, c.requires.0.rows))
+    (c.requires.0, c.requires.1, search rules, c.loop-row.invariant.3, omega (arith, c.requires.0.blocks, c.requires.0.rows))
 
-pub loop-r-preserved : goal.loop-r-preserved
-loop-r-preserved c =
-    let l = c.loop-r in
+pub loop-row-preserved : goal.loop-row-preserved
+loop-row-preserved c =
+    let l = c.loop-row in
     let row = c.note_row-n in (
       omega arith,
       omega (arith, row.ensures.0, l.invariant.1),
@@ -46,8 +46,8 @@ overflow_mul-result c =
 pub returns : goal.returns
 returns c =
     let a = c.args in
-    let l = c.loop-r in
-    let all : l.r ≡ a.sh.rows = omega arith in (
+    let l = c.loop-row in
+    let all : l.row ≡ a.sh.rows = omega arith in (
       omega (arith, c.requires.0.rows),
       subst (λ k. Listed l.starts (8 * a.b) (l.n - 8 * a.b) (3072 + a.sh.size) (asked a.h.now a.sh a.b k)) all
           l.invariant.4,

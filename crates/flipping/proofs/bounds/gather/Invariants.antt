@@ -5,11 +5,8 @@ use lib.ListN.{length, get_or}
 use Rattle.flipping.specs.bounds.Reading.{Listed, asked}
 use Rattle.flipping.proofs.bounds.gather.Given as goal
 
-abbrev pub invariant-loop-r : goal.invariant-loop-r
-invariant-loop-r l =
-    (l.r ≤ l.sh.rows) × (8 * l.b ≤ l.n) × (l.n ≤ 8 * l.b + 2 * l.r) × (length l.starts ≡ 128)
-    × Listed l.starts (8 * l.b) (l.n - 8 * l.b) (3072 + l.sh.size) (asked l.h l.sh l.b l.r)
+abbrev pub invariant-loop-row : goal.invariant-loop-row
+invariant-loop-row l =
+    (l.row ≤ l.sh.rows) × (8 * l.b ≤ l.n) × (l.n ≤ 8 * l.b + 2 * l.row) × (length l.starts ≡ 128)
+    × Listed l.starts (8 * l.b) (l.n - 8 * l.b) (3072 + l.sh.size) (asked l.h l.sh l.b l.row)
     × ((e : ℕ) → e < 8 * l.b → get_or l.starts e 0 ≡ get_or l.initial.starts e 0)
-
-abbrev pub decreases-loop-r : goal.decreases-loop-r
-decreases-loop-r l = l.sh.rows - l.r

@@ -12,6 +12,3 @@ invariant-loop-e l =
     (l.e ≤ l.n)
     × ((i : ℕ) → i < 64
     → value l.counts i + 8 * tally (digit 64 l.over i) ≡ 8 - l.need + hits (wbit l.d) l.starts l.first l.e (l.at + i))
-
-abbrev pub decreases-loop-e : goal.decreases-loop-e
-decreases-loop-e l = l.n - l.e

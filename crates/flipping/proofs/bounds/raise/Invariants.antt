@@ -4,10 +4,7 @@ use Prim.Native.Nat.{ℕ, ◌-◌, ◌≤◌, ◌<◌}
 use lib.ListN.{length, get_or}
 use Rattle.flipping.proofs.bounds.raise.Given as goal
 
-abbrev pub invariant-loop-b : goal.invariant-loop-b
-invariant-loop-b l =
-    (l.b ≤ 16) × (length l.met ≡ 16) × ((i : ℕ) → i < l.b → get_or l.met i 0 ≡ get_or l.initial.met i 0 - l.by)
-    × ((i : ℕ) → l.b ≤ i → get_or l.met i 0 ≡ get_or l.initial.met i 0)
-
-abbrev pub decreases-loop-b : goal.decreases-loop-b
-decreases-loop-b l = 16 - l.b
+abbrev pub invariant-loop-m : goal.invariant-loop-m
+invariant-loop-m l =
+    (l.m-index ≤ 16) × (length l.met ≡ 16) × ((i : ℕ) → i < l.m-index → get_or l.met i 0 ≡ get_or l.initial.met i 0 - l.by)
+    × ((i : ℕ) → l.m-index ≤ i → get_or l.met i 0 ≡ get_or l.initial.met i 0)

@@ -1,6 +1,6 @@
 -- `narrow::begin`: after r passes the first r rows stand there. Assumes nothing.
 use mathlib.Core.Path.{◌≡◌}
-use Prim.Native.Nat.{ℕ, ◌+◌, ◌-◌, ◌*◌, ◌≤◌, ◌<◌}
+use Prim.Native.Nat.{ℕ, ◌+◌, ◌*◌, ◌≤◌, ◌<◌}
 use lib.ListN.{length, get_or}
 use Rattle.bits.specs.Bits.{Word}
 use Rattle.rules.specs.Codes.{Code}
@@ -15,6 +15,3 @@ invariant-loop-r l =
     (l.r ≤ 4) × (length l.rows ≡ 4)
     × ((c : Code) (x : Word) → wbit l.z ≡ laid c l.sh x → (q : ℕ) → q < l.r
     → Holds (get_or l.rows q 0) (around l.sh.size (λ i. check c x (q * l.sh.size + i))))
-
-abbrev pub decreases-loop-r : goal.decreases-loop-r
-decreases-loop-r l = 4 - l.r

@@ -14,6 +14,3 @@ invariant-loop-r l =
     × ((q : ℕ) → q < l.r → (f : Word) → Holds (get_or l.initial.rows q 0) f
     → Holds (get_or l.rows q 0)
     (λ i. f i ⊕ over (shifts_of l.sh l.h q l.b) (λ s. eqb (i % l.sh.size) ((l.k + (l.sh.size - s)) % l.sh.size))))
-
-abbrev pub decreases-loop-r : goal.decreases-loop-r
-decreases-loop-r l = 4 - l.r

@@ -1,6 +1,6 @@
 -- `narrow::weigh`: after r passes the checks of the first r rows are weighed. Assumes nothing.
 use mathlib.Core.Path.{◌≡◌}
-use Prim.Native.Nat.{◌-◌, ◌*◌, ◌≤◌}
+use Prim.Native.Nat.{◌*◌, ◌≤◌}
 use lib.ListN.{length}
 use Rattle.bits.specs.Bits.{Word}
 use Rattle.rules.specs.Codes.{Code}
@@ -13,6 +13,3 @@ abbrev pub invariant-loop-r : goal.invariant-loop-r
 invariant-loop-r l =
     (l.r ≤ 4) × (l.w.checks ≡ total l.r (λ q. length (shifts_of l.sh l.h q l.b))) × (l.w.checks ≤ 2 * l.r)
     × ((c : Code) (x counts : Word) → Rows c l.sh x l.rows → Holds l.mask counts → Weighs counts (broke c l.h l.sh l.b x l.r) l.w)
-
-abbrev pub decreases-loop-r : goal.decreases-loop-r
-decreases-loop-r l = 4 - l.r

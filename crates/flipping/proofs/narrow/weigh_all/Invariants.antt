@@ -1,17 +1,14 @@
 -- `narrow::weigh_all`: after b passes the first b blocks are weighed. Assumes nothing.
 use mathlib.Core.Path.{◌≡◌}
-use Prim.Native.Nat.{◌-◌, ◌≤◌}
 use lib.ListN.{length}
 use Rattle.bits.specs.Bits.{Word}
 use Rattle.rules.specs.Codes.{Code}
 use Rattle.layout.specs.Lent.{Lent}
-use Rattle.flipping.specs.narrow.Weighing.{Rows, Weighed}
+use Rattle.flipping.specs.narrow.Weighing.{Rows, Weighed, scores_of, masks_of}
 use Rattle.flipping.proofs.narrow.weigh_all.Given as goal
 
 abbrev pub invariant-loop-b : goal.invariant-loop-b
 invariant-loop-b l =
-    (l.b ≤ l.sh.blocks) × (length l.scores ≡ 16) × (length l.masks ≡ 16)
-    × ((c : Code) (x : Word) → Lent c l.h l.sh → Rows c l.sh x l.rows → Weighed c l.sh l.from x l.scores l.masks l.b)
-
-abbrev pub decreases-loop-b : goal.decreases-loop-b
-decreases-loop-b l = l.sh.blocks - l.b
+    (length l.levels ≡ 16)
+    × ((c : Code) (x : Word) → Lent c l.h l.sh → Rows c l.sh x l.rows
+    → Weighed c l.sh l.from x (scores_of l.levels) (masks_of l.levels) l.b)

@@ -5,17 +5,18 @@ use Rattle.rules.specs.Codes.{Code}
 use Rattle.rules.specs.Flipping.{by_excess}
 use Rattle.vectors.specs.Vectors.{wbit}
 use Rattle.layout.specs.Lent.{Lent, laid}
-use Rattle.flipping.specs.bounds.Keeping.{Ready}
 use Rattle.flipping.specs.runs.Passes.{Going, Carried}
 use Rattle.flipping.proofs.runs.go_on.Given as goal
 
 abbrev pub invariant-loop-left : goal.invariant-loop-left
 invariant-loop-left l =
-    (l.flips ≤ l.limit) × Ready l.sh l.starts l.counts l.met
-    × ((c : Code) → Lent c l.h l.sh → c.unsent ≡ l.from → Carried c l.sh l.from l.first (wbit l.initial.y) l.initial.d
-    l.counts l.initial.met → Going (by_excess c) c l.sh l.limit (wbit l.initial.y) l.flips (wbit l.y) (laid c l.sh (wbit l.y))
-    × Carried c l.sh l.from l.left (wbit l.y) l.d l.counts
-    l.met) × (l.limit < 65536)
+    let p = l.initial.bounds.places in
+    let sh = p.shape in
+    (l.flips ≤ l.limit) × (l.bounds.places ≡ p)
+    × ((c : Code) → Lent c l.h sh → c.unsent ≡ l.from
+    → Carried c sh l.from l.first (wbit l.initial.y) l.initial.rows p.counts l.initial.bounds.met
+    → Going (by_excess c) c sh l.limit (wbit l.initial.y) l.flips (wbit l.y) (laid c sh (wbit l.y))
+    × Carried c sh l.from l.left (wbit l.y) l.rows p.counts l.bounds.met) × (l.limit < 65536)
 
 abbrev pub decreases-loop-left : goal.decreases-loop-left
 decreases-loop-left l = l.limit - l.flips

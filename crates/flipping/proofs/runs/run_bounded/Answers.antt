@@ -1,38 +1,46 @@
 -- `runs::run_bounded`: the state is made, and the run goes on from it. Assumes nothing.
+use mathlib.Core.Path.{sym, subst}
+use Prim.Native.Nat.{◌≤◌, ◌<◌}
 use Rattle.vectors.specs.Vectors.{wbit}
-use Rattle.flipping.proofs.runs.Passing.{begun_kept, begun_ready}
+use Rattle.rules.specs.Flipping.{by_excess}
+use Rattle.layout.specs.Lent.{Fit, Lent, laid}
+use Rattle.flipping.specs.runs.Passes.{RunsTo}
+use Rattle.flipping.proofs.runs.Passing.{begun_kept}
 use Rattle.flipping.proofs.runs.run_bounded.Goals as goal
 
 pub go_on-requires : goal.go_on-requires
 go_on-requires c =
     let a = c.args in
-    let b = c.begin in
+    let b = c.begin-bounds in
+    let e = sym b.ensures.1 in
     let w = c.requires.3 in
     let k = w.begins in (
-      c.requires.0,
-      b.ensures.1,
-      begun_ready c.requires.0 b.ensures.1 b.ensures.2 b.ensures.3,
-      c.requires.1,
-      c.requires.2,
+      subst (Fit a.h.now) e c.requires.0,
+      b.ensures.2,
+      subst (λ s. 1 ≤ s.blocks) e c.requires.1,
+      subst (λ s. a.from < s.size) e c.requires.2,
       record {
         code = w.code;
-        lent = k.lent;
+        lent = subst (Lent w.code a.h.now) e k.lent;
         unsent = k.unsent;
         carried = record {
-          kept = begun_kept w.code a.h.now a.sh k.lent _ _ b.ensures.1 a.from (wbit a.y.now) _ _
-              k.held b.ensures.0;
+          kept = begun_kept w.code a.h.now a.sh k.lent c.requires.0 a.from (wbit a.y.now) _ k.held b.result.places b.ensures.1 b.ensures.2
+              _ _ b.ensures.0 b.ensures.3;
           left_is = k.broken;
         };
       },
     )
 
 pub returns : goal.returns
-returns c k e =
+returns c k w =
     let a = c.args in
-    let b = c.begin in
-    c.go_on.ensures k e.lent e.unsent
+    let b = c.begin-bounds in
+    let e = b.ensures.1 in
+    let g = c.go_on in
+    let done = g.ensures k (subst (Lent k a.h.now) (sym e) w.lent) w.unsent
     (record {
-      kept = begun_kept k a.h.now a.sh e.lent _ _ b.ensures.1 a.from (wbit a.y.now) _ _ e.held
-          b.ensures.0;
-      left_is = e.broken;
-    })
+      kept = begun_kept k a.h.now a.sh w.lent c.requires.0 a.from (wbit a.y.now) _ w.held b.result.places b.ensures.1 b.ensures.2 _ _
+          b.ensures.0 b.ensures.3;
+      left_is = w.broken;
+    }) in
+    (subst (λ s. RunsTo (by_excess k) k s a.limit (wbit a.y.now) g.result.ran (wbit g.new.y) (laid k s (wbit g.new.y))) e done.0, done.1)

@@ -9,8 +9,8 @@ use Rattle.identity.proofs.ties.block_tied.Invariants.{at-difference}
 use mathlib.Core.Path.{ap}
 use mathlib.Core.Bool.{not}
 
-pub loop-above-init : goal.loop-above-init
-loop-above-init c = (omega arith, refl)
+pub loop-d-init : goal.loop-d-init
+loop-d-init c = (omega arith, refl)
 
 pub cancels_at-requires : goal.cancels_at-requires
 cancels_at-requires c = (omega arith, omega arith, omega arith, omega arith, omega arith)
@@ -18,23 +18,23 @@ cancels_at-requires c = (omega arith, omega arith, omega arith, omega arith, ome
 pub returns-then-not-cancels_at : goal.returns-then-not-cancels_at
 returns-then-not-cancels_at c =
     let a = c.args in
-    let l = c.loop-above in
+    let l = c.loop-d in
     let f = at-difference a.m a.parts a.parity.now a.information a.first a.generator.now a.at in
-    stops (below (l.above - 1) f) l.invariant.1 (below_step l.above f (omega arith)) c.cancels_at.ensures (ap not c.if-not-cancels_at.true)
+    stops (below (l.d - 1) f) l.invariant.1 (below_step l.d f (omega arith)) c.cancels_at.ensures (ap not c.if-not-cancels_at.true)
 
-pub loop-above-preserved : goal.loop-above-preserved
-loop-above-preserved c =
+pub loop-d-preserved : goal.loop-d-preserved
+loop-d-preserved c =
     let a = c.args in
-    let l = c.loop-above in
+    let l = c.loop-d in
     let f = at-difference a.m a.parts a.parity.now a.information a.first a.generator.now a.at in (
       omega arith,
-      goes_on (below (l.above - 1) f) l.invariant.1 (below_step l.above f (omega arith)) c.cancels_at.ensures
+      goes_on (below (l.d - 1) f) l.invariant.1 (below_step l.d f (omega arith)) c.cancels_at.ensures
           (ap not c.if-not-cancels_at.false),
     )
 
 pub returns : goal.returns
 returns c =
     let a = c.args in
-    let l = c.loop-above in
+    let l = c.loop-d in
     let f = at-difference a.m a.parts a.parity.now a.information a.first a.generator.now a.at in
-    below_none l.above f (omega arith) ∙ sym l.invariant.1
+    below_none l.d f (omega arith) ∙ sym l.invariant.1

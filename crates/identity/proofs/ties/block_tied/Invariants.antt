@@ -13,10 +13,7 @@ abbrev pub at-difference : ℕ → ℕ → List ℕ → ℕ → ℕ → List ℕ
 at-difference m parts parity information first generator at =
     cancels m m (block m parity information) (row m parts parity first) (numbers m parts generator at)
 
-abbrev pub invariant-loop-above : goal.invariant-loop-above
-invariant-loop-above l =
-    (l.above ≤ l.m) × (below l.m (at-difference l.m l.parts l.parity l.information l.first l.generator l.at) ≡ below l.above
+abbrev pub invariant-loop-d : goal.invariant-loop-d
+invariant-loop-d l =
+    (l.d ≤ l.m) × (below l.m (at-difference l.m l.parts l.parity l.information l.first l.generator l.at) ≡ below l.d
     (at-difference l.m l.parts l.parity l.information l.first l.generator l.at))
-
-abbrev pub decreases-loop-above : goal.decreases-loop-above
-decreases-loop-above l = l.above

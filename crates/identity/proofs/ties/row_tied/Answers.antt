@@ -1,75 +1,73 @@
 -- `ties::row_tied` meets its contract: the information blocks passed are tied, so the whole is what is left.
-use mathlib.Core.Path.{◌≡◌, refl, sym, ap, ap₂, ◌∙◌}
+use mathlib.Core.Path.{sym, ap, ap₂, ◌∙◌}
+use mathlib.Core.Bool.{not}
 use Prim.Native.Nat.{ℕ, ◌+◌, ◌-◌, ◌*◌, ◌<◌}
+use native.Mathlib.Nat.{add-mul}
 use native.Mathlib.Omega.{arith}
 use Rattle.rules.specs.Identity.{row_tied_of}
 use Rattle.identity.specs.ties.Flat.{pieces, block, row, words, numbers}
-use Rattle.identity.proofs.ties.Listed.{one_less, pieces_more, pieces_none, stops, goes_on}
+use Rattle.identity.proofs.ties.Listed.{more_fits, pieces_start, pieces_next, pieces_none, stops, goes_on}
 use Rattle.identity.proofs.ties.row_tied.Goals as goal
-use mathlib.Core.Path.{ap}
-use mathlib.Core.Bool.{not}
 
 pub row_words-step-requires : goal.row_words-step-requires
 row_words-step-requires c = (omega arith, omega arith)
 
-pub loop-left-init : goal.loop-left-init
-loop-left-init c = (omega arith, omega arith, refl)
+pub loop-k-init : goal.loop-k-init
+loop-k-init c =
+    let a = c.args in
+    ap₂ (row_tied_of a.m a.m (row a.m a.parts a.parity.now (a.place + 3 * a.count)))
+    (pieces_start (block a.m a.parity.now) 3 a.place (a.count + a.parts) (a.place + 3 * 0) (omega arith))
+    (pieces_start (numbers a.m a.parts a.generator.now) (a.parts * words a.m) 0 a.count (0 * c.row_words-step.result) (omega arith))
 
 pub block_tied-requires : goal.block_tied-requires
 block_tied-requires c =
-    let a = c.args in
-    let l = c.loop-left in
-    let h : 0 < l.left = omega arith in
-    (omega arith, omega arith, omega arith, omega (arith, one_less (a.parts * words a.m) h))
+    let h : c.loop-k.k < c.args.count = omega arith in (
+      omega arith,
+      omega arith,
+      omega arith,
+      omega (arith, more_fits (c.args.parts * words c.args.m) h, ap (λ (x : ℕ). c.loop-k.k * x) c.row_words-step.ensures),
+    )
 
 pub returns-then-not-block_tied : goal.returns-then-not-block_tied
 returns-then-not-block_tied c =
     let a = c.args in
-    let l = c.loop-left in
+    let k = c.loop-k.k in
+    let s = c.row_words-step.result in
     let w = a.parts * words a.m in
     let B = block a.m a.parity.now in
     let G = numbers a.m a.parts a.generator.now in
     let P = row a.m a.parts a.parity.now (a.place + 3 * a.count) in
-    stops (row_tied_of a.m a.m P (pieces B 3 (l.information + 3) (l.left + a.parts - 1)) (pieces G w (l.at + w) (l.left - 1)))
-    l.invariant.2
-    (ap₂ (row_tied_of a.m a.m P) (pieces_more B 3 l.information (l.left + a.parts) (omega arith))
-    (pieces_more G w l.at l.left (omega arith)))
+    stops (row_tied_of a.m a.m P (pieces B 3 (a.place + 3 * (k + 1)) (a.count + a.parts - (k + 1)))
+    (pieces G w ((k + 1) * s) (a.count - (k + 1))))
+    c.loop-k.invariant
+    (ap₂ (row_tied_of a.m a.m P)
+    (pieces_next B 3 k (a.count + a.parts) (a.place + 3 * k) (a.place + 3 * (k + 1)) (omega arith) (omega arith))
+    (pieces_next G w k a.count (k * s) ((k + 1) * s) (omega arith) (omega (arith, add-mul k 1 s))))
     c.block_tied.ensures (ap not c.if-not-block_tied.true)
 
-pub overflow_add-at : goal.overflow_add-at
-overflow_add-at c =
+pub loop-k-preserved : goal.loop-k-preserved
+loop-k-preserved c =
     let a = c.args in
-    let l = c.loop-left in
-    let h : 0 < l.left = omega arith in
-    omega (arith, one_less (a.parts * words a.m) h)
-
-pub loop-left-preserved : goal.loop-left-preserved
-loop-left-preserved c =
-    let a = c.args in
-    let l = c.loop-left in
+    let k = c.loop-k.k in
+    let s = c.row_words-step.result in
     let w = a.parts * words a.m in
     let B = block a.m a.parity.now in
     let G = numbers a.m a.parts a.generator.now in
     let P = row a.m a.parts a.parity.now (a.place + 3 * a.count) in
-    let h : 0 < l.left = omega arith in
-    let e : l.left + a.parts - 1 ≡ l.left - 1 + a.parts = omega arith in (
-      omega arith,
-      omega (arith, one_less w h),
-      goes_on (row_tied_of a.m a.m P (pieces B 3 (l.information + 3) (l.left + a.parts - 1)) (pieces G w (l.at + w) (l.left - 1)))
-          l.invariant.2
-          (ap₂ (row_tied_of a.m a.m P) (pieces_more B 3 l.information (l.left + a.parts) (omega arith))
-          (pieces_more G w l.at l.left h))
-          c.block_tied.ensures (ap not c.if-not-block_tied.false)
-          ∙ ap₂ (λ (x y : ℕ). row_tied_of a.m a.m P (pieces B 3 (l.information + 3) x) (pieces G w (l.at + y) (l.left - 1))) e
-          (sym c.row_words-step.ensures),
-    )
+    goes_on (row_tied_of a.m a.m P (pieces B 3 (a.place + 3 * (k + 1)) (a.count + a.parts - (k + 1)))
+    (pieces G w ((k + 1) * s) (a.count - (k + 1))))
+    c.loop-k.invariant
+    (ap₂ (row_tied_of a.m a.m P)
+    (pieces_next B 3 k (a.count + a.parts) (a.place + 3 * k) (a.place + 3 * (k + 1)) (omega arith) (omega arith))
+    (pieces_next G w k a.count (k * s) ((k + 1) * s) (omega arith) (omega (arith, add-mul k 1 s))))
+    c.block_tied.ensures (ap not c.if-not-block_tied.false)
 
 pub returns : goal.returns
 returns c =
     let a = c.args in
-    let l = c.loop-left in
+    let k = c.loop-k.k in
     let P = row a.m a.parts a.parity.now (a.place + 3 * a.count) in
     sym
-    (l.invariant.2
-    ∙ ap (row_tied_of a.m a.m P (row a.m (l.left + a.parts) a.parity.now l.information))
-    (pieces_none (numbers a.m a.parts a.generator.now) (a.parts * words a.m) l.at l.left (omega arith)))
+    (c.loop-k.invariant
+    ∙ ap (row_tied_of a.m a.m P (pieces (block a.m a.parity.now) 3 (a.place + 3 * k) (a.count + a.parts - k)))
+    (pieces_none (numbers a.m a.parts a.generator.now) (a.parts * words a.m) (k * c.row_words-step.result) (a.count - k) (omega arith)))

@@ -1,13 +1,14 @@
 -- `ties::rows_tied` meets its contract: the rows passed are tied, so the whole is what is left.
-use mathlib.Core.Path.{◌≡◌, refl, sym, ap, ap₂, ◌∙◌}
+use mathlib.Core.Path.{◌≡◌, sym, ap, ap₂, ◌∙◌}
 use mathlib.Core.Bool.{◌&&◌}
 use mathlib.Core.List.{List}
 use Prim.Native.Nat.{ℕ, ◌+◌, ◌-◌, ◌*◌, ◌<◌}
+use native.Mathlib.Nat.{add-mul}
 use native.Mathlib.Omega.{arith}
 use lib.ListN.{length, drop}
 use Rattle.rules.specs.Identity.{row_tied_of, rows_tied_of}
 use Rattle.identity.specs.ties.Flat.{pieces, block, row, words, numbers, generator_of}
-use Rattle.identity.proofs.ties.Listed.{one_less, pieces_length, pieces_drop, pieces_more, pieces_none, stops, goes_on}
+use Rattle.identity.proofs.ties.Listed.{more_fits, pieces_length, pieces_drop, pieces_start, pieces_next, pieces_none, stops, goes_on}
 use Rattle.identity.proofs.ties.rows_tied.Goals as goal
 use mathlib.Core.Path.{ap}
 use mathlib.Core.Bool.{not}
@@ -23,64 +24,59 @@ parity-blocks m count parts at parity generator =
     ∙ ap₂ (λ (x y : ℕ). pieces (block m parity) 3 x y) e n
 
 -- One row, and the rows left.
-rows_step : (m count parts place left : ℕ) (parity generator : List ℕ) → 0 < left
-    → rows_tied_of m m (pieces (row m (count + parts) parity) (3 * (count + parts)) place left) (generator_of m count parts generator)
+rows_step : (m rows count parts k place next : ℕ) (parity generator : List ℕ) → k < rows → next ≡ place + 3 * (count + parts)
+    → rows_tied_of m m (pieces (row m (count + parts) parity) (3 * (count + parts)) place (rows - k)) (generator_of m count parts generator)
     ≡ (row_tied_of m m (row m parts parity (place + 3 * count)) (row m (count + parts) parity place) (generator_of m count parts generator)
-    && rows_tied_of m m (pieces (row m (count + parts) parity) (3 * (count + parts)) (place + 3 * (count + parts)) (left - 1))
+    && rows_tied_of m m (pieces (row m (count + parts) parity) (3 * (count + parts)) next (rows - (k + 1)))
     (generator_of m count parts generator))
-rows_step m count parts place left parity generator h =
+rows_step m rows count parts k place next parity generator h e =
     let w = 3 * (count + parts) in
     let R = row m (count + parts) parity in
     let G = generator_of m count parts generator in
-    ap (λ (x : List (List (List ℕ))). rows_tied_of m m x G) (pieces_more R w place left h)
-    ∙ ap (λ (x : List (List ℕ)). row_tied_of m m x (R place) G && rows_tied_of m m (pieces R w (place + w) (left - 1)) G)
+    ap (λ (x : List (List (List ℕ))). rows_tied_of m m x G) (pieces_next R w k rows place next h e)
+    ∙ ap (λ (x : List (List ℕ)). row_tied_of m m x (R place) G && rows_tied_of m m (pieces R w next (rows - (k + 1))) G)
     (parity-blocks m count parts place parity generator)
 
-pub loop-left-init : goal.loop-left-init
-loop-left-init c = (omega arith, refl)
+pub loop-k-init : goal.loop-k-init
+loop-k-init c =
+    let a = c.args in
+    ap (λ (x : List (List (List ℕ))). rows_tied_of a.m a.m x (generator_of a.m a.count a.parts a.generator.now))
+    (pieces_start (row a.m (a.count + a.parts) a.parity.now) (3 * (a.count + a.parts)) 0 a.rows
+    (0 * (3 * (a.count + a.parts))) (omega arith))
 
 pub row_tied-requires : goal.row_tied-requires
 row_tied-requires c =
-    let a = c.args in
-    let l = c.loop-left in
-    let h : 0 < l.left = omega arith in
-    (omega arith, omega arith, omega (arith, one_less (3 * (a.count + a.parts)) h), omega arith)
+    let h : c.loop-k.k < c.args.rows = omega arith in
+    (omega arith, omega arith, omega (arith, more_fits (3 * (c.args.count + c.args.parts)) h), omega arith)
 
 pub returns-then-not-row_tied : goal.returns-then-not-row_tied
 returns-then-not-row_tied c =
     let a = c.args in
-    let l = c.loop-left in
+    let k = c.loop-k.k in
     let w = 3 * (a.count + a.parts) in
-    stops (rows_tied_of a.m a.m (pieces (row a.m (a.count + a.parts) a.parity.now) w (l.place + w) (l.left - 1))
+    stops (rows_tied_of a.m a.m (pieces (row a.m (a.count + a.parts) a.parity.now) w ((k + 1) * w) (a.rows - (k + 1)))
     (generator_of a.m a.count a.parts a.generator.now))
-    l.invariant.1 (rows_step a.m a.count a.parts l.place l.left a.parity.now a.generator.now (omega arith))
+    c.loop-k.invariant
+    (rows_step a.m a.rows a.count a.parts k (k * w) ((k + 1) * w) a.parity.now a.generator.now (omega arith) (omega (arith, add-mul k 1 w)))
     c.row_tied.ensures (ap not c.if-not-row_tied.true)
 
-pub overflow_add-place : goal.overflow_add-place
-overflow_add-place c =
+pub loop-k-preserved : goal.loop-k-preserved
+loop-k-preserved c =
     let a = c.args in
-    let l = c.loop-left in
-    let h : 0 < l.left = omega arith in
-    omega (arith, one_less (3 * (a.count + a.parts)) h)
-
-pub loop-left-preserved : goal.loop-left-preserved
-loop-left-preserved c =
-    let a = c.args in
-    let l = c.loop-left in
+    let k = c.loop-k.k in
     let w = 3 * (a.count + a.parts) in
-    let h : 0 < l.left = omega arith in (
-      omega (arith, one_less w h),
-      goes_on (rows_tied_of a.m a.m (pieces (row a.m (a.count + a.parts) a.parity.now) w (l.place + w) (l.left - 1))
-          (generator_of a.m a.count a.parts a.generator.now))
-          l.invariant.1 (rows_step a.m a.count a.parts l.place l.left a.parity.now a.generator.now h)
-          c.row_tied.ensures (ap not c.if-not-row_tied.false),
-    )
+    goes_on (rows_tied_of a.m a.m (pieces (row a.m (a.count + a.parts) a.parity.now) w ((k + 1) * w) (a.rows - (k + 1)))
+    (generator_of a.m a.count a.parts a.generator.now))
+    c.loop-k.invariant
+    (rows_step a.m a.rows a.count a.parts k (k * w) ((k + 1) * w) a.parity.now a.generator.now (omega arith) (omega (arith, add-mul k 1 w)))
+    c.row_tied.ensures (ap not c.if-not-row_tied.false)
 
 pub returns : goal.returns
 returns c =
     let a = c.args in
-    let l = c.loop-left in
+    let k = c.loop-k.k in
+    let w = 3 * (a.count + a.parts) in
     sym
-    (l.invariant.1
+    (c.loop-k.invariant
     ∙ ap (λ (x : List (List (List ℕ))). rows_tied_of a.m a.m x (generator_of a.m a.count a.parts a.generator.now))
-    (pieces_none (row a.m (a.count + a.parts) a.parity.now) (3 * (a.count + a.parts)) l.place l.left (omega arith)))
+    (pieces_none (row a.m (a.count + a.parts) a.parity.now) w (k * w) (a.rows - k) (omega arith)))

@@ -18,11 +18,12 @@ returns-then-rows_tied c printed fits =
     ∙ ap (λ (x : Bool). x && all_padded_of a.m G)
     (sym (same_rows a.m printed pos fits P G ∙ sym c.rows_tied.ensures ∙ c.if-rows_tied.true))
 
-pub returns : goal.returns
-returns c printed fits =
+pub returns-else-rows_tied : goal.returns-else-rows_tied
+returns-else-rows_tied c printed fits =
     let a = c.args in
     let G = generator_of a.m a.count a.parts a.generator.now in
     let P = parity_of a.m a.rows (a.count + a.parts) a.parity.now in
     let pos : 0 < a.m = omega arith in
-    ap (λ (x : Bool). x && all_padded_of a.m G)
+    c.if-rows_tied.false
+    ∙ ap (λ (x : Bool). x && all_padded_of a.m G)
     (sym (same_rows a.m printed pos fits P G ∙ sym c.rows_tied.ensures ∙ c.if-rows_tied.false))

@@ -1,11 +1,8 @@
 -- `quicknarrow::narrow_group`: after b passes the first b blocks were added. Assumes nothing.
-use Prim.Native.Nat.{◌-◌, ◌*◌, ◌≤◌}
+use Prim.Native.Nat.{◌*◌, ◌≤◌}
 use Rattle.vectors.specs.Vectors.{wbit}
 use Rattle.quick.specs.groups.Groups.{Has, group}
 use Rattle.quick.proofs.lowest_narrow.narrow_group.Given as goal
 
 abbrev pub invariant-loop-b : goal.invariant-loop-b
 invariant-loop-b l = (l.b ≤ l.sh.blocks) × Has l.sh.size l.v (group l.sh l.h (wbit l.y) l.r (2 * l.b))
-
-abbrev pub decreases-loop-b : goal.decreases-loop-b
-decreases-loop-b l = l.sh.blocks - l.b

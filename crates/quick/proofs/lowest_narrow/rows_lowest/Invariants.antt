@@ -1,7 +1,7 @@
 -- `quicknarrow::rows_lowest`: no check of the rows so far is broken. Assumes nothing.
 use mathlib.Core.Path.{◌≡◌}
 use mathlib.Core.Bool.{false}
-use Prim.Native.Nat.{ℕ, ◌-◌, ◌*◌, ◌≤◌, ◌<◌}
+use Prim.Native.Nat.{ℕ, ◌*◌, ◌≤◌, ◌<◌}
 use Rattle.rules.specs.Codes.{Code}
 use Rattle.rules.specs.Checks.{check}
 use Rattle.layout.specs.Lent.{Lent}
@@ -11,6 +11,3 @@ use Rattle.quick.proofs.lowest_narrow.rows_lowest.Given as goal
 abbrev pub invariant-loop-r : goal.invariant-loop-r
 invariant-loop-r l =
     (l.r ≤ l.sh.rows) × ((c : Code) → Lent c l.h l.sh → (j : ℕ) → j < l.r * l.sh.size → check c (wbit l.y) j ≡ false)
-
-abbrev pub decreases-loop-r : goal.decreases-loop-r
-decreases-loop-r l = l.sh.rows - l.r

@@ -8,9 +8,6 @@ use Rattle.quick.proofs.lowest_wide.begin_row.Goals as goal
 pub loop-k-init : goal.loop-k-init
 loop-k-init c = (omega arith, c.requires.2, λ j l. absurd (omega arith))
 
-pub overflow_mul-sh : goal.overflow_mul-sh
-overflow_mul-sh c = omega (arith, c.requires.0.blocks)
-
 pub overflow_mul-begins : goal.overflow_mul-begins
 overflow_mul-begins c = omega (arith, c.requires.0.blocks)
 

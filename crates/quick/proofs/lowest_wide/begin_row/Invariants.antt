@@ -1,12 +1,9 @@
 -- `quickwide::begin_row`: after k passes the first k beginnings are there. Assumes nothing.
 use mathlib.Core.Path.{◌≡◌}
-use Prim.Native.Nat.{◌-◌, ◌*◌, ◌≤◌}
+use Prim.Native.Nat.{◌*◌, ◌≤◌}
 use lib.ListN.{length}
 use Rattle.quick.specs.groups.Groups.{Begun}
 use Rattle.quick.proofs.lowest_wide.begin_row.Given as goal
 
 abbrev pub invariant-loop-k : goal.invariant-loop-k
 invariant-loop-k l = (l.k ≤ 2 * l.sh.blocks) × (length l.begins ≡ 2 * l.sh.blocks) × Begun l.k l.sh l.h l.r l.begins
-
-abbrev pub decreases-loop-k : goal.decreases-loop-k
-decreases-loop-k l = 2 * l.sh.blocks - l.k

@@ -18,9 +18,6 @@ loop-k-init c =
     let a = c.args in
     (omega arith, λ code e i hi. group_none a.sh a.h.now (lifted code (bit a.octets.now)) 0 i)
 
-pub overflow_mul-sh : goal.overflow_mul-sh
-overflow_mul-sh c = omega (arith, c.requires.0.blocks)
-
 pub overflow_mul-k : goal.overflow_mul-k
 overflow_mul-k c =
     omega (arith, block_room c.args.h.now c.args.sh c.requires.0 (c.loop-k.k / 2) (omega arith))

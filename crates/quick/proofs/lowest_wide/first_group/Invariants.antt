@@ -1,6 +1,6 @@
 -- `quickwide::first_group`: after k passes the first k places were added. Assumes nothing.
 use mathlib.Core.Path.{◌≡◌}
-use Prim.Native.Nat.{◌-◌, ◌*◌, ◌≤◌}
+use Prim.Native.Nat.{◌*◌, ◌≤◌}
 use Rattle.bits.specs.Bits.{bit}
 use Rattle.rules.specs.Codes.{Code}
 use Rattle.rules.specs.Encoding.{lifted}
@@ -10,6 +10,3 @@ use Rattle.quick.proofs.lowest_wide.first_group.Given as goal
 abbrev pub invariant-loop-k : goal.invariant-loop-k
 invariant-loop-k l =
     (l.k ≤ 2 * l.sh.blocks) × ((c : Code) → l.u ≡ c.unsent → Has 64 l.v (group l.sh l.h (lifted c (bit l.octets)) 0 l.k))
-
-abbrev pub decreases-loop-k : goal.decreases-loop-k
-decreases-loop-k l = 2 * l.sh.blocks - l.k

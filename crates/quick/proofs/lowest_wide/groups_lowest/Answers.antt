@@ -13,7 +13,7 @@ use Rattle.quick.proofs.lowest_wide.Doubled.{group_passed, first_there, first_pa
 use Rattle.quick.proofs.lowest_wide.groups_lowest.Goals as goal
 
 pub loop-g-init : goal.loop-g-init
-loop-g-init c = (omega arith, λ i l. absurd (omega arith))
+loop-g-init c = λ i l. absurd (omega arith)
 
 pub wide_group-v-requires : goal.wide_group-v-requires
 wide_group-v-requires c =
@@ -32,7 +32,7 @@ returns-then-l-m c =
     let a = c.args in
     let l = c.loop-g in
     let w = c.wide_group-v in
-    first_there a.d.now a.begins.now a.m l.g w.result w.ensures l.invariant.1 (count_leading_zeros 64 w.result)
+    first_there a.d.now a.begins.now a.m l.g w.result w.ensures l.invariant (count_leading_zeros 64 w.result)
     (first_digit 64 w.result (pos_of_ne-zero c.if-v-ne0.true) w.type_inv) (omega arith)
 
 pub returns-then-v-ne0 : goal.returns-then-v-ne0
@@ -40,7 +40,7 @@ returns-then-v-ne0 c =
     let a = c.args in
     let l = c.loop-g in
     let w = c.wide_group-v in
-    first_past a.d.now a.begins.now a.m l.g w.result w.ensures l.invariant.1 (count_leading_zeros 64 w.result)
+    first_past a.d.now a.begins.now a.m l.g w.result w.ensures l.invariant (count_leading_zeros 64 w.result)
     (first_digit 64 w.result (pos_of_ne-zero c.if-v-ne0.true) w.type_inv) (omega arith)
 
 pub loop-g-preserved : goal.loop-g-preserved
@@ -48,10 +48,10 @@ loop-g-preserved c =
     let a = c.args in
     let l = c.loop-g in
     let w = c.wide_group-v in
-    (omega arith, group_passed a.d.now a.begins.now a.m l.g w.result w.ensures l.invariant.1 c.if-v-ne0.false)
+    group_passed a.d.now a.begins.now a.m l.g w.result w.ensures l.invariant c.if-v-ne0.false
 
 pub returns : goal.returns
 returns c =
     let a = c.args in
     let l = c.loop-g in
-    sym (least_none a.m (behind a.begins.now (wbit a.d.now)) (λ i h. l.invariant.1 i (omega arith)))
+    sym (least_none a.m (behind a.begins.now (wbit a.d.now)) (λ i h. l.invariant i (omega arith)))

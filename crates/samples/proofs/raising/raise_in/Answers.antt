@@ -47,9 +47,6 @@ look-now-requires c = (
   c.loop-e.invariant.1,
 )
 
-pub overflow_add-e : goal.overflow_add-e
-overflow_add-e c = omega (arith, c.requires.0.few)
-
 pub loop-e-preserved : goal.loop-e-preserved
 loop-e-preserved c =
     let a = c.args in

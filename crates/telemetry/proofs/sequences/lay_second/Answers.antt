@@ -1,8 +1,8 @@
 -- `telemetry::lay_second`: the start laid, then the others. Assumes nothing.
-use mathlib.Core.Path.{sym, ap, ◌∙◌}
+use mathlib.Core.Path.{ap, ◌∙◌}
 use native.Mathlib.Omega.{arith}
-use lib.ListN.{get_or}
-use lib.Seq.{get_or-take}
+use lib.ListN.{length, get_or}
+use Rattle.std.proofs.Math.ListN.{get_or-append}
 use Rattle.bits.specs.Bits.{number}
 use Rattle.telemetry.specs.sequences.Telemetry.{second}
 use Rattle.telemetry.proofs.sequences.Second.{start_octet}
@@ -14,9 +14,11 @@ use Rattle.telemetry.proofs.sequences.lay_second.Goals as goal
 pub extend-requires : goal.extend-requires
 unfolding number second
 extend-requires c =
-    let l = c.lay in (
+    let l = c.copy_from_slice in (
       omega arith,
-      λ i h. sym (get_or-take 136 l.new.octets i 0 h) ∙ ap (λ z. get_or z i 0) l.ensures ∙ start_octet i h,
+      λ i h.
+          get_or-append l.new.self _ 0 i (omega (arith, h, ap length l.ensures.after)) ∙ ap (λ z. get_or z i 0) l.ensures.after
+          ∙ start_octet i h,
     )
 
 pub returns : goal.returns

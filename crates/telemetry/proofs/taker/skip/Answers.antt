@@ -1,11 +1,11 @@
 -- `taker::skip`: an octet that begins no marker leaves the taker as it is. Assumes nothing.
-use mathlib.Core.Path.{refl, sym, ap, ap₂, ◌∙◌}
+use mathlib.Core.Path.{◌≡◌, refl, sym, ap, ap₂, ◌∙◌, subst}
 use Prim.Native.Nat.{suc, ◌<◌}
 use native.Mathlib.Numerals.{add-one}
 use native.Mathlib.Omega.{arith}
 use lib.ListN.{length, get_or, drop}
 use lib.Seq.{drop-cons}
-use Rattle.telemetry.specs.taker.Taking.{standing, taken_from}
+use Rattle.telemetry.specs.taker.Taking.{standing, taken_from, GoesOn}
 use Rattle.telemetry.proofs.taker.Laws.{search_step, matched_none}
 use borrow.Author.Rules.{rules}
 use Rattle.telemetry.proofs.taker.skip.Goals as goal
@@ -32,4 +32,8 @@ loop-i-preserved c =
     )
 
 pub returns : goal.returns
-returns c = let h = c.loop-i in record { lower_bound = (h.invariant.0, h.invariant.1); goes_on = h.invariant.2 }
+returns c =
+    let h = c.loop-i in
+    let part = c.args.part.now in
+    let e : h.i ≡ length part = omega arith in
+    record { lower_bound = (c.requires, omega arith); goes_on = subst (λ i. GoesOn part c.args.from 0 i 0) e h.invariant.2 }

@@ -7,7 +7,7 @@ use Rattle.units.proofs.readings.hand_out.Goals as goal
 
 pub returns-then-number-eq0 : goal.returns-then-number-eq0
 returns-then-number-eq0 c =
-    c.copy.ensures
+    c.copy_from_slice.ensures.after
     ∙ sym (if_is (eqb c.args.number 0) c.args.information.now c.args.out.now (eq-eqb c.args.number 0 c.if-number-eq0.true))
 
 pub returns-else-number-eq0 : goal.returns-else-number-eq0

@@ -1,17 +1,12 @@
 -- `readings::is_tail`: one code has a tail, and the other none. Assumes nothing.
-use mathlib.Core.Path.{sym, ap, ◌∙◌}
+use mathlib.Core.Path.{ap, ◌∙◌}
 use Rattle.units.specs.unitrules.Units.{tail, same as same_of}
-use Rattle.units.proofs.unitrules.Shapes.{none_long}
-use Rattle.units.proofs.unitoffers.Offers.{whole_tail}
+use Rattle.units.proofs.unitoffers.Offers.{front_tail}
+use Rattle.units.proofs.readings.Compared.{same_is}
 use Rattle.units.proofs.readings.is_tail.Goals as goal
 
-pub returns-then-tail_octets-ne0 : goal.returns-then-tail_octets-ne0
+pub returns : goal.returns
 unfolding tail
-returns-then-tail_octets-ne0 c =
-    c.same.ensures
-    ∙ ap (same_of c.args.end.now) (whole_tail c.args.code c.requires _ c.tail_octets.ensures.0 c.if-tail_octets-ne0.true)
-
-pub returns-else-tail_octets-ne0 : goal.returns-else-tail_octets-ne0
-returns-else-tail_octets-ne0 c =
-    let e = sym c.tail_octets.ensures.0 ∙ c.if-tail_octets-ne0.false in
-    c.same-else-tail_octets-ne0.ensures ∙ ap (same_of c.args.end.now) (sym (none_long (tail c.args.code) e))
+returns c =
+    c.eq.ensures ∙ same_is c.args.end.now _
+    ∙ ap (same_of c.args.end.now) (front_tail c.args.code c.requires _ c.tail_octets-long.ensures.0)

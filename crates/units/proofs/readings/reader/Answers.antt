@@ -7,4 +7,4 @@ use Rattle.units.proofs.readings.reader.Goals as goal
 pub returns : goal.returns
 returns c =
     ap (λ x. record { kept = x; code = c.args.code; limit = c.args.limit; place = 0 }) (c.numbered-kept.ensures
-    ∙ ap (refused_correct_of []) c.reader_number.ensures)
+    ∙ ap (refused_correct_of []) c.readable.ensures)

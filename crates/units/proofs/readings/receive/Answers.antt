@@ -28,8 +28,8 @@ overflow_add-end c = omega (
       (length c.args.word.now) c.requires.0 c.requires.1 c.requires.2,
 )
 
-pub slice_bounds-copy-end : goal.slice_bounds-copy-end
-slice_bounds-copy-end c = block_room c.args.code c.args.unit.now c.args.k (length c.args.word.now)
+pub slice_bounds-copy_from_slice-end : goal.slice_bounds-copy_from_slice-end
+slice_bounds-copy_from_slice-end c = block_room c.args.code c.args.unit.now c.args.k (length c.args.word.now)
     c.requires.0 c.requires.1 c.requires.2
 
 pub randomise-requires : goal.randomise-requires
@@ -38,7 +38,7 @@ randomise-requires c =
     let size = length c.args.word.now in
     omega (
       arith,
-      ap length c.copy.ensures,
+      ap length c.copy_from_slice.ensures.after,
       length-take
           (8 + c.args.k * size + size - (8 + c.args.k * size)) (drop (8 + c.args.k * size) c.args.unit.now),
       z.whole,
@@ -49,5 +49,5 @@ randomise-requires c =
 pub returns : goal.returns
 returns c =
     c.randomise.ensures
-    ∙ received_is c.args.code c.args.unit.now c.copy.new.out c.args.k
-    (length c.args.word.now) c.requires.2 c.copy.ensures
+    ∙ received_is c.args.code c.args.unit.now c.copy_from_slice.new.self c.args.k
+    (length c.args.word.now) c.requires.2 c.copy_from_slice.ensures.after

@@ -6,6 +6,3 @@ use Rattle.vectors.proofs.copying.copy.Given as goal
 
 abbrev pub invariant-loop-i : goal.invariant-loop-i
 invariant-loop-i l = (l.i ≤ length l.octets) × (length l.out ≡ length l.initial.out) × (take l.i l.out ≡ take l.i l.octets)
-
-abbrev pub decreases-loop-i : goal.decreases-loop-i
-decreases-loop-i l = length l.octets - l.i

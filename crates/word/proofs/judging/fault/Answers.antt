@@ -1,30 +1,17 @@
 -- `judging::fault`: each answer by the tests that led to it. Assumes nothing.
 use mathlib.Core.Path.{sym, ◌∙◌}
-use native.Mathlib.Omega.{arith}
 use borrow.Author.Tests.{not-true, not-false}
 use Rattle.vectors.specs.Vectors.{wbit}
-use Rattle.catalogue.proofs.offer.Offers.{small}
-use Rattle.word.proofs.judging.Judging.{finds_broken, finds_telecommand, finds_fill, finds_own, finds_other}
+use Rattle.word.proofs.judging.Judging.{finds_telecommand, finds_fill, finds_own, finds_other}
 use Rattle.word.proofs.judging.fault.Goals as goal
 use mathlib.Core.Path.{ap}
 use mathlib.Core.Bool.{not}
-
-pub returns-then-not-is_quiet : goal.returns-then-not-is_quiet
-returns-then-not-is_quiet c =
-    λ n off is word h sh long m.
-    finds_broken n off c.args.o is (wbit c.args.y.now) (wbit c.args.z.now) word h sh long m _ c.is_quiet.ensures
-    (not-true _ (ap not c.if-not-is_quiet.true))
 
 pub returns-then-not-o : goal.returns-then-not-o
 returns-then-not-o c =
     λ n off is word h sh long m.
     finds_telecommand n off c.args.o is (wbit c.args.y.now) (wbit c.args.z.now) word h sh long m _ c.is_quiet.ensures
     (not-false _ (ap not c.if-not-is_quiet.false)) (not-true _ c.if-not-o.true)
-
-pub some_set-requires : goal.some_set-requires
-some_set-requires c =
-    let f = small c.requires in
-    (omega (arith, f.fill), omega (arith, f.bits))
 
 pub returns-then-some_set : goal.returns-then-some_set
 returns-then-some_set c =

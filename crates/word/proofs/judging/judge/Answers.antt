@@ -1,12 +1,8 @@
 -- `judging::judge`: each number by the tests that led to it. Assumes nothing.
-use mathlib.Core.Path.{sym, ◌∙◌}
 use borrow.Author.Tests.{not-true, not-false}
 use Rattle.vectors.specs.Vectors.{wbit}
-use Rattle.word.proofs.judging.Judging.{judged_other, by_telecommand, by_own, by_other}
+use Rattle.word.proofs.judging.Judging.{by_telecommand, by_own, by_other}
 use Rattle.word.proofs.judging.judge.Goals as goal
-
-pub returns-then-number-ne0 : goal.returns-then-number-ne0
-returns-then-number-ne0 c = λ n off is r e w q none. sym e ∙ judged_other n off r (λ z. c.if-number-ne0.true (sym e ∙ z))
 
 pub returns-then-not-o : goal.returns-then-not-o
 returns-then-not-o c =

@@ -1,13 +1,8 @@
--- `ownparity::folded` meets its contract: v is the sum of the first k words. Assumes nothing.
+-- `ownparity::folded` meets its contract: v is the sum of the words so far. Assumes nothing.
 use mathlib.Core.Path.{◌≡◌}
-use Prim.Native.Nat.{◌-◌, ◌≤◌}
-use lib.ListN.{length}
 use Rattle.bits.specs.Bits.{digit, sum}
 use Rattle.word.proofs.ownparity.Words.{odd_word}
 use Rattle.word.proofs.ownparity.folded.Given as goal
 
-abbrev pub invariant-loop-k : goal.invariant-loop-k
-invariant-loop-k l = (l.k ≤ length l.ws) × (sum 64 (digit 64 l.v) ≡ sum l.k (odd_word l.ws))
-
-abbrev pub decreases-loop-k : goal.decreases-loop-k
-decreases-loop-k l = length l.ws - l.k
+abbrev pub invariant-loop-word : goal.invariant-loop-word
+invariant-loop-word l = sum 64 (digit 64 l.v) ≡ sum l.word-index (odd_word l.ws)

@@ -11,21 +11,12 @@ use Rattle.word.proofs.ownparity.Words.{number_start, number_more}
 use Rattle.word.proofs.ownparity.odd_blocks.Goals as goal
 
 pub loop-j-init : goal.loop-j-init
-loop-j-init c = (omega arith, omega arith, number_start (odd_block (wbit c.args.y.now)))
-
-pub odd-requires : goal.odd-requires
-odd-requires c = (omega arith, omega arith)
+loop-j-init c = (omega arith, number_start (odd_block (wbit c.args.y.now)))
 
 pub loop-j-preserved : goal.loop-j-preserved
 loop-j-preserved c =
     let l = c.loop-j in
     let x = odd_block (wbit c.args.y.now) in
     let v = 2 * l.v + c.odd.result in
-    let e : v ≡ number (l.j + 1) x = ap (λ (n : ℕ). 2 * l.v + n) c.odd.ensures.1 ∙ number_more l.j l.v x l.invariant.2 in
-    (omega arith, fits (l.j + 1) 16 v (subst (λ (n : ℕ). n < 2 ^ (l.j + 1)) (sym e) (number_lt (l.j + 1) x)) (omega arith), e)
-
-pub returns : goal.returns
-returns c =
-    let l = c.loop-j in
-    let e : l.j ≡ 16 = omega arith in
-    l.invariant.2 ∙ ap (λ (n : ℕ). number n (odd_block (wbit c.args.y.now))) e
+    let e : v ≡ number (l.j + 1) x = ap (λ (n : ℕ). 2 * l.v + n) c.odd.ensures.1 ∙ number_more l.j l.v x l.invariant.1 in
+    (fits (l.j + 1) 16 v (subst (λ (n : ℕ). n < 2 ^ (l.j + 1)) (sym e) (number_lt (l.j + 1) x)) (omega arith), e)

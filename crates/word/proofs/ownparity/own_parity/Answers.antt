@@ -1,20 +1,12 @@
 -- `ownparity::own_parity` meets its contract: its answer is that of the test, which decides. Assumes nothing.
 use mathlib.Core.Path.{◌≡◌, sym, ap₂, ◌∙◌}
 use Prim.Native.Nat.{ℕ, ◌+◌}
-use native.Mathlib.Omega.{arith}
 use lib.Dec.{eqb}
-use Rattle.bits.proofs.Counting.{tally_le}
 use Rattle.vectors.specs.Vectors.{wbit}
 use Rattle.word.specs.ownparity.Odd.{odd_together_of, even_together}
 use Rattle.word.proofs.ownparity.Words.{neither}
 use Rattle.word.proofs.ownparity.Near.{own_even, even_own}
 use Rattle.word.proofs.ownparity.own_parity.Goals as goal
-
-pub overflow_add-result : goal.overflow_add-result
-overflow_add-result c =
-    let x = wbit c.args.y.now in
-    let odd = c.odd_together-odd.ensures x c.odd_blocks.ensures in
-    omega (arith, odd.0, odd.1, tally_le (odd_together_of x 0), tally_le (odd_together_of x 1))
 
 pub returns : goal.returns
 returns c =

@@ -2,47 +2,20 @@
 use mathlib.Core.Path.{◌≡◌, sym, ap, ◌∙◌}
 use Prim.Native.Nat.{◌+◌, ◌*◌}
 use native.Mathlib.Omega.{arith}
-use borrow.Author.Rules.{rules}
 use Rattle.bits.specs.Bits.{bit}
 use Rattle.vectors.specs.Vectors.{up_to, from}
-use Rattle.vectors.proofs.Filling.{filled_start, filled_more}
+use Rattle.vectors.proofs.Filling.{filled_more}
 use Rattle.vectors.proofs.Spans.{up_to_below}
 use Rattle.word.proofs.received.Cutting.{last_cut}
 use Rattle.word.proofs.received.cut.Goals as goal
-
-pub loop-k-init : goal.loop-k-init
-loop-k-init c =
-    let a = c.args in
-    (omega arith, filled_start a.v.now (up_to 511 (from a.p (bit a.octets.now))))
-
-pub window-requires : goal.window-requires
-window-requires c = (omega arith, omega arith)
-
-pub bounds-v-k : goal.bounds-v-k
-bounds-v-k c = omega (arith, c.loop-k.invariant.1.long)
 
 pub loop-k-preserved : goal.loop-k-preserved
 loop-k-preserved c =
     let a = c.args in
     let l = c.loop-k in
-    let x = bit a.octets.now in (
-      omega arith,
-      filled_more a.v.now (up_to 511 (from a.p x)) l.v l.k l.invariant.1 c.window.result (omega (arith, l.invariant.1.long))
-          (λ i hi. c.window.ensures i hi ∙ ap x (omega arith) ∙ sym (up_to_below 511 (64 * l.k + i) (from a.p x) (omega arith))),
-    )
-
-pub window-requires-2 : goal.window-requires-2
-window-requires-2 c = (omega arith, omega arith)
-
-pub bounds-v-7 : goal.bounds-v-7
-bounds-v-7 c =
-    let long = c.loop-k.invariant.1.long in
-    omega (arith, long, c.requires.2)
-
-pub shape_of-v : goal.shape_of-v
-shape_of-v c =
-    let long = c.loop-k.invariant.1.long in
-    search rules
+    let x = bit a.octets.now in
+    filled_more a.v.now (up_to 511 (from a.p x)) l.v l.k l.invariant c.window.result (omega (arith, l.invariant.long))
+    (λ i hi. c.window.ensures i hi ∙ ap x (omega arith) ∙ sym (up_to_below 511 (64 * l.k + i) (from a.p x) (omega arith)))
 
 pub returns : goal.returns
 returns c =
@@ -50,5 +23,5 @@ returns c =
     let l = c.loop-k in
     let x = bit a.octets.now in
     let seven : l.k ≡ 7 = omega arith in
-    last_cut a.v.now l.v x a.p l.k c.window-2.result c.funnel.result c.requires.2 seven l.invariant.1
+    last_cut a.v.now l.v x a.p l.k c.window-2.result c.funnel.result c.requires.2 seven l.invariant
     (λ i hi. c.window-2.ensures i hi ∙ ap x (omega arith)) c.funnel.ensures

@@ -1,12 +1,8 @@
 -- `received::cut` meets its contract: after k passes the first k words have the bits, and the last word follows. Assumes nothing.
-use Prim.Native.Nat.{◌-◌, ◌≤◌}
 use Rattle.bits.specs.Bits.{bit}
 use Rattle.vectors.specs.Vectors.{up_to, from}
 use Rattle.vectors.proofs.Filling.{Filled}
 use Rattle.word.proofs.received.cut.Given as goal
 
 abbrev pub invariant-loop-k : goal.invariant-loop-k
-invariant-loop-k l = (l.k ≤ 7) × Filled l.initial.v (up_to 511 (from l.p (bit l.octets))) l.v l.k
-
-abbrev pub decreases-loop-k : goal.decreases-loop-k
-decreases-loop-k l = 7 - l.k
+invariant-loop-k l = Filled l.initial.v (up_to 511 (from l.p (bit l.octets))) l.v l.k

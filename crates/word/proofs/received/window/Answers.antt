@@ -1,12 +1,6 @@
 -- `received::window` meets its contract: eight octets, and of the next one the first bits. Assumes nothing.
-use mathlib.Core.Path.{ap, ◌∙◌}
-use native.Mathlib.Omega.{arith}
-use Rattle.bits.specs.Bits.{bit}
 use Rattle.word.proofs.received.Cutting.{across}
 use Rattle.word.proofs.received.window.Goals as goal
-
-pub returns-then-t-eq0 : goal.returns-then-t-eq0
-returns-then-t-eq0 c = λ i hi. c.eight-v.ensures i hi ∙ ap (bit c.args.octets.now) (omega arith)
 
 pub returns : goal.returns
 returns c =

@@ -10,13 +10,6 @@ use Rattle.vectors.specs.Vectors.{wbit}
 use Rattle.word.proofs.unlike.Differing.{apart_rest, place}
 use Rattle.word.proofs.unlike.unlike.Goals as goal
 
-pub returns-then-t-eq0 : goal.returns-then-t-eq0
-returns-then-t-eq0 c =
-    let a = c.args in
-    let e : 64 * (a.n / 64) ≡ a.n = omega arith in
-    let w = c.apart_whole-sum.ensures in
-    (w.0 ∙ ap (λ (k : ℕ). count k (λ i. bit a.octets.now i ⊕ wbit a.y.now (a.u + i))) e, omega (arith, w.1))
-
 pub returns : goal.returns
 returns c =
     let w = c.apart_whole-sum.ensures in

@@ -1,8 +1,8 @@
 -- `unlike::unlike_words`: sum counts the first j words. Assumes nothing.
-use mathlib.Core.Path.{◌≡◌, ap, ◌∙◌, sym}
-use Prim.Native.Nat.{ℕ, ◌+◌, ◌*◌}
+use mathlib.Core.Path.{ap, ◌∙◌, sym}
+use Prim.Native.Nat.{ℕ, ◌+◌}
 use native.Mathlib.Omega.{arith}
-use Rattle.bits.specs.Bits.{count, ◌⊕◌}
+use Rattle.bits.specs.Bits.{◌⊕◌}
 use Rattle.bits.proofs.Counting.{count-start}
 use Rattle.vectors.specs.Vectors.{wbit}
 use Rattle.vectors.proofs.Filling.{word_holds}
@@ -11,10 +11,7 @@ use Rattle.word.proofs.unlike.unlike_words.Goals as goal
 
 pub loop-j-init : goal.loop-j-init
 loop-j-init c =
-    (omega arith, count-start (λ i. wbit c.args.x.now i ⊕ wbit c.args.y.now i), omega arith)
-
-pub overflow_add-sum : goal.overflow_add-sum
-overflow_add-sum c = omega (arith, c.apart-sum.ensures.1)
+    (count-start (λ i. wbit c.args.x.now i ⊕ wbit c.args.y.now i), omega arith)
 
 pub loop-j-preserved : goal.loop-j-preserved
 loop-j-preserved c =
@@ -22,11 +19,4 @@ loop-j-preserved c =
     let a = c.args in
     let m = apart_more (wbit a.x.now) (wbit a.y.now) l.j _ _ _ (word_holds a.x.now l.j) (word_holds a.y.now l.j)
     c.apart-sum.ensures.0 in
-    (omega arith, ap (λ (n : ℕ). n + c.apart-sum.result) l.invariant.1 ∙ sym m, omega (arith, c.apart-sum.ensures.1))
-
-pub returns : goal.returns
-returns c =
-    let a = c.args in
-    let l = c.loop-j in
-    let e : l.j ≡ a.k = omega arith in
-    (l.invariant.1 ∙ ap (λ (k : ℕ). count (64 * k) (λ i. wbit a.x.now i ⊕ wbit a.y.now i)) e, omega (arith, l.invariant.2))
+    (ap (λ (n : ℕ). n + c.apart-sum.result) l.invariant.0 ∙ sym m, omega (arith, c.apart-sum.ensures.1))

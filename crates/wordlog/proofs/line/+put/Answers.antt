@@ -1,7 +1,7 @@
 -- `put` calls itself for a tenth of the number.
 use mathlib.Core.Path.{sym, ap, ◌∙◌}
-use mathlib.Core.List.{List, [], ◌∷◌, ◌++◌, append-nil}
-use Prim.Native.Nat.{ℕ, ◌/◌, ◌<◌, ◌≤◌}
+use mathlib.Core.List.{List, [], ◌++◌, append-nil}
+use Prim.Native.Nat.{ℕ, ◌+◌, ◌/◌, ◌%◌, ◌<◌, ◌≤◌}
 use native.Mathlib.Omega.{arith}
 use lib.ListN.{length, take}
 use Rattle.wordlog.specs.line.Line.{decimal}
@@ -17,8 +17,8 @@ returns-then-n-lt10 t c =
     let h : a.n < 10 = omega arith in
     let k : a.at < length a.text.now = omega (arith, digit_long a.n h) in (
       omega (arith, digit_long a.n h),
-      one_more a.text.now (take a.at a.text.now) [] a.at c.glyph.result k (sym (append-nil _))
-          ∙ ap (λ (l : List ℕ). take a.at a.text.now ++ l) (ap (λ v. v ∷ []) c.glyph.ensures ∙ sym (decimal_digit a.n h)),
+      one_more a.text.now (take a.at a.text.now) [] a.at (48 + a.n) k (sym (append-nil _))
+          ∙ ap (λ (l : List ℕ). take a.at a.text.now ++ l) (sym (decimal_digit a.n h)),
     )
 
 pub put-end-requires : goal.put-end-requires
@@ -38,7 +38,6 @@ returns t c =
     let w = c.put-end in
     let k : w.result < length w.new.text = omega (arith, more_long a.n h) in (
       omega (arith, more_long a.n h),
-      one_more w.new.text (take a.at a.text.now) (decimal (a.n / 10)) w.result c.glyph-2.result k w.ensures.1
-          ∙ ap (λ (l : List ℕ). take a.at a.text.now ++ l) (ap (λ v. decimal (a.n / 10) ++ (v ∷ [])) c.glyph-2.ensures
-          ∙ sym (decimal_more a.n h)),
+      one_more w.new.text (take a.at a.text.now) (decimal (a.n / 10)) w.result (48 + a.n % 10) k w.ensures.1
+          ∙ ap (λ (l : List ℕ). take a.at a.text.now ++ l) (sym (decimal_more a.n h)),
     )

@@ -4,8 +4,8 @@ use lib.ListN.{take}
 use Rattle.wordlog.proofs.lines.Whole.{numbered, adds}
 use Rattle.wordlog.proofs.lines.go_on.Goals as goal
 
-pub write_words-requires : goal.write_words-requires
-write_words-requires c =
+pub write-requires : goal.write-requires
+write-requires c =
     let a = c.args in
     let b = c.block_at-b in
     let n = numbered a.head.now a.words.now a.read b.result b.ensures c.requires.2.1 in
@@ -14,7 +14,7 @@ write_words-requires c =
 pub returns : goal.returns
 returns c =
     let a = c.args in
-    let w = c.write_words in
+    let w = c.write in
     let b = c.block_at-b in (
       w.ensures.upper_bound,
       adds a.head.now a.words.now (take w.result w.new.text) a.read b.result c.requires.0

@@ -1,9 +1,0 @@
--- `pairs::is_zeros` ends, and reads inside.
-use Rattle.std.proofs.Common.{◌-◌, ◌≤◌, length}
-use Rattle.pairs.proofs.is_zeros.Given as goal
-
-abbrev pub invariant-loop-i : goal.invariant-loop-i
-invariant-loop-i l = l.i ≤ length l.octets
-
-abbrev pub decreases-loop-i : goal.decreases-loop-i
-decreases-loop-i l = length l.octets - l.i
