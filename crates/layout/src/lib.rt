@@ -2,6 +2,8 @@
 
 #![tactic(auto)]
 
+ghost use Rattle.layout.specs.Lent.{Fit};
+
 #[derive(Clone, Copy)]
 pub struct Shape {
     // M, the size of a block
@@ -11,6 +13,14 @@ pub struct Shape {
     // blocks in a row, and rows
     pub blocks: usize,
     pub rows: usize,
+}
+
+// A code's parity table as the engine has it: two places for each block, row after row, and its shape.
+#[derive(Clone, Copy)]
+pub struct Parity<'a> {
+    pub places: &'a [u16; TABLE],
+    pub shape: Shape,
+    pub ghost fit: { Fit places.now shape },
 }
 
 // How long the arrays are that hold a code's parts, whatever the code: the 64-bit words of a word, with two to read past it, of a
