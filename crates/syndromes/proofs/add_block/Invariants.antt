@@ -5,4 +5,4 @@ use Rattle.syndromes.proofs.Rowwise.{Reached}
 use Rattle.syndromes.proofs.add_block.Given as goal
 
 abbrev pub invariant-loop-r : goal.invariant-loop-r
-invariant-loop-r l = Reached (wide l.sh) l.sh.rows (spread l.sh l.h l.b (turned (wbit l.d))) (wbit l.initial.acc) l.acc l.r
+invariant-loop-r l = Reached (wide l.parity.shape) l.parity.shape.rows (spread l.parity.shape l.parity.places.now l.b (turned (wbit l.d))) (wbit l.initial.acc) l.acc l.r

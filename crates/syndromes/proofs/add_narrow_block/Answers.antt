@@ -11,14 +11,14 @@ pub loop-r-init : goal.loop-r-init
 loop-r-init c =
     let a = c.args in
     let pre = c.requires in
-    reached_none (wide a.sh) a.sh.rows (wide_some a.h.now a.sh pre.0)
-    (spread a.sh a.h.now a.b (turned (both a.d))) a.acc.now pre.3
+    reached_none (wide a.parity.shape) a.parity.shape.rows (wide_some a.parity.places.now a.parity.shape a.parity.fit)
+    (spread a.parity.shape a.parity.places.now a.b (turned (both a.d))) a.acc.now pre.2
 
 pub loop-r-preserved : goal.loop-r-preserved
 loop-r-preserved c =
     let a = c.args in
     let l = c.loop-r in
-    let some = wide_some a.h.now a.sh c.requires.0 in
-    reached-more (wide a.sh) a.sh.rows some (spread a.sh a.h.now a.b (turned (both a.d))) (wbit a.acc.now) l.acc
+    let some = wide_some a.parity.places.now a.parity.shape a.parity.fit in
+    reached-more (wide a.parity.shape) a.parity.shape.rows some (spread a.parity.shape a.parity.places.now a.b (turned (both a.d))) (wbit a.acc.now) l.acc
     l.r l.invariant
     _ (omega arith) (search rules) c.add_narrow_row.ensures

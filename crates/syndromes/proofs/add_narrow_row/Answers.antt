@@ -8,9 +8,9 @@ use Rattle.syndromes.proofs.add_narrow_row.Goals as goal
 pub returns : goal.returns
 returns c =
     let a = c.args in
-    let w = wide a.sh in
+    let w = wide a.parity.shape in
     let p = c.read_places-p in
     let one = c.add_narrow_entry in
     let two = c.add_narrow_entry-2 in
-    added_places a.sh a.h.now a.b a.r (turned (both a.d)) (w * a.r) (w * (a.r + 1)) p.result.first
+    added_places a.parity.shape a.parity.places.now a.b a.r (turned (both a.d)) (w * a.r) (w * (a.r + 1)) p.result.first
     p.result.second (wbit a.acc.now) _ _ p.ensures.0 p.ensures.1 one.ensures two.ensures

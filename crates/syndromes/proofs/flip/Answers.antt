@@ -12,10 +12,10 @@ pub returns-clause-checks : goal.returns-clause-checks
 returns-clause-checks c code lent x e =
     let a = c.args in
     let pre = c.requires in
-    let h = a.h.now in
-    let M = a.sh.size in
-    let g = rowed (wide a.sh) a.sh.rows (spread a.sh h (a.n / M) (covering M (a.n % M))) in
+    let h = a.parity.places.now in
+    let M = a.parity.shape.size in
+    let g = rowed (wide a.parity.shape) a.parity.shape.rows (spread a.parity.shape h (a.n / M) (covering M (a.n % M))) in
     c.flip_checks.ensures
     ∙ ap (λ (z : Word). plus z g) e
-    ∙ laid_flipped h a.sh pre.0 code lent x (a.n / M) (a.n % M) ((div-lt_iff_lt-mul pre.0.some).1 pre.1) (mod-lt a.n pre.0.some)
-    ∙ ap (λ (n : ℕ). laid code a.sh (flipped x n)) (div-add-mod' a.n M)
+    ∙ laid_flipped h a.parity.shape a.parity.fit code lent x (a.n / M) (a.n % M) ((div-lt_iff_lt-mul a.parity.fit.some).1 pre) (mod-lt a.n a.parity.fit.some)
+    ∙ ap (λ (n : ℕ). laid code a.parity.shape (flipped x n)) (div-add-mod' a.n M)

@@ -5,4 +5,4 @@ use Rattle.syndromes.proofs.Rowwise.{Reached}
 use Rattle.syndromes.proofs.flip_checks.Given as goal
 
 abbrev pub invariant-loop-r : goal.invariant-loop-r
-invariant-loop-r l = Reached (wide l.sh) l.sh.rows (spread l.sh l.h l.b (covering l.sh.size l.k)) (wbit l.initial.z) l.z l.r
+invariant-loop-r l = Reached (wide l.parity.shape) l.parity.shape.rows (spread l.parity.shape l.parity.places.now l.b (covering l.parity.shape.size l.k)) (wbit l.initial.z) l.z l.r

@@ -10,10 +10,10 @@ use Rattle.syndromes.proofs.syndrome.Goals as goal
 pub returns : goal.returns
 returns c code lent =
     let a = c.args in
-    let fit = c.requires.0 in
-    let w = wide a.sh in
+    let fit = a.parity.fit in
+    let w = wide a.parity.shape in
     let y = wbit a.y.now in
     c.trim_rows.ensures
-    ∙ ap (within w a.sh.size a.sh.rows) c.add_all.ensures
-    ∙ within_rowed w a.sh.size a.sh.rows (wide_some a.h.now a.sh fit) (summed a.sh a.h.now y a.sh.blocks)
-    ∙ laid_summed a.h.now a.sh fit code lent y
+    ∙ ap (within w a.parity.shape.size a.parity.shape.rows) c.add_all.ensures
+    ∙ within_rowed w a.parity.shape.size a.parity.shape.rows (wide_some a.parity.places.now a.parity.shape fit) (summed a.parity.shape a.parity.places.now y a.parity.shape.blocks)
+    ∙ laid_summed a.parity.places.now a.parity.shape fit code lent y
