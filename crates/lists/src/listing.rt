@@ -19,7 +19,7 @@ use catalogue::offer;
 use catalogue::offer::Offer;
 use flipping::runs::Next;
 use flipping::{endings, runs};
-use layout::{SYNDROME, TABLE, WORD};
+use layout::{Parity, SYNDROME, TABLE, WORD};
 use refusals::Refusal;
 use word::{judging, measured};
 
@@ -177,8 +177,11 @@ fn flip_on(
         return ended(l, flips, word, y, 6, 0, 0);
     }
     let o = l.offer;
-    let sh = o.shape;
-    syndromes::flip(y, z, h, sh, bit);
+    let parity = Parity {
+        places: h,
+        shape: o.shape,
+    };
+    syndromes::flip(y, z, parity, bit);
     let left = syndromes::broken(z);
     went(l, flips, bit as u32, excess, left)
 }

@@ -12,7 +12,7 @@ ghost use Rattle.layout.specs.Rooms.{syndrome_room, table_room, word_room};
 use super::received;
 use catalogue::offer::Offer;
 use catalogue::tables;
-use layout::{SYNDROME, Shape, TABLE, WORD};
+use layout::{Parity, SYNDROME, Shape, TABLE, WORD};
 
 // The parity table of blocks of this size into h, its shape, and the syndrome of the bits that y holds into z, which is handed over
 // as zeros.
@@ -22,7 +22,14 @@ pub fn checks(size: usize, y: &[u64; WORD], h: &mut [u16; TABLE], z: &mut [u64; 
         × (wbit z.new ≡ laid (code_of n) result (wbit y.now)) }
 {
     let sh = tables::lend(size, h);
-    syndromes::syndrome(y, h, sh, z);
+    syndromes::syndrome(
+        y,
+        Parity {
+            places: h,
+            shape: sh,
+        },
+        z,
+    );
     sh
 }
 
