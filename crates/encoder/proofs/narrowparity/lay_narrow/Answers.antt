@@ -17,18 +17,17 @@ lend_narrow-requires c =
     let last = c.requires.2 in
     (refl, λ e. absurd (omega (arith, last (λ a. omega arith) (λ a. omega arith))))
 
+pub invariant_of-parity : goal.invariant_of-parity
+invariant_of-parity c =
+    let k = c.requires.0 in
+    let t = c.lend_narrow in
+    let lends = t.ensures.0 k.number k.offers (ap (λ z. z.size) k.is) in
+    record { fit = subst (Fit t.new.h) (lends.0 ∙ sym k.is) lends.1.fit }
+
 pub add_narrow-requires : goal.add_narrow-requires
 add_narrow-requires c =
-    let k = c.requires.0 in
     let narrow = c.requires.1 in
-    let t = c.lend_narrow in
-    let lends = t.ensures.0 k.number k.offers (ap (λ z. z.size) k.is) in (
-      subst (Fit t.new.h) (lends.0 ∙ sym k.is) lends.1.fit,
-      ap (λ z. z.words) narrow,
-      ap (λ z. z.blocks) narrow,
-      c.requires.3,
-      c.requires.4,
-    )
+    (ap (λ z. z.words) narrow, ap (λ z. z.blocks) narrow, c.requires.3, c.requires.4)
 
 pub trim_rows-requires : goal.trim_rows-requires
 trim_rows-requires c =

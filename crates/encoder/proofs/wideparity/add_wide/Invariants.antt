@@ -10,4 +10,4 @@ use Rattle.encoder.proofs.wideparity.add_wide.Given as goal
 abbrev pub invariant-loop-b : goal.invariant-loop-b
 invariant-loop-b l =
     (l.b ≤ 14) × (l.odd < 2 ^ 14) × (l.odd ≡ number l.b (odd_block (later l.unsent (bit l.octets))))
-    × (wbit l.z ≡ rowed (wide l.sh) l.sh.rows (summed l.sh l.h (later l.unsent (bit l.octets)) l.b))
+    × (wbit l.z ≡ rowed (wide l.parity.shape) l.parity.shape.rows (summed l.parity.shape l.parity.places.now (later l.unsent (bit l.octets)) l.b))

@@ -17,13 +17,17 @@ use Rattle.encoder.proofs.parityrows.Laws.{wide_some, held_kept}
 use Rattle.encoder.proofs.parityrows.Ready.{ready, short_of}
 use Rattle.encoder.proofs.wideparity.lay_wide.Goals as goal
 
-pub add_wide-odd-requires : goal.add_wide-odd-requires
-add_wide-odd-requires c =
+pub invariant_of-parity : goal.invariant_of-parity
+invariant_of-parity c =
     let k = c.requires.0 in
     let wide = c.requires.1 in
     let t = c.lend511 in
-    let lends = wide_lends k.number t.new.h t.ensures k.offers (sym wide ∙ k.is) in (
-      subst (Fit t.new.h) (sym wide) lends.fit,
+    let lends = wide_lends k.number t.new.h t.ensures k.offers (sym wide ∙ k.is) in
+    record { fit = subst (Fit t.new.h) (sym wide) lends.fit }
+
+pub add_wide-odd-requires : goal.add_wide-odd-requires
+add_wide-odd-requires c =
+    let wide = c.requires.1 in (
       ap (λ z. z.size) wide,
       ap (λ z. z.words) wide,
       ap (λ z. z.blocks) wide,
