@@ -137,7 +137,7 @@ fn add_narrow_block(y: &[u64], parity: Parity, b: usize, z: &mut [u64; SYNDROME]
 {
     let size = parity.shape.size;
     let v = vectors::front(vectors::window(y, b * size), size);
-    syndromes::add_narrow_block(vectors::double_word(v, size), parity, b, z);
+    syndromes::add_block(vectors::double_word(v, size), parity, b, z);
 }
 
 // Adds the information blocks to the rows, where one word holds a block.

@@ -19,6 +19,7 @@ use super::parityrows::END;
 use catalogue::offer::{NEAR_EARTH, Offer};
 use catalogue::tables;
 use layout::{BLOCK, DOUBLED, Parity, SYNDROME, Shape, TABLE};
+use syndromes::addends::Doubled;
 use word::{ownparity, received};
 
 // M = 511.
@@ -166,7 +167,7 @@ fn add_wide_block(
         (turned (doubled parity.entry.shape.size (later unsent (bit octets.now)) b)))) }
 {
     let more = double_block(octets, unsent, b, odd, part, d);
-    syndromes::add_block(d, parity, b, z);
+    syndromes::add_block(Doubled { words: d }, parity, b, z);
     more
 }
 

@@ -2,6 +2,8 @@
 
 #![tactic(auto)]
 
+pub mod addends;
+
 ghost use Rattle.std.specs.Prelude.{◌≡◌, false, List, ℕ, ◌+◌, ◌-◌, ◌*◌, ◌/◌, ◌%◌, ◌<◌, ◌≤◌, eqb, length, get_or};
 ghost use Rattle.bits.specs.Bits.{Word, flipped};
 ghost use Rattle.rules.specs.Codes.{Code};
@@ -11,8 +13,8 @@ ghost use Rattle.layout.specs.Lent.{Fit, Lent, place_of, laid};
 ghost use Rattle.syndromes.specs.Rows.{plus, rowed, within, wide, entry, spread, doubled, turned, summed, covering};
 ghost use Rattle.layout.specs.Rooms.{syndrome_room, word_room};
 
+use addends::{Addend, Covering, Doubled};
 use layout::{BLOCK, DOUBLED, Parity, SYNDROME, Shape, WORD};
-use vectors::Pair;
 
 // What stands at the two places of a block.
 #[derive(Clone, Copy)]
@@ -35,40 +37,36 @@ fn read_places(parity: Parity, b: usize, r: usize) -> Places
     }
 }
 
-// Adds a doubled block to row r, turned by s; a number that is M or more is no shift.
-fn add_entry(d: &[u64], s: usize, sh: Shape, acc: &mut [u64], r: usize)
-    requires { (sh.size ≤ wide sh) × (2 * sh.words ≤ length d.now) × ((r + 1) * sh.words ≤ length acc.old) }
-    ensures { wbit acc.new ≡ added (wbit acc.old) (wide sh * r) (wide sh * (r + 1))
-        (entry sh.size (turned (wbit d.now)) s) }
+// Adds what the shift s adds to row r; a number that is M or more is no shift.
+fn add_entry<A: Addend>(part: A, s: usize, sh: Shape, acc: &mut [u64], r: usize)
+    requires { A.suits part sh × (sh.size ≤ wide sh) × ((r + 1) * sh.words ≤ length acc.old) × (length acc.old ≡ syndrome_room) }
+    ensures { wbit acc.new ≡ added (wbit acc.old) (wide sh * r) (wide sh * (r + 1)) (entry sh.size (A.adds part sh) s) }
 {
     if s < sh.size {
-        vectors::add_turned(d, s, acc, r * sh.words, sh.words);
+        part.add(s, sh, acc, r);
     }
 }
 
-// Adds a doubled block to row r, turned by each of its shifts there.
-fn add_row(d: &[u64], parity: Parity, b: usize, acc: &mut [u64], r: usize)
-    requires { (2 * parity.shape.words ≤ length d.now) × (b < parity.shape.blocks) × (r < parity.shape.rows)
-        × (length acc.old ≡ syndrome_room) }
+// Adds what each shift of block b adds to row r.
+fn add_row<A: Addend>(part: A, parity: Parity, b: usize, acc: &mut [u64], r: usize)
+    requires { A.suits part parity.shape × (b < parity.shape.blocks) × (r < parity.shape.rows) × (length acc.old ≡ syndrome_room) }
     ensures { wbit acc.new ≡ added (wbit acc.old) (wide parity.entry.shape * r) (wide parity.entry.shape * (r + 1))
-        (spread parity.entry.shape parity.entry.places.now b (turned (wbit d.now)) r) }
+        (spread parity.entry.shape parity.entry.places.now b (A.adds part parity.entry.shape) r) }
 {
     let sh = parity.shape;
     let p = read_places(parity, b, r);
-    add_entry(d, p.first, sh, acc, r);
-    add_entry(d, p.second, sh, acc, r);
+    add_entry(part, p.first, sh, acc, r);
+    add_entry(part, p.second, sh, acc, r);
 }
 
-// Adds block b, doubled, to every row.
-pub fn add_block(d: &[u64], parity: Parity, b: usize, acc: &mut [u64])
-    requires { (2 * parity.shape.words ≤ length d.now) × (b < parity.shape.blocks) × (length acc.old ≡ syndrome_room) }
-    ensures { wbit acc.new ≡ plus (wbit acc.old)
-        (rowed (wide parity.entry.shape) parity.entry.shape.rows
-        (spread parity.entry.shape parity.entry.places.now b (turned (wbit d.now)))) }
+// Adds what the shifts of block b add to every row.
+pub fn add_block<A: Addend>(part: A, parity: Parity, b: usize, acc: &mut [u64])
+    requires { A.suits part parity.shape × (b < parity.shape.blocks) × (length acc.old ≡ syndrome_room) }
+    ensures { wbit acc.new ≡ plus (wbit acc.old) (rowed (wide parity.entry.shape) parity.entry.shape.rows
+        (spread parity.entry.shape parity.entry.places.now b (A.adds part parity.entry.shape))) }
 {
-    let sh = parity.shape;
-    for r in 0..sh.rows {
-        add_row(d, parity, b, acc, r);
+    for r in 0..parity.shape.rows {
+        add_row(part, parity, b, acc, r);
     }
 }
 
@@ -98,7 +96,7 @@ fn add_wide_block(
 {
     let sh = parity.shape;
     double_block(y, b * sh.size, sh.size, part, d);
-    add_block(d, parity, b, acc);
+    add_block(Doubled { words: d }, parity, b, acc);
 }
 
 // Adds every block of y to the rows.
@@ -113,49 +111,12 @@ fn add_blocks(
     ensures { wbit acc.new ≡ rowed (wide parity.entry.shape) parity.entry.shape.rows
         (summed parity.entry.shape parity.entry.places.now (wbit y.now) parity.entry.shape.blocks) }
 {
-    let sh = parity.shape;
-    for b in 0..sh.blocks {
+    for b in 0..parity.shape.blocks {
         add_wide_block(y, parity, b, part, d, acc);
     }
 }
 
-// The same for blocks that one word holds, doubled in two.
-fn add_narrow_entry(d: Pair, s: usize, sh: Shape, acc: &mut [u64], r: usize)
-    requires { (sh.words ≡ 1) × (sh.size ≤ wide sh) × (r < length acc.old) }
-    ensures { wbit acc.new ≡ added (wbit acc.old) (wide sh * r) (wide sh * (r + 1))
-        (entry sh.size (turned (both d)) s) }
-{
-    if s < sh.size {
-        vectors::add_word(vectors::funnel(d.first, d.second, s), acc, r);
-    }
-}
-
-// Adds it to row r, turned by each of its shifts there.
-fn add_narrow_row(d: Pair, parity: Parity, b: usize, acc: &mut [u64], r: usize)
-    requires { (parity.shape.words ≡ 1) × (b < parity.shape.blocks) × (r < parity.shape.rows) × (length acc.old ≡ syndrome_room) }
-    ensures { wbit acc.new ≡ added (wbit acc.old) (wide parity.entry.shape * r) (wide parity.entry.shape * (r + 1))
-        (spread parity.entry.shape parity.entry.places.now b (turned (both d)) r) }
-{
-    let sh = parity.shape;
-    let p = read_places(parity, b, r);
-    add_narrow_entry(d, p.first, sh, acc, r);
-    add_narrow_entry(d, p.second, sh, acc, r);
-}
-
-// Adds it to every row.
-pub fn add_narrow_block(d: Pair, parity: Parity, b: usize, acc: &mut [u64])
-    requires { (parity.shape.words ≡ 1) × (b < parity.shape.blocks) × (length acc.old ≡ syndrome_room) }
-    ensures { wbit acc.new ≡ plus (wbit acc.old)
-        (rowed (wide parity.entry.shape) parity.entry.shape.rows
-        (spread parity.entry.shape parity.entry.places.now b (turned (both d)))) }
-{
-    let sh = parity.shape;
-    for r in 0..sh.rows {
-        add_narrow_row(d, parity, b, acc, r);
-    }
-}
-
-// Adds every block of y to the rows.
+// The same where one word holds a block.
 fn add_narrow_blocks(y: &[u64; WORD], parity: Parity, acc: &mut [u64; SYNDROME])
     requires { (parity.shape.words ≡ 1) × (wbit acc.old ≡ (λ n. false)) }
     ensures { wbit acc.new ≡ rowed (wide parity.entry.shape) parity.entry.shape.rows
@@ -164,7 +125,7 @@ fn add_narrow_blocks(y: &[u64; WORD], parity: Parity, acc: &mut [u64; SYNDROME])
     let sh = parity.shape;
     for b in 0..sh.blocks {
         let v = vectors::front(vectors::window(y, b * sh.size), sh.size);
-        add_narrow_block(vectors::double_word(v, sh.size), parity, b, acc);
+        add_block(vectors::double_word(v, sh.size), parity, b, acc);
     }
 }
 
@@ -248,46 +209,6 @@ pub fn lowest(z: &[u64; SYNDROME], sh: Shape) -> u32
     (place / wide * sh.size + place % wide) as u32
 }
 
-// Flips the check of row r that covers bit k by the shift s; a number that is M or more is no shift.
-fn flip_entry(z: &mut [u64], s: usize, sh: Shape, k: usize, r: usize)
-    requires { (sh.size ≤ wide sh) × (k < sh.size) × ((r + 1) * sh.words ≤ length z.old) × (length z.old ≡ syndrome_room) }
-    ensures { wbit z.new ≡ added (wbit z.old) (wide sh * r) (wide sh * (r + 1))
-        (entry sh.size (covering sh.size k) s) }
-{
-    if s < sh.size {
-        let mut i = k + (sh.size - s);
-        if i >= sh.size {
-            i -= sh.size;
-        }
-        vectors::flip_bit(z, 64 * sh.words * r + i);
-    }
-}
-
-// Flips the checks of row r that cover bit k of block b.
-fn flip_row(z: &mut [u64], parity: Parity, b: usize, k: usize, r: usize)
-    requires { (b < parity.shape.blocks) × (k < parity.shape.size) × (r < parity.shape.rows) × (length z.old ≡ syndrome_room) }
-    ensures { wbit z.new ≡ added (wbit z.old) (wide parity.entry.shape * r) (wide parity.entry.shape * (r + 1))
-        (spread parity.entry.shape parity.entry.places.now b (covering parity.entry.shape.size k) r) }
-{
-    let sh = parity.shape;
-    let p = read_places(parity, b, r);
-    flip_entry(z, p.first, sh, k, r);
-    flip_entry(z, p.second, sh, k, r);
-}
-
-// Flips the checks that cover bit k of block b.
-fn flip_checks(z: &mut [u64], parity: Parity, b: usize, k: usize)
-    requires { (b < parity.shape.blocks) × (k < parity.shape.size) × (length z.old ≡ syndrome_room) }
-    ensures { wbit z.new ≡ plus (wbit z.old)
-        (rowed (wide parity.entry.shape) parity.entry.shape.rows
-        (spread parity.entry.shape parity.entry.places.now b (covering parity.entry.shape.size k))) }
-{
-    let sh = parity.shape;
-    for r in 0..sh.rows {
-        flip_row(z, parity, b, k, r);
-    }
-}
-
 // Flips bit n of a word, and its checks with it.
 pub fn flip(y: &mut [u64; WORD], z: &mut [u64; SYNDROME], parity: Parity, n: usize)
     requires { n < parity.shape.blocks * parity.shape.size }
@@ -298,5 +219,6 @@ pub fn flip(y: &mut [u64; WORD], z: &mut [u64; SYNDROME], parity: Parity, n: usi
 {
     let sh = parity.shape;
     vectors::flip_bit(y, n);
-    flip_checks(z, parity, n / sh.size, n % sh.size);
+    let covering = Covering { bit: n % sh.size };
+    add_block(covering, parity, n / sh.size, z);
 }

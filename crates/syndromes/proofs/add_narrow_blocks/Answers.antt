@@ -23,7 +23,7 @@ loop-b-preserved c =
     let block : Holds c.front-v.result (up_to M (from (l.b * M) y)) =
     λ i hi. c.front-v.ensures i hi
     ∙ ap (λ (p : Bool). ltb i M && p) (c.window.ensures i hi) in
-    c.add_narrow_block.ensures
+    c.add_block.ensures
     ∙ ap₂ (λ (x d : Word). plus x (rowed (wide sh) sh.rows (spread sh h l.b (turned d)))) l.invariant
     (c.double_word.ensures (from (l.b * M) y) block)
     ∙ summed_more h sh c.args.parity.fit y l.b

@@ -15,7 +15,7 @@ returns-clause-checks c code lent x e =
     let h = a.parity.places.now in
     let M = a.parity.shape.size in
     let g = rowed (wide a.parity.shape) a.parity.shape.rows (spread a.parity.shape h (a.n / M) (covering M (a.n % M))) in
-    c.flip_checks.ensures
+    c.add_block.ensures
     ∙ ap (λ (z : Word). plus z g) e
     ∙ laid_flipped h a.parity.shape a.parity.fit code lent x (a.n / M) (a.n % M) ((div-lt_iff_lt-mul a.parity.fit.some).1 pre) (mod-lt a.n a.parity.fit.some)
     ∙ ap (λ (n : ℕ). laid code a.parity.shape (flipped x n)) (div-add-mod' a.n M)

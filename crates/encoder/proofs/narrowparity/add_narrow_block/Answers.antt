@@ -26,6 +26,6 @@ returns c =
     let y = wbit a.y.now in
     let block : Holds c.front-v.result (up_to M (from (a.b * M) y)) =
     λ i hi. c.front-v.ensures i hi ∙ ap (λ (p : Bool). ltb i M && p) (c.window.ensures i hi) in
-    c.add_narrow_block.ensures
+    c.add_block.ensures
     ∙ ap (λ (d : Word). plus (wbit a.z.now) (rowed (wide sh) sh.rows (spread sh a.parity.places.now a.b (turned d))))
     (c.double_word.ensures (from (a.b * M) y) block)
