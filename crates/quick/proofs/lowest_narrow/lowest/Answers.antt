@@ -8,7 +8,6 @@ use Rattle.catalogue.proofs.offer.Offers.{fixed}
 use Rattle.word.proofs.received.Handed.{taken_whole}
 use Rattle.vectors.proofs.Filling.{zero_words}
 use Rattle.quick.proofs.groups.Shapes.{checked}
-use borrow.Author.Rules.{rules}
 use Rattle.quick.proofs.lowest_narrow.lowest.Goals as goal
 
 pub lend_narrow-sh-requires : goal.lend_narrow-sh-requires
@@ -21,11 +20,10 @@ load-requires c =
     let word = c.requires.1 ∙ ap (λ o. o.word) k.is in
     (omega (arith, w.0, word), zero_words 17)
 
-pub rows_lowest-requires : goal.rows_lowest-requires
-rows_lowest-requires c =
+pub invariant_of-parity : goal.invariant_of-parity
+invariant_of-parity c =
     let k = c.requires.0 in
-    let l = c.lend_narrow-sh.ensures in
-    ((l.0 k.number k.offers (ap (λ o. o.shape.size) k.is)).1.fit, l.1, search rules)
+    record { fit = (c.lend_narrow-sh.ensures.0 k.number k.offers (ap (λ o. o.shape.size) k.is)).1.fit }
 
 pub returns : goal.returns
 returns c n off is =
