@@ -1,5 +1,5 @@
 -- `quicknarrow::lowest`: the octets loaded, and their rows. Assumes nothing.
-use mathlib.Core.Path.{refl, sym, ap, ◌∙◌}
+use mathlib.Core.Path.{sym, ap, ◌∙◌}
 use native.Mathlib.Omega.{arith}
 use Rattle.rules.specs.Codes.{code}
 use Rattle.rules.specs.Checks.{lowest}
@@ -10,20 +10,12 @@ use Rattle.vectors.proofs.Filling.{zero_words}
 use Rattle.quick.proofs.groups.Shapes.{checked}
 use Rattle.quick.proofs.lowest_narrow.lowest.Goals as goal
 
-pub lend_narrow-sh-requires : goal.lend_narrow-sh-requires
-lend_narrow-sh-requires c = (refl, c.requires.2)
-
 pub load-requires : goal.load-requires
 load-requires c =
     let k = c.requires.0 in
     let w = (checked k.number k.offers).narrow (λ e. c.requires.2 (ap (λ o. o.shape.size) k.is ∙ e)) in
     let word = c.requires.1 ∙ ap (λ o. o.word) k.is in
     (omega (arith, w.0, word), zero_words 17)
-
-pub invariant_of-parity : goal.invariant_of-parity
-invariant_of-parity c =
-    let k = c.requires.0 in
-    record { fit = (c.lend_narrow-sh.ensures.0 k.number k.offers (ap (λ o. o.shape.size) k.is)).1.fit }
 
 pub returns : goal.returns
 returns c n off is =

@@ -1,28 +1,18 @@
 -- `quicknarrow::narrow_block`: the block doubled, and its two places. Assumes nothing.
 use mathlib.Core.Path.{sym, ap, ap₂, ◌∙◌}
 use mathlib.Core.Bool.{Bool, ◌&&◌}
-use Prim.Native.Nat.{◌+◌, ◌*◌, ◌≤◌}
-use native.Mathlib.Nat.{mul-le-mul}
+use Prim.Native.Nat.{◌+◌, ◌*◌}
 use native.Mathlib.Omega.{arith}
 use lib.Dec.{ltb}
 use Rattle.bits.specs.Bits.{Word, ◌⊕◌}
 use Rattle.layout.specs.Lent.{place_of}
 use Rattle.layout.proofs.Lending.{read_any}
-use Rattle.syndromes.proofs.Bounds.{block_room, place_room}
+use Rattle.syndromes.proofs.Bounds.{place_room}
 use Rattle.vectors.specs.Vectors.{wbit, Holds, up_to, from}
 use Rattle.vectors.proofs.Places.{digit_xor}
 use Rattle.quick.specs.groups.Groups.{reached}
 use Rattle.quick.proofs.groups.Groups.{placed_first, placed_second}
 use Rattle.quick.proofs.lowest_narrow.narrow_block.Goals as goal
-
-pub overflow_mul-b : goal.overflow_mul-b
-overflow_mul-b c =
-    omega (arith, block_room c.args.parity.places.now c.args.parity.shape c.args.parity.fit c.args.b c.requires.1)
-
-pub window-requires : goal.window-requires
-window-requires c =
-    let few : c.args.b ≤ 15 = omega (arith, c.args.parity.fit.blocks, c.requires.1) in
-    omega (arith, mul-le-mul few c.requires.0, c.requires.3)
 
 pub returns : goal.returns
 returns c =

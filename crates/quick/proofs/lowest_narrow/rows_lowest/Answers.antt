@@ -1,9 +1,9 @@
 -- `quicknarrow::rows_lowest`: no check of the rows so far is broken. Assumes nothing.
 use mathlib.Core.Path.{◌≡◌, sym, ap, ◌∙◌, subst}
-use Prim.Native.Nat.{◌*◌, ◌≤◌, ◌<◌}
-use native.Mathlib.Nat.{mul-le-mul, pos_of_ne-zero}
+use Prim.Native.Nat.{◌*◌, ◌<◌}
+use native.Mathlib.Nat.{pos_of_ne-zero}
 use native.Mathlib.Omega.{arith}
-use lib.Count.{count_leading_zeros, leading_le}
+use lib.Count.{count_leading_zeros}
 use Rattle.bits.specs.Bits.{digit}
 use Rattle.bits.proofs.Octets.{digit_zero}
 use Rattle.vectors.specs.Vectors.{wbit}
@@ -14,21 +14,6 @@ use Rattle.quick.proofs.lowest_narrow.rows_lowest.Goals as goal
 
 pub loop-r-init : goal.loop-r-init
 loop-r-init c = (omega arith, λ code lent j l. absurd (omega arith))
-
-pub overflow_mul-result : goal.overflow_mul-result
-overflow_mul-result c =
-    let r : c.loop-r.r ≤ 4 = omega (arith, c.args.parity.fit.rows) in
-    omega (arith, mul-le-mul r c.requires.0)
-
-pub overflow_cast-result : goal.overflow_cast-result
-overflow_cast-result c =
-    let r : c.loop-r.r ≤ 4 = omega (arith, c.args.parity.fit.rows) in
-    omega (arith, mul-le-mul r c.requires.0)
-
-pub overflow_add-result : goal.overflow_add-result
-overflow_add-result c =
-    let r : c.loop-r.r ≤ 4 = omega (arith, c.args.parity.fit.rows) in
-    omega (arith, mul-le-mul r c.requires.0, leading_le 64 c.front-v.result)
 
 pub returns-then-v-ne0 : goal.returns-then-v-ne0
 returns-then-v-ne0 c code lent =
@@ -57,14 +42,6 @@ loop-r-preserved c =
           ∙ digit_zero 64 q)
           (l.invariant.1 code lent),
     )
-
-pub overflow_mul-result-2 : goal.overflow_mul-result-2
-overflow_mul-result-2 c =
-    omega (arith, mul-le-mul c.args.parity.fit.rows c.requires.0)
-
-pub overflow_cast-result-2 : goal.overflow_cast-result-2
-overflow_cast-result-2 c =
-    omega (arith, mul-le-mul c.args.parity.fit.rows c.requires.0)
 
 pub returns : goal.returns
 returns c code lent =

@@ -7,12 +7,6 @@ use Rattle.quick.proofs.lowest_wide.begin_row.Goals as goal
 pub loop-k-init : goal.loop-k-init
 loop-k-init c = (omega arith, c.requires.1, λ j l. absurd (omega arith))
 
-pub overflow_mul-begins : goal.overflow_mul-begins
-overflow_mul-begins c = omega (arith, c.args.parity.fit.blocks)
-
-pub offset_bounds-begins-k : goal.offset_bounds-begins-k
-offset_bounds-begins-k c = omega (arith, c.args.parity.fit.blocks)
-
 pub loop-k-preserved : goal.loop-k-preserved
 loop-k-preserved c =
     let l = c.loop-k in

@@ -2,12 +2,11 @@
 use lib.ListN.{get_or}
 use mathlib.Core.Path.{◌≡◌, ap, ap₂, ◌∙◌}
 use Prim.Native.Nat.{ℕ, ◌+◌, ◌*◌, ◌/◌}
-use native.Mathlib.Nat.{mul-le-mul_right}
 use native.Mathlib.Omega.{arith}
 use Rattle.bits.specs.Bits.{bit, ◌⊕◌}
 use Rattle.rules.specs.Encoding.{lifted}
 use Rattle.layout.proofs.Lending.{read_any}
-use Rattle.syndromes.proofs.Bounds.{block_room, place_room}
+use Rattle.syndromes.proofs.Bounds.{place_room}
 use Rattle.vectors.proofs.Places.{digit_xor}
 use Rattle.quick.specs.groups.Groups.{reached, group}
 use Rattle.quick.proofs.groups.Groups.{group_none, group_more}
@@ -17,16 +16,6 @@ pub loop-k-init : goal.loop-k-init
 loop-k-init c =
     let a = c.args in
     (omega arith, λ code e i hi. group_none a.parity.shape a.parity.places.now (lifted code (bit a.octets.now)) 0 i)
-
-pub overflow_mul-k : goal.overflow_mul-k
-overflow_mul-k c =
-    omega (arith, block_room c.args.parity.places.now c.args.parity.shape c.args.parity.fit (c.loop-k.k / 2) (omega arith))
-
-pub wide_entry-v-requires : goal.wide_entry-v-requires
-wide_entry-v-requires c =
-    let k = c.loop-k.k in
-    let room = mul-le-mul_right {m = k / 2 + 1} {n = c.args.parity.shape.blocks} c.args.parity.shape.size (omega arith) in
-    (c.requires.1, omega (arith, room, c.requires.2), c.requires.3, c.requires.4, c.requires.5)
 
 pub loop-k-preserved : goal.loop-k-preserved
 loop-k-preserved c =

@@ -4,17 +4,11 @@ use Rattle.bits.specs.Bits.{Word, bit}
 use Rattle.rules.specs.Encoding.{lifted}
 use Rattle.vectors.proofs.Filling.{zero_words}
 use Rattle.quick.specs.groups.Groups.{Twofold}
-use Rattle.quick.proofs.lowest_wide.Doubled.{fit_size}
-use borrow.Author.Rules.{rules}
 use Rattle.quick.proofs.lowest_wide.whole_lowest.Goals as goal
 
 pub take-requires : goal.take-requires
 take-requires c =
     (c.requires.4, c.requires.3, refl, zero_words 130)
-
-pub double_blocks-requires : goal.double_blocks-requires
-double_blocks-requires c =
-    (c.requires.1, fit_size c.args.parity.fit, c.requires.2, c.args.parity.fit.bits, search rules, refl)
 
 pub returns : goal.returns
 returns c code lent e =

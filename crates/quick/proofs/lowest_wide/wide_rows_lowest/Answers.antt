@@ -1,29 +1,13 @@
 -- `quickwide::wide_rows_lowest`: no check of the rows so far is broken. Assumes nothing.
 use mathlib.Core.Path.{◌≡◌, sym, subst}
-use Prim.Native.Nat.{◌*◌, ◌≤◌, ◌<◌}
-use native.Mathlib.Nat.{mul-le-mul}
+use Prim.Native.Nat.{◌*◌, ◌<◌}
 use native.Mathlib.Omega.{arith}
 use Rattle.quick.proofs.groups.Groups.{rows_met}
-use Rattle.quick.proofs.lowest_wide.Doubled.{row-found, row_passed, fit_size}
+use Rattle.quick.proofs.lowest_wide.Doubled.{row-found, row_passed}
 use Rattle.quick.proofs.lowest_wide.wide_rows_lowest.Goals as goal
 
 pub loop-row-init : goal.loop-row-init
 loop-row-init c = (omega arith, λ code x lent two j l. absurd (omega arith))
-
-pub overflow_mul-result : goal.overflow_mul-result
-overflow_mul-result c =
-    let r : c.loop-row.row ≤ 4 = omega (arith, c.args.parity.fit.rows) in
-    omega (arith, mul-le-mul r (fit_size c.args.parity.fit))
-
-pub overflow_add-result : goal.overflow_add-result
-overflow_add-result c =
-    let r : c.loop-row.row ≤ 4 = omega (arith, c.args.parity.fit.rows) in
-    omega (arith, mul-le-mul r (fit_size c.args.parity.fit), fit_size c.args.parity.fit)
-
-pub overflow_cast-result : goal.overflow_cast-result
-overflow_cast-result c =
-    let r : c.loop-row.row ≤ 4 = omega (arith, c.args.parity.fit.rows) in
-    omega (arith, mul-le-mul r (fit_size c.args.parity.fit), fit_size c.args.parity.fit)
 
 pub returns-then-l-sh : goal.returns-then-l-sh
 returns-then-l-sh c code x lent two =
@@ -41,14 +25,6 @@ loop-row-preserved c =
           row_passed code c.args.parity.places.now c.args.parity.shape x lent l.row w.result (omega arith) (w.ensures code x lent two)
           (l.invariant.1 code x lent two) (omega arith),
     )
-
-pub overflow_mul-result-2 : goal.overflow_mul-result-2
-overflow_mul-result-2 c =
-    omega (arith, mul-le-mul c.args.parity.fit.rows (fit_size c.args.parity.fit))
-
-pub overflow_cast-result-2 : goal.overflow_cast-result-2
-overflow_cast-result-2 c =
-    omega (arith, mul-le-mul c.args.parity.fit.rows (fit_size c.args.parity.fit))
 
 pub returns : goal.returns
 returns c code x lent two =
