@@ -34,10 +34,19 @@ pub enum Ending {
     Limit = 6,
 }
 
-// The number is that of an ending; the calls' records give it on.
+impl Ending {
+    // The number by which the calls' records give an ending.
+    pub fn number(self) -> u8
+        ensures { result ≡ number_of self }
+    {
+        self as u8
+    }
+}
+
+// How a run ended, and after how many flips.
 #[derive(Clone, Copy)]
 pub struct Ran {
-    pub number: u8,
+    pub ending: Ending,
     pub flips: u32,
 }
 
@@ -102,13 +111,10 @@ pub fn comes_next(z: &[u64; SYNDROME], parity: Parity, from: usize) -> Next
 
 // A run that ends.
 fn at_end(ending: Ending, flips: u32, last: u32) -> Ended
-    ensures { (result.ran.number ≡ number_of ending) × (result.ran.flips ≡ flips) × (result.last ≡ last) }
+    ensures { (result.ran.ending ≡ ending) × (result.ran.flips ≡ flips) × (result.last ≡ last) }
 {
     Ended {
-        ran: Ran {
-            number: ending as u8,
-            flips,
-        },
+        ran: Ran { ending, flips },
         last,
     }
 }

@@ -12,6 +12,7 @@ use Rattle.flipping.specs.narrow.Weighing.{Rows}
 use Rattle.flipping.specs.declared.runs.Next.{Next}
 use Rattle.flipping.specs.declared.runs.Next.TheVariants.{Quiet, Stuck, Flip}
 use Rattle.flipping.specs.declared.runs.Ran.{Ran}
+use Rattle.flipping.specs.runs.Endings.{number_of}
 
 -- z is the syndrome of a word under a code whose table is lent.
 pub record Holding (h : List ℕ) (sh : Shape) (z : Word) : Type 0 where
@@ -73,7 +74,7 @@ Within bits (Flip n e) = n < bits
 
 -- Under a way of choosing, the word y and the syndrome z are those at the end of the run from x, and its number and flips are the run's.
 pub record RunsTo (way : Way) (c : Code) (sh : Shape) (limit : ℕ) (x : Word) (r : Ran) (y z : Word) : Type 0 where
-  pub number : r.number ≡ (run way limit x).number
+  pub number : number_of r.ending ≡ (run way limit x).number
   pub flips : r.flips ≡ length (run way limit x).flips
   pub word : y ≡ (run way limit x).word
   pub held : z ≡ laid c sh y
