@@ -25,7 +25,7 @@ use encoder::solver;
 use flipping::endings::Corrected;
 use flipping::runs::{Ended, Next};
 use flipping::{endings, runs};
-use layout::{SYNDROME, TABLE, WORD};
+use layout::{Parity, SYNDROME, TABLE, WORD};
 use refusals::Refusal;
 use vectors::copying;
 use word::{judging, measured, received};
@@ -220,7 +220,11 @@ fn run_taken(
     let sh = measured::measure(o, word, h, y, z);
     let first = syndromes::broken(z);
     let lowest = syndromes::lowest(z, sh);
-    let ended = runs::run(y, z, h, sh, o.unsent, limit, first);
+    let parity = Parity {
+        places: h,
+        shape: sh,
+    };
+    let ended = runs::run(y, z, parity, o.unsent, limit, first);
     Course {
         ended,
         first,
@@ -248,7 +252,7 @@ fn finish(o: Offer, word: &[u8], y: &mut [u64; WORD], run: Course, out: &mut [u8
     let ended = run.ended;
     let ran = ended.ran;
     let unlike = endings::unlike_after(o, word, y, ran.flips);
-    let number = judging::judge(o, y, ran.number);
+    let number = judging::judge(o, y, ran.ending.number());
     write_taken(o, number, y, out);
     Corrected {
         number,
@@ -298,7 +302,11 @@ fn next_of(
         × (by_excess (code_of n) (lifted (code_of n) (bit word.now)) ≡ comes_next_of result)) }
 {
     let sh = measured::measure(o, word, h, y, z);
-    runs::comes_next(z, h, sh, o.unsent)
+    let parity = Parity {
+        places: h,
+        shape: sh,
+    };
+    runs::comes_next(z, parity, o.unsent)
 }
 
 // A word with one bit flipped, into an output of the right length.

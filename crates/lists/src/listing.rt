@@ -152,8 +152,11 @@ fn coming(l: Listing, h: &[u16; TABLE], z: &[u64; SYNDROME]) -> Next
         → wbit z.now ≡ laid c l.offer.shape x → by_excess c x ≡ comes_next_of result) }
 {
     let o = l.offer;
-    let sh = o.shape;
-    runs::comes_next(z, h, sh, o.unsent)
+    let parity = Parity {
+        places: h,
+        shape: o.shape,
+    };
+    runs::comes_next(z, parity, o.unsent)
 }
 
 // The list after one flip more, or at the limit.
@@ -245,7 +248,11 @@ fn count_flips(o: Offer, word: &[u8], limit: u16) -> usize
     let mut z = [0u64; SYNDROME];
     let sh = measured::measure(o, word, &mut h, &mut y, &mut z);
     let first = syndromes::broken(&z);
-    let ended = runs::run(&mut y, &z, &h, sh, o.unsent, limit, first);
+    let parity = Parity {
+        places: &h,
+        shape: sh,
+    };
+    let ended = runs::run(&mut y, &z, parity, o.unsent, limit, first);
     ended.ran.flips as usize
 }
 
