@@ -184,7 +184,8 @@ fn wide_rows_lowest(d: &[u64], parity: Parity) -> u32
 fn whole_lowest(octets: &[u8], u: usize, parity: Parity) -> u32
     requires { Full parity.places.now parity.shape × (448 < parity.shape.size) × (parity.shape.blocks ≡ 16) × (u ≤ 18)
         × (length octets.now ≤ 1022) }
-    ensures { (c : Code) → Lent c parity.entry.places.now parity.entry.shape → u ≡ c.unsent → result ≡ lowest_of c (lifted c (bit octets.now)) }
+    ensures { (c : Code) → Lent c parity.entry.places.now parity.entry.shape → u ≡ c.unsent
+        → result ≡ lowest_of c (lifted c (bit octets.now)) }
 {
     let mut y = [0u64; WORD];
     received::take(octets, u, &mut y);

@@ -11,11 +11,12 @@ use Rattle.syndromes.proofs.flip.Goals as goal
 pub returns-clause-checks : goal.returns-clause-checks
 returns-clause-checks c code lent x e =
     let a = c.args in
-    let pre = c.requires in
     let h = a.parity.places.now in
-    let M = a.parity.shape.size in
-    let g = rowed (wide a.parity.shape) a.parity.shape.rows (spread a.parity.shape h (a.n / M) (covering M (a.n % M))) in
+    let sh = a.parity.shape in
+    let fit = a.parity.fit in
+    let M = sh.size in
+    let g = rowed (wide sh) sh.rows (spread sh h (a.n / M) (covering M (a.n % M))) in
     c.add_block.ensures
     ∙ ap (λ (z : Word). plus z g) e
-    ∙ laid_flipped h a.parity.shape a.parity.fit code lent x (a.n / M) (a.n % M) ((div-lt_iff_lt-mul a.parity.fit.some).1 pre) (mod-lt a.n a.parity.fit.some)
-    ∙ ap (λ (n : ℕ). laid code a.parity.shape (flipped x n)) (div-add-mod' a.n M)
+    ∙ laid_flipped h sh fit code lent x (a.n / M) (a.n % M) ((div-lt_iff_lt-mul fit.some).1 c.requires) (mod-lt a.n fit.some)
+    ∙ ap (λ (n : ℕ). laid code sh (flipped x n)) (div-add-mod' a.n M)

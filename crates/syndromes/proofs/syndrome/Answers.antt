@@ -10,10 +10,12 @@ use Rattle.syndromes.proofs.syndrome.Goals as goal
 pub returns : goal.returns
 returns c code lent =
     let a = c.args in
+    let h = a.parity.places.now in
+    let sh = a.parity.shape in
     let fit = a.parity.fit in
-    let w = wide a.parity.shape in
+    let w = wide sh in
     let y = wbit a.y.now in
     c.trim_rows.ensures
-    ∙ ap (within w a.parity.shape.size a.parity.shape.rows) c.add_all.ensures
-    ∙ within_rowed w a.parity.shape.size a.parity.shape.rows (wide_some a.parity.places.now a.parity.shape fit) (summed a.parity.shape a.parity.places.now y a.parity.shape.blocks)
-    ∙ laid_summed a.parity.places.now a.parity.shape fit code lent y
+    ∙ ap (within w sh.size sh.rows) c.add_all.ensures
+    ∙ within_rowed w sh.size sh.rows (wide_some h sh fit) (summed sh h y sh.blocks)
+    ∙ laid_summed h sh fit code lent y

@@ -33,4 +33,5 @@ returns c =
     let a = c.args in
     let l = c.loop-b in
     let all : l.b ≡ 4 = omega arith in
-    l.invariant.1 ∙ ap (λ (k : ℕ). rowed (wide a.parity.shape) a.parity.shape.rows (summed a.parity.shape a.parity.places.now (bit a.octets.now) k)) all
+    let sh = a.parity.shape in
+    l.invariant.1 ∙ ap (λ (k : ℕ). rowed (wide sh) sh.rows (summed sh a.parity.places.now (bit a.octets.now) k)) all

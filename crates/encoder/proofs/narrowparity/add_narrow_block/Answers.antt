@@ -2,21 +2,11 @@
 use mathlib.Core.Path.{ap, ◌∙◌}
 use mathlib.Core.Bool.{Bool, ◌&&◌}
 use Prim.Native.Nat.{◌*◌}
-use native.Mathlib.Nat.{mul-le-mul_right}
-use native.Mathlib.Omega.{arith}
 use lib.Dec.{ltb}
 use Rattle.bits.specs.Bits.{Word}
 use Rattle.vectors.specs.Vectors.{wbit, Holds, up_to, from}
 use Rattle.syndromes.specs.Rows.{plus, rowed, wide, spread, turned}
 use Rattle.encoder.proofs.narrowparity.add_narrow_block.Goals as goal
-
-pub overflow_mul-b : goal.overflow_mul-b
-overflow_mul-b c =
-    omega (arith, c.requires.0, c.args.parity.fit.held, mul-le-mul_right {m = c.args.b} {n = 3} c.args.parity.shape.size (omega arith))
-
-pub window-requires : goal.window-requires
-window-requires c =
-    omega (arith, c.requires.0, c.requires.3, c.args.parity.fit.held, mul-le-mul_right {m = c.args.b} {n = 3} c.args.parity.shape.size (omega arith))
 
 pub returns : goal.returns
 returns c =

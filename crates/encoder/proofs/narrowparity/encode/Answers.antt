@@ -2,7 +2,6 @@
 use mathlib.Core.Path.{◌≡◌, sym, ap, ap₂, ◌∙◌, subst}
 use Prim.Native.Nat.{ℕ, ◌-◌, ◌*◌}
 use native.Mathlib.Omega.{arith}
-use lib.Dec.{lit≤}
 use lib.ListN.{length}
 use Rattle.bits.specs.Bits.{Word, bit, octets}
 use Rattle.rules.specs.Codes.{code, information}
@@ -12,7 +11,7 @@ use Rattle.vectors.proofs.Filling.{zero_words}
 use Rattle.layout.specs.declared.Shape.{Shape}
 use Rattle.catalogue.proofs.offer.Offers.{fixed}
 use Rattle.word.proofs.received.Handed.{taken_whole}
-use Rattle.encoder.specs.parityrows.Rows.{held, Fits, narrow_shape, end_rows, informed, completed}
+use Rattle.encoder.specs.parityrows.Rows.{held, narrow_shape, end_rows, informed, completed}
 use Rattle.encoder.proofs.parityrows.Ready.{narrow_is, last_size, ready_as, all_sent, short_of, short_sent}
 use Rattle.encoder.proofs.narrowparity.encode.Goals as goal
 
@@ -28,26 +27,6 @@ solve_narrow-requires c =
           (last_size k.number k.offers k.is c.requires.1),
       omega (arith, c.requires.2, (ok.small c.requires.1).0, ap (λ z. z.information) k.is),
       zero_words 16,
-    )
-
-pub overflow_mul-size : goal.overflow_mul-size
-overflow_mul-size c =
-    let k = c.requires.0 in
-    let ok = ready_as k.number k.offers k.is (narrow_is k.number k.offers k.is c.requires.1) in
-    omega (arith, ok.fits.parity)
-
-pub write-requires : goal.write-requires
-write-requires c =
-    let k = c.requires.0 in
-    let ok = ready_as k.number k.offers k.is (narrow_is k.number k.offers k.is c.requires.1) in
-    let inside = ap (λ z. z.information) k.is in
-    let word = ap (λ z. z.word) k.is in
-    let unsent = (ok.small c.requires.1).1 in (
-      subst Fits (sym c.telecommand_shape-sh.ensures) ok.fits,
-      lit≤ tt,
-      omega (arith, ok.enough, c.requires.2, inside, unsent),
-      omega (arith, ok.front, c.requires.3, word, unsent),
-      omega (arith, ok.behind_front, c.requires.3, word, unsent),
     )
 
 pub returns : goal.returns

@@ -46,7 +46,8 @@ returns c =
     let l = c.loop-b in
     let x = later a.unsent (bit a.octets.now) in
     let all : l.b ≡ 14 = omega arith in
+    let sh = a.parity.shape in
     record {
       odd = (l.invariant.1, l.invariant.2 ∙ ap (λ (n : ℕ). number n (odd_block x)) all);
-      rows = l.invariant.3 ∙ ap (λ (n : ℕ). rowed (wide a.parity.shape) a.parity.shape.rows (summed a.parity.shape a.parity.places.now x n)) all;
+      rows = l.invariant.3 ∙ ap (λ (n : ℕ). rowed (wide sh) sh.rows (summed sh a.parity.places.now x n)) all;
     }

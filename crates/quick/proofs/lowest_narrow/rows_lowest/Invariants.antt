@@ -10,4 +10,5 @@ use Rattle.quick.proofs.lowest_narrow.rows_lowest.Given as goal
 
 abbrev pub invariant-loop-r : goal.invariant-loop-r
 invariant-loop-r l =
-    (l.r ≤ l.parity.shape.rows) × ((c : Code) → Lent c l.parity.places.now l.parity.shape → (j : ℕ) → j < l.r * l.parity.shape.size → check c (wbit l.y) j ≡ false)
+    let sh = l.parity.shape in
+    (l.r ≤ sh.rows) × ((c : Code) → Lent c l.parity.places.now sh → (j : ℕ) → j < l.r * sh.size → check c (wbit l.y) j ≡ false)

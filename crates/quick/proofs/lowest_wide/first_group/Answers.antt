@@ -38,5 +38,6 @@ pub returns : goal.returns
 returns c =
     let a = c.args in
     let l = c.loop-k in
-    let e : l.k ≡ 2 * a.parity.shape.blocks = omega arith in
-    λ code eu i hi. l.invariant.1 code eu i hi ∙ ap (λ (k : ℕ). group a.parity.shape a.parity.places.now (lifted code (bit a.octets.now)) 0 k i) e
+    let sh = a.parity.shape in
+    let e : l.k ≡ 2 * sh.blocks = omega arith in
+    λ code eu i hi. l.invariant.1 code eu i hi ∙ ap (λ (k : ℕ). group sh a.parity.places.now (lifted code (bit a.octets.now)) 0 k i) e
