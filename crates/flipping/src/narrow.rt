@@ -5,14 +5,14 @@ ghost use Rattle.bits.specs.Bits.{Word, digit, flipped, tally, over, count_of, �
 ghost use Rattle.rules.specs.Codes.{Code};
 ghost use Rattle.vectors.specs.Vectors.{wbit, Holds, up_to, from as bits_from};
 ghost use Rattle.layout.specs.Lent.{Fit, Lent, laid, score, entries, shifts_of, total};
-ghost use Rattle.layout.specs.Rooms.{blocks_room, syndrome_room};
+ghost use Rattle.layout.specs.Rooms.{blocks_room};
 ghost use Rattle.magnitudes.specs.Patterns.{smaller};
 ghost use Rattle.magnitudes.specs.Sizes.{smallest};
 ghost use Rattle.flipping.specs.narrow.Weighing.{around, Rows, Held, Weighs, broke, sent, Peaked};
 ghost use Rattle.flipping.specs.narrow.Weighing.{Weighed, Greatest, Marks, Marked, Told, Chosen, scores_of, masks_of};
 
 use super::choice::Best;
-use layout::{BLOCKS, Parity, Shape, WORD};
+use layout::{BLOCKS, Parity, SYNDROME, Shape, WORD};
 
 // The rows of a code whose blocks one word holds.
 pub const NARROW_ROWS: usize = 4;
@@ -55,13 +55,12 @@ fn repeated(v: u64, m: usize) -> u64
 }
 
 // The rows of the syndrome z.
-pub fn begin(z: &[u64], sh: Shape, rows: &mut [u64])
-    requires { (1 ≤ sh.size) × (sh.size ≤ 64) × (sh.words ≡ 1) × (sh.rows ≡ 4) × (length z.now ≡ syndrome_room)
-        × (length rows.old ≡ 4) }
+pub fn begin(z: &[u64; SYNDROME], sh: Shape, rows: &mut [u64; NARROW_ROWS])
+    requires { (1 ≤ sh.size) × (sh.size ≤ 64) × (sh.words ≡ 1) × (sh.rows ≡ 4) }
     ensures { (c : Code) (x : Word) → wbit z.now ≡ laid c sh x → Rows c sh x rows.new }
 {
-    for r in 0..4 {
-        rows[r] = repeated(z[r], sh.size);
+    for (r, row) in rows.iter_mut().enumerate() {
+        *row = repeated(z[r], sh.size);
     }
 }
 
@@ -194,8 +193,8 @@ pub fn greatest(levels: &[Level], blocks: usize) -> Peak
     ensures { Greatest (scores_of levels.now) blocks result.score result.block }
 {
     let mut p = Peak { score: 8, block: 0 };
-    for b in 0..blocks {
-        p = better(p, levels[b].score, b);
+    for (b, level) in levels[..blocks].iter().enumerate() {
+        p = better(p, level.score, b);
     }
     p
 }
@@ -252,7 +251,7 @@ fn best_of(samples: &[u32], levels: &[Level; BLOCKS], sh: Shape) -> Best
     if score <= 8 {
         return Best { score, bit: low };
     }
-    if samples.len() == 0 {
+    if samples.is_empty() {
         return Best { score, bit: low };
     }
     Best {

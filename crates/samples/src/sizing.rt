@@ -48,10 +48,7 @@ fn counted(samples: &[u32], y: &[u64], bit: usize, unlike: u32) -> u32
     if magnitudes::is_one(samples[bit]) == vectors::is_set(y, bit) {
         return unlike + 1;
     }
-    if unlike == 0 {
-        return 0;
-    }
-    unlike - 1
+    unlike.saturating_sub(1)
 }
 
 // Flips a bit of the word y, and says in how many bits y differs from what was read then; before that in so many.

@@ -49,7 +49,7 @@ returns c =
     let l = c.loop-row in
     let all : l.row ≡ a.parity.shape.rows = omega arith in (
       omega (arith, c.args.parity.fit.rows),
-      subst (λ k. Listed l.starts (8 * a.b) (l.n - 8 * a.b) (3072 + a.parity.shape.size) (asked a.parity.places.now a.parity.shape a.b k)) all
-          l.invariant.4,
+      subst (λ k. Listed l.starts (8 * a.b) (l.n - 8 * a.b) (3072 + a.parity.shape.size)
+          (asked a.parity.places.now a.parity.shape a.b k)) all l.invariant.4,
       l.invariant.5,
     )

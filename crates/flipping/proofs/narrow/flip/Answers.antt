@@ -49,7 +49,7 @@ returns c =
       checks = λ k x lent is.
           subst (λ n. Rows k a.parity.shape (flipped x n) out) (div-add-mod' a.bit M)
           (λ q hq.
-          row_flipped k a.parity.places.now a.parity.shape lent c.args.parity.fit x (a.bit / M) (a.bit % M) q (get_or a.rows.now q 0) (get_or out q 0)
-          inside (mod-lt a.bit c.args.parity.fit.some) (omega (arith, (c.args.parity.fit.narrow c.requires.0).0)) (is q hq)
+          row_flipped k a.parity.places.now a.parity.shape lent a.parity.fit x (a.bit / M) (a.bit % M) q (get_or a.rows.now q 0)
+          (get_or out q 0) inside (mod-lt a.bit c.args.parity.fit.some) (omega (arith, (c.args.parity.fit.narrow c.requires.0).0)) (is q hq)
           (c.flip_rows.ensures q hq));
     }

@@ -76,5 +76,6 @@ returns c =
     let all : l.r ≡ 4 = omega arith in (
       subst (λ r. l.w.checks ≡ total r (λ q. length (shifts_of a.parity.shape a.parity.places.now q a.b))) all l.invariant.1,
       omega (arith, l.invariant.2),
-      λ k x counts is mask. subst (λ r. Weighs counts (broke k a.parity.places.now a.parity.shape a.b x r) l.w) all (l.invariant.3 k x counts is mask),
+      λ k x counts is mask. subst (λ r. Weighs counts (broke k a.parity.places.now a.parity.shape a.b x r) l.w) all
+          (l.invariant.3 k x counts is mask),
     )

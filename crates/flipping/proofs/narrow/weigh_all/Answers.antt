@@ -20,7 +20,8 @@ loop-b-preserved c =
       λ k x lent is.
           let all : w.result.checks ≡ total a.parity.shape.rows (λ q. length (shifts_of a.parity.shape a.parity.places.now q l.b)) =
           w.ensures.0 ∙ ap (λ n. total n (λ q. length (shifts_of a.parity.shape a.parity.places.now q l.b))) (sym four) in
-          weighed_more k a.parity.shape a.from x l.levels l.b r (omega (arith, l.invariant.0, c.args.parity.fit.blocks)) (l.invariant.1 k x lent is)
+          weighed_more k a.parity.shape a.from x l.levels l.b r (omega (arith, l.invariant.0, a.parity.fit.blocks))
+          (l.invariant.1 k x lent is)
           (c.highest.ensures (omega (arith, all, lent.few l.b hb)) (sent a.parity.shape.size a.from l.b)
           (broke k a.parity.places.now a.parity.shape l.b x 4) (λ i. score k x (l.b * a.parity.shape.size + i))
           (w.ensures.2 k x (sent a.parity.shape.size a.from l.b) is c.sent_in.ensures)

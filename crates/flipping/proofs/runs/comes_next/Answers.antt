@@ -6,8 +6,11 @@ use Rattle.rules.proofs.Choosing.{quiet_next}
 use Rattle.flipping.proofs.runs.comes_next.Goals as goal
 
 pub returns-then-is_quiet : goal.returns-then-is_quiet
-returns-then-is_quiet c =
-    (tt, λ k l u x e. quiet_next k x (eqb-true (broken k x) 0 (sym (c.is_quiet.ensures k _ _ x c.args.parity.fit l e) ∙ c.if-is_quiet.true)))
+returns-then-is_quiet c = (
+  tt,
+  λ k l u x e. quiet_next k x
+      (eqb-true (broken k x) 0 (sym (c.is_quiet.ensures k _ _ x c.args.parity.fit l e) ∙ c.if-is_quiet.true)),
+)
 
 pub returns-then-parity-eq1 : goal.returns-then-parity-eq1
 returns-then-parity-eq1 c = (

@@ -69,7 +69,8 @@ overflow_sub-left-in-loop-left c =
     omega (
       arith,
       i.1.left_is,
-      chosen_left w.code w.table p.shape w.lent w.fit p.starts p.counts w.laid_in a.from (wbit l.y) l.rows l.bounds.met _ f.result.score f.result.bit i.1.kept low found c.if-top-le8.false,
+      chosen_left w.code w.table p.shape w.lent w.fit p.starts p.counts w.laid_in a.from (wbit l.y) l.rows l.bounds.met _
+          f.result.score f.result.bit i.1.kept low found c.if-top-le8.false,
     )
 
 pub loop-left-preserved : goal.loop-left-preserved

@@ -11,7 +11,8 @@ use Rattle.flipping.proofs.runs.go_on_narrow.Given as goal
 
 abbrev pub invariant-loop-left : goal.invariant-loop-left
 invariant-loop-left l =
-    (l.flips ≤ l.limit) × ((c : Code) → Lent c l.parity.places.now l.parity.shape → c.unsent ≡ l.from → CarriedNarrow c l.parity.shape l.first (wbit l.initial.y) l.initial.rows
+    (l.flips ≤ l.limit) × ((c : Code) → Lent c l.parity.places.now l.parity.shape → c.unsent ≡ l.from
+    → CarriedNarrow c l.parity.shape l.first (wbit l.initial.y) l.initial.rows
     → Going (by_size (smaller
     l.samples) c) c l.parity.shape l.limit (wbit l.initial.y) l.flips (wbit l.y) (laid c l.parity.shape (wbit l.y))
     × CarriedNarrow c l.parity.shape l.left (wbit l.y) l.rows) × (l.limit < 65536)

@@ -2,7 +2,6 @@
 use mathlib.Core.Path.{refl, sym, ap, ◌∙◌}
 use mathlib.Core.List.{[]}
 use native.Mathlib.Omega.{arith}
-use borrow.Author.Rules.{rules}
 use Rattle.rules.specs.Flipping.{flip}
 use Rattle.flipping.proofs.runs.Passing.{score_fits, excess_fits, excess_kept}
 use Rattle.flipping.proofs.runs.Sizes.{chosen_inside, chosen_flip, chosen_small, sized_equal}
@@ -14,8 +13,6 @@ begin-requires c = (
   omega (arith, c.args.parity.fit.held, c.requires.3),
   c.requires.3,
   (c.args.parity.fit.narrow c.requires.3).0,
-  search rules,
-  refl,
 )
 
 pub choose-best-requires : goal.choose-best-requires

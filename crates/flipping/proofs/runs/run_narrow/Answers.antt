@@ -1,7 +1,5 @@
 -- `runs::run_narrow`: the rows are made, and the run goes on from them. Assumes nothing.
-use mathlib.Core.Path.{refl}
 use native.Mathlib.Omega.{arith}
-use borrow.Author.Rules.{rules}
 use Rattle.vectors.specs.Vectors.{wbit}
 use Rattle.flipping.proofs.runs.run_narrow.Goals as goal
 
@@ -11,8 +9,6 @@ begin-requires c = (
   omega (arith, c.args.parity.fit.held, c.requires.4),
   c.requires.4,
   (c.args.parity.fit.narrow c.requires.4).0,
-  search rules,
-  refl,
 )
 
 pub go_on_narrow-requires : goal.go_on_narrow-requires
