@@ -6,7 +6,7 @@ ghost use Rattle.rules.specs.Codes.{information, offered};
 ghost use Rattle.rules.specs.Codes.{code as code_of};
 ghost use Rattle.vectors.specs.Vectors.{wbit, both, Holds, up_to};
 ghost use Rattle.layout.specs.Lent.{laid};
-ghost use Rattle.syndromes.specs.Rows.{plus, rowed, wide, spread, doubled, turned, summed};
+ghost use Rattle.syndromes.specs.Rows.{plus, doubled, turned, block_rows, word_rows};
 ghost use Rattle.catalogue.specs.offer.Offers.{offer_of, Known};
 ghost use Rattle.encoder.specs.steps.Steps.{rows_in, stepped, walked};
 ghost use Rattle.encoder.specs.parityrows.Rows.{held, Fits, copies, steps_of, Within, Shaped, narrow_shape, end_rows, Informs, word_of};
@@ -132,8 +132,8 @@ fn walk_narrow(sh: Shape, z: &mut [u64; SYNDROME])
 // Adds information block b, of the words y, to the rows, where one word holds it.
 fn add_narrow_block(y: &[u64], parity: Parity, b: usize, z: &mut [u64; SYNDROME])
     requires { (parity.shape.words ≡ 1) × (parity.shape.blocks ≡ 8) × (b < 4) × (length y.now ≡ 5) }
-    ensures { wbit z.new ≡ plus (wbit z.old) (rowed (wide parity.entry.shape) parity.entry.shape.rows
-        (spread parity.entry.shape parity.entry.places.now b (turned (doubled parity.entry.shape.size (wbit y.now) b)))) }
+    ensures { wbit z.new ≡ plus (wbit z.old)
+        (block_rows parity.entry b (turned (doubled parity.entry.shape.size (wbit y.now) b))) }
 {
     let size = parity.shape.size;
     let v = vectors::front(vectors::window(y, b * size), size);
@@ -143,8 +143,7 @@ fn add_narrow_block(y: &[u64], parity: Parity, b: usize, z: &mut [u64; SYNDROME]
 // Adds the information blocks to the rows, where one word holds a block.
 fn add_narrow(octets: &[u8], parity: Parity, z: &mut [u64; SYNDROME])
     requires { (parity.shape.words ≡ 1) × (parity.shape.blocks ≡ 8) × (length octets.now ≤ 32) × (wbit z.old ≡ (λ i. false)) }
-    ensures { wbit z.new ≡ rowed (wide parity.entry.shape) parity.entry.shape.rows
-        (summed parity.entry.shape parity.entry.places.now (bit octets.now) 4) }
+    ensures { wbit z.new ≡ word_rows parity.entry (bit octets.now) 4 }
 {
     let mut y = [0u64; 5];
     vectors::load(octets, &mut y);

@@ -7,7 +7,7 @@ ghost use Rattle.rules.specs.Codes.{code as code_of};
 ghost use Rattle.vectors.specs.Vectors.{wbit, Holds, up_to, later, added, twice};
 ghost use Rattle.layout.specs.Lent.{laid};
 ghost use Rattle.layout.specs.Rooms.{doubled_room, syndrome_room};
-ghost use Rattle.syndromes.specs.Rows.{plus, rowed, wide, spread, doubled, turned, summed};
+ghost use Rattle.syndromes.specs.Rows.{plus, doubled, turned, block_rows, word_rows};
 ghost use Rattle.catalogue.specs.offer.Offers.{offer_of, Known};
 ghost use Rattle.word.specs.ownparity.Odd.{odd_block, odd_together_of};
 ghost use Rattle.encoder.specs.steps.Steps.{source, rows_in, stepped, walked};
@@ -162,9 +162,8 @@ fn add_wide_block(
     requires { (parity.shape.size ≡ 511) × (parity.shape.words ≡ 8) × (parity.shape.blocks ≡ 16) × (b < 14) × (odd < 2 ^ 14)
         × (7154 ≤ 8 * length octets.now + unsent) × (length octets.now ≤ 1022) × (unsent ≤ 18) }
     ensures odd { result ≡ 2 * odd + tally (odd_block (later unsent (bit octets.now)) b) }
-    ensures rows { wbit z.new ≡ plus (wbit z.old) (rowed (wide parity.entry.shape) parity.entry.shape.rows
-        (spread parity.entry.shape parity.entry.places.now b
-        (turned (doubled parity.entry.shape.size (later unsent (bit octets.now)) b)))) }
+    ensures rows { wbit z.new ≡ plus (wbit z.old)
+        (block_rows parity.entry b (turned (doubled parity.entry.shape.size (later unsent (bit octets.now)) b))) }
 {
     let more = double_block(octets, unsent, b, odd, part, d);
     syndromes::add_block(Doubled { words: d }, parity, b, z);
@@ -176,8 +175,7 @@ fn add_wide(octets: &[u8], unsent: usize, parity: Parity, z: &mut [u64; SYNDROME
     requires { (parity.shape.size ≡ 511) × (parity.shape.words ≡ 8) × (parity.shape.blocks ≡ 16)
         × (7154 ≤ 8 * length octets.now + unsent) × (length octets.now ≤ 1022) × (unsent ≤ 18) × (wbit z.old ≡ (λ i. false)) }
     ensures odd { (result < 2 ^ 14) × (result ≡ number 14 (odd_block (later unsent (bit octets.now)))) }
-    ensures rows { wbit z.new ≡ rowed (wide parity.entry.shape) parity.entry.shape.rows
-        (summed parity.entry.shape parity.entry.places.now (later unsent (bit octets.now)) 14) }
+    ensures rows { wbit z.new ≡ word_rows parity.entry (later unsent (bit octets.now)) 14 }
 {
     let mut part = [0u64; BLOCK];
     let mut d = [0u64; DOUBLED];

@@ -3,6 +3,7 @@ use Rattle.std.specs.Prelude.{not, ◌&&◌, ◌||◌, List, ℕ, ◌+◌, ◌-�
 use Rattle.bits.specs.Bits.{Word, ◌⊕◌, sum, over}
 use Rattle.vectors.specs.Vectors.{up_to, from, twice}
 use Rattle.layout.specs.Lent.{shifts_of}
+use Rattle.layout.specs.declared.Parity.{Parity}
 use Rattle.layout.specs.declared.Shape.{Shape}
 
 -- The sum modulo 2 of two words, bit by bit.
@@ -39,6 +40,13 @@ turned d s = from s d
 -- The rows of the first k blocks: in each the sum of the blocks, turned by their shifts.
 abbrev pub summed : Shape → List ℕ → Word → ℕ → ℕ → Word
 summed sh h x k r i = sum k (λ b. spread sh h b (turned (doubled sh.size x b)) r i)
+
+-- What the shifts of block b add to the rows of a syndrome; and what those of the first k blocks of a word add.
+abbrev pub block_rows : Parity → ℕ → (ℕ → Word) → Word
+block_rows p b g = rowed (wide p.shape) p.shape.rows (spread p.shape p.places.now b g)
+
+abbrev pub word_rows : Parity → Word → ℕ → Word
+word_rows p x k = rowed (wide p.shape) p.shape.rows (summed p.shape p.places.now x k)
 
 -- The check that covers bit k of a block by the shift s.
 abbrev pub covering : ℕ → ℕ → ℕ → Word

@@ -10,12 +10,13 @@ use layout::Shape;
 use vectors::Pair;
 
 pub trait Addend: Copy {
-    // what a shift adds to a row, and what that asks of the shape
+    // what a shift below M adds to a row of this shape
     ghost adds: { Self → Shape → ℕ → Word };
 
+    // what it asks of the shape
     ghost suits: { Self → Shape → Type 0 };
 
-    // Adds it to row r, by a shift below M.
+    // Adds to row r what the shift s adds.
     fn add(self, s: usize, sh: Shape, acc: &mut [u64], r: usize)
         requires { suits self sh × (s < sh.size) × (sh.size ≤ wide sh) × ((r + 1) * sh.words ≤ length acc.old)
             × (length acc.old ≡ syndrome_room) }

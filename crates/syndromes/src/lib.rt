@@ -8,9 +8,9 @@ ghost use Rattle.std.specs.Prelude.{◌≡◌, false, List, ℕ, ◌+◌, ◌-�
 ghost use Rattle.bits.specs.Bits.{Word, flipped};
 ghost use Rattle.rules.specs.Codes.{Code};
 ghost use Rattle.rules.specs.Checks.{broken, lowest};
-ghost use Rattle.vectors.specs.Vectors.{wbit, both, added, from, up_to, twice};
+ghost use Rattle.vectors.specs.Vectors.{wbit, added, from, up_to, twice};
 ghost use Rattle.layout.specs.Lent.{Fit, Lent, place_of, laid};
-ghost use Rattle.syndromes.specs.Rows.{plus, rowed, within, wide, entry, spread, doubled, turned, summed, covering};
+ghost use Rattle.syndromes.specs.Rows.{plus, within, wide, entry, spread, doubled, turned, block_rows, word_rows};
 ghost use Rattle.layout.specs.Rooms.{syndrome_room, word_room};
 
 use addends::{Addend, Covering, Doubled};
@@ -38,35 +38,34 @@ fn read_places(parity: Parity, b: usize, r: usize) -> Places
 }
 
 // Adds what the shift s adds to row r; a number that is M or more is no shift.
-fn add_entry<A: Addend>(part: A, s: usize, sh: Shape, acc: &mut [u64], r: usize)
-    requires { A.suits part sh × (sh.size ≤ wide sh) × ((r + 1) * sh.words ≤ length acc.old) × (length acc.old ≡ syndrome_room) }
-    ensures { wbit acc.new ≡ added (wbit acc.old) (wide sh * r) (wide sh * (r + 1)) (entry sh.size (A.adds part sh) s) }
+fn add_entry<A: Addend>(addend: A, s: usize, sh: Shape, acc: &mut [u64], r: usize)
+    requires { A.suits addend sh × (sh.size ≤ wide sh) × ((r + 1) * sh.words ≤ length acc.old) × (length acc.old ≡ syndrome_room) }
+    ensures { wbit acc.new ≡ added (wbit acc.old) (wide sh * r) (wide sh * (r + 1)) (entry sh.size (A.adds addend sh) s) }
 {
     if s < sh.size {
-        part.add(s, sh, acc, r);
+        addend.add(s, sh, acc, r);
     }
 }
 
 // Adds what each shift of block b adds to row r.
-fn add_row<A: Addend>(part: A, parity: Parity, b: usize, acc: &mut [u64], r: usize)
-    requires { A.suits part parity.shape × (b < parity.shape.blocks) × (r < parity.shape.rows) × (length acc.old ≡ syndrome_room) }
+fn add_row<A: Addend>(addend: A, parity: Parity, b: usize, acc: &mut [u64], r: usize)
+    requires { A.suits addend parity.shape × (b < parity.shape.blocks) × (r < parity.shape.rows) × (length acc.old ≡ syndrome_room) }
     ensures { wbit acc.new ≡ added (wbit acc.old) (wide parity.entry.shape * r) (wide parity.entry.shape * (r + 1))
-        (spread parity.entry.shape parity.entry.places.now b (A.adds part parity.entry.shape) r) }
+        (spread parity.entry.shape parity.entry.places.now b (A.adds addend parity.entry.shape) r) }
 {
     let sh = parity.shape;
     let p = read_places(parity, b, r);
-    add_entry(part, p.first, sh, acc, r);
-    add_entry(part, p.second, sh, acc, r);
+    add_entry(addend, p.first, sh, acc, r);
+    add_entry(addend, p.second, sh, acc, r);
 }
 
 // Adds what the shifts of block b add to every row.
-pub fn add_block<A: Addend>(part: A, parity: Parity, b: usize, acc: &mut [u64])
-    requires { A.suits part parity.shape × (b < parity.shape.blocks) × (length acc.old ≡ syndrome_room) }
-    ensures { wbit acc.new ≡ plus (wbit acc.old) (rowed (wide parity.entry.shape) parity.entry.shape.rows
-        (spread parity.entry.shape parity.entry.places.now b (A.adds part parity.entry.shape))) }
+pub fn add_block<A: Addend>(addend: A, parity: Parity, b: usize, acc: &mut [u64])
+    requires { A.suits addend parity.shape × (b < parity.shape.blocks) × (length acc.old ≡ syndrome_room) }
+    ensures { wbit acc.new ≡ plus (wbit acc.old) (block_rows parity.entry b (A.adds addend parity.entry.shape)) }
 {
     for r in 0..parity.shape.rows {
-        add_row(part, parity, b, acc, r);
+        add_row(addend, parity, b, acc, r);
     }
 }
 
@@ -90,9 +89,8 @@ fn add_wide_block(
     acc: &mut [u64; SYNDROME],
 )
     requires { (length part.old ≡ parity.shape.words) × (length d.old ≡ 2 * parity.shape.words) × (b < parity.shape.blocks) }
-    ensures { wbit acc.new ≡ plus (wbit acc.old) (rowed (wide parity.entry.shape) parity.entry.shape.rows
-        (spread parity.entry.shape parity.entry.places.now b
-        (turned (doubled parity.entry.shape.size (wbit y.now) b)))) }
+    ensures { wbit acc.new ≡ plus (wbit acc.old)
+        (block_rows parity.entry b (turned (doubled parity.entry.shape.size (wbit y.now) b))) }
 {
     let sh = parity.shape;
     double_block(y, b * sh.size, sh.size, part, d);
@@ -108,8 +106,7 @@ fn add_blocks(
     acc: &mut [u64; SYNDROME],
 )
     requires { (length part.old ≡ parity.shape.words) × (length d.old ≡ 2 * parity.shape.words) × (wbit acc.old ≡ (λ n. false)) }
-    ensures { wbit acc.new ≡ rowed (wide parity.entry.shape) parity.entry.shape.rows
-        (summed parity.entry.shape parity.entry.places.now (wbit y.now) parity.entry.shape.blocks) }
+    ensures { wbit acc.new ≡ word_rows parity.entry (wbit y.now) parity.entry.shape.blocks }
 {
     for b in 0..parity.shape.blocks {
         add_wide_block(y, parity, b, part, d, acc);
@@ -119,8 +116,7 @@ fn add_blocks(
 // The same where one word holds a block.
 fn add_narrow_blocks(y: &[u64; WORD], parity: Parity, acc: &mut [u64; SYNDROME])
     requires { (parity.shape.words ≡ 1) × (wbit acc.old ≡ (λ n. false)) }
-    ensures { wbit acc.new ≡ rowed (wide parity.entry.shape) parity.entry.shape.rows
-        (summed parity.entry.shape parity.entry.places.now (wbit y.now) parity.entry.shape.blocks) }
+    ensures { wbit acc.new ≡ word_rows parity.entry (wbit y.now) parity.entry.shape.blocks }
 {
     let sh = parity.shape;
     for b in 0..sh.blocks {
@@ -132,8 +128,7 @@ fn add_narrow_blocks(y: &[u64; WORD], parity: Parity, acc: &mut [u64; SYNDROME])
 // Adds every block of y to the rows, of whatever width.
 fn add_all(y: &[u64; WORD], parity: Parity, acc: &mut [u64; SYNDROME])
     requires { wbit acc.old ≡ (λ n. false) }
-    ensures { wbit acc.new ≡ rowed (wide parity.entry.shape) parity.entry.shape.rows
-        (summed parity.entry.shape parity.entry.places.now (wbit y.now) parity.entry.shape.blocks) }
+    ensures { wbit acc.new ≡ word_rows parity.entry (wbit y.now) parity.entry.shape.blocks }
 {
     let sh = parity.shape;
     if sh.words == 1 {

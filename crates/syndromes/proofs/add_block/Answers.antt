@@ -12,7 +12,7 @@ loop-r-init g c =
     let a = c.args in
     let sh = a.parity.shape in
     let h = a.parity.places.now in
-    reached_none (wide sh) sh.rows (wide_some h sh a.parity.fit) (spread sh h a.b (g.A.Addend.adds a.part sh)) a.acc.now c.requires.2
+    reached_none (wide sh) sh.rows (wide_some h sh a.parity.fit) (spread sh h a.b (g.A.Addend.adds a.addend sh)) a.acc.now c.requires.2
 
 pub loop-r-preserved : goal.loop-r-preserved
 loop-r-preserved g c =
@@ -20,6 +20,6 @@ loop-r-preserved g c =
     let sh = a.parity.shape in
     let h = a.parity.places.now in
     let l = c.loop-r in
-    reached-more (wide sh) sh.rows (wide_some h sh a.parity.fit) (spread sh h a.b (g.A.Addend.adds a.part sh)) (wbit a.acc.now)
+    reached-more (wide sh) sh.rows (wide_some h sh a.parity.fit) (spread sh h a.b (g.A.Addend.adds a.addend sh)) (wbit a.acc.now)
     l.acc l.r l.invariant
     _ (omega arith) (search rules) c.add_row.ensures

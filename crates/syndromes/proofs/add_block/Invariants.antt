@@ -7,5 +7,5 @@ use Rattle.syndromes.proofs.add_block.Given as goal
 abbrev pub invariant-loop-r : goal.invariant-loop-r
 invariant-loop-r g l =
     let sh = l.parity.shape in
-    let adds = spread sh l.parity.places.now l.b (g.A.Addend.adds l.part sh) in
+    let adds = spread sh l.parity.places.now l.b (g.A.Addend.adds l.addend sh) in
     Reached (wide sh) sh.rows adds (wbit l.initial.acc) l.acc l.r

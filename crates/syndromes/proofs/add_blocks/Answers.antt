@@ -1,9 +1,8 @@
 -- `syndromes::add_blocks` meets its contract: after b passes the rows have the first b blocks. Assumes nothing.
 use mathlib.Core.Path.{ap, ◌∙◌}
-use Prim.Native.Nat.{◌*◌}
 use Rattle.bits.specs.Bits.{Word}
-use Rattle.vectors.specs.Vectors.{wbit, from, up_to, twice}
-use Rattle.syndromes.specs.Rows.{plus, rowed, wide, spread, turned}
+use Rattle.vectors.specs.Vectors.{wbit}
+use Rattle.syndromes.specs.Rows.{plus, doubled, turned, block_rows}
 use Rattle.syndromes.proofs.Laid.{summed_none, summed_more}
 use Rattle.syndromes.proofs.add_blocks.Goals as goal
 
@@ -20,6 +19,5 @@ loop-b-preserved c =
     let sh = a.parity.shape in
     let h = a.parity.places.now in
     c.add_wide_block.ensures
-    ∙ ap (λ (x : Word). plus x (rowed (wide sh) sh.rows (spread sh h l.b
-    (turned (twice sh.size (up_to sh.size (from (l.b * sh.size) (wbit a.y.now)))))))) l.invariant
+    ∙ ap (λ (x : Word). plus x (block_rows a.parity l.b (turned (doubled sh.size (wbit a.y.now) l.b)))) l.invariant
     ∙ summed_more h sh a.parity.fit (wbit a.y.now) l.b

@@ -5,7 +5,7 @@ use Prim.Native.Nat.{◌*◌}
 use lib.Dec.{ltb}
 use Rattle.bits.specs.Bits.{Word}
 use Rattle.vectors.specs.Vectors.{wbit, Holds, up_to, from}
-use Rattle.syndromes.specs.Rows.{plus, rowed, wide, spread, turned}
+use Rattle.syndromes.specs.Rows.{plus, turned, block_rows}
 use Rattle.syndromes.proofs.Laid.{summed_none, summed_more}
 use Rattle.syndromes.proofs.add_narrow_blocks.Goals as goal
 
@@ -24,6 +24,6 @@ loop-b-preserved c =
     λ i hi. c.front-v.ensures i hi
     ∙ ap (λ (p : Bool). ltb i M && p) (c.window.ensures i hi) in
     c.add_block.ensures
-    ∙ ap₂ (λ (x d : Word). plus x (rowed (wide sh) sh.rows (spread sh h l.b (turned d)))) l.invariant
+    ∙ ap₂ (λ (x d : Word). plus x (block_rows c.args.parity l.b (turned d))) l.invariant
     (c.double_word.ensures (from (l.b * M) y) block)
     ∙ summed_more h sh c.args.parity.fit y l.b

@@ -1,9 +1,8 @@
 -- `syndromes::add_narrow_blocks` meets its contract: after b passes the rows have the first b blocks. Assumes nothing.
 use mathlib.Core.Path.{◌≡◌}
 use Rattle.vectors.specs.Vectors.{wbit}
-use Rattle.syndromes.specs.Rows.{rowed, wide, summed}
+use Rattle.syndromes.specs.Rows.{word_rows}
 use Rattle.syndromes.proofs.add_narrow_blocks.Given as goal
 
 abbrev pub invariant-loop-b : goal.invariant-loop-b
-invariant-loop-b l =
-    wbit l.acc ≡ rowed (wide l.parity.shape) l.parity.shape.rows (summed l.parity.shape l.parity.places.now (wbit l.y) l.b)
+invariant-loop-b l = wbit l.acc ≡ word_rows l.parity (wbit l.y) l.b

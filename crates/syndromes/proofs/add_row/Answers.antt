@@ -11,5 +11,5 @@ returns g c =
     let sh = a.parity.shape in
     let w = wide sh in
     let p = c.read_places-p in
-    added_places sh a.parity.places.now a.b a.r (g.A.Addend.adds a.part sh) (w * a.r) (w * (a.r + 1)) p.result.first
+    added_places sh a.parity.places.now a.b a.r (g.A.Addend.adds a.addend sh) (w * a.r) (w * (a.r + 1)) p.result.first
     p.result.second (wbit a.acc.now) _ _ p.ensures.0 p.ensures.1 c.add_entry.ensures c.add_entry-2.ensures

@@ -4,7 +4,7 @@ use Prim.Native.Nat.{ℕ, ◌/◌, ◌%◌}
 use native.Mathlib.Nat.{mod-lt, div-lt_iff_lt-mul, div-add-mod'}
 use Rattle.bits.specs.Bits.{Word, flipped}
 use Rattle.layout.specs.Lent.{laid}
-use Rattle.syndromes.specs.Rows.{plus, rowed, wide, spread, covering}
+use Rattle.syndromes.specs.Rows.{plus, block_rows, covering}
 use Rattle.syndromes.proofs.Laid.{laid_flipped}
 use Rattle.syndromes.proofs.flip.Goals as goal
 
@@ -15,7 +15,7 @@ returns-clause-checks c code lent x e =
     let sh = a.parity.shape in
     let fit = a.parity.fit in
     let M = sh.size in
-    let g = rowed (wide sh) sh.rows (spread sh h (a.n / M) (covering M (a.n % M))) in
+    let g = block_rows a.parity (a.n / M) (covering M (a.n % M)) in
     c.add_block.ensures
     ∙ ap (λ (z : Word). plus z g) e
     ∙ laid_flipped h sh fit code lent x (a.n / M) (a.n % M) ((div-lt_iff_lt-mul fit.some).1 c.requires) (mod-lt a.n fit.some)

@@ -4,7 +4,7 @@ use Prim.Native.Nat.{ℕ}
 use native.Mathlib.Omega.{arith}
 use Rattle.bits.specs.Bits.{Word, bit}
 use Rattle.vectors.proofs.Filling.{zero_words}
-use Rattle.syndromes.specs.Rows.{plus, rowed, wide, spread, doubled, turned, summed}
+use Rattle.syndromes.specs.Rows.{plus, doubled, turned, block_rows, word_rows}
 use Rattle.syndromes.proofs.Laid.{summed_none, summed_more}
 use Rattle.encoder.proofs.narrowparity.add_narrow.Goals as goal
 
@@ -23,7 +23,7 @@ loop-b-preserved c =
     let l = c.loop-b in (
       omega arith,
       c.add_narrow_block.ensures
-          ∙ ap₂ (λ (z y : Word). plus z (rowed (wide sh) sh.rows (spread sh h l.b (turned (doubled sh.size y l.b)))))
+          ∙ ap₂ (λ (z y : Word). plus z (block_rows c.args.parity l.b (turned (doubled sh.size y l.b))))
           l.invariant.1 c.load.ensures
           ∙ summed_more h sh c.args.parity.fit x l.b,
     )
@@ -33,5 +33,4 @@ returns c =
     let a = c.args in
     let l = c.loop-b in
     let all : l.b ≡ 4 = omega arith in
-    let sh = a.parity.shape in
-    l.invariant.1 ∙ ap (λ (k : ℕ). rowed (wide sh) sh.rows (summed sh a.parity.places.now (bit a.octets.now) k)) all
+    l.invariant.1 ∙ ap (λ (k : ℕ). word_rows a.parity (bit a.octets.now) k) all

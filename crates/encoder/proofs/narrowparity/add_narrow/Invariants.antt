@@ -3,9 +3,9 @@ use mathlib.Core.Path.{◌≡◌}
 use Prim.Native.Nat.{◌≤◌}
 use Rattle.bits.specs.Bits.{bit}
 use Rattle.vectors.specs.Vectors.{wbit}
-use Rattle.syndromes.specs.Rows.{rowed, wide, summed}
+use Rattle.syndromes.specs.Rows.{word_rows}
 use Rattle.encoder.proofs.narrowparity.add_narrow.Given as goal
 
 abbrev pub invariant-loop-b : goal.invariant-loop-b
 invariant-loop-b l =
-    (l.b ≤ 4) × (wbit l.z ≡ rowed (wide l.parity.shape) l.parity.shape.rows (summed l.parity.shape l.parity.places.now (bit l.octets) l.b))
+    (l.b ≤ 4) × (wbit l.z ≡ word_rows l.parity (bit l.octets) l.b)

@@ -8,7 +8,7 @@ use Rattle.vectors.specs.Vectors.{later}
 use Rattle.vectors.proofs.Octets.{fits}
 use Rattle.word.specs.ownparity.Odd.{odd_block}
 use Rattle.word.proofs.ownparity.Words.{number_start, number_more}
-use Rattle.syndromes.specs.Rows.{plus, rowed, wide, spread, doubled, turned, summed}
+use Rattle.syndromes.specs.Rows.{plus, doubled, turned, block_rows, word_rows}
 use Rattle.syndromes.proofs.Laid.{summed_none, summed_more}
 use Rattle.encoder.proofs.wideparity.add_wide.Goals as goal
 
@@ -35,7 +35,7 @@ loop-b-preserved c =
       fits (l.b + 1) 14 block.result (subst (λ (n : ℕ). n < 2 ^ (l.b + 1)) (sym e) (number_lt (l.b + 1) (odd_block x))) (omega arith),
       e,
       block.ensures.rows
-          ∙ ap (λ (z : Word). plus z (rowed (wide sh) sh.rows (spread sh a.parity.places.now l.b (turned (doubled sh.size x l.b)))))
+          ∙ ap (λ (z : Word). plus z (block_rows a.parity l.b (turned (doubled sh.size x l.b))))
           l.invariant.3
           ∙ summed_more a.parity.places.now sh c.args.parity.fit x l.b,
     )
@@ -46,8 +46,7 @@ returns c =
     let l = c.loop-b in
     let x = later a.unsent (bit a.octets.now) in
     let all : l.b ≡ 14 = omega arith in
-    let sh = a.parity.shape in
     record {
       odd = (l.invariant.1, l.invariant.2 ∙ ap (λ (n : ℕ). number n (odd_block x)) all);
-      rows = l.invariant.3 ∙ ap (λ (n : ℕ). rowed (wide sh) sh.rows (summed sh a.parity.places.now x n)) all;
+      rows = l.invariant.3 ∙ ap (λ (n : ℕ). word_rows a.parity x n) all;
     }

@@ -3,7 +3,7 @@ use mathlib.Core.Path.{sym, ap, ◌∙◌}
 use Prim.Native.Nat.{ℕ}
 use Rattle.bits.specs.Bits.{Word, bit}
 use Rattle.vectors.specs.Vectors.{wbit, later}
-use Rattle.syndromes.specs.Rows.{plus, rowed, wide, spread, doubled, turned}
+use Rattle.syndromes.specs.Rows.{plus, doubled, turned, block_rows}
 use Rattle.encoder.proofs.wideparity.add_wide_block.Goals as goal
 
 pub returns : goal.returns
@@ -14,6 +14,6 @@ returns c =
     let block = c.double_block-more in record {
       odd = block.ensures.odd;
       rows = c.add_block.ensures
-          ∙ ap (λ (d : Word). plus (wbit a.z.now) (rowed (wide sh) sh.rows (spread sh a.parity.places.now a.b (turned d))))
+          ∙ ap (λ (d : Word). plus (wbit a.z.now) (block_rows a.parity a.b (turned d)))
           (block.ensures.twofold ∙ ap (λ (m : ℕ). doubled m x a.b) (sym c.requires.0));
     }
