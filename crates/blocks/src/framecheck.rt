@@ -41,9 +41,9 @@ pub fn over(octets: &[u8], t: &[u16; 256]) -> u16
     requires { t.now ≡ table_of }
     ensures { result ≡ frame_check octets.now }
 {
-    let mut r: usize = 0xFFFF;
+    let mut r: u16 = 0xFFFF;
     for octet in octets {
-        r = ((r % 256) * 256) ^ t[(r / 256) ^ *octet as usize] as usize;
+        r = (r << 8) ^ t[((r >> 8) ^ u16::from(*octet)) as usize];
     }
-    r as u16
+    r
 }
