@@ -1,12 +1,12 @@
 // Recordings into blocks. Each call takes any octets; what it refuses it refuses by number, and writes nothing.
 ghost use Rattle.std.specs.Prelude.{◌≡◌, ◌++◌, ◌+◌, ◌-◌, ◌*◌, ◌/◌, ◌≤◌, length, take, replicate};
 ghost use Rattle.blocks.specs.framecheck.FrameCheck.{framed};
-ghost use Rattle.blocks.specs.framecheck.Table.{table as table_of};
 ghost use Rattle.blocks.specs.Blocks.{two, four, front, block as block_of, exported as exported_of, export_answer, export_room};
 ghost use Rattle.refusals.specs.Numbers.{number_in};
 ghost use Rattle.blocks.specs.exporting.Answers.{as_exported};
 
 use super::framecheck;
+use super::framecheck::Remainders;
 use refusals::Refusal;
 use vectors::copying;
 
@@ -39,8 +39,8 @@ fn put_front(place: u32, used: &[u8], out: &mut [u8])
 }
 
 // The check behind the 510 octets that it is made over.
-fn put_check(out: &mut [u8], t: &[u16; 256])
-    requires { (length out.old ≡ 512) × (t.now ≡ table_of) }
+fn put_check(out: &mut [u8], t: &Remainders)
+    requires { length out.old ≡ 512 }
     ensures { out.new ≡ framed (take 510 out.old) }
 {
     let check = framecheck::over(&out[..510], t);
@@ -48,8 +48,8 @@ fn put_check(out: &mut [u8], t: &[u16; 256])
 }
 
 // One block.
-fn put_block(place: u32, used: &[u8], out: &mut [u8], t: &[u16; 256])
-    requires { (length used.now ≤ 504) × (length out.old ≡ 512) × (t.now ≡ table_of) }
+fn put_block(place: u32, used: &[u8], out: &mut [u8], t: &Remainders)
+    requires { (length used.now ≤ 504) × (length out.old ≡ 512) }
     ensures { out.new ≡ block_of place used.now }
 {
     put_front(place, used, &mut out[..510]);
@@ -57,8 +57,8 @@ fn put_block(place: u32, used: &[u8], out: &mut [u8], t: &[u16; 256])
 }
 
 // As many blocks as the output holds.
-fn put_blocks(octets: &[u8], n: usize, out: &mut [u8], t: &[u16; 256])
-    requires { (n ≡ (length octets.now + 503) / 504) × (n ≤ 128) × (length out.old ≡ 512 * n) × (t.now ≡ table_of) }
+fn put_blocks(octets: &[u8], n: usize, out: &mut [u8], t: &Remainders)
+    requires { (n ≡ (length octets.now + 503) / 504) × (n ≤ 128) × (length out.old ≡ 512 * n) }
     ensures { out.new ≡ exported_of n 0 octets.now }
 {
     for k in 0..n {

@@ -30,20 +30,23 @@ const TABLE: [u16; 256] = [
 ];
 
 // The table, for a caller to lend again and again.
-pub fn table() -> [u16; 256]
-    ensures { result ≡ table_of }
-{
-    TABLE
+#[derive(Clone, Copy)]
+pub struct Remainders {
+    pub entries: [u16; 256],
+    pub ghost right: { entries ≡ table_of },
+}
+
+pub fn table() -> Remainders {
+    Remainders { entries: TABLE }
 }
 
 // The frame check over octets; the table is lent.
-pub fn over(octets: &[u8], t: &[u16; 256]) -> u16
-    requires { t.now ≡ table_of }
+pub fn over(octets: &[u8], t: &Remainders) -> u16
     ensures { result ≡ frame_check octets.now }
 {
-    let mut r: usize = 0xFFFF;
+    let mut r: u16 = 0xFFFF;
     for octet in octets {
-        r = ((r % 256) * 256) ^ t[(r / 256) ^ *octet as usize] as usize;
+        r = (r << 8) ^ t.entries[((r >> 8) ^ u16::from(*octet)) as usize];
     }
-    r as u16
+    r
 }

@@ -1,13 +1,13 @@
 // Recordings from blocks. Each call takes any octets; what it refuses it refuses by number, and writes nothing.
 ghost use Rattle.std.specs.Prelude.{◌≡◌, ◌+◌, ◌*◌, ◌≤◌, ◌<◌, length};
 ghost use Rattle.blocks.specs.framecheck.FrameCheck.{sound};
-ghost use Rattle.blocks.specs.framecheck.Table.{table as table_of};
 ghost use Rattle.blocks.specs.Blocks.{number_in, used_in, count_right_of, clear as clear_of, filling_in, fault as fault_of, first_fault_of};
 ghost use Rattle.blocks.specs.Blocks.{imported as imported_of, whole_blocks, import_answer, import_room};
 ghost use Rattle.refusals.specs.Numbers.{number_in as refused_in};
 ghost use Rattle.blocks.specs.importing.Answers.{as_faulty, as_taken, as_imported, found_in};
 
 use super::framecheck;
+use super::framecheck::Remainders;
 use refusals::Refusal;
 use vectors::copying;
 
@@ -50,8 +50,8 @@ fn number(block: &[u8]) -> usize
 }
 
 // Whether the check of a block is right.
-fn is_sound(block: &[u8], t: &[u16; 256]) -> bool
-    requires { (length block.now ≡ 512) × (t.now ≡ table_of) }
+fn is_sound(block: &[u8], t: &Remainders) -> bool
+    requires { length block.now ≡ 512 }
     ensures { result ≡ sound 510 block.now }
 {
     framecheck::over(&block[..510], t) == u16::from_be_bytes([block[510], block[511]])
@@ -84,8 +84,8 @@ fn is_filled(block: &[u8], used: usize) -> bool
 }
 
 // The fault of a block at a place: its check, its number, its count or its filling.
-fn fault(place: usize, last: bool, block: &[u8], t: &[u16; 256]) -> Result<(), Refusal>
-    requires { (length block.now ≡ 512) × (t.now ≡ table_of) }
+fn fault(place: usize, last: bool, block: &[u8], t: &Remainders) -> Result<(), Refusal>
+    requires { length block.now ≡ 512 }
     ensures { refused_in result ≡ fault_of place last block.now }
 {
     if !is_sound(block, t) {
@@ -105,8 +105,8 @@ fn fault(place: usize, last: bool, block: &[u8], t: &[u16; 256]) -> Result<(), R
 }
 
 // The fault of the lowest block at fault, with its place.
-fn first_fault(blocks: &[u8], n: usize, t: &[u16; 256]) -> Result<(), Faulty>
-    requires { (length blocks.now ≡ 512 * n) × (n ≤ 128) × (t.now ≡ table_of) }
+fn first_fault(blocks: &[u8], n: usize, t: &Remainders) -> Result<(), Faulty>
+    requires { (length blocks.now ≡ 512 * n) × (n ≤ 128) }
     ensures { as_faulty result ≡ first_fault_of n 0 blocks.now }
 {
     for k in 0..n {

@@ -27,20 +27,14 @@ fn digit(octets: &[u8], n: usize) -> u8
     8 * bit(octets, n) + 4 * bit(octets, n + 1) + 2 * bit(octets, n + 2) + bit(octets, n + 3)
 }
 
-// A hexadecimal digit as the tables print it.
-fn spelled(d: u8) -> u8
-    requires { d < 16 }
+// So many digits from bit n on, as the tables print them.
+fn spell<W: Write>(output: &mut W, octets: &[u8], n: usize, digits: usize) -> io::Result<()>
+    requires { (n < 32768) × (digits ≤ 128) }
 {
-    if d < 10 { b'0' + d } else { b'A' + (d - 10) }
-}
-
-// As many digits as out has, from bit n on.
-fn spell(octets: &[u8], n: usize, out: &mut [u8])
-    requires { (n < 32768) × (length out.old ≤ 128) }
-{
-    for (i, glyph) in out.iter_mut().enumerate() {
-        *glyph = spelled(digit(octets, n + 4 * i));
+    for i in 0..digits {
+        write!(output, "{:X}", digit(octets, n + 4 * i))?;
     }
+    Ok(())
 }
 
 // An octet with one bit set.
@@ -65,22 +59,21 @@ fn name_row<W: Write>(output: &mut W, code: u8, n: usize) -> io::Result<()> {
     write!(output, "code {code}, information bit {n}:")
 }
 
-// A printed row of codes 1 to 3: all of the parity.
+// A printed row of codes 1 to 3: all of the parity, which has 4 M bits.
 fn telecommand_row<W: Write>(
     output: &mut W,
     code: u8,
+    m: usize,
     n: usize,
     information: &mut [u8],
     word: &mut [u8],
-    out: &mut [u8],
 ) -> io::Result<()>
-    requires { (n < 8 * length information.old) × (length information.old ≤ 32) × (length out.old ≤ 128) }
+    requires { (n < 8 * length information.old) × (4 * m ≡ 8 * length information.old) × (m ≤ 64) }
 {
     encode_alone(code, n, information, word);
     name_row(output, code, n)?;
-    spell(word, 8 * information.len(), out);
     output.write_all(b" ")?;
-    output.write_all(out)?;
+    spell(output, word, 4 * m, m)?;
     output.write_all(b"\n")
 }
 
@@ -90,29 +83,21 @@ fn telecommand_rows<W: Write>(
     m: usize,
     information: &mut [u8],
     word: &mut [u8],
-    out: &mut [u8],
 ) -> io::Result<()>
-    requires { (4 * m ≡ 8 * length information.old) × (0 < m) × (length information.old ≤ 32) × (length out.old ≤ 128) }
+    requires { (4 * m ≡ 8 * length information.old) × (0 < m) × (m ≤ 64) }
 {
-    telecommand_row(output, code, 0, information, word, out)?;
-    telecommand_row(output, code, m, information, word, out)?;
-    telecommand_row(output, code, 2 * m, information, word, out)?;
-    telecommand_row(output, code, 3 * m, information, word, out)
+    for row in 0..4usize {
+        telecommand_row(output, code, m, row * m, information, word)?;
+    }
+    Ok(())
 }
 
 // 511 bits as table 2 prints them, with one zero bit in front.
-fn near_earth_block<W: Write>(
-    output: &mut W,
-    word: &[u8],
-    n: usize,
-    out: &mut [u8],
-) -> io::Result<()>
-    requires { (0 < n) × (n < 32768) × (length out.old ≡ 128) }
+fn near_earth_block<W: Write>(output: &mut W, word: &[u8], n: usize) -> io::Result<()>
+    requires { (0 < n) × (n < 16384) }
 {
-    spell(word, n - 1, out);
-    out[0] = spelled(digit(word, n - 1) % 8);
-    output.write_all(b" ")?;
-    output.write_all(out)
+    write!(output, " {:X}", digit(word, n - 1) % 8)?;
+    spell(output, word, n + 3, 127)
 }
 
 // A printed pair of rows.
@@ -121,14 +106,13 @@ fn near_earth_row<W: Write>(
     n: usize,
     information: &mut [u8],
     word: &mut [u8],
-    out: &mut [u8],
 ) -> io::Result<()>
-    requires { (n < 7154) × (length information.old ≡ 895) × (length out.old ≡ 128) }
+    requires { (n < 7154) × (length information.old ≡ 895) }
 {
     encode_alone(4, n, information, word);
     name_row(output, 4, n)?;
-    near_earth_block(output, word, 7154, out)?;
-    near_earth_block(output, word, 7665, out)?;
+    near_earth_block(output, word, 7154)?;
+    near_earth_block(output, word, 7665)?;
     output.write_all(b"\n")
 }
 
@@ -136,12 +120,11 @@ fn near_earth_rows<W: Write>(
     output: &mut W,
     information: &mut [u8],
     word: &mut [u8],
-    out: &mut [u8],
 ) -> io::Result<()>
-    requires { (length information.old ≡ 895) × (length out.old ≡ 128) }
+    requires { length information.old ≡ 895 }
 {
     for block in 0..14usize {
-        near_earth_row(output, 511 * block, information, word, out)?;
+        near_earth_row(output, 511 * block, information, word)?;
     }
     Ok(())
 }
@@ -222,24 +205,10 @@ const BROKEN_512: [u8; 64] = [
 ];
 
 fn rows<W: Write>(output: &mut W) -> io::Result<()> {
-    telecommand_rows(output, 1, 16, &mut [0u8; 8], &mut [0u8; 16], &mut [0u8; 16])?;
-    telecommand_rows(
-        output,
-        2,
-        32,
-        &mut [0u8; 16],
-        &mut [0u8; 32],
-        &mut [0u8; 32],
-    )?;
-    telecommand_rows(
-        output,
-        3,
-        64,
-        &mut [0u8; 32],
-        &mut [0u8; 64],
-        &mut [0u8; 64],
-    )?;
-    near_earth_rows(output, &mut [0u8; 895], &mut [0u8; 1022], &mut [0u8; 128])
+    telecommand_rows(output, 1, 16, &mut [0u8; 8], &mut [0u8; 16])?;
+    telecommand_rows(output, 2, 32, &mut [0u8; 16], &mut [0u8; 32])?;
+    telecommand_rows(output, 3, 64, &mut [0u8; 32], &mut [0u8; 64])?;
+    near_earth_rows(output, &mut [0u8; 895], &mut [0u8; 1022])
 }
 
 fn main(rt: HostRuntime) -> io::Result<()> {

@@ -54,12 +54,6 @@ pub struct Tables<'a> {
     pub ghost filled: { Filled sizes.m sizes.rows sizes.information_blocks sizes.parity_blocks parity.now generator.now },
 }
 
-fn wide(s: u16) -> usize
-    ensures { result ≡ s }
-{
-    s as usize
-}
-
 impl<'a> Tables<'a> {
     // Bit t of the M bits of the number at a place.
     fn bit_of(self, at: usize, t: usize) -> bool
@@ -79,7 +73,7 @@ impl<'a> Tables<'a> {
         ensures { let a = self.entry in result ≡ over (kept a.sizes.m (get_or a.parity.now place 0) [])
             (met a.sizes.m a.generator.now at d) }
     {
-        let s = wide(self.parity[place]);
+        let s = usize::from(self.parity[place]);
         if s < self.sizes.m {
             return self.bit_of(at, self.sizes.turned(d, s));
         }
@@ -118,7 +112,7 @@ impl<'a> Tables<'a> {
         requires { (d < self.sizes.m) × (place < length self.parity.now) }
         ensures { let a = self.entry in result ≡ over (kept a.sizes.m (get_or a.parity.now place 0) []) (own a.sizes.m d) }
     {
-        let s = wide(self.parity[place]);
+        let s = usize::from(self.parity[place]);
         if s < self.sizes.m {
             return self.sizes.turned(d, s) == 0;
         }

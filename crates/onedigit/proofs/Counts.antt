@@ -1,17 +1,23 @@
 -- Counting one more, the places that a count goes over, and a table that is as it was.
-use mathlib.Core.Path.{◌≡◌, sym, ap, ap₂, ◌∙◌}
-use mathlib.Core.Bool.{Bool}
+use mathlib.Core.Path.{◌≡◌, refl, sym, ap, ap₂, ◌∙◌}
+use mathlib.Core.Bool.{Bool, true, false}
 use Prim.Native.Nat.{ℕ, ◌+◌, ◌*◌, ◌/◌, ◌≤◌, ◌<◌}
 use native.Mathlib.Nat.{div-lt_iff_lt-mul, mul-le-mul}
 use native.Mathlib.Omega.{arith}
 use mathlib.Core.List.{List}
 use lib.ListN.{get_or, set}
 use lib.Seq.{set-set, set-get_or}
+use Rattle.std.specs.Int.{from_bool}
 use Rattle.bits.specs.Bits.{count, tally}
 use Rattle.bits.proofs.Counting.{count_next}
 
 pub count_more : (t : ℕ) (f : ℕ → Bool) {n r : ℕ} {b : Bool} → n ≡ count t f → b ≡ f t → r ≡ tally b → n + r ≡ count (t + 1) f
 count_more t f {n} {r} {b} e p q = ap₂ (λ (x y : ℕ). x + y) e (q ∙ ap tally p) ∙ sym (count_next t f)
+
+-- A bool as a number.
+pub tally_from : (b : Bool) → from_bool b ≡ tally b
+tally_from true = refl
+tally_from false = refl
 
 -- What is put back.
 pub put_back : (l : List ℕ) (i x : ℕ) → set (set l i x) i (get_or l i 0) ≡ l

@@ -5,7 +5,6 @@ mod laid;
 
 ghost use Rattle.std.specs.Prelude.{◌≡◌, not, ℕ, ◌+◌, ◌*◌, ◌/◌, ◌%◌, ◌^◌, ◌<◌, ◌≤◌, length, set};
 ghost use Rattle.std.specs.Int.Bits.{bit_xor};
-ghost use Rattle.bits.specs.Bits.{tally};
 ghost use Rattle.bits.specs.Bits as bits;
 ghost use Rattle.rules.specs.Codes.{code};
 ghost use Rattle.rules.specs.Identity.{tied};
@@ -57,13 +56,6 @@ fn tied_511() -> bool
         parity: &laid::parity_511(),
         generator: &laid::generator_511(),
     })
-}
-
-// A try that counts.
-fn one_if(b: bool) -> usize
-    ensures { result ≡ tally b }
-{
-    if b { 1 } else { 0 }
 }
 
 // Whether a word in place of another is noticed. The table is left as it was.
@@ -140,22 +132,17 @@ fn digits_noticed(sizes: Sizes, digits: usize, parity: &[u16], generator: &mut [
     let n = generator.len() * digits * 15;
     let mut noticed = 0;
     for t in 0..n {
-        noticed += one_if(digit_noticed(sizes, digits, parity, generator, t));
+        noticed += usize::from(digit_noticed(sizes, digits, parity, generator, t));
     }
     noticed
-}
-
-fn wide(s: u16) -> usize
-    ensures { result ≡ s }
-{
-    s as usize
 }
 
 fn in_block(parity: &[u16], first: usize, s: usize) -> bool
     requires { first + 3 ≤ length parity.now }
     ensures { result ≡ in_block parity.now first s }
 {
-    (wide(parity[first]) == s) | ((wide(parity[first + 1]) == s) | (wide(parity[first + 2]) == s))
+    (usize::from(parity[first]) == s)
+        | ((usize::from(parity[first + 1]) == s) | (usize::from(parity[first + 2]) == s))
 }
 
 // Whether a place that holds s instead is a wrong entry.
@@ -163,7 +150,7 @@ fn wrong_entry(m: usize, parity: &[u16], place: usize, s: usize) -> bool
     requires { (place < length parity.now) × (length parity.now % 3 ≡ 0) }
     ensures { result ≡ wrong_entry_of m parity.now place s }
 {
-    let held = wide(parity[place]);
+    let held = usize::from(parity[place]);
     if held < m {
         return held != s;
     }
@@ -197,7 +184,7 @@ fn entries_tried(m: usize, parity: &[u16]) -> usize
     let n = parity.len() * (m + 1);
     let mut tried = 0;
     for t in 0..n {
-        tried += one_if(wrong_entry(m, parity, t / (m + 1), t % (m + 1)));
+        tried += usize::from(wrong_entry(m, parity, t / (m + 1), t % (m + 1)));
     }
     tried
 }
@@ -213,7 +200,7 @@ fn entries_noticed(sizes: Sizes, parity: &mut [u16], generator: &[u64]) -> usize
     let n = parity.len() * shifts;
     let mut noticed = 0;
     for t in 0..n {
-        noticed += one_if(entry_noticed(sizes, parity, generator, t / shifts, t % shifts));
+        noticed += usize::from(entry_noticed(sizes, parity, generator, t / shifts, t % shifts));
     }
     noticed
 }

@@ -1,6 +1,8 @@
 // What the bench's programs share: standard input read in parts, standard output written, and a failure said in one line.
 #![tactic(auto)]
 
+pub mod recordings;
+
 ghost use Rattle.std.specs.Prelude.{◌≡◌, ◌+◌, ◌≤◌, ◌↔◌, length, IfOk, IsOk};
 ghost use Rattle.std.specs.Io.{ReadsAtMost};
 ghost use Rattle.std.specs.Process.{exit_status};

@@ -2,57 +2,27 @@
 #![tactic(auto)]
 
 use blocks::exporting;
-use std::io::{Read, Write};
 use std::process::ExitCode;
-use streams::Failure;
+use streams::recordings;
+use streams::recordings::Refused;
 
-// A line with the number of a refusal; there is no block at fault.
-fn refuse<E: Write>(errors: &mut E, number: u8) {
-    let _ = writeln!(errors, "toblocks: refused: number {number} block 0");
-}
-
-// The blocks of the octets into an output of the right length, and out.
-fn convert<W: Write, E: Write>(
-    output: &mut W,
-    errors: &mut E,
-    octets: &[u8],
-    out: &mut [u8],
-) -> Result<(), Failure> {
-    let number = exporting::export_blocks(octets, out);
+// The blocks of the octets at the front of the room; where they are refused, no block is at fault.
+fn export(octets: &[u8], room: &mut [u8]) -> Result<usize, Refused> {
+    let n = exporting::exported_octets(octets.len()).min(room.len());
+    let number = exporting::export_blocks(octets, &mut room[..n]);
     if number != 0 {
-        refuse(errors, number);
-        return Ok(());
+        return Err(Refused { number, block: 0 });
     }
-    streams::write(output, out)
-}
-
-fn all<W: Write, E: Write>(
-    output: &mut W,
-    errors: &mut E,
-    octets: &[u8],
-    out: &mut [u8],
-) -> Result<(), Failure> {
-    let n = exporting::exported_octets(octets.len()).min(out.len());
-    convert(output, errors, octets, &mut out[..n])
-}
-
-// The blocks of the octets that are read.
-fn run<R: Read, W: Write, E: Write>(
-    input: &mut R,
-    output: &mut W,
-    errors: &mut E,
-) -> Result<(), Failure> {
-    // More than a recording holds, so that more than fits is seen.
-    let mut octets = [0u8; 65537];
-    let mut out = [0u8; 65536];
-    let n = streams::fill(input, &mut octets)?;
-    if n < octets.len() && !streams::is_ended(input)? {
-        return Ok(());
-    }
-    all(output, errors, &octets[..n], &mut out)
+    Ok(n)
 }
 
 fn main(rt: HostRuntime) -> ExitCode {
-    let ran = run(&mut rt.stdin(), &mut rt.stdout(), &mut rt.stderr());
+    let ran = recordings::convert(
+        "toblocks",
+        &mut rt.stdin(),
+        &mut rt.stdout(),
+        &mut rt.stderr(),
+        export,
+    );
     streams::end(&rt, "toblocks", ran)
 }

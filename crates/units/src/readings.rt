@@ -188,9 +188,7 @@ fn handed_last(state: Reading, answer: Corrected) -> Handed
 {
     let next = Reading {
         kept: answer,
-        code: state.code,
-        limit: state.limit,
-        place: state.place,
+        ..state
     };
     Handed {
         corrected: answer,
@@ -204,12 +202,9 @@ fn handed_on(state: Reading, answer: Corrected) -> Handed
     requires { state.place + 1 < 2 ^ 64 }
     ensures { (x : List ℕ) → as_handed result x ≡ handed_on_of (as_reading state) (as_corrected answer x) }
 {
-    let kept = state.kept;
     let next = Reading {
-        kept,
-        code: state.code,
-        limit: state.limit,
         place: state.place + 1,
+        ..state
     };
     Handed {
         corrected: answer,

@@ -93,10 +93,5 @@ pub fn next<'a>(r: Reader<'a>) -> Block
 pub fn moved<'a>(r: Reader<'a>, to: usize) -> Reader<'a>
     ensures { result ≡ moved_to r.entry to }
 {
-    Reader {
-        unit: r.unit,
-        place: to,
-        code: r.code,
-        limit: r.limit,
-    }
+    Reader { place: to, ..r }
 }

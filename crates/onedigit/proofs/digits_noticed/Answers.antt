@@ -7,7 +7,7 @@ use lib.ListN.{length}
 use Rattle.bits.specs.Bits as bits
 use Rattle.onedigit.specs.Wrong.{Fitting, digit_noticed_of}
 use Rattle.bits.proofs.Counting.{tally_le, count-start}
-use Rattle.onedigit.proofs.Counts.{count_more, within, product_fits}
+use Rattle.onedigit.proofs.Counts.{count_more, tally_from, within, product_fits}
 use Rattle.onedigit.proofs.digits_noticed.Goals as goal
 
 pub overflow_mul-n : goal.overflow_mul-n
@@ -53,7 +53,7 @@ digit_noticed-requires c =
     )
 
 pub overflow_add-noticed : goal.overflow_add-noticed
-overflow_add-noticed c = omega (arith, tally_le c.digit_noticed.result)
+overflow_add-noticed c = omega (arith, c.from-noticed.ensures ∙ tally_from c.digit_noticed.result, tally_le c.digit_noticed.result)
 
 pub loop-t-preserved : goal.loop-t-preserved
 loop-t-preserved c =
@@ -62,7 +62,7 @@ loop-t-preserved c =
     let e = c.digit_noticed in (
       omega arith,
       l.invariant.1,
-      omega (arith, tally_le e.result),
+      omega (arith, c.from-noticed.ensures ∙ tally_from e.result, tally_le e.result),
       e.ensures.kept ∙ l.invariant.3,
       λ printed fits.
           count_more l.t (digit_noticed_of a.sizes printed a.digits a.parity.now a.generator.now)
@@ -70,7 +70,7 @@ loop-t-preserved c =
           (e.ensures.noticed printed fits
           ∙ ap (λ (g : List ℕ). digit_noticed_of a.sizes printed a.digits a.parity.now g l.t)
           l.invariant.3)
-          c.one_if-noticed.ensures,
+          (c.from-noticed.ensures ∙ tally_from c.digit_noticed.result),
     )
 
 pub shape_of-generator : goal.shape_of-generator

@@ -8,7 +8,7 @@ use lib.ListN.{length}
 use Rattle.bits.specs.Bits as bits
 use Rattle.onedigit.specs.Wrong.{Fitting, place_noticed_of, entry_noticed_of}
 use Rattle.bits.proofs.Counting.{tally_le, count-start}
-use Rattle.onedigit.proofs.Counts.{count_more, within, product_fits}
+use Rattle.onedigit.proofs.Counts.{count_more, tally_from, within, product_fits}
 use Rattle.onedigit.proofs.entries_noticed.Goals as goal
 
 pub overflow_mul-n : goal.overflow_mul-n
@@ -43,7 +43,7 @@ entry_noticed-requires c =
     )
 
 pub overflow_add-noticed : goal.overflow_add-noticed
-overflow_add-noticed c = omega (arith, tally_le c.entry_noticed.result)
+overflow_add-noticed c = omega (arith, c.from-noticed.ensures ∙ tally_from c.entry_noticed.result, tally_le c.entry_noticed.result)
 
 pub loop-t-preserved : goal.loop-t-preserved
 loop-t-preserved c =
@@ -52,7 +52,7 @@ loop-t-preserved c =
     let e = c.entry_noticed in (
       omega arith,
       l.invariant.1,
-      omega (arith, tally_le e.result),
+      omega (arith, c.from-noticed.ensures ∙ tally_from e.result, tally_le e.result),
       e.ensures.kept ∙ l.invariant.3,
       λ printed fits.
           count_more l.t (entry_noticed_of a.sizes printed a.parity.now a.generator.now)
@@ -60,7 +60,7 @@ loop-t-preserved c =
           (e.ensures.noticed printed fits
           ∙ ap (λ (p : List ℕ). place_noticed_of a.sizes printed p a.generator.now (l.t / (a.sizes.m + 1))
           (l.t % (a.sizes.m + 1))) l.invariant.3)
-          c.one_if-noticed.ensures,
+          (c.from-noticed.ensures ∙ tally_from c.entry_noticed.result),
     )
 
 pub shape_of-parity : goal.shape_of-parity

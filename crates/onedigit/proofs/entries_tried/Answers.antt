@@ -6,7 +6,7 @@ use lib.ListN.{length}
 use Rattle.bits.specs.Bits.{count}
 use Rattle.onedigit.specs.Wrong.{entry_wrong}
 use Rattle.bits.proofs.Counting.{tally_le, count-start}
-use Rattle.onedigit.proofs.Counts.{count_more, within, product_fits}
+use Rattle.onedigit.proofs.Counts.{count_more, tally_from, within, product_fits}
 use Rattle.onedigit.proofs.entries_tried.Goals as goal
 
 pub overflow_mul-n : goal.overflow_mul-n
@@ -32,7 +32,7 @@ wrong_entry-requires c =
     (within l.t (length a.parity.now) (a.m + 1) pos h, omega arith)
 
 pub overflow_add-tried : goal.overflow_add-tried
-overflow_add-tried c = omega (arith, tally_le c.wrong_entry.result)
+overflow_add-tried c = omega (arith, c.from-tried.ensures ∙ tally_from c.wrong_entry.result, tally_le c.wrong_entry.result)
 
 pub loop-t-preserved : goal.loop-t-preserved
 loop-t-preserved c =
@@ -41,9 +41,9 @@ loop-t-preserved c =
     let e = c.wrong_entry in (
       omega arith,
       l.invariant.1,
-      omega (arith, tally_le e.result),
+      omega (arith, c.from-tried.ensures ∙ tally_from e.result, tally_le e.result),
       count_more l.t (entry_wrong a.m a.parity.now) l.invariant.3
-          e.ensures c.one_if-tried.ensures,
+          e.ensures (c.from-tried.ensures ∙ tally_from c.wrong_entry.result),
     )
 
 pub returns : goal.returns

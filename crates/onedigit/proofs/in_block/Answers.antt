@@ -8,6 +8,6 @@ use Rattle.onedigit.proofs.in_block.Goals as goal
 pub returns : goal.returns
 returns c =
     let s = c.args.s in
-    ap₂ (λ (x y : Bool). x || y) (ap (λ (x : ℕ). eqb x s) c.wide.ensures)
-    (ap₂ (λ (x y : Bool). x || y) (ap (λ (x : ℕ). eqb x s) c.wide-2.ensures)
-    (ap (λ (x : ℕ). eqb x s) c.wide-3.ensures))
+    ap₂ (λ (x y : Bool). x || y) (ap (λ (x : ℕ). eqb x s) c.from.ensures)
+    (ap₂ (λ (x y : Bool). x || y) (ap (λ (x : ℕ). eqb x s) c.from-2.ensures)
+    (ap (λ (x : ℕ). eqb x s) c.from-3.ensures))

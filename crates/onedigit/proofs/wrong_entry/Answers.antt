@@ -12,7 +12,7 @@ use Rattle.onedigit.proofs.wrong_entry.Goals as goal
 pub returns-then-held-m : goal.returns-then-held-m
 returns-then-held-m c =
     let a = c.args in
-    let held = c.wide-held.ensures in
+    let held = c.from-held.ensures in
     let p = get_or a.parity.now a.place 0 in
     ap (λ (y : ℕ). not (eqb y a.s)) held
     ∙ sym (ap (λ (b : Bool). when b then not (eqb p a.s) else added a.m a.parity.now a.place a.s)
@@ -21,7 +21,7 @@ returns-then-held-m c =
 pub returns : goal.returns
 returns c =
     let a = c.args in
-    let held = c.wide-held.ensures in
+    let held = c.from-held.ensures in
     let p = get_or a.parity.now a.place 0 in
     ap (λ (known : Bool). eqb (a.place % 3) 2 && (ltb a.s a.m && not known)) c.in_block.ensures
     ∙ sym (ap (λ (b : Bool). when b then not (eqb p a.s) else added a.m a.parity.now a.place a.s)

@@ -25,7 +25,8 @@ goes_on : (c : In-loop-k) → Goes (length c.args.information.now) c.loop-k.k (c
 goes_on c =
     let w = c.word_octets-word in
     let k = c.loop-k.k in
-    goes (length c.args.information.now) k c.args.code.number (k * w.result) w.result (length c.args.out.now) c.args.code.offered w.ensures.0
+    goes (length c.args.information.now) k c.args.code.number (k * w.result) w.result (length c.args.out.now)
+    c.args.code.offered w.ensures.0
     (ap (λ z. k * z) w.ensures.0) c.requires
     (begins_in k (length c.args.out.now) w.result c.loop-k-test.true (omega (arith, w.ensures.1)))
 

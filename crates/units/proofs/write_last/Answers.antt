@@ -1,7 +1,7 @@
 -- `units::write_last`: the information that is left, then fill. Assumes nothing.
 use mathlib.Core.Path.{sym, ap, ap₂, ◌∙◌}
 use mathlib.Core.List.{◌++◌}
-use Prim.Native.Nat.{ℕ, ◌≤◌}
+use Prim.Native.Nat.{ℕ}
 use native.Mathlib.Omega.{arith}
 use lib.ListN.{length, drop, replicate, length-append, length-drop}
 use lib.Seq.{length-take-le}
@@ -43,24 +43,22 @@ slice_bounds-part-end-2 c =
 
 pub slice_bounds-write_part-end : goal.slice_bounds-write_part-end
 slice_bounds-write_part-end c =
-    let z = sizes c.args.code.number c.args.code.offered in
-    let few : c.information_octets-size.result ≤ 32 = omega (arith, c.information_octets-size.ensures.0, z.few) in
-    c.information_octets-size.ensures.0 ∙ sym (filled_part_length c.args.rest.now c.copy_from_slice.new.self c.fill-part.result c.information_octets-size.result
-    (code c.args.code.number).octets_of_information c.copy_from_slice.ensures.after c.fill-part.ensures c.requires.0 c.information_octets-size.ensures.0 few)
+    let s = c.information_octets-size in
+    s.ensures.0 ∙ sym (filled_part_length c.args.rest.now c.copy_from_slice.new.self c.fill-part.result s.result
+    (code c.args.code.number).octets_of_information c.copy_from_slice.ensures.after c.fill-part.ensures c.requires.0 s.ensures.0 s.ensures.2)
 
 pub write_part-requires : goal.write_part-requires
 write_part-requires c =
-    let z = sizes c.args.code.number c.args.code.offered in
-    let few : c.information_octets-size.result ≤ 32 = omega (arith, c.information_octets-size.ensures.0, z.few) in (
-      filled_part_length c.args.rest.now c.copy_from_slice.new.self c.fill-part.result c.information_octets-size.result
-          (code c.args.code.number).octets_of_information c.copy_from_slice.ensures.after c.fill-part.ensures c.requires.0 c.information_octets-size.ensures.0 few,
+    let s = c.information_octets-size in (
+      filled_part_length c.args.rest.now c.copy_from_slice.new.self c.fill-part.result s.result
+          (code c.args.code.number).octets_of_information c.copy_from_slice.ensures.after c.fill-part.ensures c.requires.0
+          s.ensures.0 s.ensures.2,
       c.requires.1,
     )
 
 pub returns : goal.returns
 returns c =
-    let z = sizes c.args.code.number c.args.code.offered in
-    let few : c.information_octets-size.result ≤ 32 = omega (arith, c.information_octets-size.ensures.0, z.few) in
+    let s = c.information_octets-size in
     c.write_part.ensures ∙ ap (λ z. randomised telecommand c.args.used (encoded_of c.args.code.number z))
-    (filled_part c.args.rest.now c.copy_from_slice.new.self c.fill-part.result c.information_octets-size.result
-    (code c.args.code.number).octets_of_information c.copy_from_slice.ensures.after c.fill-part.ensures c.requires.0 c.information_octets-size.ensures.0 few)
+    (filled_part c.args.rest.now c.copy_from_slice.new.self c.fill-part.result s.result
+    (code c.args.code.number).octets_of_information c.copy_from_slice.ensures.after c.fill-part.ensures c.requires.0 s.ensures.0 s.ensures.2)

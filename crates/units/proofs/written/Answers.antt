@@ -11,7 +11,8 @@ pub returns-in_err-unit_code : goal.returns-in_err-unit_code
 returns-in_err-unit_code c =
     let a = c.args in
     let p = err_from_is_err_and c.from_residual.result c.from_residual.ensures.1 in
-    rw (p.1, p.2) (sym (write_refused a.code a.information.now a.out.now _ c.in_err-unit_code.ensures.numbered (some c.in_err-unit_code.field-0.0)))
+    let e = c.in_err-unit_code in
+    rw (p.1, p.2) (sym (write_refused a.code a.information.now a.out.now _ e.ensures.numbered (some e.field-0.0)))
 
 pub write_taken-requires : goal.write_taken-requires
 write_taken-requires c =
@@ -22,5 +23,6 @@ write_taken-requires c =
 pub returns : goal.returns
 returns c =
     let a = c.args in
-    ap (λ z. record { number = 0; out = z }) (c.write_taken.ensures ∙ ap (λ n. unit_of n a.information.now) c.in_ok-unit_code.ensures.given)
-    ∙ sym (write_done a.code a.information.now a.out.now 0 c.in_ok-unit_code.ensures.numbered refl)
+    let e = c.in_ok-unit_code.ensures in
+    ap (λ z. record { number = 0; out = z }) (c.write_taken.ensures ∙ ap (λ n. unit_of n a.information.now) e.given)
+    ∙ sym (write_done a.code a.information.now a.out.now 0 e.numbered refl)

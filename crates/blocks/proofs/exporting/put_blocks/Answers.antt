@@ -19,7 +19,6 @@ put_block-requires c =
           (omega (arith, c.min-end.ensures))))
           (piece_few h.k c.args.octets.now),
       block_room c.args.octets.now h.out c.args.n h.k (omega arith) h.invariant.1,
-      c.requires.3,
     )
 
 pub loop-k-preserved : goal.loop-k-preserved

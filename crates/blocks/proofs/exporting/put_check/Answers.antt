@@ -12,4 +12,4 @@ pub returns : goal.returns
 returns c =
     let k = c.copy_from_slice in
     let f = c.over-check in
-    check_put c.args.out.now k.new.self f.result c.requires.0 f.ensures (k.ensures.after ∙ c.to_be_bytes.ensures)
+    check_put c.args.out.now k.new.self f.result c.requires f.ensures (k.ensures.after ∙ c.to_be_bytes.ensures)

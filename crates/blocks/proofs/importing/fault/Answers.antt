@@ -33,7 +33,7 @@ returns-then-not-count_right c =
 pub is_filled-requires : goal.is_filled-requires
 is_filled-requires c =
     let u = c.used-n in
-    (c.requires.0, u.ensures.0, count-le c.args.last u.result (sym c.count_right.ensures ∙ c.if-not-count_right.false))
+    (c.requires, u.ensures.0, count-le c.args.last u.result (sym c.count_right.ensures ∙ c.if-not-count_right.false))
 
 pub returns-then-not-is_filled : goal.returns-then-not-is_filled
 returns-then-not-is_filled c =

@@ -13,7 +13,7 @@ loop-k-init c = (zero-le, ap (λ z. first_fault_of z 0 c.args.blocks.now) (omega
 
 pub fault-requires : goal.fault-requires
 fault-requires c =
-    (range_long c.args.n c.loop-k.k c.args.blocks.now c.requires.0 (omega arith), c.requires.2)
+    range_long c.args.n c.loop-k.k c.args.blocks.now c.requires.0 (omega arith)
 
 pub returns-in-Err : goal.returns-in-Err
 returns-in-Err c =

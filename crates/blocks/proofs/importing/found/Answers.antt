@@ -18,7 +18,7 @@ first_fault-requires c =
     let w = c.is_whole in
     let o = c.args.blocks.now in
     let i = whole_is (length o) (sym w.ensures ∙ not-false w.result (ap not c.if-not-is_whole.false)) in
-    (i.0, i.1, c.table-t.ensures)
+    (i.0, i.1)
 
 pub returns : goal.returns
 returns c =

@@ -1,6 +1,6 @@
 -- `importing::take_data`: the data so far is that of the first blocks. Assumes nothing.
 use mathlib.Core.Path.{◌≡◌}
-use Prim.Native.Nat.{◌≤◌, ◌-◌}
+use Prim.Native.Nat.{◌≤◌}
 use lib.ListN.{length, take}
 use Rattle.blocks.specs.Blocks.{imported}
 use Rattle.blocks.proofs.importing.take_data.Given as goal

@@ -39,6 +39,7 @@ hand_out-requires c =
 
 pub returns : goal.returns
 returns c =
-    part_is c.args.code.number c.args.word.now c.word_buffer-mended.result c.args.limit c.args.code.offered c.requires.0 c.word_buffer-mended.ensures
+    part_is c.args.code.number c.args.word.now c.word_buffer-mended.result c.args.limit c.args.code.offered c.requires.0
+    c.word_buffer-mended.ensures
     (as_corrected c.correct-r.result c.correct-r.new.out) c.correct-r.ensures (length c.args.out.now) c.requires.1
     c.args.out.now c.hand_out.new.out c.hand_out.ensures

@@ -20,7 +20,9 @@ is_code c = subst (λ n. unit_code n ≡ true) c.in-Some.ensures c.in-Some.code.
 
 -- The output has the length of the information.
 is_long : (c : Else-out-information_octets) → length c.args.out.now ≡ (code c.args.state.code).octets_of_information
-is_long c = c.if-out-information_octets.false ∙ c.information_octets.ensures.0 ∙ ap (λ n. (code n).octets_of_information) c.in-Some.ensures
+is_long c =
+    c.if-out-information_octets.false ∙ c.information_octets.ensures.0
+    ∙ ap (λ n. (code n).octets_of_information) c.in-Some.ensures
 
 -- There is a codeblock at the place.
 is_there : (c : Else-state-blocks) → c.args.state.place < blocks_in_of c.in-Some.code.number c.args.unit.now
@@ -29,9 +31,10 @@ is_there c = omega (arith, c.blocks_in-blocks.ensures, c.if-state-blocks.false)
 -- What is handed out is the next codeblock's.
 is_next : (c : After-read_block-r) → as_corrected c.read_block-r.result c.read_block-r.new.out
     ≡ handed_part c.args.state.code (corrected_at (as_reading c.args.state) c.args.unit.now c.args.out.now) c.args.out.now
-is_next c = c.read_block-r.ensures
-    ∙ ap (λ n. handed_part n (corrected_at (record (as_reading c.args.state) { code = n }) c.args.unit.now c.args.out.now) c.args.out.now)
-    c.in-Some.ensures
+is_next c =
+    let s = as_reading c.args.state in
+    let out = c.args.out.now in
+    c.read_block-r.ensures ∙ ap (λ n. handed_part n (corrected_at (record s { code = n }) c.args.unit.now out) out) c.in-Some.ensures
 
 pub returns-in_default : goal.returns-in_default
 returns-in_default c =
@@ -53,8 +56,8 @@ pub returns-then-kept-ne0 : goal.returns-then-kept-ne0
 returns-then-kept-ne0 c =
     let at = goal.at.returns-then-kept-ne0 c in
     c.handed_again-then-kept-ne0.ensures c.args.out.now
-    ∙ sym (read_kept (as_reading c.args.state) c.args.unit.now c.args.out.now (is_code at.In-Some) (is_long at.Else-out-information_octets)
-    c.if-kept-ne0.true)
+    ∙ sym (read_kept (as_reading c.args.state) c.args.unit.now c.args.out.now (is_code at.In-Some)
+    (is_long at.Else-out-information_octets) c.if-kept-ne0.true)
 
 pub returns-then-state-blocks : goal.returns-then-state-blocks
 returns-then-state-blocks c =

@@ -23,10 +23,12 @@ pub returns-then-not-is_shaped : goal.returns-then-not-is_shaped
 returns-then-not-is_shaped c =
     sym (number_twelve c.args.code c.args.unit.now (is_code (goal.at.returns-then-not-is_shaped c).In-Some)
     (sym c.is_started.ensures ∙ not-false _ (ap not c.if-not-is_started.false))
-    (ap (λ n. shaped n c.args.unit.now) (sym c.in-Some.ensures) ∙ sym c.is_shaped.ensures ∙ not-true _ (ap not c.if-not-is_shaped.true)))
+    (ap (λ n. shaped n c.args.unit.now) (sym c.in-Some.ensures) ∙ sym c.is_shaped.ensures
+    ∙ not-true _ (ap not c.if-not-is_shaped.true)))
 
 pub returns : goal.returns
 returns c =
     sym (number-none c.args.code c.args.unit.now (is_code (goal.at.returns c).In-Some)
     (sym c.is_started.ensures ∙ not-false _ (ap not c.if-not-is_started.false))
-    (ap (λ n. shaped n c.args.unit.now) (sym c.in-Some.ensures) ∙ sym c.is_shaped.ensures ∙ not-false _ (ap not c.if-not-is_shaped.false)))
+    (ap (λ n. shaped n c.args.unit.now) (sym c.in-Some.ensures) ∙ sym c.is_shaped.ensures
+    ∙ not-false _ (ap not c.if-not-is_shaped.false)))

@@ -14,7 +14,7 @@ returns-then-s-self c =
     let m = a.sizes.m in
     let s = get_or a.parity.now c.args.place 0 in
     let f = met m a.generator.now c.args.at c.args.d in
-    let w : c.wide-s.result ≡ s = c.wide-s.ensures in
+    let w : c.from-s.result ≡ s = c.from-s.ensures in
     c.bit_of.ensures
     ∙ ap (λ (t : ℕ). digit m (joined (words m) a.generator.now c.args.at) t) (c.turned.ensures.0
     ∙ ap (λ (x : ℕ). (c.args.d + x) % m) w)

@@ -13,7 +13,7 @@ returns-then-s-self c =
     let a = c.args.self in
     let m = a.sizes.m in
     let s = get_or a.parity.now c.args.place 0 in
-    let w : c.wide-s.result ≡ s = c.wide-s.ensures in
+    let w : c.from-s.result ≡ s = c.from-s.ensures in
     ap (λ (t : ℕ). eqb t 0) (c.turned.ensures.0 ∙ ap (λ (x : ℕ). (c.args.d + x) % m) w)
     ∙ sym (over-one m (own m c.args.d) s (omega arith))
 
