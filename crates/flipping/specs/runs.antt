@@ -1,3 +1,2 @@
 pub mod Endings
 pub mod Passes
-pub mod Quiet

@@ -1,11 +1,9 @@
 // What comes next for a word whose syndrome is held, and the flipping run.
-ghost use Rattle.std.specs.Prelude.{◌≡◌, List, ℕ, ◌*◌, ◌/◌, ◌≤◌, ◌<◌, length};
+ghost use Rattle.std.specs.Prelude.{◌≡◌, List, [], ℕ, ◌*◌, ◌/◌, ◌≤◌, ◌<◌, length};
 ghost use Rattle.bits.specs.Bits.{Word, flipped};
 ghost use Rattle.rules.specs.Codes.{Code};
 ghost use Rattle.rules.specs.Checks.{broken};
-ghost use Rattle.rules.specs.Flipping.{quiet, Way, by_excess};
-ghost use Rattle.rules.proofs.Choosing.{quiet_next};
-ghost use Rattle.flipping.specs.runs.Quiet.{sized_quiet};
+ghost use Rattle.rules.specs.Flipping.{by_excess};
 ghost use Rattle.vectors.specs.Vectors.{wbit};
 ghost use Rattle.layout.specs.declared.Shape.{Shape};
 ghost use Rattle.layout.specs.Lent.{Lent, laid};
@@ -130,23 +128,21 @@ pub trait Keeper {
     // And this bit may be flipped.
     ghost chosen: { Self → Code → Word → ℕ → Type 0 };
 
-    // The way of choosing.
-    ghost way: { Self → Code → Way };
+    // The samples whose sizes tell bits of equal excess apart; none, where all bits have equal sizes.
+    ghost sizes: { Self → List ℕ };
 
     // The bit that is next, by its score.
     fn choose(&mut self) -> Best
         requires { Known (stands self.old) }
-        ensures { (way self.new ≡ way self.old) × ((c : Code) (y : Word) → stands self.old c y → (broken c y ≡ 0 → ⊥)
-            → Chooses (way self.old c) c y result × stands self.new c y × (8 < result.score → chosen self.new c y result.bit)) };
+        ensures { (sizes self.new ≡ sizes self.old) × ((c : Code) (y : Word) → stands self.old c y → (broken c y ≡ 0 → ⊥)
+            → Chooses (by_size (smaller (sizes self.old)) c) c y result × stands self.new c y × (8 < result.score → chosen self.new c y result.bit)) };
 
     // Flips a bit of the word, and what is kept follows; so many checks are broken then.
     fn flip(&mut self, y: &mut [u64; WORD], bit: usize, left: u32)
         requires { Flipping (chosen self.old) (wbit y.old) bit left }
-        ensures { (way self.new ≡ way self.old) × (wbit y.new ≡ flipped (wbit y.old) bit)
+        ensures { (sizes self.new ≡ sizes self.old) × (wbit y.new ≡ flipped (wbit y.old) bit)
             × ((c : Code) → chosen self.old c (wbit y.old) bit → left ≡ broken c (flipped (wbit y.old) bit)
             → stands self.new c (flipped (wbit y.old) bit)) };
-
-    ghost stops: { (s : Self) (c : Code) (y : Word) → broken c y ≡ 0 → way s c y ≡ quiet };
 }
 
 // What a run by the bounds of the blocks keeps; bits before bit `from` are not sent.
@@ -164,9 +160,7 @@ impl Keeper for ByBounds {
 
     ghost chosen = { λ s. MetIn s.bounds.places s.from s.rows s.bounds.met };
 
-    ghost way = { λ s c. by_excess c };
-
-    ghost stops = { λ s c y e. quiet_next c y e };
+    ghost sizes = { λ s. [] };
 
     fn choose(&mut self) -> Best {
         self.bounds.choose(&self.rows, self.from)
@@ -197,9 +191,7 @@ impl<'a> Keeper for ByRows<'a> {
 
     ghost chosen = { λ s. InsideIn s.parity.places.now s.parity.shape s.from s.rows };
 
-    ghost way = { λ s c. by_size (smaller s.samples.now) c };
-
-    ghost stops = { λ s c y e. sized_quiet (smaller s.samples.now) c y e };
+    ghost sizes = { λ s. s.samples.now };
 
     fn choose(&mut self) -> Best {
         let samples = self.samples;
@@ -214,9 +206,10 @@ impl<'a> Keeper for ByRows<'a> {
 // The run from the word y, of which this is kept, under a limit: flips until it ends. So many checks are broken.
 pub fn go_on<K: Keeper>(kept: &mut K, y: &mut [u64; WORD], limit: u16, first: u32) -> Ended
     requires { Running (K.stands kept.old) first (wbit y.old) }
-    ensures { (c : Code) (sh : Shape) → K.stands kept.old c (wbit y.old) → first ≡ broken c (wbit y.old)
-        → RunsTo (K.way kept.old c) c sh limit (wbit y.old) result.ran (wbit y.new) (laid c sh (wbit y.new))
-        × (result.last ≡ broken c (wbit y.new)) × K.stands kept.new c (wbit y.new) }
+    ensures { (K.sizes kept.new ≡ K.sizes kept.old)
+        × ((c : Code) (sh : Shape) → K.stands kept.old c (wbit y.old) → first ≡ broken c (wbit y.old)
+        → RunsTo (by_size (smaller (K.sizes kept.old)) c) c sh limit (wbit y.old) result.ran (wbit y.new) (laid c sh (wbit y.new))
+        × (result.last ≡ broken c (wbit y.new)) × K.stands kept.new c (wbit y.new)) }
 {
     let most = limit as u32;
     let mut flips: u32 = 0;

@@ -15,9 +15,9 @@ use borrow.Author.Tests.{le-leb, lt-leb, lt-ltb, le-ltb, leb-true}
 use Rattle.bits.specs.Bits.{Word, flipped}
 use Rattle.rules.specs.Codes.{Code, bits}
 use Rattle.rules.specs.Checks.{broken, excess}
-use Rattle.rules.specs.Flipping.{stuck, flip, by_excess}
+use Rattle.rules.specs.Flipping.{quiet, stuck, flip, by_excess}
 use Rattle.rules.proofs.Flips.{broken_met, broken_flip, sub_order}
-use Rattle.rules.proofs.Choosing.{chosen}
+use Rattle.rules.proofs.Choosing.{chosen, quiet_next}
 use Rattle.layout.specs.declared.Shape.{Shape}
 use Rattle.layout.specs.Lent.{Lent, score}
 use Rattle.planes.specs.Ranges.{Top}
@@ -33,6 +33,10 @@ use Rattle.flipping.specs.runs.Passes.{RunsTo}
 use Rattle.flipping.specs.narrow.Weighing.{Chosen}
 use Rattle.flipping.proofs.narrow.Peaks.{no_samples}
 use Rattle.flipping.proofs.runs.Passing.{next_flip, none_flip, top_small}
+
+pub sized_quiet : (less : ℕ → ℕ → Bool) (c : Code) (x : Word) → broken c x ≡ 0 → by_size less c x ≡ quiet
+unfolding by_size
+sized_quiet less c x e = ap (instead (smallest_sent less c x)) (quiet_next c x e)
 
 -- A flip mends as many checks as its excess.
 pub score_left : (c : Code) (x : Word) (n top : ℕ) → n < bits c → score c x n ≡ top → 8 < top

@@ -7,8 +7,11 @@ use Rattle.bits.specs.Bits.{flipped}
 use Rattle.rules.specs.Checks.{broken}
 use Rattle.vectors.specs.Vectors.{wbit}
 use Rattle.layout.specs.Lent.{laid}
+use Rattle.magnitudes.specs.Patterns.{smaller}
+use Rattle.magnitudes.specs.Sizes.{by_size}
 use Rattle.flipping.specs.runs.Passes.{Going}
 use Rattle.flipping.proofs.runs.Passing.{going_start, ends_quiet, ends_stuck, ends_limit, goes_on, runs_as}
+use Rattle.flipping.proofs.runs.Sizes.{sized_quiet}
 use Rattle.flipping.proofs.runs.go_on.Goals as goal
 
 pub loop-left-init : goal.loop-left-init
@@ -19,7 +22,7 @@ loop-left-init g c =
       search rules,
       refl,
       λ k is e. (is, e),
-      λ k sh is e. going_start (g.K.Keeper.way a.kept.now k) k sh a.limit x (laid k sh x) refl,
+      λ k sh is e. going_start (by_size (smaller (g.K.Keeper.sizes a.kept.now)) k) k sh a.limit x (laid k sh x) refl,
     )
 
 pub choose-best-requires : goal.choose-best-requires
@@ -28,37 +31,43 @@ choose-best-requires g c =
     record { code = w.code; word = wbit c.loop-left.y; is = (c.loop-left.invariant.3 w.code w.is w.first_is).0 }
 
 pub returns-then-top-le8 : goal.returns-then-top-le8
-returns-then-top-le8 g c k sh is e =
-    let a = c.args in
-    let l = c.loop-left in
-    let y = wbit l.y in
-    let way = g.K.Keeper.way a.kept.now k in
-    let i = l.invariant.3 k is e in
-    let b = c.choose-best.ensures.1 k y i.0 (λ z. omega (arith, i.1, z, c.loop-left-test.true)) in
-    let next = b.0.ends c.if-top-le8.true in (
-      runs_as _ _ c.at_end.ensures.0 c.at_end.ensures.1
-          (ends_stuck way k sh a.limit (wbit a.y.now) l.flips y _ (l.invariant.4 k sh is e) next.0 next.1
-          (ap (λ w. w k y) (sym l.invariant.2) ∙ next.2)),
-      c.at_end.ensures.2 ∙ i.1,
-      b.1,
-    )
+returns-then-top-le8 g c = (
+  c.choose-best.ensures.0 ∙ c.loop-left.invariant.2,
+  λ k sh is e.
+      let a = c.args in
+      let l = c.loop-left in
+      let y = wbit l.y in
+      let way = by_size (smaller (g.K.Keeper.sizes a.kept.now)) k in
+      let i = l.invariant.3 k is e in
+      let b = c.choose-best.ensures.1 k y i.0 (λ z. omega (arith, i.1, z, c.loop-left-test.true)) in
+      let next = b.0.ends c.if-top-le8.true in (
+        runs_as _ _ c.at_end.ensures.0 c.at_end.ensures.1
+            (ends_stuck way k sh a.limit (wbit a.y.now) l.flips y _ (l.invariant.4 k sh is e) next.0 next.1
+            (ap (λ x. by_size (smaller x) k y) (sym l.invariant.2) ∙ next.2)),
+        c.at_end.ensures.2 ∙ i.1,
+        b.1,
+      ),
+)
 
 pub returns-then-flips-most : goal.returns-then-flips-most
-returns-then-flips-most g c k sh is e =
-    let a = c.args in
-    let l = c.loop-left in
-    let y = wbit l.y in
-    let end = c.at_end-then-flips-most.ensures in
-    let way = g.K.Keeper.way a.kept.now k in
-    let i = l.invariant.3 k is e in
-    let b = c.choose-best.ensures.1 k y i.0 (λ z. omega (arith, i.1, z, c.loop-left-test.true)) in
-    let next = b.0.goes c.if-top-le8.false in (
-      runs_as _ _ end.0 end.1
-          (ends_limit way k sh a.limit (wbit a.y.now) l.flips y _ (l.invariant.4 k sh is e) _ next.0
-          (ap (λ w. w k y) (sym l.invariant.2) ∙ next.1) c.if-flips-most.true),
-      end.2 ∙ i.1,
-      b.1,
-    )
+returns-then-flips-most g c = (
+  c.choose-best.ensures.0 ∙ c.loop-left.invariant.2,
+  λ k sh is e.
+      let a = c.args in
+      let l = c.loop-left in
+      let y = wbit l.y in
+      let end = c.at_end-then-flips-most.ensures in
+      let way = by_size (smaller (g.K.Keeper.sizes a.kept.now)) k in
+      let i = l.invariant.3 k is e in
+      let b = c.choose-best.ensures.1 k y i.0 (λ z. omega (arith, i.1, z, c.loop-left-test.true)) in
+      let next = b.0.goes c.if-top-le8.false in (
+        runs_as _ _ end.0 end.1
+            (ends_limit way k sh a.limit (wbit a.y.now) l.flips y _ (l.invariant.4 k sh is e) _ next.0
+            (ap (λ x. by_size (smaller x) k y) (sym l.invariant.2) ∙ next.1) c.if-flips-most.true),
+        end.2 ∙ i.1,
+        b.1,
+      ),
+)
 
 pub overflow_sub-left : goal.overflow_sub-left
 overflow_sub-left g c = omega (arith, c.if-top-le8.false)
@@ -110,22 +119,25 @@ loop-left-preserved g c =
           let i = l.invariant.3 k is e in
           let b = c.choose-best.ensures.1 k y i.0 (λ z. omega (arith, i.1, z, c.loop-left-test.true)) in
           let next = b.0.goes high in
-          let way = g.K.Keeper.way a.kept.now k in
+          let way = by_size (smaller (g.K.Keeper.sizes a.kept.now)) k in
           subst (λ z. Going way k sh a.limit (wbit a.y.now) (l.flips + 1) z (laid k sh z)) (sym f.1)
           (goes_on way k sh a.limit (wbit a.y.now) l.flips y _ (l.invariant.4 k sh is e) _ next.0
-          (ap (λ w. w k y) (sym l.invariant.2) ∙ next.1) more _ _ refl refl),
+          (ap (λ x. by_size (smaller x) k y) (sym l.invariant.2) ∙ next.1) more _ _ refl refl),
     )
 
 pub returns : goal.returns
-returns g c k sh is e =
-    let a = c.args in
-    let l = c.loop-left in
-    let y = wbit l.y in
-    let i = l.invariant.3 k is e in
-    let none : broken k y ≡ 0 = omega (arith, i.1, c.loop-left-test.false) in (
-      runs_as _ _ c.at_end-2.ensures.0 c.at_end-2.ensures.1
-          (ends_quiet (g.K.Keeper.way a.kept.now k) k sh a.limit (wbit a.y.now) l.flips y _ (l.invariant.4 k sh is e)
-          (g.met.K.Keeper.stops a.kept.now k y none)),
-      c.at_end-2.ensures.2 ∙ sym none,
-      i.0,
-    )
+returns g c = (
+  c.loop-left.invariant.2,
+  λ k sh is e.
+      let a = c.args in
+      let l = c.loop-left in
+      let y = wbit l.y in
+      let i = l.invariant.3 k is e in
+      let none : broken k y ≡ 0 = omega (arith, i.1, c.loop-left-test.false) in (
+        runs_as _ _ c.at_end-2.ensures.0 c.at_end-2.ensures.1
+            (ends_quiet (by_size (smaller (g.K.Keeper.sizes a.kept.now)) k) k sh a.limit (wbit a.y.now) l.flips y _ (l.invariant.4 k sh is e)
+            (sized_quiet (smaller (g.K.Keeper.sizes a.kept.now)) k y none)),
+        c.at_end-2.ensures.2 ∙ sym none,
+        i.0,
+      ),
+)

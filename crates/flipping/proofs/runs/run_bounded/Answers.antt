@@ -1,6 +1,7 @@
 -- `runs::run_bounded`: the state is made, and the run goes on from it. Assumes nothing.
 use Rattle.vectors.specs.Vectors.{wbit}
 use Rattle.flipping.proofs.runs.Passing.{begun_in}
+use Rattle.flipping.proofs.runs.Sizes.{equal_runs}
 use Rattle.flipping.proofs.runs.run_bounded.Goals as goal
 
 pub go_on-requires : goal.go_on-requires
@@ -20,7 +21,7 @@ pub returns : goal.returns
 returns c k w =
     let a = c.args in
     let b = c.begin-bounds in
-    let done = c.go_on.ensures k a.parity.shape
+    let done = c.go_on.ensures.1 k a.parity.shape
     (begun_in k a.parity.places.now a.parity.shape w.lent a.parity.fit a.from (wbit a.y.now) _ w.held b.result.places b.ensures.1
     b.ensures.2 _ _ b.ensures.0 b.ensures.3 w.unsent) w.broken in
-    (done.0, done.1)
+    (equal_runs done.0, done.1)

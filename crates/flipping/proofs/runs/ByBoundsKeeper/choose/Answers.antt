@@ -1,8 +1,10 @@
 -- `ByBounds::choose`: what comes next, by the greatest score. Assumes nothing.
-use mathlib.Core.Path.{refl, sym, subst}
+use mathlib.Core.Path.{refl, sym, ap, ◌∙◌, subst}
+use mathlib.Core.List.{[]}
 use lib.IntN.{sub_ℕ}
 use Rattle.flipping.specs.runs.Passes.{KeptIn, MetIn}
 use Rattle.flipping.proofs.runs.Passing.{next_stuck, next_flip, top_lt, chosen_top, chosen_kept, chosen_met, chosen_left}
+use Rattle.flipping.proofs.runs.Sizes.{sized_equal}
 use Rattle.flipping.proofs.runs.ByBoundsKeeper.choose.Goals as goal
 
 pub returns : goal.returns
@@ -27,8 +29,8 @@ returns c =
                 f.ensures.1 f.ensures.2;
           } in (
             record {
-              ends = λ l. (bit, sub_ℕ top 8, next_stuck w.lent y best w.unsent some l);
-              goes = λ l. (sub_ℕ top 8, next_flip w.lent y best w.unsent some l);
+              ends = λ l. (bit, sub_ℕ top 8, ap (λ w. w y) (sized_equal [] refl k) ∙ next_stuck w.lent y best w.unsent some l);
+              goes = λ l. (sub_ℕ top 8, ap (λ w. w y) (sized_equal [] refl k) ∙ next_flip w.lent y best w.unsent some l);
               fewer = chosen_left k w.table p.shape w.lent w.fit p.starts p.counts w.laid_in s.from y s.rows s.bounds.met met top bit w.kept
                   f.ensures.1 f.ensures.2;
             },
