@@ -1,19 +1,20 @@
 // What comes next for a word whose syndrome is held, and the flipping run.
-ghost use Rattle.std.specs.Prelude.{◌≡◌, List, ℕ, ◌*◌, ◌/◌, ◌≤◌, ◌<◌, length};
+ghost use Rattle.std.specs.Prelude.{◌≡◌, List, [], ℕ, ◌*◌, ◌/◌, ◌≤◌, ◌<◌, length};
 ghost use Rattle.bits.specs.Bits.{Word, flipped};
 ghost use Rattle.rules.specs.Codes.{Code};
 ghost use Rattle.rules.specs.Checks.{broken};
 ghost use Rattle.rules.specs.Flipping.{by_excess};
 ghost use Rattle.vectors.specs.Vectors.{wbit};
-ghost use Rattle.layout.specs.Lent.{Fit, Lent, laid};
+ghost use Rattle.layout.specs.declared.Shape.{Shape};
+ghost use Rattle.layout.specs.Lent.{Lent, laid};
 ghost use Rattle.magnitudes.specs.Patterns.{smaller};
 ghost use Rattle.magnitudes.specs.Sizes.{by_size};
-ghost use Rattle.flipping.specs.bounds.Keeping.{Laid, Flips};
-ghost use Rattle.flipping.specs.runs.Passes.{Holding, Begins, Beginning, Carried, Continuing, CarriedNarrow, ContinuingNarrow};
+ghost use Rattle.flipping.specs.runs.Passes.{Holding, Begins, Beginning, KeptIn, MetIn, RowsIn, InsideIn, Known, Running, Flipping, Chooses};
 ghost use Rattle.flipping.specs.runs.Endings.{number_of};
 ghost use Rattle.flipping.specs.runs.Passes.{Within, comes_next_of, RunsTo};
 
 use super::bounds::Bounds;
+use super::choice::Best;
 use super::narrow::NARROW_ROWS;
 use super::{bounds, narrow};
 use layout::{Parity, ROWS, SYNDROME, WORD};
@@ -119,39 +120,102 @@ fn at_end(ending: Ending, flips: u32, last: u32) -> Ended
     }
 }
 
-// Flips a bit of a word, and its checks in what is kept of it; the bit has as many met checks as the bound of its block says.
-fn flip(y: &mut [u64; WORD], rows: &mut [u64; ROWS], bounds: &mut Bounds, bit: usize)
-    requires { (bit < bounds.old.places.shape.blocks * bounds.old.places.shape.size)
-        × (bounds.old.places.shape.blocks * bounds.old.places.shape.size ≤ 8176) }
-    ensures word { wbit y.new ≡ flipped (wbit y.old) bit }
-    ensures checks { (bounds.new.places ≡ bounds.old.places)
-        × Flips bounds.old.places bit rows.old bounds.old.met rows.new bounds.new.met }
-{
-    vectors::flip_bit(y, bit);
-    bounds.flip(rows, bit);
+// What a run keeps of its word from flip to flip: it chooses the bit that is next, and follows when that is flipped.
+pub trait Keeper {
+    // What is kept is that of this word under this code.
+    ghost stands: { Self → Code → Word → Type 0 };
+
+    // And this bit may be flipped.
+    ghost chosen: { Self → Code → Word → ℕ → Type 0 };
+
+    // The samples whose sizes tell bits of equal excess apart; none, where all bits have equal sizes.
+    ghost sizes: { Self → List ℕ };
+
+    // The bit that is next, by its score.
+    fn choose(&mut self) -> Best
+        requires { Known (stands self.old) }
+        ensures { (sizes self.new ≡ sizes self.old) × ((c : Code) (y : Word) → stands self.old c y → (broken c y ≡ 0 → ⊥)
+            → Chooses (by_size (smaller (sizes self.old)) c) c y result × stands self.new c y × (8 < result.score → chosen self.new c y result.bit)) };
+
+    // Flips a bit of the word, and what is kept follows; so many checks are broken then.
+    fn flip(&mut self, y: &mut [u64; WORD], bit: usize, left: u32)
+        requires { Flipping (chosen self.old) (wbit y.old) bit left }
+        ensures { (sizes self.new ≡ sizes self.old) × (wbit y.new ≡ flipped (wbit y.old) bit)
+            × ((c : Code) → chosen self.old c (wbit y.old) bit → left ≡ broken c (flipped (wbit y.old) bit)
+            → stands self.new c (flipped (wbit y.old) bit)) };
 }
 
-// The run from the word y, of which rows and bounds are kept, under a limit: flips until it ends. So many checks are broken.
-fn go_on(
-    y: &mut [u64; WORD],
-    rows: &mut [u64; ROWS],
-    bounds: &mut Bounds,
+// What a run by the bounds of the blocks keeps; bits before bit `from` are not sent.
+#[derive(Drop)]
+struct ByBounds {
+    bounds: Bounds,
+    rows: [u64; ROWS],
     from: usize,
-    limit: u16,
-    first: u32,
-) -> Ended
-    requires { (1 ≤ bounds.old.places.shape.blocks) × (from < bounds.old.places.shape.size)
-        × Continuing bounds.old.places from first (wbit y.old) rows.old bounds.old.met }
-    ensures { (c : Code) (h : List ℕ) → Fit h bounds.old.places.shape → Lent c h bounds.old.places.shape → Laid h bounds.old.places
-        → c.unsent ≡ from → Carried c bounds.old.places.shape from first (wbit y.old) rows.old bounds.old.places.counts bounds.old.met
-        → RunsTo (by_excess c) c bounds.old.places.shape limit (wbit y.old) result.ran (wbit y.new)
-        (laid c bounds.old.places.shape (wbit y.new)) × (result.last ≡ broken c (wbit y.new)) }
+    ghost some: { 1 ≤ bounds.places.shape.blocks },
+    ghost begins: { from < bounds.places.shape.size },
+}
+
+impl Keeper for ByBounds {
+    ghost stands = { λ s. KeptIn s.bounds.places s.from s.rows s.bounds.met };
+
+    ghost chosen = { λ s. MetIn s.bounds.places s.from s.rows s.bounds.met };
+
+    ghost sizes = { λ s. [] };
+
+    fn choose(&mut self) -> Best {
+        self.bounds.choose(&self.rows, self.from)
+    }
+
+    fn flip(&mut self, y: &mut [u64; WORD], bit: usize, left: u32) {
+        vectors::flip_bit(y, bit);
+        self.bounds.flip(&mut self.rows, bit);
+    }
+}
+
+// What a run by the sizes of the samples keeps where one word holds a block: as many samples as bits, or none, where all bits have equal
+// sizes.
+#[derive(Drop)]
+struct ByRows<'a> {
+    samples: &'a [u32],
+    parity: Parity<'a>,
+    rows: [u64; NARROW_ROWS],
+    from: usize,
+    ghost narrow: { parity.shape.words ≡ 1 },
+    ghost some: { 1 ≤ parity.shape.blocks },
+    ghost begins: { from < parity.shape.size },
+    ghost sized: { 0 < length samples.now → (length samples.now ≡ parity.shape.blocks * parity.shape.size) × (from ≡ 0) },
+}
+
+impl<'a> Keeper for ByRows<'a> {
+    ghost stands = { λ s. RowsIn s.parity.places.now s.parity.shape s.from s.rows };
+
+    ghost chosen = { λ s. InsideIn s.parity.places.now s.parity.shape s.from s.rows };
+
+    ghost sizes = { λ s. s.samples.now };
+
+    fn choose(&mut self) -> Best {
+        let samples = self.samples;
+        narrow::choose(samples, &self.rows, self.parity, self.from)
+    }
+
+    fn flip(&mut self, y: &mut [u64; WORD], bit: usize, left: u32) {
+        narrow::flip(y, &mut self.rows, self.parity, bit);
+    }
+}
+
+// The run from the word y, of which this is kept, under a limit: flips until it ends. So many checks are broken.
+pub fn go_on<K: Keeper>(kept: &mut K, y: &mut [u64; WORD], limit: u16, first: u32) -> Ended
+    requires { Running (K.stands kept.old) first (wbit y.old) }
+    ensures { (K.sizes kept.new ≡ K.sizes kept.old)
+        × ((c : Code) (sh : Shape) → K.stands kept.old c (wbit y.old) → first ≡ broken c (wbit y.old)
+        → RunsTo (by_size (smaller (K.sizes kept.old)) c) c sh limit (wbit y.old) result.ran (wbit y.new) (laid c sh (wbit y.new))
+        × (result.last ≡ broken c (wbit y.new)) × K.stands kept.new c (wbit y.new)) }
 {
     let most = limit as u32;
     let mut flips: u32 = 0;
     let mut left = first;
     while left > 0 {
-        let best = bounds.choose(rows, from);
+        let best = kept.choose();
         let top = best.score;
         if top <= 8 {
             return at_end(Ending::Stuck, flips, left);
@@ -159,46 +223,8 @@ fn go_on(
         if flips >= most {
             return at_end(Ending::Limit, flips, left); // no flip more
         }
-        flip(y, rows, bounds, best.bit);
         left -= top - 8;
-        flips += 1;
-    }
-    at_end(Ending::Quiet, flips, 0)
-}
-
-// The run by the sizes of the samples from the word y, whose blocks one word holds each and whose rows are kept, under a limit: flips until
-// it ends. So many checks are broken.
-fn go_on_narrow(
-    samples: &[u32],
-    y: &mut [u64; WORD],
-    rows: &mut [u64; NARROW_ROWS],
-    parity: Parity,
-    from: usize,
-    limit: u16,
-    first: u32,
-) -> Ended
-    requires { (parity.shape.words ≡ 1) × (1 ≤ parity.shape.blocks) × (from < parity.shape.size)
-        × (0 < length samples.now → (length samples.now ≡ parity.shape.blocks * parity.shape.size) × (from ≡ 0))
-        × ContinuingNarrow parity.places.now parity.shape from first (wbit y.old) rows.old }
-    ensures { (c : Code) → Lent c parity.entry.places.now parity.entry.shape → c.unsent ≡ from
-        → CarriedNarrow c parity.entry.shape first (wbit y.old) rows.old
-        → RunsTo (by_size (smaller samples.now) c) c parity.entry.shape limit (wbit y.old) result.ran (wbit y.new)
-        (laid c parity.entry.shape (wbit y.new)) × (result.last ≡ broken c (wbit y.new)) }
-{
-    let end = limit as u32;
-    let mut flips: u32 = 0;
-    let mut left = first;
-    while left > 0 {
-        let chosen = narrow::choose(samples, rows, parity, from);
-        let high = chosen.score;
-        if high <= 8 {
-            return at_end(Ending::Stuck, flips, left);
-        }
-        if flips >= end {
-            return at_end(Ending::Limit, flips, left);
-        }
-        narrow::flip(y, rows, parity, chosen.bit);
-        left -= high - 8;
+        kept.flip(y, best.bit, left);
         flips += 1;
     }
     at_end(Ending::Quiet, flips, 0)
@@ -220,8 +246,9 @@ fn run_bounded(
         × (result.last ≡ broken c (wbit y.new)) }
 {
     let mut rows = [0u64; ROWS];
-    let mut bounds = bounds::begin(z, parity, &mut rows);
-    go_on(y, &mut rows, &mut bounds, from, limit, first)
+    let bounds = bounds::begin(z, parity, &mut rows);
+    let mut kept = ByBounds { bounds, rows, from };
+    go_on(&mut kept, y, limit, first)
 }
 
 // The run by the sizes of the samples, where one word holds a block: as many samples as bits, or none, where all bits have equal sizes.
@@ -243,7 +270,13 @@ pub fn run_narrow(
 {
     let mut rows = [0u64; NARROW_ROWS];
     narrow::begin(z, parity.shape, &mut rows);
-    go_on_narrow(samples, y, &mut rows, parity, from, limit, first)
+    let mut kept = ByRows {
+        samples,
+        parity,
+        rows,
+        from,
+    };
+    go_on(&mut kept, y, limit, first)
 }
 
 // The run from the word y with the syndrome z, of which so many checks are broken, under a limit: flips until it ends.

@@ -38,8 +38,7 @@ use Rattle.flipping.specs.declared.runs.Ran.{Ran}
 use Rattle.flipping.specs.declared.runs.Ending.{Ending}
 use Rattle.flipping.specs.declared.runs.Ending.TheVariants.{Quiet, Stuck, Limit}
 use Rattle.flipping.specs.runs.Endings.{number_of}
-use Rattle.flipping.specs.narrow.Weighing.{Rows}
-use Rattle.flipping.specs.runs.Passes.{RunsTo, Going, Carried, CarriedNarrow}
+use Rattle.flipping.specs.runs.Passes.{KeptIn, RunsTo, Going}
 
 -- a score of at most 15, less 8, as a signed octet
 module _ (top : ℕ) (small : top ≤ 15) where
@@ -136,16 +135,6 @@ module _ (c : Code) (h : List ℕ) (sh : Shape) (lent : Lent c h sh) (fit : Fit 
   pub chosen_left : 8 < top → broken c (flipped y bit) + (top - 8) ≡ broken c y
   chosen_left = flip_left lent y chosen_top
 
-pub carried_more : {c : Code} {sh : Shape} {from left : ℕ} {z y : Word} {d counts met : List ℕ} → y ≡ z → Kept c sh from z d counts met
-    → left ≡ broken c z → Carried c sh from left y d counts met
-carried_more {c} {sh} {from} {left} {z} {y} {d} {counts} {met} e kept is = subst (λ w. Carried c sh from left w d counts met) (sym e)
-    (record { kept = kept; left_is = is })
-
-pub carried_narrow : {c : Code} {sh : Shape} {left : ℕ} {z y : Word} {rows : List ℕ} → y ≡ z → Rows c sh z rows → left ≡ broken c z
-    → CarriedNarrow c sh left y rows
-carried_narrow {c} {sh} {left} {z} {y} {rows} e rows_are is = subst (λ w. CarriedNarrow c sh left w rows) (sym e)
-    (record { rows_are = rows_are; left_is = is })
-
 -- What is kept of a word at the start, where no met check is counted on, and what is chosen then.
 module _ (c : Code) (h : List ℕ) (sh : Shape) (lent : Lent c h sh) (fit : Fit h sh) (from : ℕ) (x z : Word)
     (e : z ≡ laid c sh x) (p : Places) (of : p.shape ≡ sh) (g : Laid h p) (d met : List ℕ) (two : Twice sh sh.rows z (wbit d))
@@ -157,6 +146,16 @@ module _ (c : Code) (h : List ℕ) (sh : Shape) (lent : Lent c h sh) (fit : Fit 
   begun_kept = record {
     twice = subst (λ s. Twice s s.rows (laid c s x) (wbit d)) (sym of) (subst (λ w. Twice sh sh.rows w (wbit d)) e two);
     under = begun_under c h p.shape lent_here from p.starts p.counts g x met none;
+  }
+
+  pub begun_in : c.unsent ≡ from → KeptIn p from d met c x
+  begun_in u = record {
+    table = h;
+    fit = subst (Fit h) (sym of) fit;
+    lent = lent_here;
+    laid_in = g;
+    unsent = u;
+    kept = begun_kept;
   }
 
   pub begun_top : {top bit : ℕ} {met' : List ℕ} → Lowers p from (wbit d) met met' → Finds p from (wbit d) met top bit met'

@@ -1,16 +1,17 @@
 -- What the engine's choices and runs mean.
-use Rattle.std.specs.Prelude.{◌≡◌, List, ℕ, ◌+◌, ◌-◌, ◌≤◌, ◌<◌, length}
-use Rattle.bits.specs.Bits.{Word}
+use Rattle.std.specs.Prelude.{◌≡◌, List, ℕ, ◌+◌, ◌-◌, ◌*◌, ◌/◌, ◌≤◌, ◌<◌, length, get_or, ℤ}
+use Rattle.bits.specs.Bits.{Word, flipped}
 use Rattle.rules.specs.Codes.{Code}
 use Rattle.rules.specs.Flipping.{Next as NextOf, quiet, stuck, flip, Way, run}
 use Rattle.layout.specs.declared.Shape.{Shape}
-use Rattle.rules.specs.Checks.{broken}
+use Rattle.rules.specs.Checks.{broken, met_of}
 use Rattle.layout.specs.Lent.{Fit, Lent, laid}
 use Rattle.flipping.specs.declared.bounds.Places.{Places}
 use Rattle.flipping.specs.bounds.Keeping.{Kept, Laid}
 use Rattle.flipping.specs.narrow.Weighing.{Rows}
 use Rattle.flipping.specs.declared.runs.Next.{Next}
 use Rattle.flipping.specs.declared.runs.Next.TheVariants.{Quiet, Stuck, Flip}
+use Rattle.flipping.specs.declared.choice.Best.{Best}
 use Rattle.flipping.specs.declared.runs.Ran.{Ran}
 use Rattle.flipping.specs.runs.Endings.{number_of}
 
@@ -34,31 +35,56 @@ pub record Beginning (h : List ℕ) (sh : Shape) (from first : ℕ) (y z : Word)
   pub code : Code
   pub begins : Begins code h sh from first y z
 
--- The run has come to a word of which this is kept.
-pub record Carried (c : Code) (sh : Shape) (from left : ℕ) (y : Word) (d counts met : List ℕ) : Type 0 where
-  pub kept : Kept c sh from y d counts met
-  pub left_is : left ≡ broken c y
-
--- There is a code of which this is kept, and a table that these places are of.
-pub record Continuing (p : Places) (from left : ℕ) (y : Word) (d met : List ℕ) : Type 0 where
-  pub code : Code
+-- What is kept is that of the word y under the code c, and its places are of a table.
+pub record KeptIn (p : Places) (from : ℕ) (d met : List ℕ) (c : Code) (y : Word) : Type 0 where
   pub table : List ℕ
   pub fit : Fit table p.shape
-  pub lent : Lent code table p.shape
+  pub lent : Lent c table p.shape
   pub laid_in : Laid table p
-  pub unsent : code.unsent ≡ from
-  pub carried : Carried code p.shape from left y d p.counts met
+  pub unsent : c.unsent ≡ from
+  pub kept : Kept c p.shape from y d p.counts met
 
--- The same where one word holds a row, and the rows are kept.
-pub record CarriedNarrow (c : Code) (sh : Shape) (left : ℕ) (y : Word) (rows : List ℕ) : Type 0 where
+-- The same, and a bit has as many met checks as the bound of its block says.
+pub record MetIn (p : Places) (from : ℕ) (d met : List ℕ) (c : Code) (y : Word) (bit : ℕ) : Type 0 where
+  pub kept_in : KeptIn p from d met c y
+  pub inside : bit < p.shape.blocks * p.shape.size
+  pub met_is : met_of c y bit ≡ get_or met (bit / p.shape.size) 0
+
+-- The rows are those of the word y under the code c, which h is the table of.
+pub record RowsIn (h : List ℕ) (sh : Shape) (from : ℕ) (rows : List ℕ) (c : Code) (y : Word) : Type 0 where
+  pub lent : Lent c h sh
+  pub unsent : c.unsent ≡ from
   pub rows_are : Rows c sh y rows
-  pub left_is : left ≡ broken c y
 
-pub record ContinuingNarrow (h : List ℕ) (sh : Shape) (from left : ℕ) (y : Word) (rows : List ℕ) : Type 0 where
+-- The same, and a bit is one of the code's.
+pub record InsideIn (h : List ℕ) (sh : Shape) (from : ℕ) (rows : List ℕ) (c : Code) (y : Word) (bit : ℕ) : Type 0 where
+  pub rows_in : RowsIn h sh from rows c y
+  pub inside : bit < sh.blocks * sh.size
+
+-- There is a code and a word of which this stands.
+pub record Known (stands : Code → Word → Type 0) : Type 0 where
   pub code : Code
-  pub lent : Lent code h sh
-  pub unsent : code.unsent ≡ from
-  pub carried : CarriedNarrow code sh left y rows
+  pub word : Word
+  pub is : stands code word
+
+-- There is a code of which this stands, and so many checks of the word are broken.
+pub record Running (stands : Code → Word → Type 0) (first : ℕ) (y : Word) : Type 0 where
+  pub code : Code
+  pub is : stands code y
+  pub first_is : first ≡ broken code y
+
+-- There is a code of which this bit was chosen, and so many checks are broken once it is flipped.
+pub record Flipping (chosen : Code → Word → ℕ → Type 0) (y : Word) (bit left : ℕ) : Type 0 where
+  pub code : Code
+  pub is : chosen code y bit
+  pub left_is : left ≡ broken code (flipped y bit)
+
+-- What comes next for the word y, as it was chosen: a bit of a score above 8 is flipped, by which so many fewer of its checks are broken;
+-- else the run is stuck.
+pub record Chooses (way : Way) (c : Code) (y : Word) (b : Best) : Type 0 where
+  pub ends : b.score ≤ 8 → ((n : ℕ) × (e : ℤ) × (way y ≡ stuck n e))
+  pub goes : 8 < b.score → ((e : ℤ) × (way y ≡ flip b.bit e))
+  pub fewer : 8 < b.score → broken c (flipped y b.bit) + (b.score - 8) ≡ broken c y
 
 -- What comes next, as the definition has it.
 abbrev pub comes_next_of : Next → NextOf
