@@ -26,7 +26,7 @@ ghost use Rattle.samples.specs.Answers.{samples_answer};
 ghost use Rattle.samples.specs.Found.{ran_patterns, Finds};
 
 use catalogue::offer;
-use catalogue::offer::Offer;
+use catalogue::offer::{KnownOffer, Offer};
 use flipping::endings;
 use flipping::endings::Corrected;
 use layout::{SYNDROME, Shape, TABLE, WORD};
@@ -81,7 +81,7 @@ fn run_judged(
     let end = sizing::run(samples, y, z, h, sh, limit, first);
     let ran = end.ran;
     Corrected {
-        number: judging::judge(o, y, ran.number),
+        number: judging::judge(KnownOffer { offer: o }, y, ran.number),
         flips: ran.flips,
         first,
         last: end.last,
