@@ -193,9 +193,7 @@ fn pass(l: Listing, flips: usize, word: &[u8], room: &mut Room) -> Listing
     let received = Received { code, word };
     match coming(code, room) {
         Next::Quiet => ended(l, flips, received, &room.y, 0, 0, 0),
-        Next::Stuck(bit, excess) => {
-            ended(l, flips, received, &room.y, 5, bit as u32, excess)
-        }
+        Next::Stuck(bit, excess) => { ended(l, flips, received, &room.y, 5, bit as u32, excess) }
         Next::Flip(bit, excess) => flip_on(l, flips, received, bit, excess, room),
     }
 }
