@@ -23,7 +23,7 @@ unlike-requires c =
       omega (arith, f.fits, c.args.received.whole),
       omega (arith, f.full, c.args.received.whole),
       omega (arith, f.word, c.args.received.whole),
-      omega (arith, f.bits, c.unlike-arg-1.given),
+      omega (arith, f.bits),
       omega (arith, f.unsent),
     )
 
