@@ -23,6 +23,7 @@ use Rattle.word.specs.measured.Measured.{Measured}
 use Rattle.flipping.specs.declared.runs.Next.{Next}
 use Rattle.flipping.specs.declared.runs.Next.TheVariants.{Quiet, Stuck, Flip}
 use Rattle.flipping.specs.runs.Passes.{Holding, RunsTo, Within}
+use Rattle.flipping.specs.runs.Endings.{number_of}
 use Rattle.codes.specs.declared.Course.{Course}
 use Rattle.flipping.specs.endings.Ends.{EndsAt, run_of}
 use Rattle.flipping.proofs.endings.Ends.{ends_at}
@@ -60,7 +61,7 @@ module _ (n : ℕ) (word h : List ℕ) (y z : Word) (sh : Shape) (m : Measured n
       }
 
 module _ (n : ℕ) (word : List ℕ) (limit : ℕ) (r : Course) (y : Word) (e : RunEnds n word limit r y) where
-  pub ran_met : (code n).unsent < bits (code n) → r.ended.ran.number ≡ 0 → broken (code n) y ≡ 0
+  pub ran_met : (code n).unsent < bits (code n) → number_of r.ended.ran.ending ≡ 0 → broken (code n) y ≡ 0
   ran_met some z = ap (broken (code n)) e.word_is
       ∙ run_met (by_excess_lem (code n) some) limit (lifted (code n) (bit word)) (sym e.number ∙ z)
 

@@ -26,7 +26,7 @@ use encoder::solver;
 use flipping::endings::Corrected;
 use flipping::runs::{Ended, Next};
 use flipping::{endings, runs};
-use layout::WORD;
+use layout::{Parity, WORD};
 use refusals::Refusal;
 use vectors::copying;
 use word::measured::Room;
@@ -224,7 +224,11 @@ fn run_taken(received: Received, limit: u16, room: &mut Room) -> Course
     let sh = room.measure(received);
     let first = syndromes::broken(&room.z);
     let lowest = syndromes::lowest(&room.z, sh);
-    let ended = runs::run(&mut room.y, &room.z, &room.h, sh, o.unsent, limit, first);
+    let parity = Parity {
+        places: &room.h,
+        shape: sh,
+    };
+    let ended = runs::run(&mut room.y, &room.z, parity, o.unsent, limit, first);
     Course {
         ended,
         first,
@@ -254,7 +258,7 @@ fn finish(received: Received, y: &mut [u64; WORD], run: Course, out: &mut [u8]) 
     let ended = run.ended;
     let ran = ended.ran;
     let unlike = endings::unlike_after(received, y, ran.flips);
-    let number = judging::judge(received.code, y, ran.number);
+    let number = judging::judge(received.code, y, ran.ending.number());
     write_taken(received.code, number, y, out);
     Corrected {
         number,
@@ -303,7 +307,11 @@ fn next_of(received: Received, room: &mut Room) -> Next
 {
     let o = received.code.offer;
     let sh = room.measure(received);
-    runs::comes_next(&room.z, &room.h, sh, o.unsent)
+    let parity = Parity {
+        places: &room.h,
+        shape: sh,
+    };
+    runs::comes_next(&room.z, parity, o.unsent)
 }
 
 // A word with one bit flipped, into an output of the right length.

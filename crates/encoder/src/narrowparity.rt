@@ -5,7 +5,7 @@ ghost use Rattle.bits.specs.Bits.{Word, bit};
 ghost use Rattle.rules.specs.Codes.{information, offered};
 ghost use Rattle.rules.specs.Codes.{code as code_of};
 ghost use Rattle.vectors.specs.Vectors.{wbit, both, Holds, up_to};
-ghost use Rattle.layout.specs.Lent.{Fit, laid};
+ghost use Rattle.layout.specs.Lent.{laid};
 ghost use Rattle.syndromes.specs.Rows.{plus, rowed, wide, spread, doubled, turned, summed};
 ghost use Rattle.catalogue.specs.offer.Offers.{offer_of, Known};
 ghost use Rattle.encoder.specs.steps.Steps.{rows_in, stepped, walked};
@@ -14,8 +14,8 @@ ghost use Rattle.encoder.specs.parityrows.Rows.{held, Fits, copies, steps_of, Wi
 use super::parityrows;
 use super::parityrows::END;
 use catalogue::offer::Offer;
-use catalogue::tables;
-use layout::{SYNDROME, Shape, TABLE};
+use catalogue::{offer, tables};
+use layout::{Parity, SYNDROME, Shape, TABLE};
 use vectors::Pair;
 
 // M = 16. A step: the row that is added to, the row whose turned copies are added, and the shifts.
@@ -130,24 +130,26 @@ fn walk_narrow(sh: Shape, z: &mut [u64; SYNDROME])
 }
 
 // Adds information block b, of the words y, to the rows, where one word holds it.
-fn add_narrow_block(y: &[u64], h: &[u16; TABLE], sh: Shape, b: usize, z: &mut [u64; SYNDROME])
-    requires { Fit h.now sh × (sh.words ≡ 1) × (sh.blocks ≡ 8) × (b < 4) × (length y.now ≡ 5) }
-    ensures { wbit z.new ≡ plus (wbit z.old) (rowed (wide sh) sh.rows
-        (spread sh h.now b (turned (doubled sh.size (wbit y.now) b)))) }
+fn add_narrow_block(y: &[u64], parity: Parity, b: usize, z: &mut [u64; SYNDROME])
+    requires { (parity.shape.words ≡ 1) × (parity.shape.blocks ≡ 8) × (b < 4) × (length y.now ≡ 5) }
+    ensures { wbit z.new ≡ plus (wbit z.old) (rowed (wide parity.entry.shape) parity.entry.shape.rows
+        (spread parity.entry.shape parity.entry.places.now b (turned (doubled parity.entry.shape.size (wbit y.now) b)))) }
 {
-    let v = vectors::front(vectors::window(y, b * sh.size), sh.size);
-    syndromes::add_narrow_block(vectors::double_word(v, sh.size), h, sh, b, z);
+    let size = parity.shape.size;
+    let v = vectors::front(vectors::window(y, b * size), size);
+    syndromes::add_block(vectors::double_word(v, size), parity, b, z);
 }
 
 // Adds the information blocks to the rows, where one word holds a block.
-fn add_narrow(octets: &[u8], h: &[u16; TABLE], sh: Shape, z: &mut [u64; SYNDROME])
-    requires { Fit h.now sh × (sh.words ≡ 1) × (sh.blocks ≡ 8) × (length octets.now ≤ 32) × (wbit z.old ≡ (λ i. false)) }
-    ensures { wbit z.new ≡ rowed (wide sh) sh.rows (summed sh h.now (bit octets.now) 4) }
+fn add_narrow(octets: &[u8], parity: Parity, z: &mut [u64; SYNDROME])
+    requires { (parity.shape.words ≡ 1) × (parity.shape.blocks ≡ 8) × (length octets.now ≤ 32) × (wbit z.old ≡ (λ i. false)) }
+    ensures { wbit z.new ≡ rowed (wide parity.entry.shape) parity.entry.shape.rows
+        (summed parity.entry.shape parity.entry.places.now (bit octets.now) 4) }
 {
     let mut y = [0u64; 5];
     vectors::load(octets, &mut y);
     for b in 0..4 {
-        add_narrow_block(&y, h, sh, b, z);
+        add_narrow_block(&y, parity, b, z);
     }
 }
 
@@ -161,7 +163,11 @@ fn lay_narrow(octets: &[u8], sh: Shape, z: &mut [u64; SYNDROME])
 {
     let mut h = [0u16; TABLE];
     tables::lend_narrow(sh.size, &mut h);
-    add_narrow(octets, &h, sh, z);
+    let parity = Parity {
+        places: &h,
+        shape: sh,
+    };
+    add_narrow(octets, parity, z);
     syndromes::trim_rows(z, sh);
 }
 
@@ -183,14 +189,9 @@ pub fn encode(o: Offer, information: &[u8], word: &mut [u8])
     ensures { (n : ℕ) → offered n ≡ true → o ≡ offer_of n → Informs n information.now
         → word.new ≡ word_of n information.now }
 {
-    let of = o.shape;
-    let sh = Shape {
-        size: of.size,
-        words: 1,
-        blocks: 8,
-        rows: 4,
-    };
+    let size = o.shape.size;
+    let sh = offer::telecommand_shape(size);
     let mut z = [0u64; SYNDROME];
     solve_narrow(information, sh, &mut z);
-    parityrows::write(information, 4 * of.size, &z, sh, 1, word);
+    parityrows::write(information, 4 * size, &z, sh, 1, word);
 }

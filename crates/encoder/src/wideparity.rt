@@ -5,7 +5,7 @@ ghost use Rattle.bits.specs.Bits.{Word, bit, number, tally, ◌⊕◌};
 ghost use Rattle.rules.specs.Codes.{information, offered};
 ghost use Rattle.rules.specs.Codes.{code as code_of};
 ghost use Rattle.vectors.specs.Vectors.{wbit, Holds, up_to, later, added, twice};
-ghost use Rattle.layout.specs.Lent.{Fit, laid};
+ghost use Rattle.layout.specs.Lent.{laid};
 ghost use Rattle.layout.specs.Rooms.{doubled_room, syndrome_room};
 ghost use Rattle.syndromes.specs.Rows.{plus, rowed, wide, spread, doubled, turned, summed};
 ghost use Rattle.catalogue.specs.offer.Offers.{offer_of, Known};
@@ -16,9 +16,10 @@ ghost use Rattle.encoder.specs.parityrows.Rows.{wide_shape, end_rows, Informs, w
 
 use super::parityrows;
 use super::parityrows::END;
-use catalogue::offer::Offer;
+use catalogue::offer::{NEAR_EARTH, Offer};
 use catalogue::tables;
-use layout::{BLOCK, DOUBLED, SYNDROME, Shape, TABLE};
+use layout::{BLOCK, DOUBLED, Parity, SYNDROME, Shape, TABLE};
+use syndromes::addends::Doubled;
 use word::{ownparity, received};
 
 // M = 511.
@@ -153,42 +154,36 @@ fn add_wide_block(
     unsent: usize,
     b: usize,
     odd: u64,
-    h: &[u16; TABLE],
-    sh: Shape,
+    parity: Parity,
     part: &mut [u64; BLOCK],
     d: &mut [u64; DOUBLED],
     z: &mut [u64; SYNDROME],
 ) -> u64
-    requires { Fit h.now sh × (sh.size ≡ 511) × (sh.words ≡ 8) × (sh.blocks ≡ 16) × (b < 14) × (odd < 2 ^ 14)
+    requires { (parity.shape.size ≡ 511) × (parity.shape.words ≡ 8) × (parity.shape.blocks ≡ 16) × (b < 14) × (odd < 2 ^ 14)
         × (7154 ≤ 8 * length octets.now + unsent) × (length octets.now ≤ 1022) × (unsent ≤ 18) }
     ensures odd { result ≡ 2 * odd + tally (odd_block (later unsent (bit octets.now)) b) }
-    ensures rows { wbit z.new ≡ plus (wbit z.old) (rowed (wide sh) sh.rows
-        (spread sh h.now b (turned (doubled sh.size (later unsent (bit octets.now)) b)))) }
+    ensures rows { wbit z.new ≡ plus (wbit z.old) (rowed (wide parity.entry.shape) parity.entry.shape.rows
+        (spread parity.entry.shape parity.entry.places.now b
+        (turned (doubled parity.entry.shape.size (later unsent (bit octets.now)) b)))) }
 {
     let more = double_block(octets, unsent, b, odd, part, d);
-    syndromes::add_block(d, h, sh, b, z);
+    syndromes::add_block(Doubled { words: d }, parity, b, z);
     more
 }
 
 // Adds the information blocks to the rows. The number has a bit for each block, set where its bits are odd in number.
-fn add_wide(
-    octets: &[u8],
-    unsent: usize,
-    h: &[u16; TABLE],
-    sh: Shape,
-    z: &mut [u64; SYNDROME],
-) -> u64
-    requires { Fit h.now sh × (sh.size ≡ 511) × (sh.words ≡ 8) × (sh.blocks ≡ 16) × (7154 ≤ 8 * length octets.now + unsent)
-        × (length octets.now ≤ 1022) × (unsent ≤ 18) × (wbit z.old ≡ (λ i. false)) }
+fn add_wide(octets: &[u8], unsent: usize, parity: Parity, z: &mut [u64; SYNDROME]) -> u64
+    requires { (parity.shape.size ≡ 511) × (parity.shape.words ≡ 8) × (parity.shape.blocks ≡ 16)
+        × (7154 ≤ 8 * length octets.now + unsent) × (length octets.now ≤ 1022) × (unsent ≤ 18) × (wbit z.old ≡ (λ i. false)) }
     ensures odd { (result < 2 ^ 14) × (result ≡ number 14 (odd_block (later unsent (bit octets.now)))) }
-    ensures rows { wbit z.new ≡ rowed (wide sh) sh.rows
-        (summed sh h.now (later unsent (bit octets.now)) 14) }
+    ensures rows { wbit z.new ≡ rowed (wide parity.entry.shape) parity.entry.shape.rows
+        (summed parity.entry.shape parity.entry.places.now (later unsent (bit octets.now)) 14) }
 {
     let mut part = [0u64; BLOCK];
     let mut d = [0u64; DOUBLED];
     let mut odd: u64 = 0;
     for b in 0..14 {
-        odd = add_wide_block(octets, unsent, b, odd, h, sh, &mut part, &mut d, z);
+        odd = add_wide_block(octets, unsent, b, odd, parity, &mut part, &mut d, z);
     }
     odd
 }
@@ -203,7 +198,11 @@ fn lay_wide(octets: &[u8], unsent: usize, sh: Shape, z: &mut [u64; SYNDROME]) ->
 {
     let mut h = [0u16; TABLE];
     tables::lend511(&mut h);
-    let odd = add_wide(octets, unsent, &h, sh, z);
+    let parity = Parity {
+        places: &h,
+        shape: sh,
+    };
+    let odd = add_wide(octets, unsent, parity, z);
     syndromes::trim_rows(z, sh);
     4 * odd
 }
@@ -226,12 +225,7 @@ pub fn encode(o: Offer, information: &[u8], word: &mut [u8])
     ensures { (n : ℕ) → offered n ≡ true → o ≡ offer_of n → Informs n information.now
         → word.new ≡ word_of n information.now }
 {
-    let sh = Shape {
-        size: 511,
-        words: 8,
-        blocks: 16,
-        rows: 2,
-    };
+    let sh = NEAR_EARTH;
     let mut z = [0u64; SYNDROME];
     solve_wide(information, o.unsent, sh, &mut z);
     parityrows::write(information, 7154 - o.unsent, &z, sh, 0, word);

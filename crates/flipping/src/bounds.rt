@@ -2,12 +2,11 @@
 ghost use Rattle.std.specs.Prelude.{◌≡◌, ℕ, ◌+◌, ◌-◌, ◌*◌, ◌/◌, ◌%◌, ◌^◌, ◌<◌, ◌≤◌, length, get_or, ◌&&◌, leb, ltb, eqb};
 ghost use Rattle.bits.specs.Bits.{Word, digit, sum, flipped, ◌⊕◌};
 ghost use Rattle.vectors.specs.Vectors.{wbit, Holds, up_to, from};
-ghost use Rattle.layout.specs.Lent.{Fit};
 ghost use Rattle.flipping.specs.bounds.Reading.{Twice, Placed, other, hits, light, Noted, Listed, asked, Starts};
 ghost use Rattle.flipping.specs.bounds.Keeping.{Ready, Laid, Flips};
 ghost use Rattle.layout.specs.Rooms.{blocks_room, rows_room, starts_room};
 
-use layout::{BLOCK, BLOCKS, ROWS, STARTS, SYNDROME, Shape, TABLE};
+use layout::{BLOCK, BLOCKS, Parity, ROWS, STARTS, SYNDROME, Shape};
 use planes::{add, all, spread};
 use vectors::{double, double_word, flip_bit, front, trim, window};
 
@@ -42,40 +41,43 @@ fn note(h: &[u16], at: usize, m: usize, row: usize, starts: &mut [u16], n: usize
 }
 
 // The starts of block b at its two places of row r, behind n others, and how many there are then.
-fn note_row(h: &[u16], sh: Shape, b: usize, r: usize, starts: &mut [u16], n: usize) -> usize
-    requires { Fit h.now sh × (b < sh.blocks) × (r < sh.rows) × (length starts.old ≡ starts_room) × (n + 1 < starts_room) }
+fn note_row(parity: Parity, b: usize, r: usize, starts: &mut [u16], n: usize) -> usize
+    requires { (b < parity.shape.blocks) × (r < parity.shape.rows) × (length starts.old ≡ starts_room) × (n + 1 < starts_room) }
     ensures { (n ≤ result) × (result ≤ n + 2) × ((e : ℕ) → e < n → get_or starts.new e 0 ≡ get_or starts.old e 0)
-        × ((first : ℕ) → first ≤ n → Listed starts.old first (n - first) (3072 + sh.size) (asked h.now sh b r)
-        → Listed starts.new first (result - first) (3072 + sh.size) (asked h.now sh b (r + 1))) }
+        × ((first : ℕ) → first ≤ n → Listed starts.old first (n - first) (3072 + parity.entry.shape.size)
+        (asked parity.entry.places.now parity.entry.shape b r)
+        → Listed starts.new first (result - first) (3072 + parity.entry.shape.size)
+        (asked parity.entry.places.now parity.entry.shape b (r + 1))) }
 {
+    let h = parity.places;
+    let sh = parity.shape;
     let at = 2 * (r * sh.blocks + b);
     let next = note(h, at, sh.size, 1024 * r, starts, n);
     note(h, at + 1, sh.size, 1024 * r, starts, next)
 }
 
 // The starts of block b at its eight places, and how many they are.
-fn gather(h: &[u16], sh: Shape, b: usize, starts: &mut [u16]) -> usize
-    requires { Fit h.now sh × (b < sh.blocks) × (length starts.old ≡ starts_room) }
-    ensures { (result ≤ 8) × Starts h.now sh b starts.new result
+fn gather(parity: Parity, b: usize, starts: &mut [u16]) -> usize
+    requires { (b < parity.shape.blocks) × (length starts.old ≡ starts_room) }
+    ensures { (result ≤ 8) × Starts parity.entry.places.now parity.entry.shape b starts.new result
         × ((e : ℕ) → e < 8 * b → get_or starts.new e 0 ≡ get_or starts.old e 0) }
 {
     let mut n = 8 * b;
-    for row in 0..sh.rows {
-        n = note_row(h, sh, b, row, starts, n);
+    for row in 0..parity.shape.rows {
+        n = note_row(parity, b, row, starts, n);
     }
     n - 8 * b
 }
 
 impl Places {
     // The starts of every block, and how many each has.
-    fn gather(&mut self, h: &[u16; TABLE])
-        requires { Fit h.now self.old.shape }
+    fn gather(&mut self, parity: Parity)
+        requires { parity.shape ≡ self.old.shape }
         ensures { (self.new.shape ≡ self.old.shape) × (length self.new.starts ≡ starts_room) × (length self.new.counts ≡ blocks_room)
-            × Laid h.now self.new }
+            × Laid parity.entry.places.now self.new }
     {
-        let sh = self.shape;
-        for b in 0..sh.blocks {
-            self.counts[b] = gather(h, sh, b, &mut self.starts) as u8;
+        for b in 0..parity.shape.blocks {
+            self.counts[b] = gather(parity, b, &mut self.starts) as u8;
         }
     }
 }
@@ -130,11 +132,11 @@ fn double_rows(z: &[u64; SYNDROME], sh: Shape, v: &mut [u64; BLOCK], d: &mut [u6
 }
 
 // The doubled rows of the syndrome z, and the bounds of the blocks of this shape: no met check is counted on yet.
-pub fn begin(z: &[u64; SYNDROME], h: &[u16; TABLE], sh: Shape, rows: &mut [u64; ROWS]) -> Bounds
-    requires { Fit h.now sh }
-    ensures { Twice sh sh.rows (wbit z.now) (wbit rows.new) × (result.places.shape ≡ sh)
-        × Laid h.now result.places × ((b : ℕ) → get_or result.met b 0 ≡ 0) }
+pub fn begin(z: &[u64; SYNDROME], parity: Parity, rows: &mut [u64; ROWS]) -> Bounds
+    ensures { Twice parity.entry.shape parity.entry.shape.rows (wbit z.now) (wbit rows.new)
+        × (result.places.shape ≡ parity.entry.shape) × Laid parity.entry.places.now result.places × ((b : ℕ) → get_or result.met b 0 ≡ 0) }
 {
+    let sh = parity.shape;
     let mut v = [0u64; BLOCK];
     double_rows(z, sh, &mut v, rows);
     let mut bounds = Bounds {
@@ -145,7 +147,7 @@ pub fn begin(z: &[u64; SYNDROME], h: &[u16; TABLE], sh: Shape, rows: &mut [u64; 
         },
         met: [0; BLOCKS],
     };
-    bounds.places.gather(h);
+    bounds.places.gather(parity);
     bounds
 }
 

@@ -5,14 +5,14 @@ ghost use Rattle.bits.specs.Bits.{Word, digit, flipped, tally, over, count_of, �
 ghost use Rattle.rules.specs.Codes.{Code};
 ghost use Rattle.vectors.specs.Vectors.{wbit, Holds, up_to, from as bits_from};
 ghost use Rattle.layout.specs.Lent.{Fit, Lent, laid, score, entries, shifts_of, total};
-ghost use Rattle.layout.specs.Rooms.{blocks_room, syndrome_room};
+ghost use Rattle.layout.specs.Rooms.{blocks_room};
 ghost use Rattle.magnitudes.specs.Patterns.{smaller};
 ghost use Rattle.magnitudes.specs.Sizes.{smallest};
 ghost use Rattle.flipping.specs.narrow.Weighing.{around, Rows, Held, Weighs, broke, sent, Peaked};
 ghost use Rattle.flipping.specs.narrow.Weighing.{Weighed, Greatest, Marks, Marked, Told, Chosen, scores_of, masks_of};
 
 use super::choice::Best;
-use layout::{BLOCKS, Shape, TABLE, WORD};
+use layout::{BLOCKS, Parity, SYNDROME, Shape, WORD};
 
 // The rows of a code whose blocks one word holds.
 pub const NARROW_ROWS: usize = 4;
@@ -55,13 +55,12 @@ fn repeated(v: u64, m: usize) -> u64
 }
 
 // The rows of the syndrome z.
-pub fn begin(z: &[u64], sh: Shape, rows: &mut [u64])
-    requires { (1 ≤ sh.size) × (sh.size ≤ 64) × (sh.words ≡ 1) × (sh.rows ≡ 4) × (length z.now ≡ syndrome_room)
-        × (length rows.old ≡ 4) }
+pub fn begin(z: &[u64; SYNDROME], sh: Shape, rows: &mut [u64; NARROW_ROWS])
+    requires { (1 ≤ sh.size) × (sh.size ≤ 64) × (sh.words ≡ 1) × (sh.rows ≡ 4) }
     ensures { (c : Code) (x : Word) → wbit z.now ≡ laid c sh x → Rows c sh x rows.new }
 {
-    for r in 0..4 {
-        rows[r] = repeated(z[r], sh.size);
+    for (r, row) in rows.iter_mut().enumerate() {
+        *row = repeated(z[r], sh.size);
     }
 }
 
@@ -106,12 +105,14 @@ fn with_row(w: Weights, row: u64, h: &[u16], at: usize, m: usize) -> Weights
 }
 
 // The weights of those bits of block b that are in mask.
-fn weigh(rows: &[u64], h: &[u16], sh: Shape, b: usize, mask: u64) -> Weights
-    requires { Fit h.now sh × (sh.words ≡ 1) × (length rows.now ≡ 4) × (b < sh.blocks) }
-    ensures { (result.checks ≡ total 4 (λ q. length (shifts_of sh h.now q b))) × (result.checks ≤ 8)
-        × ((c : Code) (x counts : Word) → Rows c sh x rows.now → Holds mask counts
-        → Weighs counts (broke c h.now sh b x 4) result) }
+fn weigh(rows: &[u64], parity: Parity, b: usize, mask: u64) -> Weights
+    requires { (parity.shape.words ≡ 1) × (length rows.now ≡ 4) × (b < parity.shape.blocks) }
+    ensures { (result.checks ≡ total 4 (λ q. length (shifts_of parity.entry.shape parity.entry.places.now q b))) × (result.checks ≤ 8)
+        × ((c : Code) (x counts : Word) → Rows c parity.entry.shape x rows.now → Holds mask counts
+        → Weighs counts (broke c parity.entry.places.now parity.entry.shape b x 4) result) }
 {
+    let h = parity.places;
+    let sh = parity.shape;
     let mut w = Weights {
         none: mask,
         one: mask,
@@ -164,13 +165,14 @@ fn sent_in(b: usize, from: usize, m: usize) -> u64
 }
 
 // For each block the greatest score above 8 of its bits, and the bits that have it; bits before bit `from` are not sent.
-pub fn weigh_all(rows: &[u64], h: &[u16], sh: Shape, from: usize, levels: &mut [Level])
-    requires { Fit h.now sh × (sh.words ≡ 1) × (length rows.now ≡ 4) × (from < sh.size) × (length levels.old ≡ blocks_room) }
-    ensures { (c : Code) (x : Word) → Lent c h.now sh → Rows c sh x rows.now
-        → Weighed c sh from x (scores_of levels.new) (masks_of levels.new) sh.blocks }
+pub fn weigh_all(rows: &[u64], parity: Parity, from: usize, levels: &mut [Level])
+    requires { (parity.shape.words ≡ 1) × (length rows.now ≡ 4) × (from < parity.shape.size) × (length levels.old ≡ blocks_room) }
+    ensures { (c : Code) (x : Word) → Lent c parity.entry.places.now parity.entry.shape → Rows c parity.entry.shape x rows.now
+        → Weighed c parity.entry.shape from x (scores_of levels.new) (masks_of levels.new) parity.entry.shape.blocks }
 {
+    let sh = parity.shape;
     for b in 0..sh.blocks {
-        levels[b] = highest(weigh(rows, h, sh, b, sent_in(b, from, sh.size)));
+        levels[b] = highest(weigh(rows, parity, b, sent_in(b, from, sh.size)));
     }
 }
 
@@ -191,8 +193,8 @@ pub fn greatest(levels: &[Level], blocks: usize) -> Peak
     ensures { Greatest (scores_of levels.now) blocks result.score result.block }
 {
     let mut p = Peak { score: 8, block: 0 };
-    for b in 0..blocks {
-        p = better(p, levels[b].score, b);
+    for (b, level) in levels[..blocks].iter().enumerate() {
+        p = better(p, level.score, b);
     }
     p
 }
@@ -249,7 +251,7 @@ fn best_of(samples: &[u32], levels: &[Level; BLOCKS], sh: Shape) -> Best
     if score <= 8 {
         return Best { score, bit: low };
     }
-    if samples.len() == 0 {
+    if samples.is_empty() {
         return Best { score, bit: low };
     }
     Best {
@@ -259,21 +261,16 @@ fn best_of(samples: &[u32], levels: &[Level; BLOCKS], sh: Shape) -> Best
 }
 
 // The best bit from bit `from` on, after all blocks have been weighed.
-pub fn choose(
-    samples: &[u32],
-    rows: &[u64; NARROW_ROWS],
-    h: &[u16; TABLE],
-    sh: Shape,
-    from: usize,
-) -> Best
-    requires { Fit h.now sh × (sh.words ≡ 1) × (1 ≤ sh.blocks) × (from < sh.size)
-        × (0 < length samples.now → (length samples.now ≡ sh.blocks * sh.size) × (from ≡ 0)) × Held h.now sh rows.now }
-    ensures { (c : Code) (x : Word) → Lent c h.now sh → Rows c sh x rows.now
-        → Chosen c sh from x samples.now result }
+pub fn choose(samples: &[u32], rows: &[u64; NARROW_ROWS], parity: Parity, from: usize) -> Best
+    requires { (parity.shape.words ≡ 1) × (1 ≤ parity.shape.blocks) × (from < parity.shape.size)
+        × (0 < length samples.now → (length samples.now ≡ parity.shape.blocks * parity.shape.size) × (from ≡ 0))
+        × Held parity.places.now parity.shape rows.now }
+    ensures { (c : Code) (x : Word) → Lent c parity.entry.places.now parity.entry.shape → Rows c parity.entry.shape x rows.now
+        → Chosen c parity.entry.shape from x samples.now result }
 {
     let mut levels = [Level { score: 0, mask: 0 }; BLOCKS];
-    weigh_all(rows, h, sh, from, &mut levels);
-    best_of(samples, &levels, sh)
+    weigh_all(rows, parity, from, &mut levels);
+    best_of(samples, &levels, parity.shape)
 }
 
 // Flips the check of a row that covers bit k by the shift s; a number that is m or more is no shift. `each` has the first bit of
@@ -299,31 +296,29 @@ fn flip_row(row: u64, each: u64, h: &[u16], at: usize, k: usize, m: usize) -> u6
 }
 
 // Flips the checks that cover bit k of block b, row after row. `each` has the first bit of every M set.
-fn flip_rows(rows: &mut [u64], h: &[u16], sh: Shape, each: u64, b: usize, k: usize)
-    requires { Fit h.now sh × (sh.words ≡ 1) × (length rows.old ≡ 4) × (b < sh.blocks) × (k < sh.size)
-        × Holds each (around sh.size (eqb 0)) }
+fn flip_rows(rows: &mut [u64], parity: Parity, each: u64, b: usize, k: usize)
+    requires { (parity.shape.words ≡ 1) × (length rows.old ≡ 4) × (b < parity.shape.blocks) × (k < parity.shape.size)
+        × Holds each (around parity.shape.size (eqb 0)) }
     ensures { (q : ℕ) → q < 4 → (f : Word) → Holds (get_or rows.old q 0) f → Holds (get_or rows.new q 0)
-        (λ i. f i ⊕ over (shifts_of sh h.now q b) (λ s. eqb (i % sh.size) ((k + (sh.size - s)) % sh.size))) }
+        (λ i. f i ⊕ over (shifts_of parity.entry.shape parity.entry.places.now q b)
+        (λ s. eqb (i % parity.entry.shape.size) ((k + (parity.entry.shape.size - s)) % parity.entry.shape.size))) }
 {
+    let h = parity.places;
+    let sh = parity.shape;
     for r in 0..4 {
         rows[r] = flip_row(rows[r], each, h, 2 * (r * sh.blocks + b), k, sh.size);
     }
 }
 
 // Flips a bit of a word, and its checks with it.
-pub fn flip(
-    y: &mut [u64; WORD],
-    rows: &mut [u64; NARROW_ROWS],
-    h: &[u16; TABLE],
-    sh: Shape,
-    bit: usize,
-)
-    requires { Fit h.now sh × (sh.words ≡ 1) × (bit < sh.blocks * sh.size) }
+pub fn flip(y: &mut [u64; WORD], rows: &mut [u64; NARROW_ROWS], parity: Parity, bit: usize)
+    requires { (parity.shape.words ≡ 1) × (bit < parity.shape.blocks * parity.shape.size) }
     ensures word { wbit y.new ≡ flipped (wbit y.old) bit }
-    ensures checks { (c : Code) (x : Word) → Lent c h.now sh → Rows c sh x rows.old
-        → Rows c sh (flipped x bit) rows.new }
+    ensures checks { (c : Code) (x : Word) → Lent c parity.entry.places.now parity.entry.shape → Rows c parity.entry.shape x rows.old
+        → Rows c parity.entry.shape (flipped x bit) rows.new }
 {
     vectors::flip_bit(y, bit);
-    let each = repeated(1u64 << 63, sh.size);
-    flip_rows(rows, h, sh, each, bit / sh.size, bit % sh.size);
+    let m = parity.shape.size;
+    let each = repeated(1u64 << 63, m);
+    flip_rows(rows, parity, each, bit / m, bit % m);
 }

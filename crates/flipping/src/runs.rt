@@ -1,5 +1,5 @@
 // What comes next for a word whose syndrome is held, and the flipping run.
-ghost use Rattle.std.specs.Prelude.{◌≡◌, ◌*◌, ◌/◌, ◌≤◌, ◌<◌, length};
+ghost use Rattle.std.specs.Prelude.{◌≡◌, List, ℕ, ◌*◌, ◌/◌, ◌≤◌, ◌<◌, length};
 ghost use Rattle.bits.specs.Bits.{Word, flipped};
 ghost use Rattle.rules.specs.Codes.{Code};
 ghost use Rattle.rules.specs.Checks.{broken};
@@ -16,7 +16,7 @@ ghost use Rattle.flipping.specs.runs.Passes.{Within, comes_next_of, RunsTo};
 use super::bounds::Bounds;
 use super::narrow::NARROW_ROWS;
 use super::{bounds, narrow};
-use layout::{ROWS, SYNDROME, Shape, TABLE, WORD};
+use layout::{Parity, ROWS, SYNDROME, WORD};
 
 // What comes next: quiet; or stuck, with the greatest excess and the lowest bit that has it; or this bit, of this excess, is to be flipped.
 #[derive(Clone, Copy)]
@@ -34,10 +34,19 @@ pub enum Ending {
     Limit = 6,
 }
 
-// The number is that of an ending; the calls' records give it on.
+impl Ending {
+    // The number by which the calls' records give an ending.
+    pub fn number(self) -> u8
+        ensures { result ≡ number_of self }
+    {
+        self as u8
+    }
+}
+
+// How a run ended, and after how many flips.
 #[derive(Clone, Copy)]
 pub struct Ran {
-    pub number: u8,
+    pub ending: Ending,
     pub flips: u32,
 }
 
@@ -49,14 +58,14 @@ pub struct Ended {
 }
 
 // What comes next for a word that has a broken check and the syndrome z, by the bounds of its blocks; bits before bit `from` are not sent.
-fn next_bounded(z: &[u64; SYNDROME], h: &[u16; TABLE], sh: Shape, from: usize) -> Next
-    requires { Fit h.now sh × (1 ≤ sh.blocks) × (from < sh.size) × Holding h.now sh (wbit z.now) }
-    ensures { Within (sh.blocks * sh.size) result
-        × ((c : Code) → Lent c h.now sh → c.unsent ≡ from → (x : Word) → wbit z.now ≡ laid c sh x
-        → (broken c x ≡ 0 → ⊥) → by_excess c x ≡ comes_next_of result) }
+fn next_bounded(z: &[u64; SYNDROME], parity: Parity, from: usize) -> Next
+    requires { (1 ≤ parity.shape.blocks) × (from < parity.shape.size) × Holding parity.places.now parity.shape (wbit z.now) }
+    ensures { Within (parity.entry.shape.blocks * parity.entry.shape.size) result
+        × ((c : Code) → Lent c parity.entry.places.now parity.entry.shape → c.unsent ≡ from → (x : Word)
+        → wbit z.now ≡ laid c parity.entry.shape x → (broken c x ≡ 0 → ⊥) → by_excess c x ≡ comes_next_of result) }
 {
     let mut rows = [0u64; ROWS];
-    let mut bounds = bounds::begin(z, h, sh, &mut rows);
+    let mut bounds = bounds::begin(z, parity, &mut rows);
     let best = bounds.choose(&rows, from);
     let excess = best.score as i8 - 8;
     if best.score <= 8 {
@@ -66,47 +75,46 @@ fn next_bounded(z: &[u64; SYNDROME], h: &[u16; TABLE], sh: Shape, from: usize) -
 }
 
 // The same where one word holds a block: a bit that is to be flipped shows at once. All bits have equal sizes.
-fn next_narrow(z: &[u64; SYNDROME], h: &[u16; TABLE], sh: Shape, from: usize) -> Next
-    requires { Fit h.now sh × (1 ≤ sh.blocks) × (from < sh.size) × Holding h.now sh (wbit z.now) × (sh.words ≡ 1) }
-    ensures { Within (sh.blocks * sh.size) result
-        × ((c : Code) → Lent c h.now sh → c.unsent ≡ from → (x : Word) → wbit z.now ≡ laid c sh x
-        → (broken c x ≡ 0 → ⊥) → by_excess c x ≡ comes_next_of result) }
+fn next_narrow(z: &[u64; SYNDROME], parity: Parity, from: usize) -> Next
+    requires { (1 ≤ parity.shape.blocks) × (from < parity.shape.size)
+        × Holding parity.places.now parity.shape (wbit z.now) × (parity.shape.words ≡ 1) }
+    ensures { Within (parity.entry.shape.blocks * parity.entry.shape.size) result
+        × ((c : Code) → Lent c parity.entry.places.now parity.entry.shape → c.unsent ≡ from → (x : Word)
+        → wbit z.now ≡ laid c parity.entry.shape x → (broken c x ≡ 0 → ⊥) → by_excess c x ≡ comes_next_of result) }
 {
     let equal = [0u32; 0];
     let mut rows = [0u64; NARROW_ROWS];
-    narrow::begin(z, sh, &mut rows);
-    let best = narrow::choose(&equal, &rows, h, sh, from);
+    narrow::begin(z, parity.shape, &mut rows);
+    let best = narrow::choose(&equal, &rows, parity, from);
     if best.score > 8 {
         let excess = best.score as i8 - 8;
         return Next::Flip(best.bit, excess);
     }
-    next_bounded(z, h, sh, from)
+    next_bounded(z, parity, from)
 }
 
 // What comes next for the word whose syndrome is z; bits before bit `from` are not sent.
-pub fn comes_next(z: &[u64; SYNDROME], h: &[u16; TABLE], sh: Shape, from: usize) -> Next
-    requires { Fit h.now sh × (1 ≤ sh.blocks) × (from < sh.size) × Holding h.now sh (wbit z.now) }
-    ensures { Within (sh.blocks * sh.size) result × ((c : Code) → Lent c h.now sh → c.unsent ≡ from → (x : Word)
-        → wbit z.now ≡ laid c sh x → by_excess c x ≡ comes_next_of result) }
+pub fn comes_next(z: &[u64; SYNDROME], parity: Parity, from: usize) -> Next
+    requires { (1 ≤ parity.shape.blocks) × (from < parity.shape.size) × Holding parity.places.now parity.shape (wbit z.now) }
+    ensures { Within (parity.entry.shape.blocks * parity.entry.shape.size) result
+        × ((c : Code) → Lent c parity.entry.places.now parity.entry.shape → c.unsent ≡ from → (x : Word)
+        → wbit z.now ≡ laid c parity.entry.shape x → by_excess c x ≡ comes_next_of result) }
 {
     if syndromes::is_quiet(z) {
         return Next::Quiet;
     }
-    if sh.words == 1 {
-        return next_narrow(z, h, sh, from);
+    if parity.shape.words == 1 {
+        return next_narrow(z, parity, from);
     }
-    next_bounded(z, h, sh, from)
+    next_bounded(z, parity, from)
 }
 
 // A run that ends.
 fn at_end(ending: Ending, flips: u32, last: u32) -> Ended
-    ensures { (result.ran.number ≡ number_of ending) × (result.ran.flips ≡ flips) × (result.last ≡ last) }
+    ensures { (result.ran.ending ≡ ending) × (result.ran.flips ≡ flips) × (result.last ≡ last) }
 {
     Ended {
-        ran: Ran {
-            number: ending as u8,
-            flips,
-        },
+        ran: Ran { ending, flips },
         last,
     }
 }
@@ -128,16 +136,14 @@ fn go_on(
     y: &mut [u64; WORD],
     rows: &mut [u64; ROWS],
     bounds: &mut Bounds,
-    h: &[u16; TABLE],
     from: usize,
     limit: u16,
     first: u32,
 ) -> Ended
-    requires { Fit h.now bounds.old.places.shape × Laid h.now bounds.old.places
-        × (1 ≤ bounds.old.places.shape.blocks) × (from < bounds.old.places.shape.size)
-        × Continuing h.now bounds.old.places.shape from first (wbit y.old) rows.old bounds.old.places.counts bounds.old.met }
-    ensures { (c : Code) → Lent c h.now bounds.old.places.shape → c.unsent ≡ from
-        → Carried c bounds.old.places.shape from first (wbit y.old) rows.old bounds.old.places.counts bounds.old.met
+    requires { (1 ≤ bounds.old.places.shape.blocks) × (from < bounds.old.places.shape.size)
+        × Continuing bounds.old.places from first (wbit y.old) rows.old bounds.old.met }
+    ensures { (c : Code) (h : List ℕ) → Fit h bounds.old.places.shape → Lent c h bounds.old.places.shape → Laid h bounds.old.places
+        → c.unsent ≡ from → Carried c bounds.old.places.shape from first (wbit y.old) rows.old bounds.old.places.counts bounds.old.met
         → RunsTo (by_excess c) c bounds.old.places.shape limit (wbit y.old) result.ran (wbit y.new)
         (laid c bounds.old.places.shape (wbit y.new)) × (result.last ≡ broken c (wbit y.new)) }
 {
@@ -166,25 +172,24 @@ fn go_on_narrow(
     samples: &[u32],
     y: &mut [u64; WORD],
     rows: &mut [u64; NARROW_ROWS],
-    h: &[u16; TABLE],
-    sh: Shape,
+    parity: Parity,
     from: usize,
     limit: u16,
     first: u32,
 ) -> Ended
-    requires { Fit h.now sh × (sh.words ≡ 1) × (1 ≤ sh.blocks) × (from < sh.size)
-        × (0 < length samples.now → (length samples.now ≡ sh.blocks * sh.size) × (from ≡ 0))
-        × ContinuingNarrow h.now sh from first (wbit y.old) rows.old }
-    ensures { (c : Code) → Lent c h.now sh → c.unsent ≡ from
-        → CarriedNarrow c sh first (wbit y.old) rows.old
-        → RunsTo (by_size (smaller samples.now) c) c sh limit (wbit y.old) result.ran (wbit y.new)
-        (laid c sh (wbit y.new)) × (result.last ≡ broken c (wbit y.new)) }
+    requires { (parity.shape.words ≡ 1) × (1 ≤ parity.shape.blocks) × (from < parity.shape.size)
+        × (0 < length samples.now → (length samples.now ≡ parity.shape.blocks * parity.shape.size) × (from ≡ 0))
+        × ContinuingNarrow parity.places.now parity.shape from first (wbit y.old) rows.old }
+    ensures { (c : Code) → Lent c parity.entry.places.now parity.entry.shape → c.unsent ≡ from
+        → CarriedNarrow c parity.entry.shape first (wbit y.old) rows.old
+        → RunsTo (by_size (smaller samples.now) c) c parity.entry.shape limit (wbit y.old) result.ran (wbit y.new)
+        (laid c parity.entry.shape (wbit y.new)) × (result.last ≡ broken c (wbit y.new)) }
 {
     let end = limit as u32;
     let mut flips: u32 = 0;
     let mut left = first;
     while left > 0 {
-        let chosen = narrow::choose(samples, rows, h, sh, from);
+        let chosen = narrow::choose(samples, rows, parity, from);
         let high = chosen.score;
         if high <= 8 {
             return at_end(Ending::Stuck, flips, left);
@@ -192,7 +197,7 @@ fn go_on_narrow(
         if flips >= end {
             return at_end(Ending::Limit, flips, left);
         }
-        narrow::flip(y, rows, h, sh, chosen.bit);
+        narrow::flip(y, rows, parity, chosen.bit);
         left -= high - 8;
         flips += 1;
     }
@@ -203,20 +208,20 @@ fn go_on_narrow(
 fn run_bounded(
     y: &mut [u64; WORD],
     z: &[u64; SYNDROME],
-    h: &[u16; TABLE],
-    sh: Shape,
+    parity: Parity,
     from: usize,
     limit: u16,
     first: u32,
 ) -> Ended
-    requires { Fit h.now sh × (1 ≤ sh.blocks) × (from < sh.size) × Beginning h.now sh from first (wbit y.old) (wbit z.now) }
-    ensures { (c : Code) → Begins c h.now sh from first (wbit y.old) (wbit z.now)
-        → RunsTo (by_excess c) c sh limit (wbit y.old) result.ran (wbit y.new) (laid c sh (wbit y.new))
+    requires { (1 ≤ parity.shape.blocks) × (from < parity.shape.size)
+        × Beginning parity.places.now parity.shape from first (wbit y.old) (wbit z.now) }
+    ensures { (c : Code) → Begins c parity.entry.places.now parity.entry.shape from first (wbit y.old) (wbit z.now)
+        → RunsTo (by_excess c) c parity.entry.shape limit (wbit y.old) result.ran (wbit y.new) (laid c parity.entry.shape (wbit y.new))
         × (result.last ≡ broken c (wbit y.new)) }
 {
     let mut rows = [0u64; ROWS];
-    let mut bounds = bounds::begin(z, h, sh, &mut rows);
-    go_on(y, &mut rows, &mut bounds, h, from, limit, first)
+    let mut bounds = bounds::begin(z, parity, &mut rows);
+    go_on(y, &mut rows, &mut bounds, from, limit, first)
 }
 
 // The run by the sizes of the samples, where one word holds a block: as many samples as bits, or none, where all bits have equal sizes.
@@ -224,45 +229,44 @@ pub fn run_narrow(
     samples: &[u32],
     y: &mut [u64; WORD],
     z: &[u64; SYNDROME],
-    h: &[u16; TABLE],
-    sh: Shape,
+    parity: Parity,
     from: usize,
     limit: u16,
     first: u32,
 ) -> Ended
-    requires { Fit h.now sh × (1 ≤ sh.blocks) × (from < sh.size)
-        × (0 < length samples.now → (length samples.now ≡ sh.blocks * sh.size) × (from ≡ 0))
-        × Beginning h.now sh from first (wbit y.old) (wbit z.now) × (sh.words ≡ 1) }
-    ensures { (c : Code) → Begins c h.now sh from first (wbit y.old) (wbit z.now)
-        → RunsTo (by_size (smaller samples.now) c) c sh limit (wbit y.old) result.ran (wbit y.new)
-        (laid c sh (wbit y.new)) × (result.last ≡ broken c (wbit y.new)) }
+    requires { (1 ≤ parity.shape.blocks) × (from < parity.shape.size)
+        × (0 < length samples.now → (length samples.now ≡ parity.shape.blocks * parity.shape.size) × (from ≡ 0))
+        × Beginning parity.places.now parity.shape from first (wbit y.old) (wbit z.now) × (parity.shape.words ≡ 1) }
+    ensures { (c : Code) → Begins c parity.entry.places.now parity.entry.shape from first (wbit y.old) (wbit z.now)
+        → RunsTo (by_size (smaller samples.now) c) c parity.entry.shape limit (wbit y.old) result.ran (wbit y.new)
+        (laid c parity.entry.shape (wbit y.new)) × (result.last ≡ broken c (wbit y.new)) }
 {
     let mut rows = [0u64; NARROW_ROWS];
-    narrow::begin(z, sh, &mut rows);
-    go_on_narrow(samples, y, &mut rows, h, sh, from, limit, first)
+    narrow::begin(z, parity.shape, &mut rows);
+    go_on_narrow(samples, y, &mut rows, parity, from, limit, first)
 }
 
 // The run from the word y with the syndrome z, of which so many checks are broken, under a limit: flips until it ends.
 pub fn run(
     y: &mut [u64; WORD],
     z: &[u64; SYNDROME],
-    h: &[u16; TABLE],
-    sh: Shape,
+    parity: Parity,
     from: usize,
     limit: u16,
     first: u32,
 ) -> Ended
-    requires { Fit h.now sh × (1 ≤ sh.blocks) × (from < sh.size) × Beginning h.now sh from first (wbit y.old) (wbit z.now) }
-    ensures { (c : Code) → Begins c h.now sh from first (wbit y.old) (wbit z.now)
-        → RunsTo (by_excess c) c sh limit (wbit y.old) result.ran (wbit y.new) (laid c sh (wbit y.new))
+    requires { (1 ≤ parity.shape.blocks) × (from < parity.shape.size)
+        × Beginning parity.places.now parity.shape from first (wbit y.old) (wbit z.now) }
+    ensures { (c : Code) → Begins c parity.entry.places.now parity.entry.shape from first (wbit y.old) (wbit z.now)
+        → RunsTo (by_excess c) c parity.entry.shape limit (wbit y.old) result.ran (wbit y.new) (laid c parity.entry.shape (wbit y.new))
         × (result.last ≡ broken c (wbit y.new)) }
 {
     if first == 0 {
         return at_end(Ending::Quiet, 0, 0);
     }
-    if sh.words == 1 {
+    if parity.shape.words == 1 {
         let equal = [0u32; 0];
-        return run_narrow(&equal, y, z, h, sh, from, limit, first);
+        return run_narrow(&equal, y, z, parity, from, limit, first);
     }
-    run_bounded(y, z, h, sh, from, limit, first)
+    run_bounded(y, z, parity, from, limit, first)
 }

@@ -20,7 +20,7 @@ use catalogue::offer;
 use catalogue::offer::{KnownOffer, Offer};
 use flipping::runs::Next;
 use flipping::{endings, runs};
-use layout::WORD;
+use layout::{Parity, WORD};
 use refusals::Refusal;
 use word::judging;
 use word::measured::Room;
@@ -153,8 +153,11 @@ fn coming(code: KnownOffer, room: &Room) -> Next
         → wbit room.now.z ≡ laid c code.offer.shape x → by_excess c x ≡ comes_next_of result) }
 {
     let o = code.offer;
-    let sh = o.shape;
-    runs::comes_next(&room.z, &room.h, sh, o.unsent)
+    let parity = Parity {
+        places: &room.h,
+        shape: o.shape,
+    };
+    runs::comes_next(&room.z, parity, o.unsent)
 }
 
 // The list after one flip more, or at the limit.
@@ -176,8 +179,11 @@ fn flip_on(
         return ended(l, flips, received, &room.y, 6, 0, 0);
     }
     let o = l.offer;
-    let sh = o.shape;
-    syndromes::flip(&mut room.y, &mut room.z, &room.h, sh, bit);
+    let parity = Parity {
+        places: &room.h,
+        shape: o.shape,
+    };
+    syndromes::flip(&mut room.y, &mut room.z, parity, bit);
     let left = syndromes::broken(&room.z);
     went(l, flips, bit as u32, excess, left)
 }
@@ -228,7 +234,11 @@ fn count_flips(received: Received, limit: u16) -> usize
     let mut room = Room::new();
     let sh = room.measure(received);
     let first = syndromes::broken(&room.z);
-    let ended = runs::run(&mut room.y, &room.z, &room.h, sh, o.unsent, limit, first);
+    let parity = Parity {
+        places: &room.h,
+        shape: sh,
+    };
+    let ended = runs::run(&mut room.y, &room.z, parity, o.unsent, limit, first);
     ended.ran.flips as usize
 }
 

@@ -7,7 +7,37 @@ ghost use Rattle.layout.specs.Rooms.{table_room};
 
 use catalogue::tables;
 use identity::printed;
+use identity::ties::Sizes;
 use layout::TABLE;
+
+// Codes 1 to 3 have four rows of four information blocks and four parity blocks; codes 4 and 5 have two rows of 14 and two.
+pub const SIZES_16: Sizes = Sizes {
+    m: 16,
+    rows: 4,
+    information_blocks: 4,
+    parity_blocks: 4,
+};
+
+pub const SIZES_32: Sizes = Sizes {
+    m: 32,
+    rows: 4,
+    information_blocks: 4,
+    parity_blocks: 4,
+};
+
+pub const SIZES_64: Sizes = Sizes {
+    m: 64,
+    rows: 4,
+    information_blocks: 4,
+    parity_blocks: 4,
+};
+
+pub const SIZES_511: Sizes = Sizes {
+    m: 511,
+    rows: 2,
+    information_blocks: 14,
+    parity_blocks: 2,
+};
 
 // A place without a shift.
 const NO: u16 = 65535;

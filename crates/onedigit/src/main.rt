@@ -9,10 +9,11 @@ ghost use Rattle.bits.specs.Bits.{tally};
 ghost use Rattle.bits.specs.Bits as bits;
 ghost use Rattle.rules.specs.Codes.{code};
 ghost use Rattle.rules.specs.Identity.{tied};
-ghost use Rattle.identity.specs.ties.Flat.{Sizes, flat_tied};
-ghost use Rattle.onedigit.specs.Wrong.{in_block, wrong_entry_of, digit_noticed_of, place_noticed_of, entry_wrong, entry_noticed_of};
+ghost use Rattle.onedigit.specs.Wrong.{Fitting, sized_tied, in_block, wrong_entry_of};
+ghost use Rattle.onedigit.specs.Wrong.{digit_noticed_of, place_noticed_of, entry_wrong, entry_noticed_of};
 
 use identity::ties;
+use identity::ties::{Sizes, Tables};
 use std::io::Write;
 use std::{fmt, io};
 
@@ -20,26 +21,42 @@ use std::{fmt, io};
 fn tied_16() -> bool
     ensures { result ≡ tied (code 1) }
 {
-    ties::tied(16, 4, 4, 4, &laid::parity_16(), &laid::generator_16())
+    ties::tied(Tables {
+        sizes: laid::SIZES_16,
+        parity: &laid::parity_16(),
+        generator: &laid::generator_16(),
+    })
 }
 
 fn tied_32() -> bool
     ensures { result ≡ tied (code 2) }
 {
-    ties::tied(32, 4, 4, 4, &laid::parity_32(), &laid::generator_32())
+    ties::tied(Tables {
+        sizes: laid::SIZES_32,
+        parity: &laid::parity_32(),
+        generator: &laid::generator_32(),
+    })
 }
 
 fn tied_64() -> bool
     ensures { result ≡ tied (code 3) }
 {
-    ties::tied(64, 4, 4, 4, &laid::parity_64(), &laid::generator_64())
+    ties::tied(Tables {
+        sizes: laid::SIZES_64,
+        parity: &laid::parity_64(),
+        generator: &laid::generator_64(),
+    })
 }
 
 // Codes 4 and 5 have the same tables.
 fn tied_511() -> bool
     ensures { (result ≡ tied (code 4)) × (result ≡ tied (code 5)) }
 {
-    ties::tied(511, 2, 14, 2, &laid::parity_511(), &laid::generator_511())
+    ties::tied(Tables {
+        sizes: laid::SIZES_511,
+        parity: &laid::parity_511(),
+        generator: &laid::generator_511(),
+    })
 }
 
 // A try that counts.
@@ -50,47 +67,37 @@ fn one_if(b: bool) -> usize
 }
 
 // Whether a word in place of another is noticed. The table is left as it was.
-fn word_noticed(
-    m: usize,
-    rows: usize,
-    count: usize,
-    parts: usize,
-    parity: &[u16],
-    generator: &mut [u64],
-    at: usize,
-    word: u64,
-) -> bool
-    requires { Sizes m rows count parts parity.now generator.old × (at < length generator.old) }
-    ensures noticed { (printed : ℕ) → m ≤ printed
-        → result ≡ not (flat_tied m printed rows count parts parity.now (set generator.old at word)) }
+fn word_noticed(sizes: Sizes, parity: &[u16], generator: &mut [u64], at: usize, word: u64) -> bool
+    requires { Fitting sizes parity.now generator.old × (at < length generator.old) }
+    ensures noticed { (printed : ℕ) → sizes.m ≤ printed
+        → result ≡ not (sized_tied sizes printed parity.now (set generator.old at word)) }
     ensures kept { generator.new ≡ generator.old }
 {
     let before = generator[at];
     generator[at] = word;
-    let whole = ties::tied(m, rows, count, parts, parity, generator);
+    let whole = ties::tied(Tables {
+        sizes,
+        parity,
+        generator,
+    });
     generator[at] = before;
     !whole
 }
 
 // The same for a place of the parity table.
-fn place_noticed(
-    m: usize,
-    rows: usize,
-    count: usize,
-    parts: usize,
-    parity: &mut [u16],
-    generator: &[u64],
-    at: usize,
-    shift: u16,
-) -> bool
-    requires { Sizes m rows count parts parity.old generator.now × (at < length parity.old) }
-    ensures noticed { (printed : ℕ) → m ≤ printed
-        → result ≡ not (flat_tied m printed rows count parts (set parity.old at shift) generator.now) }
+fn place_noticed(sizes: Sizes, parity: &mut [u16], generator: &[u64], at: usize, shift: u16) -> bool
+    requires { Fitting sizes parity.old generator.now × (at < length parity.old) }
+    ensures noticed { (printed : ℕ) → sizes.m ≤ printed
+        → result ≡ not (sized_tied sizes printed (set parity.old at shift) generator.now) }
     ensures kept { parity.new ≡ parity.old }
 {
     let before = parity[at];
     parity[at] = shift;
-    let whole = ties::tied(m, rows, count, parts, parity, generator);
+    let whole = ties::tied(Tables {
+        sizes,
+        parity,
+        generator,
+    });
     parity[at] = before;
     !whole
 }
@@ -105,46 +112,35 @@ fn other_word(word: u64, difference: u64, digit: u32) -> u64
 
 // Whether wrong digit t is noticed.
 fn digit_noticed(
-    m: usize,
-    rows: usize,
-    count: usize,
-    parts: usize,
+    sizes: Sizes,
     digits: usize,
     parity: &[u16],
     generator: &mut [u64],
     t: usize,
 ) -> bool
-    requires { Sizes m rows count parts parity.now generator.old × (0 < digits) × (digits ≤ 16)
+    requires { Fitting sizes parity.now generator.old × (0 < digits) × (digits ≤ 16)
         × (t / 15 / digits < length generator.old) }
-    ensures noticed { (printed : ℕ) → m ≤ printed
-        → result ≡ digit_noticed_of m printed rows count parts digits parity.now generator.old t }
+    ensures noticed { (printed : ℕ) → sizes.m ≤ printed
+        → result ≡ digit_noticed_of sizes printed digits parity.now generator.old t }
     ensures kept { generator.new ≡ generator.old }
 {
     let at = t / 15 / digits;
     let word = other_word(generator[at], (t % 15 + 1) as u64, (t / 15 % digits) as u32);
-    word_noticed(m, rows, count, parts, parity, generator, at, word)
+    word_noticed(sizes, parity, generator, at, word)
 }
 
 // How many are.
-fn digits_noticed(
-    m: usize,
-    rows: usize,
-    count: usize,
-    parts: usize,
-    digits: usize,
-    parity: &[u16],
-    generator: &mut [u64],
-) -> usize
-    requires { Sizes m rows count parts parity.now generator.old × (0 < digits) × (digits ≤ 16) × (length generator.old < 65536) }
-    ensures noticed { (printed : ℕ) → m ≤ printed
+fn digits_noticed(sizes: Sizes, digits: usize, parity: &[u16], generator: &mut [u64]) -> usize
+    requires { Fitting sizes parity.now generator.old × (0 < digits) × (digits ≤ 16) × (length generator.old < 65536) }
+    ensures noticed { (printed : ℕ) → sizes.m ≤ printed
         → result ≡ bits.count (length generator.old * digits * 15)
-        (digit_noticed_of m printed rows count parts digits parity.now generator.old) }
+        (digit_noticed_of sizes printed digits parity.now generator.old) }
     ensures kept { generator.new ≡ generator.old }
 {
     let n = generator.len() * digits * 15;
     let mut noticed = 0;
     for t in 0..n {
-        noticed += one_if(digit_noticed(m, rows, count, parts, digits, parity, generator, t));
+        noticed += one_if(digit_noticed(sizes, digits, parity, generator, t));
     }
     noticed
 }
@@ -176,24 +172,21 @@ fn wrong_entry(m: usize, parity: &[u16], place: usize, s: usize) -> bool
 
 // Whether that is a wrong entry and is noticed.
 fn entry_noticed(
-    m: usize,
-    rows: usize,
-    count: usize,
-    parts: usize,
+    sizes: Sizes,
     parity: &mut [u16],
     generator: &[u64],
     place: usize,
     s: usize,
 ) -> bool
-    requires { Sizes m rows count parts parity.old generator.now × (place < length parity.old) × (s ≤ m) }
-    ensures noticed { (printed : ℕ) → m ≤ printed
-        → result ≡ place_noticed_of m printed rows count parts parity.old generator.now place s }
+    requires { Fitting sizes parity.old generator.now × (place < length parity.old) × (s ≤ sizes.m) }
+    ensures noticed { (printed : ℕ) → sizes.m ≤ printed
+        → result ≡ place_noticed_of sizes printed parity.old generator.now place s }
     ensures kept { parity.new ≡ parity.old }
 {
-    if !wrong_entry(m, parity, place, s) {
+    if !wrong_entry(sizes.m, parity, place, s) {
         return false;
     }
-    place_noticed(m, rows, count, parts, parity, generator, place, s as u16)
+    place_noticed(sizes, parity, generator, place, s as u16)
 }
 
 // How many entries are tried, and how many of them noticed.
@@ -209,33 +202,18 @@ fn entries_tried(m: usize, parity: &[u16]) -> usize
     tried
 }
 
-fn entries_noticed(
-    m: usize,
-    rows: usize,
-    count: usize,
-    parts: usize,
-    parity: &mut [u16],
-    generator: &[u64],
-) -> usize
-    requires { Sizes m rows count parts parity.old generator.now × (length parity.old < 65536) }
-    ensures noticed { (printed : ℕ) → m ≤ printed
-        → result ≡ bits.count (length parity.old * (m + 1))
-        (entry_noticed_of m printed rows count parts parity.old generator.now) }
+fn entries_noticed(sizes: Sizes, parity: &mut [u16], generator: &[u64]) -> usize
+    requires { Fitting sizes parity.old generator.now × (length parity.old < 65536) }
+    ensures noticed { (printed : ℕ) → sizes.m ≤ printed
+        → result ≡ bits.count (length parity.old * (sizes.m + 1))
+        (entry_noticed_of sizes printed parity.old generator.now) }
     ensures kept { parity.new ≡ parity.old }
 {
-    let n = parity.len() * (m + 1);
+    let shifts = sizes.m + 1;
+    let n = parity.len() * shifts;
     let mut noticed = 0;
     for t in 0..n {
-        noticed += one_if(entry_noticed(
-            m,
-            rows,
-            count,
-            parts,
-            parity,
-            generator,
-            t / (m + 1),
-            t % (m + 1),
-        ));
+        noticed += one_if(entry_noticed(sizes, parity, generator, t / shifts, t % shifts));
     }
     noticed
 }
@@ -254,55 +232,37 @@ impl fmt::Display for Tried {
     }
 }
 
-fn try_digits(
-    m: usize,
-    rows: usize,
-    count: usize,
-    parts: usize,
-    digits: usize,
-    parity: &[u16],
-    generator: &mut [u64],
-) -> Tried
-    requires { Sizes m rows count parts parity.now generator.old × (0 < digits) × (digits ≤ 16) × (length generator.old < 65536) }
+fn try_digits(sizes: Sizes, digits: usize, parity: &[u16], generator: &mut [u64]) -> Tried
+    requires { Fitting sizes parity.now generator.old × (0 < digits) × (digits ≤ 16) × (length generator.old < 65536) }
     ensures { (result.tried < 2 ^ 62) × (result.noticed < 2 ^ 62) }
 {
     let tried = generator.len() * digits * 15;
-    let noticed = digits_noticed(m, rows, count, parts, digits, parity, generator);
+    let noticed = digits_noticed(sizes, digits, parity, generator);
     Tried { tried, noticed }
 }
 
-fn try_entries(
-    m: usize,
-    rows: usize,
-    count: usize,
-    parts: usize,
-    parity: &mut [u16],
-    generator: &[u64],
-) -> Tried
-    requires { Sizes m rows count parts parity.old generator.now × (length parity.old < 65536) }
+fn try_entries(sizes: Sizes, parity: &mut [u16], generator: &[u64]) -> Tried
+    requires { Fitting sizes parity.old generator.now × (length parity.old < 65536) }
     ensures { (result.tried < 2 ^ 62) × (result.noticed < 2 ^ 62) }
 {
-    let tried = entries_tried(m, parity);
-    let noticed = entries_noticed(m, rows, count, parts, parity, generator);
+    let tried = entries_tried(sizes.m, parity);
+    let noticed = entries_noticed(sizes, parity, generator);
     Tried { tried, noticed }
 }
 
 fn try_code<W: Write>(
     output: &mut W,
     n: usize,
-    m: usize,
-    rows: usize,
-    count: usize,
-    parts: usize,
+    sizes: Sizes,
     digits: usize,
     parity: &mut [u16],
     generator: &mut [u64],
 ) -> io::Result<()>
-    requires { Sizes m rows count parts parity.old generator.old × (0 < digits) × (digits ≤ 16) × (length parity.old < 65536)
+    requires { Fitting sizes parity.old generator.old × (0 < digits) × (digits ≤ 16) × (length parity.old < 65536)
         × (length generator.old < 65536) }
 {
-    let d = try_digits(m, rows, count, parts, digits, parity, generator);
-    let e = try_entries(m, rows, count, parts, parity, generator);
+    let d = try_digits(sizes, digits, parity, generator);
+    let e = try_entries(sizes, parity, generator);
     let all = Tried {
         tried: d.tried + e.tried,
         noticed: d.noticed + e.noticed,
@@ -317,31 +277,6 @@ fn answer(tied: bool) -> &'static str {
     if tied { "yes" } else { "no" }
 }
 
-// Codes 1 to 3 have four rows of four information blocks and four parity blocks.
-fn try_telecommand<W: Write>(
-    output: &mut W,
-    n: usize,
-    m: usize,
-    digits: usize,
-    parity: &mut [u16],
-    generator: &mut [u64],
-) -> io::Result<()>
-    requires { Sizes m 4 4 4 parity.old generator.old × (0 < digits) × (digits ≤ 16) × (length parity.old < 65536)
-        × (length generator.old < 65536) }
-{
-    try_code(output, n, m, 4, 4, 4, digits, parity, generator)
-}
-
-// Codes 4 and 5 have two rows of 14 and two.
-fn try_near_earth<W: Write>(
-    output: &mut W,
-    n: usize,
-    parity: &mut [u16; 96],
-    generator: &mut [u64; 224],
-) -> io::Result<()> {
-    try_code(output, n, 511, 2, 14, 2, 16, parity, generator)
-}
-
 fn main(rt: HostRuntime) -> io::Result<()> {
     let output = &mut rt.stdout();
     let near_earth = answer(tied_511());
@@ -353,33 +288,35 @@ fn main(rt: HostRuntime) -> io::Result<()> {
         answer(tied_64()),
     )?;
     output.write_all(b"One wrong digit, tried everywhere. Code 5 has the tables of code 4.\n")?;
-    try_telecommand(
+    try_code(
         output,
         1,
-        16,
+        laid::SIZES_16,
         4,
         &mut laid::parity_16(),
         &mut laid::generator_16(),
     )?;
-    try_telecommand(
+    try_code(
         output,
         2,
-        32,
+        laid::SIZES_32,
         8,
         &mut laid::parity_32(),
         &mut laid::generator_32(),
     )?;
-    try_telecommand(
+    try_code(
         output,
         3,
-        64,
+        laid::SIZES_64,
         16,
         &mut laid::parity_64(),
         &mut laid::generator_64(),
     )?;
-    try_near_earth(
+    try_code(
         output,
         4,
+        laid::SIZES_511,
+        16,
         &mut laid::parity_511(),
         &mut laid::generator_511(),
     )

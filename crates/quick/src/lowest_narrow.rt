@@ -5,13 +5,13 @@ ghost use Rattle.rules.specs.Codes.{Code, code as code_of, offered};
 ghost use Rattle.rules.specs.Checks.{lowest as lowest_of};
 ghost use Rattle.rules.specs.Encoding.{lifted};
 ghost use Rattle.vectors.specs.Vectors.{wbit, both, up_to, from, twice};
-ghost use Rattle.layout.specs.Lent.{Fit, Lent};
+ghost use Rattle.layout.specs.Lent.{Lent};
 ghost use Rattle.catalogue.specs.offer.Offers.{offer_of, Known};
 ghost use Rattle.quick.specs.groups.Groups.{Has, reached, placed, group};
 
 use catalogue::offer::Offer;
 use catalogue::tables;
-use layout::{Shape, TABLE};
+use layout::{Parity, TABLE};
 use vectors::Pair;
 
 // What the shift s adds to the checks of a row, where one word holds the block of m bits; d is the block twice over.
@@ -26,11 +26,14 @@ fn narrow_entry(d: Pair, m: usize, s: usize) -> u64
 }
 
 // What block b adds to the checks of row r.
-fn narrow_block(y: &[u64], h: &[u16], sh: Shape, b: usize, r: usize) -> u64
-    requires { Fit h.now sh × (sh.size ≤ 64) × (b < sh.blocks) × (r < sh.rows) × (length y.now ≡ 17) }
-    ensures { Has sh.size result (λ i. placed sh h.now (wbit y.now) r (2 * b) i
-        ⊕ placed sh h.now (wbit y.now) r (1 + 2 * b) i) }
+fn narrow_block(y: &[u64], parity: Parity, b: usize, r: usize) -> u64
+    requires { (parity.shape.size ≤ 64) × (b < parity.shape.blocks) × (r < parity.shape.rows) × (length y.now ≡ 17) }
+    ensures { Has parity.entry.shape.size result
+        (λ i. placed parity.entry.shape parity.entry.places.now (wbit y.now) r (2 * b) i
+        ⊕ placed parity.entry.shape parity.entry.places.now (wbit y.now) r (1 + 2 * b) i) }
 {
+    let h = parity.places;
+    let sh = parity.shape;
     let block = vectors::front(vectors::window(y, b * sh.size), sh.size);
     let d = vectors::double_word(block, sh.size);
     let at = 2 * (r * sh.blocks + b);
@@ -38,24 +41,26 @@ fn narrow_block(y: &[u64], h: &[u16], sh: Shape, b: usize, r: usize) -> u64
 }
 
 // The checks of row r.
-fn narrow_group(y: &[u64], h: &[u16], sh: Shape, r: usize) -> u64
-    requires { Fit h.now sh × (sh.size ≤ 64) × (r < sh.rows) × (length y.now ≡ 17) }
-    ensures { Has sh.size result (group sh h.now (wbit y.now) r (2 * sh.blocks)) }
+fn narrow_group(y: &[u64], parity: Parity, r: usize) -> u64
+    requires { (parity.shape.size ≤ 64) × (r < parity.shape.rows) × (length y.now ≡ 17) }
+    ensures { Has parity.entry.shape.size result
+        (group parity.entry.shape parity.entry.places.now (wbit y.now) r (2 * parity.entry.shape.blocks)) }
 {
     let mut v: u64 = 0;
-    for b in 0..sh.blocks {
-        v ^= narrow_block(y, h, sh, b, r);
+    for b in 0..parity.shape.blocks {
+        v ^= narrow_block(y, parity, b, r);
     }
     v
 }
 
 // The lowest broken check, row after row.
-fn rows_lowest(y: &[u64], h: &[u16], sh: Shape) -> u32
-    requires { Fit h.now sh × (sh.size ≤ 64) × (length y.now ≡ 17) }
-    ensures { (c : Code) → Lent c h.now sh → result ≡ lowest_of c (wbit y.now) }
+fn rows_lowest(y: &[u64], parity: Parity) -> u32
+    requires { (parity.shape.size ≤ 64) × (length y.now ≡ 17) }
+    ensures { (c : Code) → Lent c parity.entry.places.now parity.entry.shape → result ≡ lowest_of c (wbit y.now) }
 {
+    let sh = parity.shape;
     for r in 0..sh.rows {
-        let v = vectors::front(narrow_group(y, h, sh, r), sh.size);
+        let v = vectors::front(narrow_group(y, parity, r), sh.size);
         if v != 0 {
             return (r * sh.size) as u32 + u64::leading_zeros(v);
         }
@@ -74,5 +79,9 @@ pub fn lowest(o: Offer, word: &[u8]) -> u32
     let sh = tables::lend_narrow(of.size, &mut h);
     let mut y = [0u64; 17];
     vectors::load(word, &mut y);
-    rows_lowest(&y, &h, sh)
+    let parity = Parity {
+        places: &h,
+        shape: sh,
+    };
+    rows_lowest(&y, parity)
 }

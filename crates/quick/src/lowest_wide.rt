@@ -5,13 +5,13 @@ ghost use Rattle.rules.specs.Codes.{Code, code as code_of, offered};
 ghost use Rattle.rules.specs.Checks.{check, lowest as lowest_of};
 ghost use Rattle.rules.specs.Encoding.{lifted};
 ghost use Rattle.vectors.specs.Vectors.{wbit, Holds, up_to, from, twice};
-ghost use Rattle.layout.specs.Lent.{Fit, Lent};
+ghost use Rattle.layout.specs.Lent.{Lent};
 ghost use Rattle.catalogue.specs.offer.Offers.{offer_of, Known};
 ghost use Rattle.quick.specs.groups.Groups.{Has, reached, group, Twofold, Begun, Full, Inside, behind};
 
-use catalogue::offer::Offer;
+use catalogue::offer::{NEAR_EARTH, Offer};
 use catalogue::tables;
-use layout::{BLOCK, Shape, TABLE, WORD};
+use layout::{BLOCK, Parity, Shape, TABLE, WORD};
 use word::received;
 
 // The 64 bits of the octets from bit p on, of nine octets.
@@ -70,12 +70,15 @@ fn wide_entry(octets: &[u8], u: usize, p: usize, m: usize, s: usize) -> u64
 }
 
 // The first 64 checks of row 0.
-fn first_group(octets: &[u8], u: usize, h: &[u16], sh: Shape) -> u64
-    requires { Fit h.now sh × (1 ≤ sh.rows) × (130 ≤ sh.size) × (sh.blocks * sh.size ≤ 8 * length octets.now + u) × (u ≤ 18)
+fn first_group(octets: &[u8], u: usize, parity: Parity) -> u64
+    requires { (1 ≤ parity.shape.rows) × (130 ≤ parity.shape.size)
+        × (parity.shape.blocks * parity.shape.size ≤ 8 * length octets.now + u) × (u ≤ 18)
         × (9 ≤ length octets.now) × (length octets.now ≤ 1022) }
     ensures { (c : Code) → u ≡ c.unsent → Has 64 result
-        (group sh h.now (lifted c (bit octets.now)) 0 (2 * sh.blocks)) }
+        (group parity.entry.shape parity.entry.places.now (lifted c (bit octets.now)) 0 (2 * parity.entry.shape.blocks)) }
 {
+    let h = parity.places;
+    let sh = parity.shape;
     let mut v: u64 = 0;
     for k in 0..2 * sh.blocks {
         v ^= wide_entry(octets, u, k / 2 * sh.size, sh.size, h[k] as usize);
@@ -107,10 +110,12 @@ fn double_blocks(y: &[u64], sh: Shape, d: &mut [u64])
 }
 
 // Where each place of row r begins in the doubled blocks. It is worked out once, so that a group costs no more than its windows.
-fn begin_row(h: &[u16], sh: Shape, r: usize, begins: &mut [usize])
-    requires { Fit h.now sh × (r < sh.rows) × (length begins.old ≡ 2 * sh.blocks) }
-    ensures { Begun (2 * sh.blocks) sh h.now r begins.new }
+fn begin_row(parity: Parity, r: usize, begins: &mut [usize])
+    requires { (r < parity.shape.rows) × (length begins.old ≡ 2 * parity.shape.blocks) }
+    ensures { Begun (2 * parity.entry.shape.blocks) parity.entry.shape parity.entry.places.now r begins.new }
 {
+    let h = parity.places;
+    let sh = parity.shape;
     for k in 0..2 * sh.blocks {
         begins[k] = 1024 * (k / 2) + h[2 * (r * sh.blocks) + k] as usize;
     }
@@ -147,24 +152,27 @@ fn groups_lowest(d: &[u64], begins: &[usize], m: usize) -> usize
 }
 
 // The lowest broken check of row r, counted from the row's first, or M if none is broken.
-fn wide_row_lowest(d: &[u64], h: &[u16], sh: Shape, r: usize) -> usize
-    requires { Fit h.now sh × Full h.now sh × (sh.blocks ≡ 16) × (r < sh.rows) × (length d.now ≡ 256) }
-    ensures { (c : Code) (x : Word) → Lent c h.now sh → Twofold sh.blocks sh.size x d.now
-        → result ≡ least sh.size (from (r * sh.size) (check c x)) }
+fn wide_row_lowest(d: &[u64], parity: Parity, r: usize) -> usize
+    requires { Full parity.places.now parity.shape × (parity.shape.blocks ≡ 16) × (r < parity.shape.rows) × (length d.now ≡ 256) }
+    ensures { (c : Code) (x : Word) → Lent c parity.entry.places.now parity.entry.shape
+        → Twofold parity.entry.shape.blocks parity.entry.shape.size x d.now
+        → result ≡ least parity.entry.shape.size (from (r * parity.entry.shape.size) (check c x)) }
 {
     let mut begins = [0usize; 32];
-    begin_row(h, sh, r, &mut begins);
-    groups_lowest(d, &begins, sh.size)
+    begin_row(parity, r, &mut begins);
+    groups_lowest(d, &begins, parity.shape.size)
 }
 
 // The lowest broken check, row after row.
-fn wide_rows_lowest(d: &[u64], h: &[u16], sh: Shape) -> u32
-    requires { Fit h.now sh × Full h.now sh × (sh.blocks ≡ 16) × (length d.now ≡ 256) }
-    ensures { (c : Code) (x : Word) → Lent c h.now sh → Twofold sh.blocks sh.size x d.now
+fn wide_rows_lowest(d: &[u64], parity: Parity) -> u32
+    requires { Full parity.places.now parity.shape × (parity.shape.blocks ≡ 16) × (length d.now ≡ 256) }
+    ensures { (c : Code) (x : Word) → Lent c parity.entry.places.now parity.entry.shape
+        → Twofold parity.entry.shape.blocks parity.entry.shape.size x d.now
         → result ≡ lowest_of c x }
 {
+    let sh = parity.shape;
     for row in 0..sh.rows {
-        let l = wide_row_lowest(d, h, sh, row);
+        let l = wide_row_lowest(d, parity, row);
         if l < sh.size {
             return (row * sh.size + l) as u32;
         }
@@ -173,15 +181,17 @@ fn wide_rows_lowest(d: &[u64], h: &[u16], sh: Shape) -> u32
 }
 
 // The lowest broken check of a word that is laid out whole.
-fn whole_lowest(octets: &[u8], u: usize, h: &[u16], sh: Shape) -> u32
-    requires { Fit h.now sh × Full h.now sh × (448 < sh.size) × (sh.blocks ≡ 16) × (u ≤ 18) × (length octets.now ≤ 1022) }
-    ensures { (c : Code) → Lent c h.now sh → u ≡ c.unsent → result ≡ lowest_of c (lifted c (bit octets.now)) }
+fn whole_lowest(octets: &[u8], u: usize, parity: Parity) -> u32
+    requires { Full parity.places.now parity.shape × (448 < parity.shape.size) × (parity.shape.blocks ≡ 16) × (u ≤ 18)
+        × (length octets.now ≤ 1022) }
+    ensures { (c : Code) → Lent c parity.entry.places.now parity.entry.shape → u ≡ c.unsent
+        → result ≡ lowest_of c (lifted c (bit octets.now)) }
 {
     let mut y = [0u64; WORD];
     received::take(octets, u, &mut y);
     let mut d = [0u64; 256];
-    double_blocks(&y, sh, &mut d);
-    wide_rows_lowest(&d, h, sh)
+    double_blocks(&y, parity.shape, &mut d);
+    wide_rows_lowest(&d, parity)
 }
 
 // The lowest broken check where a row is wider than a group. The first group comes straight from the octets; if it is met, the word is
@@ -193,15 +203,13 @@ pub fn lowest(o: Offer, word: &[u8]) -> u32
 {
     let mut h = [0u16; TABLE];
     tables::lend511(&mut h);
-    let sh = Shape {
-        size: 511,
-        words: 8,
-        blocks: 16,
-        rows: 2,
+    let parity = Parity {
+        places: &h,
+        shape: NEAR_EARTH,
     };
-    let v = first_group(word, o.unsent, &h, sh);
+    let v = first_group(word, o.unsent, parity);
     if v != 0 {
         return u64::leading_zeros(v);
     }
-    whole_lowest(word, o.unsent, &h, sh)
+    whole_lowest(word, o.unsent, parity)
 }

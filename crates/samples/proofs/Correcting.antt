@@ -25,6 +25,7 @@ use Rattle.refusals.proofs.Admitted.{steps_by, bits_are, word_long}
 use Rattle.magnitudes.specs.Patterns.{samples_of, read, smaller, all_finite}
 use Rattle.magnitudes.specs.Sizes.{by_size}
 use Rattle.magnitudes.proofs.Patterns.{read_same, way_same}
+use Rattle.flipping.specs.runs.Endings.{number_of}
 use Rattle.samples.specs.declared.sizing.Ended.{Ended}
 use Rattle.samples.specs.sizing.Passing.{SizesTo}
 use Rattle.samples.specs.Answers.{ran_samples}
@@ -73,13 +74,13 @@ module _ (n : ℕ) (t : T (offered n && not (eqb n 5))) (sh : Shape) (samples : 
   same : run (by_size (smaller samples) (code n)) limit x ≡ the_run
   same = ap (run (by_size (smaller samples) (code n)) limit) read_is
 
-  pub ran_number : the_run.number ≡ end.ran.number
+  pub ran_number : the_run.number ≡ number_of end.ran.ending
   ran_number = sym (to.runs.number ∙ ap (λ r. r.number) same)
 
   pub ran_word : the_run.word ≡ y
   ran_word = sym (to.runs.word ∙ ap (λ r. r.word) same)
 
-  pub ran_met : end.ran.number ≡ 0 → broken (code n) y ≡ 0
+  pub ran_met : number_of end.ran.ending ≡ 0 → broken (code n) y ≡ 0
   ran_met e = ap (broken (code n)) (sym ran_word) ∙ run_met (sizes_choose n t (smaller samples)) limit (read samples) (ran_number ∙ e)
 
   pub ran_unsent : (k : ℕ) → k < (code n).unsent → y k ≡ false

@@ -12,7 +12,7 @@ ghost use Rattle.rules.specs.Checks.{broken as broken_of, lowest as lowest_of};
 ghost use Rattle.answers.specs.Calls.{refusal as refusal_of};
 ghost use Rattle.refusals.specs.Numbers.{number_in};
 ghost use Rattle.vectors.specs.Vectors.{wbit};
-ghost use Rattle.layout.specs.Lent.{Fit, laid};
+ghost use Rattle.layout.specs.Lent.{laid};
 ghost use Rattle.catalogue.specs.offer.Offers.{offer_of, Known};
 ghost use Rattle.catalogue.specs.tables.Flat.{Lends};
 ghost use Rattle.word.specs.measured.Measured.{Size};
@@ -29,7 +29,7 @@ use catalogue::offer;
 use catalogue::offer::{KnownOffer, Offer};
 use flipping::endings;
 use flipping::endings::Corrected;
-use layout::{SYNDROME, Shape, TABLE, WORD};
+use layout::{Parity, SYNDROME, Shape, TABLE, WORD};
 use refusals::Refusal;
 use word::{judging, measured, received};
 
@@ -66,22 +66,21 @@ fn run_judged(
     limit: u16,
     y: &mut [u64; WORD],
     z: &[u64; SYNDROME],
-    h: &[u16; TABLE],
-    sh: Shape,
+    parity: Parity,
     first: u32,
     lowest: u32,
 ) -> Corrected
-    requires { Known o × Fit h.now sh × (1 ≤ sh.blocks) × (length samples.now ≡ sh.blocks * sh.size)
+    requires { Known o × (1 ≤ parity.shape.blocks) × (length samples.now ≡ parity.shape.blocks * parity.shape.size)
         × (wbit y.old ≡ read_of samples.now)
-        × Beginning h.now sh 0 first (wbit y.old) (wbit z.now) }
+        × Beginning parity.places.now parity.shape 0 first (wbit y.old) (wbit z.now) }
     ensures { (n : ℕ) → offered n ≡ true → o ≡ offer_of n → T (offered n && not (eqb n 5))
-        → Begins (code_of n) h.now sh 0 first (wbit y.old) (wbit z.now)
+        → Begins (code_of n) parity.entry.places.now parity.entry.shape 0 first (wbit y.old) (wbit z.now)
         → lowest ≡ lowest_of (code_of n) (wbit y.old) → Finds n samples.now limit (wbit y.new) result }
 {
-    let end = sizing::run(samples, y, z, h, sh, limit, first);
+    let end = sizing::run(samples, y, z, parity, limit, first);
     let ran = end.ran;
     Corrected {
-        number: judging::judge(KnownOffer { offer: o }, y, ran.number),
+        number: judging::judge(KnownOffer { offer: o }, y, ran.ending.number()),
         flips: ran.flips,
         first,
         last: end.last,
@@ -105,8 +104,11 @@ fn run_within(
 {
     let of = o.shape;
     let begun = begin(of.size, y, h, z);
-    let sh = begun.shape;
-    run_judged(o, samples, limit, y, z, h, sh, begun.first, begun.lowest)
+    let parity = Parity {
+        places: h,
+        shape: begun.shape,
+    };
+    run_judged(o, samples, limit, y, z, parity, begun.first, begun.lowest)
 }
 
 // The run on the bits y that were read from as many samples as the code has bits, and its judgement; y is the word at its end.

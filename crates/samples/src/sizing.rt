@@ -9,13 +9,12 @@ ghost use Rattle.flipping.specs.bounds.Keeping.{Laid};
 ghost use Rattle.magnitudes.specs.Patterns.{read as read_of};
 ghost use Rattle.samples.specs.raising.Knowing.{Sampled};
 ghost use Rattle.samples.specs.sizing.Passing.{Chooses, SizesTo, StandsIn, StartingIn, ComingIn, PassesIn};
-ghost use Rattle.flipping.specs.runs.Endings.{number_of};
 ghost use Rattle.flipping.specs.runs.Passes.{Begins, Beginning};
 
 use super::raising::{Kept, UNKNOWN};
 use flipping::runs::{Ending, Ran};
 use flipping::{bounds, runs};
-use layout::{BLOCKS, ROWS, SYNDROME, Shape, TABLE, WORD};
+use layout::{BLOCKS, Parity, ROWS, SYNDROME, WORD};
 use word::unlike;
 
 // A run, the broken checks at its end, and in how many bits the word then differs from the one that was read.
@@ -49,10 +48,7 @@ fn counted(samples: &[u32], y: &[u64], bit: usize, unlike: u32) -> u32
     if magnitudes::is_one(samples[bit]) == vectors::is_set(y, bit) {
         return unlike + 1;
     }
-    if unlike == 0 {
-        return 0;
-    }
-    unlike - 1
+    unlike.saturating_sub(1)
 }
 
 // Flips a bit of the word y, and says in how many bits y differs from what was read then; before that in so many.
@@ -132,19 +128,18 @@ fn go_once(
     y: &mut [u64; WORD],
     rows: &mut [u64; ROWS],
     kept: &mut Kept,
-    h: &[u16; TABLE],
     limit: u16,
     flips: u32,
     left: u32,
     unlike: u32,
 ) -> Result<Passed, Ending>
-    requires { Fit h.now kept.old.bounds.places.shape × Laid h.now kept.old.bounds.places
-        × (1 ≤ kept.old.bounds.places.shape.blocks) × Sampled samples.now kept.old.bounds.places
+    requires { (1 ≤ kept.old.bounds.places.shape.blocks) × Sampled samples.now kept.old.bounds.places
         × (unlike < 65536) × (0 < left)
-        × StartingIn h.now samples.now left (wbit y.old) kept.old.bounds.places rows.old kept.old.bounds.met kept.old.bits }
+        × StartingIn samples.now left (wbit y.old) kept.old.bounds.places rows.old kept.old.bounds.met kept.old.bits }
     ensures { (kept.new.bounds.places ≡ kept.old.bounds.places)
         × IfOk result (λ p. (flips < limit) × (p.unlike ≤ unlike + 1))
-        × ((c : Code) (x : Word) → Lent c h.now kept.old.bounds.places.shape → c.unsent ≡ 0
+        × ((c : Code) (h : List ℕ) (x : Word) → Lent c h kept.old.bounds.places.shape → c.unsent ≡ 0
+        → Fit h kept.old.bounds.places.shape → Laid h kept.old.bounds.places
         → ComingIn c samples.now limit x flips y.old kept.old.bounds.places rows.old kept.old.bounds.met kept.old.bits left unlike
         → PassesIn c samples.now limit x flips y.new kept.old.bounds.places rows.new kept.new.bounds.met kept.new.bits
         left unlike result) }
@@ -155,13 +150,10 @@ fn go_once(
 
 // A run that ends.
 fn at_end(ending: Ending, flips: u32, last: u32, unlike: u32) -> Ended
-    ensures { (result.ran.number ≡ number_of ending) × (result.ran.flips ≡ flips) × (result.last ≡ last) × (result.unlike ≡ unlike) }
+    ensures { (result.ran.ending ≡ ending) × (result.ran.flips ≡ flips) × (result.last ≡ last) × (result.unlike ≡ unlike) }
 {
     Ended {
-        ran: Ran {
-            number: ending as u8,
-            flips,
-        },
+        ran: Ran { ending, flips },
         last,
         unlike,
     }
@@ -173,15 +165,14 @@ fn go_on(
     y: &mut [u64; WORD],
     rows: &mut [u64; ROWS],
     kept: &mut Kept,
-    h: &[u16; TABLE],
     limit: u16,
     first: u32,
 ) -> Ended
-    requires { Fit h.now kept.old.bounds.places.shape × Laid h.now kept.old.bounds.places
-        × (1 ≤ kept.old.bounds.places.shape.blocks) × Sampled samples.now kept.old.bounds.places
+    requires { (1 ≤ kept.old.bounds.places.shape.blocks) × Sampled samples.now kept.old.bounds.places
         × (wbit y.old ≡ read_of samples.now)
-        × StartingIn h.now samples.now first (wbit y.old) kept.old.bounds.places rows.old kept.old.bounds.met kept.old.bits }
-    ensures { (c : Code) → Lent c h.now kept.old.bounds.places.shape → c.unsent ≡ 0 → first ≡ broken c (wbit y.old)
+        × StartingIn samples.now first (wbit y.old) kept.old.bounds.places rows.old kept.old.bounds.met kept.old.bits }
+    ensures { (c : Code) (h : List ℕ) → Lent c h kept.old.bounds.places.shape → c.unsent ≡ 0
+        → Fit h kept.old.bounds.places.shape → Laid h kept.old.bounds.places → first ≡ broken c (wbit y.old)
         → StandsIn c samples.now (wbit y.old) kept.old.bounds.places rows.old kept.old.bounds.met kept.old.bits
         → SizesTo c kept.old.bounds.places.shape samples.now limit (wbit y.old) result (wbit y.new) }
 {
@@ -189,7 +180,7 @@ fn go_on(
     let mut left = first;
     let mut unlike: u32 = 0;
     while left > 0 {
-        match go_once(samples, y, rows, kept, h, limit, flips, left, unlike) {
+        match go_once(samples, y, rows, kept, limit, flips, left, unlike) {
             Ok(passed) => {
                 left = passed.left;
                 unlike = passed.unlike;
@@ -206,22 +197,22 @@ fn run_bounded(
     samples: &[u32],
     y: &mut [u64; WORD],
     z: &[u64; SYNDROME],
-    h: &[u16; TABLE],
-    sh: Shape,
+    parity: Parity,
     limit: u16,
     first: u32,
 ) -> Ended
-    requires { Fit h.now sh × (1 ≤ sh.blocks) × (length samples.now ≡ sh.blocks * sh.size) × (wbit y.old ≡ read_of samples.now)
-        × Beginning h.now sh 0 first (wbit y.old) (wbit z.now) }
-    ensures { (c : Code) → Begins c h.now sh 0 first (wbit y.old) (wbit z.now)
-        → SizesTo c sh samples.now limit (wbit y.old) result (wbit y.new) }
+    requires { (1 ≤ parity.shape.blocks) × (length samples.now ≡ parity.shape.blocks * parity.shape.size)
+        × (wbit y.old ≡ read_of samples.now)
+        × Beginning parity.places.now parity.shape 0 first (wbit y.old) (wbit z.now) }
+    ensures { (c : Code) → Begins c parity.entry.places.now parity.entry.shape 0 first (wbit y.old) (wbit z.now)
+        → SizesTo c parity.entry.shape samples.now limit (wbit y.old) result (wbit y.new) }
 {
     let mut rows = [0u64; ROWS];
     let mut kept = Kept {
-        bounds: bounds::begin(z, h, sh, &mut rows),
+        bounds: bounds::begin(z, parity, &mut rows),
         bits: [UNKNOWN; BLOCKS],
     };
-    go_on(samples, y, &mut rows, &mut kept, h, limit, first)
+    go_on(samples, y, &mut rows, &mut kept, limit, first)
 }
 
 // The words that hold a word whose blocks one word holds each.
@@ -230,7 +221,7 @@ const NARROW: usize = 16;
 // The run of `runs` that ended so, and in how many bits the words y at its end differ from x, as they were read.
 fn ended_narrow(samples: &[u32], x: &[u64; NARROW], y: &[u64; WORD], end: runs::Ended) -> Ended
     requires { length samples.now ≤ 1024 }
-    ensures { (result.ran.number ≡ end.ran.number) × (result.ran.flips ≡ end.ran.flips) × (result.last ≡ end.last)
+    ensures { (result.ran.ending ≡ end.ran.ending) × (result.ran.flips ≡ end.ran.flips) × (result.last ≡ end.last)
         × (result.unlike ≡ count (64 * ((length samples.now + 63) / 64))
         (λ i. wbit x.now i ⊕ wbit y.now i)) }
 {
@@ -246,19 +237,18 @@ fn run_narrow(
     samples: &[u32],
     y: &mut [u64; WORD],
     z: &[u64; SYNDROME],
-    h: &[u16; TABLE],
-    sh: Shape,
+    parity: Parity,
     limit: u16,
     first: u32,
 ) -> Ended
-    requires { Fit h.now sh × (1 ≤ sh.blocks) × (length samples.now ≡ sh.blocks * sh.size)
-        × Beginning h.now sh 0 first (wbit y.old) (wbit z.now) × (sh.words ≡ 1) }
-    ensures { (c : Code) → Begins c h.now sh 0 first (wbit y.old) (wbit z.now)
-        → SizesTo c sh samples.now limit (wbit y.old) result (wbit y.new) }
+    requires { (1 ≤ parity.shape.blocks) × (length samples.now ≡ parity.shape.blocks * parity.shape.size)
+        × Beginning parity.places.now parity.shape 0 first (wbit y.old) (wbit z.now) × (parity.shape.words ≡ 1) }
+    ensures { (c : Code) → Begins c parity.entry.places.now parity.entry.shape 0 first (wbit y.old) (wbit z.now)
+        → SizesTo c parity.entry.shape samples.now limit (wbit y.old) result (wbit y.new) }
 {
     let mut x = [0u64; NARROW];
     x.copy_from_slice(&y[..NARROW]);
-    let end = runs::run_narrow(samples, y, z, h, sh, 0, limit, first);
+    let end = runs::run_narrow(samples, y, z, parity, 0, limit, first);
     ended_narrow(samples, &x, y, end)
 }
 
@@ -267,21 +257,21 @@ pub fn run(
     samples: &[u32],
     y: &mut [u64; WORD],
     z: &[u64; SYNDROME],
-    h: &[u16; TABLE],
-    sh: Shape,
+    parity: Parity,
     limit: u16,
     first: u32,
 ) -> Ended
-    requires { Fit h.now sh × (1 ≤ sh.blocks) × (length samples.now ≡ sh.blocks * sh.size) × (wbit y.old ≡ read_of samples.now)
-        × Beginning h.now sh 0 first (wbit y.old) (wbit z.now) }
-    ensures { (c : Code) → Begins c h.now sh 0 first (wbit y.old) (wbit z.now)
-        → SizesTo c sh samples.now limit (wbit y.old) result (wbit y.new) }
+    requires { (1 ≤ parity.shape.blocks) × (length samples.now ≡ parity.shape.blocks * parity.shape.size)
+        × (wbit y.old ≡ read_of samples.now)
+        × Beginning parity.places.now parity.shape 0 first (wbit y.old) (wbit z.now) }
+    ensures { (c : Code) → Begins c parity.entry.places.now parity.entry.shape 0 first (wbit y.old) (wbit z.now)
+        → SizesTo c parity.entry.shape samples.now limit (wbit y.old) result (wbit y.new) }
 {
     if first == 0 {
         return at_end(Ending::Quiet, 0, 0, 0);
     }
-    if sh.words == 1 {
-        return run_narrow(samples, y, z, h, sh, limit, first);
+    if parity.shape.words == 1 {
+        return run_narrow(samples, y, z, parity, limit, first);
     }
-    run_bounded(samples, y, z, h, sh, limit, first)
+    run_bounded(samples, y, z, parity, limit, first)
 }

@@ -2,17 +2,19 @@
 
 #![tactic(auto)]
 
+pub mod addends;
+
 ghost use Rattle.std.specs.Prelude.{◌≡◌, false, List, ℕ, ◌+◌, ◌-◌, ◌*◌, ◌/◌, ◌%◌, ◌<◌, ◌≤◌, eqb, length, get_or};
 ghost use Rattle.bits.specs.Bits.{Word, flipped};
 ghost use Rattle.rules.specs.Codes.{Code};
 ghost use Rattle.rules.specs.Checks.{broken, lowest};
 ghost use Rattle.vectors.specs.Vectors.{wbit, both, added, from, up_to, twice};
 ghost use Rattle.layout.specs.Lent.{Fit, Lent, place_of, laid};
-ghost use Rattle.syndromes.specs.Rows.{plus, rowed, within, wide, entry, spread, turned, summed, covering};
+ghost use Rattle.syndromes.specs.Rows.{plus, rowed, within, wide, entry, spread, doubled, turned, summed, covering};
 ghost use Rattle.layout.specs.Rooms.{syndrome_room, word_room};
 
-use layout::{BLOCK, DOUBLED, SYNDROME, Shape, TABLE, WORD};
-use vectors::Pair;
+use addends::{Addend, Covering, Doubled};
+use layout::{BLOCK, DOUBLED, Parity, SYNDROME, Shape, WORD};
 
 // What stands at the two places of a block.
 #[derive(Clone, Copy)]
@@ -22,49 +24,49 @@ struct Places {
 }
 
 // The two places of block b of row r.
-fn read_places(h: &[u16], sh: Shape, b: usize, r: usize) -> Places
-    requires { Fit h.now sh × (b < sh.blocks) × (r < sh.rows) }
-    ensures { (result.first ≡ get_or h.now (place_of sh r b) sh.size)
-        × (result.second ≡ get_or h.now (place_of sh r b + 1) sh.size) }
+fn read_places(parity: Parity, b: usize, r: usize) -> Places
+    requires { (b < parity.shape.blocks) × (r < parity.shape.rows) }
+    ensures { (result.first ≡ get_or parity.entry.places.now (place_of parity.entry.shape r b) parity.entry.shape.size)
+        × (result.second ≡ get_or parity.entry.places.now (place_of parity.entry.shape r b + 1) parity.entry.shape.size) }
 {
-    let at = 2 * (r * sh.blocks + b);
+    let h = parity.places;
+    let at = 2 * (r * parity.shape.blocks + b);
     Places {
         first: h[at] as usize,
         second: h[at + 1] as usize,
     }
 }
 
-// Adds a doubled block to row r, turned by s; a number that is M or more is no shift.
-fn add_entry(d: &[u64], s: usize, sh: Shape, acc: &mut [u64], r: usize)
-    requires { (sh.size ≤ wide sh) × (2 * sh.words ≤ length d.now) × ((r + 1) * sh.words ≤ length acc.old) }
-    ensures { wbit acc.new ≡ added (wbit acc.old) (wide sh * r) (wide sh * (r + 1))
-        (entry sh.size (turned (wbit d.now)) s) }
+// Adds what the shift s adds to row r; a number that is M or more is no shift.
+fn add_entry<A: Addend>(part: A, s: usize, sh: Shape, acc: &mut [u64], r: usize)
+    requires { A.suits part sh × (sh.size ≤ wide sh) × ((r + 1) * sh.words ≤ length acc.old) × (length acc.old ≡ syndrome_room) }
+    ensures { wbit acc.new ≡ added (wbit acc.old) (wide sh * r) (wide sh * (r + 1)) (entry sh.size (A.adds part sh) s) }
 {
     if s < sh.size {
-        vectors::add_turned(d, s, acc, r * sh.words, sh.words);
+        part.add(s, sh, acc, r);
     }
 }
 
-// Adds a doubled block to row r, turned by each of its shifts there.
-fn add_row(d: &[u64], h: &[u16], sh: Shape, b: usize, acc: &mut [u64], r: usize)
-    requires { Fit h.now sh × (2 * sh.words ≤ length d.now) × (b < sh.blocks) × (r < sh.rows)
-        × (length acc.old ≡ syndrome_room) }
-    ensures { wbit acc.new ≡ added (wbit acc.old) (wide sh * r) (wide sh * (r + 1))
-        (spread sh h.now b (turned (wbit d.now)) r) }
+// Adds what each shift of block b adds to row r.
+fn add_row<A: Addend>(part: A, parity: Parity, b: usize, acc: &mut [u64], r: usize)
+    requires { A.suits part parity.shape × (b < parity.shape.blocks) × (r < parity.shape.rows) × (length acc.old ≡ syndrome_room) }
+    ensures { wbit acc.new ≡ added (wbit acc.old) (wide parity.entry.shape * r) (wide parity.entry.shape * (r + 1))
+        (spread parity.entry.shape parity.entry.places.now b (A.adds part parity.entry.shape) r) }
 {
-    let p = read_places(h, sh, b, r);
-    add_entry(d, p.first, sh, acc, r);
-    add_entry(d, p.second, sh, acc, r);
+    let sh = parity.shape;
+    let p = read_places(parity, b, r);
+    add_entry(part, p.first, sh, acc, r);
+    add_entry(part, p.second, sh, acc, r);
 }
 
-// Adds block b, doubled, to every row.
-pub fn add_block(d: &[u64], h: &[u16], sh: Shape, b: usize, acc: &mut [u64])
-    requires { Fit h.now sh × (2 * sh.words ≤ length d.now) × (b < sh.blocks) × (length acc.old ≡ syndrome_room) }
-    ensures { wbit acc.new ≡ plus (wbit acc.old)
-        (rowed (wide sh) sh.rows (spread sh h.now b (turned (wbit d.now)))) }
+// Adds what the shifts of block b add to every row.
+pub fn add_block<A: Addend>(part: A, parity: Parity, b: usize, acc: &mut [u64])
+    requires { A.suits part parity.shape × (b < parity.shape.blocks) × (length acc.old ≡ syndrome_room) }
+    ensures { wbit acc.new ≡ plus (wbit acc.old) (rowed (wide parity.entry.shape) parity.entry.shape.rows
+        (spread parity.entry.shape parity.entry.places.now b (A.adds part parity.entry.shape))) }
 {
-    for r in 0..sh.rows {
-        add_row(d, h, sh, b, acc, r);
+    for r in 0..parity.shape.rows {
+        add_row(part, parity, b, acc, r);
     }
 }
 
@@ -81,98 +83,67 @@ fn double_block(y: &[u64; WORD], p: usize, m: usize, part: &mut [u64], d: &mut [
 // Adds block b of y to every row; part and d have room for a block, and for a doubled one.
 fn add_wide_block(
     y: &[u64; WORD],
-    h: &[u16; TABLE],
-    sh: Shape,
+    parity: Parity,
     b: usize,
     part: &mut [u64],
     d: &mut [u64],
     acc: &mut [u64; SYNDROME],
 )
-    requires { Fit h.now sh × (length part.old ≡ sh.words) × (length d.old ≡ 2 * sh.words) × (b < sh.blocks) }
-    ensures { wbit acc.new ≡ plus (wbit acc.old) (rowed (wide sh) sh.rows
-        (spread sh h.now b (turned (twice sh.size (up_to sh.size (from (b * sh.size) (wbit y.now))))))) }
+    requires { (length part.old ≡ parity.shape.words) × (length d.old ≡ 2 * parity.shape.words) × (b < parity.shape.blocks) }
+    ensures { wbit acc.new ≡ plus (wbit acc.old) (rowed (wide parity.entry.shape) parity.entry.shape.rows
+        (spread parity.entry.shape parity.entry.places.now b
+        (turned (doubled parity.entry.shape.size (wbit y.now) b)))) }
 {
+    let sh = parity.shape;
     double_block(y, b * sh.size, sh.size, part, d);
-    add_block(d, h, sh, b, acc);
+    add_block(Doubled { words: d }, parity, b, acc);
 }
 
 // Adds every block of y to the rows.
 fn add_blocks(
     y: &[u64; WORD],
-    h: &[u16; TABLE],
-    sh: Shape,
+    parity: Parity,
     part: &mut [u64],
     d: &mut [u64],
     acc: &mut [u64; SYNDROME],
 )
-    requires { Fit h.now sh × (length part.old ≡ sh.words) × (length d.old ≡ 2 * sh.words) × (wbit acc.old ≡ (λ n. false)) }
-    ensures { wbit acc.new ≡ rowed (wide sh) sh.rows
-        (summed sh h.now (wbit y.now) sh.blocks) }
+    requires { (length part.old ≡ parity.shape.words) × (length d.old ≡ 2 * parity.shape.words) × (wbit acc.old ≡ (λ n. false)) }
+    ensures { wbit acc.new ≡ rowed (wide parity.entry.shape) parity.entry.shape.rows
+        (summed parity.entry.shape parity.entry.places.now (wbit y.now) parity.entry.shape.blocks) }
 {
-    for b in 0..sh.blocks {
-        add_wide_block(y, h, sh, b, part, d, acc);
+    for b in 0..parity.shape.blocks {
+        add_wide_block(y, parity, b, part, d, acc);
     }
 }
 
-// The same for blocks that one word holds, doubled in two.
-fn add_narrow_entry(d: Pair, s: usize, sh: Shape, acc: &mut [u64], r: usize)
-    requires { (sh.words ≡ 1) × (sh.size ≤ wide sh) × (r < length acc.old) }
-    ensures { wbit acc.new ≡ added (wbit acc.old) (wide sh * r) (wide sh * (r + 1))
-        (entry sh.size (turned (both d)) s) }
+// The same where one word holds a block.
+fn add_narrow_blocks(y: &[u64; WORD], parity: Parity, acc: &mut [u64; SYNDROME])
+    requires { (parity.shape.words ≡ 1) × (wbit acc.old ≡ (λ n. false)) }
+    ensures { wbit acc.new ≡ rowed (wide parity.entry.shape) parity.entry.shape.rows
+        (summed parity.entry.shape parity.entry.places.now (wbit y.now) parity.entry.shape.blocks) }
 {
-    if s < sh.size {
-        vectors::add_word(vectors::funnel(d.first, d.second, s), acc, r);
-    }
-}
-
-// Adds it to row r, turned by each of its shifts there.
-fn add_narrow_row(d: Pair, h: &[u16], sh: Shape, b: usize, acc: &mut [u64], r: usize)
-    requires { Fit h.now sh × (sh.words ≡ 1) × (b < sh.blocks) × (r < sh.rows) × (length acc.old ≡ syndrome_room) }
-    ensures { wbit acc.new ≡ added (wbit acc.old) (wide sh * r) (wide sh * (r + 1))
-        (spread sh h.now b (turned (both d)) r) }
-{
-    let p = read_places(h, sh, b, r);
-    add_narrow_entry(d, p.first, sh, acc, r);
-    add_narrow_entry(d, p.second, sh, acc, r);
-}
-
-// Adds it to every row.
-pub fn add_narrow_block(d: Pair, h: &[u16], sh: Shape, b: usize, acc: &mut [u64])
-    requires { Fit h.now sh × (sh.words ≡ 1) × (b < sh.blocks) × (length acc.old ≡ syndrome_room) }
-    ensures { wbit acc.new ≡ plus (wbit acc.old)
-        (rowed (wide sh) sh.rows (spread sh h.now b (turned (both d)))) }
-{
-    for r in 0..sh.rows {
-        add_narrow_row(d, h, sh, b, acc, r);
-    }
-}
-
-// Adds every block of y to the rows.
-fn add_narrow_blocks(y: &[u64; WORD], h: &[u16; TABLE], sh: Shape, acc: &mut [u64; SYNDROME])
-    requires { Fit h.now sh × (sh.words ≡ 1) × (wbit acc.old ≡ (λ n. false)) }
-    ensures { wbit acc.new ≡ rowed (wide sh) sh.rows
-        (summed sh h.now (wbit y.now) sh.blocks) }
-{
+    let sh = parity.shape;
     for b in 0..sh.blocks {
         let v = vectors::front(vectors::window(y, b * sh.size), sh.size);
-        add_narrow_block(vectors::double_word(v, sh.size), h, sh, b, acc);
+        add_block(vectors::double_word(v, sh.size), parity, b, acc);
     }
 }
 
 // Adds every block of y to the rows, of whatever width.
-fn add_all(y: &[u64; WORD], h: &[u16; TABLE], sh: Shape, acc: &mut [u64; SYNDROME])
-    requires { Fit h.now sh × (wbit acc.old ≡ (λ n. false)) }
-    ensures { wbit acc.new ≡ rowed (wide sh) sh.rows
-        (summed sh h.now (wbit y.now) sh.blocks) }
+fn add_all(y: &[u64; WORD], parity: Parity, acc: &mut [u64; SYNDROME])
+    requires { wbit acc.old ≡ (λ n. false) }
+    ensures { wbit acc.new ≡ rowed (wide parity.entry.shape) parity.entry.shape.rows
+        (summed parity.entry.shape parity.entry.places.now (wbit y.now) parity.entry.shape.blocks) }
 {
+    let sh = parity.shape;
     if sh.words == 1 {
-        add_narrow_blocks(y, h, sh, acc);
+        add_narrow_blocks(y, parity, acc);
         return;
     }
     let mut part = [0u64; BLOCK];
     let mut d = [0u64; DOUBLED];
     let words = sh.words;
-    add_blocks(y, h, sh, &mut part[..words], &mut d[..2 * words], acc);
+    add_blocks(y, parity, &mut part[..words], &mut d[..2 * words], acc);
 }
 
 // Clears what is past bit M of row r, where it does not fill its last word.
@@ -199,11 +170,12 @@ pub fn trim_rows(z: &mut [u64], sh: Shape)
 }
 
 // The syndrome of y, made from zeros.
-pub fn syndrome(y: &[u64; WORD], h: &[u16; TABLE], sh: Shape, z: &mut [u64; SYNDROME])
-    requires { Fit h.now sh × (wbit z.old ≡ (λ n. false)) }
-    ensures { (c : Code) → Lent c h.now sh → wbit z.new ≡ laid c sh (wbit y.now) }
+pub fn syndrome(y: &[u64; WORD], parity: Parity, z: &mut [u64; SYNDROME])
+    requires { wbit z.old ≡ (λ n. false) }
+    ensures { (c : Code) → Lent c parity.entry.places.now parity.entry.shape → wbit z.new ≡ laid c parity.entry.shape (wbit y.now) }
 {
-    add_all(y, h, sh, z);
+    let sh = parity.shape;
+    add_all(y, parity, z);
     trim_rows(z, sh);
 }
 
@@ -237,50 +209,16 @@ pub fn lowest(z: &[u64; SYNDROME], sh: Shape) -> u32
     (place / wide * sh.size + place % wide) as u32
 }
 
-// Flips the check of row r that covers bit k by the shift s; a number that is M or more is no shift.
-fn flip_entry(z: &mut [u64], s: usize, sh: Shape, k: usize, r: usize)
-    requires { (sh.size ≤ wide sh) × (k < sh.size) × ((r + 1) * sh.words ≤ length z.old) × (length z.old ≡ syndrome_room) }
-    ensures { wbit z.new ≡ added (wbit z.old) (wide sh * r) (wide sh * (r + 1))
-        (entry sh.size (covering sh.size k) s) }
-{
-    if s < sh.size {
-        let mut i = k + (sh.size - s);
-        if i >= sh.size {
-            i -= sh.size;
-        }
-        vectors::flip_bit(z, 64 * sh.words * r + i);
-    }
-}
-
-// Flips the checks of row r that cover bit k of block b.
-fn flip_row(z: &mut [u64], h: &[u16], sh: Shape, b: usize, k: usize, r: usize)
-    requires { Fit h.now sh × (b < sh.blocks) × (k < sh.size) × (r < sh.rows) × (length z.old ≡ syndrome_room) }
-    ensures { wbit z.new ≡ added (wbit z.old) (wide sh * r) (wide sh * (r + 1))
-        (spread sh h.now b (covering sh.size k) r) }
-{
-    let p = read_places(h, sh, b, r);
-    flip_entry(z, p.first, sh, k, r);
-    flip_entry(z, p.second, sh, k, r);
-}
-
-// Flips the checks that cover bit k of block b.
-fn flip_checks(z: &mut [u64], h: &[u16], sh: Shape, b: usize, k: usize)
-    requires { Fit h.now sh × (b < sh.blocks) × (k < sh.size) × (length z.old ≡ syndrome_room) }
-    ensures { wbit z.new ≡ plus (wbit z.old)
-        (rowed (wide sh) sh.rows (spread sh h.now b (covering sh.size k))) }
-{
-    for r in 0..sh.rows {
-        flip_row(z, h, sh, b, k, r);
-    }
-}
-
 // Flips bit n of a word, and its checks with it.
-pub fn flip(y: &mut [u64; WORD], z: &mut [u64; SYNDROME], h: &[u16; TABLE], sh: Shape, n: usize)
-    requires { Fit h.now sh × (n < sh.blocks * sh.size) }
+pub fn flip(y: &mut [u64; WORD], z: &mut [u64; SYNDROME], parity: Parity, n: usize)
+    requires { n < parity.shape.blocks * parity.shape.size }
     ensures word { wbit y.new ≡ flipped (wbit y.old) n }
-    ensures checks { (c : Code) → Lent c h.now sh → (x : Word) → wbit z.old ≡ laid c sh x
-        → wbit z.new ≡ laid c sh (flipped x n) }
+    ensures checks { (c : Code) → Lent c parity.entry.places.now parity.entry.shape
+        → (x : Word) → wbit z.old ≡ laid c parity.entry.shape x
+        → wbit z.new ≡ laid c parity.entry.shape (flipped x n) }
 {
+    let sh = parity.shape;
     vectors::flip_bit(y, n);
-    flip_checks(z, h, sh, n / sh.size, n % sh.size);
+    let covering = Covering { bit: n % sh.size };
+    add_block(covering, parity, n / sh.size, z);
 }

@@ -1,17 +1,17 @@
 // Telecommand transmission units of codes 1 and 3, read codeblock by codeblock.
-ghost use Rattle.std.specs.Prelude.{◌≡◌, true, List, [], ℕ, ◌+◌, ◌-◌, ◌/◌, ◌^◌, ◌<◌, eqb, length, replicate};
+ghost use Rattle.std.specs.Prelude.{◌≡◌, List, [], ℕ, ◌+◌, ◌-◌, ◌/◌, ◌^◌, ◌<◌, eqb, length, replicate};
 ghost use Rattle.bits.specs.Bits.{when◌then◌else◌};
 ghost use Rattle.rules.specs.Codes.{code as code_of};
 ghost use Rattle.answers.specs.Calls.{refused_correct_of, correct_answer};
 ghost use Rattle.flipping.specs.endings.Answers.{as_corrected};
-ghost use Rattle.units.specs.unitrules.Units.{unit_code, tail as tail_of, same as same_of, started, blocks_in_of};
+ghost use Rattle.units.specs.unitrules.Units.{tail as tail_of, same as same_of, started, blocks_in_of};
 ghost use Rattle.units.specs.unitrules.Units.{shaped, received, handed_last_of};
-ghost use Rattle.units.specs.unitrules.Units.{handed_again_of, reader_number_of, reader_answer, read_next_of, read_answer};
+ghost use Rattle.units.specs.unitrules.Units.{handed_again_of, reader_number_of, reader_answer, read_answer};
 ghost use Rattle.refusals.specs.Numbers.{number_in};
 ghost use Rattle.units.specs.readings.Answers.{as_reading, as_handed};
 ghost use Rattle.units.specs.readings.Handing.{handed_part, handed_on_of};
 
-use super::unitoffers::{START, TAIL, information_octets, is_unit_code, tail_octets, word_octets};
+use super::unitoffers::{START, TAIL, UnitCode};
 use flipping::endings;
 use flipping::endings::Corrected;
 use refusals::Refusal;
@@ -43,36 +43,31 @@ fn is_started(unit: &[u8]) -> bool
 }
 
 // The octets between the start and the tail of a unit of so many octets.
-fn between(code: u8, long: usize) -> usize
-    requires { unit_code code ≡ true }
-    ensures { result ≡ long - 8 - length (tail_of code) }
+fn between(code: UnitCode, long: usize) -> usize
+    ensures { result ≡ long - 8 - length (tail_of code.number) }
 {
-    let ends = 8 + tail_octets(code);
-    if long < ends { 0 } else { long - ends }
+    long.saturating_sub(8 + code.tail_octets())
 }
 
 // The whole codeblocks that they hold.
-fn blocks_in(code: u8, long: usize) -> usize
-    requires { unit_code code ≡ true }
-    ensures { result ≡ (long - 8 - length (tail_of code)) / (code_of code).octets_of_word }
+fn blocks_in(code: UnitCode, long: usize) -> usize
+    ensures { result ≡ (long - 8 - length (tail_of code.number)) / (code_of code.number).octets_of_word }
 {
-    between(code, long) / word_octets(code)
+    between(code, long) / code.word_octets()
 }
 
-fn is_tail(code: u8, end: &[u8]) -> bool
-    requires { unit_code code ≡ true }
-    ensures { result ≡ same_of end.now (tail_of code) }
+fn is_tail(code: UnitCode, end: &[u8]) -> bool
+    ensures { result ≡ same_of end.now (tail_of code.number) }
 {
-    let long = tail_octets(code);
+    let long = code.tail_octets();
     end == &TAIL[..long]
 }
 
 // Whether what follows the start is one or more whole codeblocks and the tail.
-fn is_shaped(code: u8, unit: &[u8]) -> bool
-    requires { unit_code code ≡ true }
-    ensures { result ≡ shaped code unit.now }
+fn is_shaped(code: UnitCode, unit: &[u8]) -> bool
+    ensures { result ≡ shaped code.number unit.now }
 {
-    let word = word_octets(code);
+    let word = code.word_octets();
     let rest = between(code, unit.len());
     if rest < word {
         return false;
@@ -88,13 +83,13 @@ fn is_shaped(code: u8, unit: &[u8]) -> bool
 fn readable(code: u8, unit: &[u8]) -> Result<(), Refusal>
     ensures { number_in result ≡ reader_number_of code unit.now }
 {
-    if !is_unit_code(code) {
+    let Some(unit_code) = UnitCode::of(code) else {
         return Err(Refusal::Code);
-    }
+    };
     if !is_started(unit) {
         return Err(Refusal::NoStart);
     }
-    if !is_shaped(code, unit) {
+    if !is_shaped(unit_code, unit) {
         return Err(Refusal::NoTail);
     }
     Ok(())
@@ -121,9 +116,9 @@ pub fn reader(code: u8, unit: &[u8], limit: u16) -> Reading
 }
 
 // Codeblock k of a unit, derandomised.
-fn receive(code: u8, unit: &[u8], k: usize, word: &mut [u8])
-    requires { (unit_code code ≡ true) × (k < blocks_in_of code unit.now) × (length word.old ≡ (code_of code).octets_of_word) }
-    ensures { word.new ≡ received code unit.now k }
+fn receive(code: UnitCode, unit: &[u8], k: usize, word: &mut [u8])
+    requires { (k < blocks_in_of code.number unit.now) × (length word.old ≡ (code_of code.number).octets_of_word) }
+    ensures { word.new ≡ received code.number unit.now k }
 {
     let size = word.len();
     let used = k * size;
@@ -150,27 +145,27 @@ fn hand_out(number: u8, information: &[u8], out: &mut [u8])
 }
 
 // A codeblock corrected, and its information handed out.
-fn correct_part(code: u8, word: &[u8], limit: u16, out: &mut [u8]) -> Corrected
-    requires { (unit_code code ≡ true) × (length word.now ≡ (code_of code).octets_of_word)
-        × (length out.old ≡ (code_of code).octets_of_information) }
-    ensures { as_corrected result out.new ≡ handed_part code
-        (correct_answer code word.now limit (replicate (code_of code).octets_of_word 0)) out.old }
+fn correct_part(code: UnitCode, word: &[u8], limit: u16, out: &mut [u8]) -> Corrected
+    requires { (length word.now ≡ (code_of code.number).octets_of_word)
+        × (length out.old ≡ (code_of code.number).octets_of_information) }
+    ensures { as_corrected result out.new ≡ handed_part code.number
+        (correct_answer code.number word.now limit (replicate (code_of code.number).octets_of_word 0)) out.old }
 {
     let size = word.len();
     let mut mended = word_buffer();
-    let r = codes::correct(code, word, limit, &mut mended[..size]);
+    let r = codes::correct(code.number, word, limit, &mut mended[..size]);
     let long = out.len();
     hand_out(r.number, &mended[..long], out);
     r
 }
 
 // Codeblock k of a unit.
-fn read_block(code: u8, unit: &[u8], k: usize, limit: u16, out: &mut [u8]) -> Corrected
-    requires { (unit_code code ≡ true) × (k < blocks_in_of code unit.now) × (length out.old ≡ (code_of code).octets_of_information) }
-    ensures { as_corrected result out.new ≡ handed_part code
-        (correct_answer code (received code unit.now k) limit (replicate (code_of code).octets_of_word 0)) out.old }
+fn read_block(code: UnitCode, unit: &[u8], k: usize, limit: u16, out: &mut [u8]) -> Corrected
+    requires { (k < blocks_in_of code.number unit.now) × (length out.old ≡ (code_of code.number).octets_of_information) }
+    ensures { as_corrected result out.new ≡ handed_part code.number
+        (correct_answer code.number (received code.number unit.now k) limit (replicate (code_of code.number).octets_of_word 0)) out.old }
 {
-    let size = word_octets(code);
+    let size = code.word_octets();
     let mut word = word_buffer();
     receive(code, unit, k, &mut word[..size]);
     correct_part(code, &word[..size], limit, out)
@@ -223,45 +218,28 @@ fn handed_on(state: Reading, answer: Corrected) -> Handed
     }
 }
 
-// The next codeblock.
-fn read_next(state: Reading, unit: &[u8], out: &mut [u8]) -> Handed
-    requires { (unit_code state.code ≡ true) × (state.place < blocks_in_of state.code unit.now)
-        × (length out.old ≡ (code_of state.code).octets_of_information) }
-    ensures { as_handed result out.new ≡ read_next_of (as_reading state) unit.now out.old }
+// Asks a reading of a unit for the next codeblock's information octets: the answer that ended the reading, that there is none, or the
+// codeblock's.
+pub fn read(state: Reading, unit: &[u8], out: &mut [u8]) -> Handed
+    ensures { as_handed result out.new ≡ read_answer (as_reading state) unit.now out.old }
 {
-    let r = read_block(state.code, unit, state.place, state.limit, out);
+    let Some(code) = UnitCode::of(state.code) else {
+        return handed_again(state, numbered(Err(Refusal::Code)), false);
+    };
+    if out.len() != code.information_octets() {
+        return handed_again(state, numbered(Err(Refusal::OutputLength)), false);
+    }
+    let kept = state.kept;
+    if kept.number != 0 {
+        return handed_again(state, kept, false);
+    }
+    let blocks = blocks_in(code, unit.len());
+    if state.place >= blocks {
+        return handed_again(state, numbered(Ok(())), true);
+    }
+    let r = read_block(code, unit, state.place, state.limit, out);
     if r.number != 0 {
         return handed_last(state, r);
     }
     handed_on(state, r)
-}
-
-// The answer that ended the reading, that there is none, or the next codeblock.
-fn read_on(state: Reading, unit: &[u8], out: &mut [u8]) -> Handed
-    requires { (unit_code state.code ≡ true) × (length out.old ≡ (code_of state.code).octets_of_information) }
-    ensures { as_handed result out.new ≡ read_answer (as_reading state) unit.now out.old }
-{
-    if state.kept.number != 0 {
-        let kept = state.kept;
-        return handed_again(state, kept, false);
-    }
-    let blocks = blocks_in(state.code, unit.len());
-    if state.place >= blocks {
-        return handed_again(state, numbered(Ok(())), true);
-    }
-    read_next(state, unit, out)
-}
-
-// Asks a reading of a unit for the next codeblock's information octets.
-pub fn read(state: Reading, unit: &[u8], out: &mut [u8]) -> Handed
-    ensures { as_handed result out.new ≡ read_answer (as_reading state) unit.now out.old }
-{
-    let code = state.code;
-    if !is_unit_code(code) {
-        return handed_again(state, numbered(Err(Refusal::Code)), false);
-    }
-    if out.len() != information_octets(code) {
-        return handed_again(state, numbered(Err(Refusal::OutputLength)), false);
-    }
-    read_on(state, unit, out)
 }

@@ -1,5 +1,5 @@
 // What a code number fixes of telecommand transmission units, and their start and tail sequences.
-ghost use Rattle.std.specs.Prelude.{◌≡◌, true, ◌≤◌, length};
+ghost use Rattle.std.specs.Prelude.{◌≡◌, true, false, ◌≤◌, length, MatchOption};
 ghost use Rattle.rules.specs.Codes.{code as code_of};
 ghost use Rattle.units.specs.unitrules.Units.{unit_code, tail as tail_of};
 ghost use Rattle.units.specs.unitoffers.Offers.{unit_offer_of};
@@ -52,33 +52,44 @@ pub fn room(code: u8) -> usize
     u.information
 }
 
-pub fn is_unit_code(code: u8) -> bool
-    ensures { result ≡ unit_code code }
-{
-    let u = unit_of(code);
-    u.offered
+// A code that units are of.
+#[derive(Clone, Copy)]
+pub struct UnitCode {
+    pub number: u8,
+    pub ghost offered: { unit_code number ≡ true },
 }
 
-pub fn word_octets(code: u8) -> usize
-    requires { unit_code code ≡ true }
-    ensures { (result ≡ (code_of code).octets_of_word) × (16 ≤ result) × (result ≤ 64) }
-{
-    let u = unit_of(code);
-    u.word
-}
+impl UnitCode {
+    pub fn of(code: u8) -> Option<UnitCode>
+        ensures { MatchOption result (unit_code code ≡ false) (λ u. u.number ≡ code) }
+    {
+        let u = unit_of(code);
+        if u.offered {
+            Some(UnitCode { number: code })
+        } else {
+            None
+        }
+    }
 
-pub fn information_octets(code: u8) -> usize
-    requires { unit_code code ≡ true }
-    ensures { (result ≡ (code_of code).octets_of_information) × (8 ≤ result) × (result ≤ 32) }
-{
-    let u = unit_of(code);
-    u.information
-}
+    // The octets of a codeblock.
+    pub fn word_octets(self) -> usize
+        ensures { (result ≡ (code_of self.number).octets_of_word) × (16 ≤ result) × (result ≤ 64) }
+    {
+        let u = unit_of(self.number);
+        u.word
+    }
 
-pub fn tail_octets(code: u8) -> usize
-    requires { unit_code code ≡ true }
-    ensures { (result ≡ length (tail_of code)) × (result ≤ 16) }
-{
-    let u = unit_of(code);
-    u.tail
+    pub fn information_octets(self) -> usize
+        ensures { (result ≡ (code_of self.number).octets_of_information) × (8 ≤ result) × (result ≤ 32) }
+    {
+        let u = unit_of(self.number);
+        u.information
+    }
+
+    pub fn tail_octets(self) -> usize
+        ensures { (result ≡ length (tail_of self.number)) × (result ≤ 16) }
+    {
+        let u = unit_of(self.number);
+        u.tail
+    }
 }

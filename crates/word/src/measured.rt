@@ -12,7 +12,7 @@ ghost use Rattle.layout.specs.Rooms.{syndrome_room, table_room, word_room};
 use super::received;
 use super::received::Received;
 use catalogue::tables;
-use layout::{SYNDROME, Shape, TABLE, WORD};
+use layout::{Parity, SYNDROME, Shape, TABLE, WORD};
 
 // Room for what is measured of a word: the places of its code's parity table, its bits, and its syndrome.
 #[derive(Drop)]
@@ -30,7 +30,14 @@ pub fn checks(size: usize, y: &[u64; WORD], h: &mut [u16; TABLE], z: &mut [u64; 
         × (wbit z.new ≡ laid (code_of n) result (wbit y.now)) }
 {
     let sh = tables::lend(size, h);
-    syndromes::syndrome(y, h, sh, z);
+    syndromes::syndrome(
+        y,
+        Parity {
+            places: h,
+            shape: sh,
+        },
+        z,
+    );
     sh
 }
 

@@ -6,11 +6,15 @@ use Rattle.refusals.proofs.Admitted.{shaped, unsent_is}
 use Rattle.codes.proofs.Correcting.{holding, within_bits}
 use Rattle.codes.proofs.next_of.Goals as goal
 
+pub invariant_of-parity : goal.invariant_of-parity
+invariant_of-parity c =
+    let k = c.args.received.code.known in
+    record { fit = (c.measure-sh.ensures.1 k.number k.offers k.is).lends.fit }
+
 pub comes_next-requires : goal.comes_next-requires
 comes_next-requires c =
     let k = c.args.received.code.known in
     let e = c.measure-sh.ensures.1 k.number k.offers k.is in (
-      e.lends.fit,
       (shaped k c.measure-sh.ensures.0).0,
       (shaped k c.measure-sh.ensures.0).1,
       holding k.number _ _ _ _ _ e,

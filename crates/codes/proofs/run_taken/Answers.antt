@@ -11,11 +11,15 @@ lowest-lowest-requires c =
     let k = c.args.received.code.known in
     fitting (c.measure-sh.ensures.1 k.number k.offers k.is).lends.fit
 
+pub invariant_of-parity : goal.invariant_of-parity
+invariant_of-parity c =
+    let k = c.args.received.code.known in
+    record { fit = (c.measure-sh.ensures.1 k.number k.offers k.is).lends.fit }
+
 pub run-ended-requires : goal.run-ended-requires
 run-ended-requires c =
     let k = c.args.received.code.known in
     let e = c.measure-sh.ensures.1 k.number k.offers k.is in (
-      e.lends.fit,
       (shaped k c.measure-sh.ensures.0).0,
       (shaped k c.measure-sh.ensures.0).1,
       beginning k.number _ _ _ _ _ e c.broken-first.result c.broken-first.ensures _ (sym (unsent_is k.number k.is k.offers)),

@@ -15,12 +15,19 @@ use lib.Seq.{get_or-set_same, get_or-set_other}
 use Rattle.bits.specs.Bits.{Word, count, tally, when◌then◌else◌, count_of}
 use Rattle.bits.proofs.Counting.{count_same, count_next, tally_le}
 use Rattle.layout.specs.declared.Shape.{Shape}
-use Rattle.layout.specs.Lent.{kept, total, place_of, shifts_of}
+use Rattle.layout.specs.Lent.{Fit, kept, total, place_of, shifts_of}
 use Rattle.flipping.specs.bounds.Reading.{Noted, Listed, asked, Starts, Gathered}
 
 -- A row more is within all rows.
 pub within : (r n w : ℕ) → r < n → r * w + w ≤ n * w
 within r n w l = omega (arith, mul-le-mul_right {m = suc r} {n = n} w l, ap (λ k. k * w) (sym (add-one r)))
+
+-- The places of a block of a row are in the table, and the table is short.
+pub place_in : (h : List ℕ) (sh : Shape) → Fit h sh → (r b : ℕ) → r < sh.rows → b < sh.blocks
+    → (place_of sh r b + 1 < length h) × (length h ≤ 128)
+place_in h sh fit r b l k =
+    let all = within r sh.rows sh.blocks l in
+    (omega (arith, fit.flat), omega (arith, fit.flat, fit.blocks, mul-le-mul_right {m = sh.rows} {n = 4} sh.blocks fit.rows))
 
 -- A start is written where s is an entry, and none where it is not.
 module _ (s s' m row : ℕ) (l : List ℕ) (n : ℕ) (same : s ≡ s') where

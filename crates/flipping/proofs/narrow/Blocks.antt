@@ -27,7 +27,7 @@ use Rattle.vectors.proofs.Spans.{up_to_below, up_to_above}
 use Rattle.layout.specs.declared.Shape.{Shape}
 use Rattle.layout.specs.Lent.{Fit, Lent, laid, score, total, shifts_of, place_of}
 use Rattle.layout.proofs.Laying.{laid_at}
-use Rattle.flipping.proofs.bounds.Entries.{within}
+use Rattle.flipping.proofs.bounds.Entries.{place_in}
 use Rattle.magnitudes.specs.Patterns.{smaller}
 use Rattle.magnitudes.specs.Sizes.{smallest}
 use Rattle.flipping.specs.narrow.Weighing.{around, broke, sent, Peaked, Weighed, Greatest, Chosen, scores_of, masks_of}
@@ -123,10 +123,7 @@ total_none f = refl
 -- A place of the table is within it.
 pub place_room : (h : List ℕ) (sh : Shape) → Fit h sh → sh.rows ≡ 4 → (r b : ℕ) → r < 4 → b < sh.blocks
     → (place_of sh r b + 1 < length h) × (length h ≤ 128)
-place_room h sh fit four r b hr hb =
-    let all = ap (λ z. z * sh.blocks) four in
-    let in_rows = within r 4 sh.blocks hr in
-    (omega (arith, fit.flat), omega (arith, fit.flat, fit.blocks))
+place_room h sh fit four r b hr hb = place_in h sh fit r b (omega arith) hb
 
 -- A block more is weighed.
 weighed_lists : (c : Code) (sh : Shape) (from : ℕ) (x : Word) (scores masks : List ℕ) (b score' mask : ℕ) → b < length scores

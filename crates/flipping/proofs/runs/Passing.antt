@@ -35,6 +35,9 @@ use Rattle.planes.proofs.Ranges.{top_ends}
 use Rattle.planes.proofs.Choice.{raised_above}
 use Rattle.flipping.proofs.choice.Excesses.{best_next, degree_le, score_excess}
 use Rattle.flipping.specs.declared.runs.Ran.{Ran}
+use Rattle.flipping.specs.declared.runs.Ending.{Ending}
+use Rattle.flipping.specs.declared.runs.Ending.TheVariants.{Quiet, Stuck, Limit}
+use Rattle.flipping.specs.runs.Endings.{number_of}
 use Rattle.flipping.specs.narrow.Weighing.{Rows}
 use Rattle.flipping.specs.runs.Passes.{RunsTo, Going, Carried, CarriedNarrow}
 
@@ -177,25 +180,26 @@ module _ (way : Way) (c : Code) (sh : Shape) (limit : ℕ) (x : Word) where
 
   module _ (flips : ℕ) (y z : Word) (g : Going way c sh limit x flips y z) where
     -- a run that ends where it has come to
-    ends : (n : ℕ) → run way (limit - flips) y ≡ ended n y → RunsTo way c sh limit x (record { number = n; flips = flips }) y z
-    ends n e = record {
+    ends : (how : Ending) → run way (limit - flips) y ≡ ended (number_of how) y
+        → RunsTo way c sh limit x (record { ending = how; flips = flips }) y z
+    ends how e = record {
       number = sym (g.number ∙ ap (λ r. r.number) e);
       flips = sym (g.count ∙ ap (λ r. flips + length r.flips) e ∙ add-zero flips);
       word = sym (g.word ∙ ap (λ r. r.word) e);
       held = g.held;
     }
 
-    pub ends_quiet : way y ≡ quiet → RunsTo way c sh limit x (record { number = 0; flips = flips }) y z
-    ends_quiet e = ends 0 (run_quiet way (limit - flips) y e)
+    pub ends_quiet : way y ≡ quiet → RunsTo way c sh limit x (record { ending = Quiet; flips = flips }) y z
+    ends_quiet e = ends Quiet (run_quiet way (limit - flips) y e)
 
-    pub ends_stuck : (n : ℕ) (ex : ℤ) → way y ≡ stuck n ex → RunsTo way c sh limit x (record { number = 5; flips = flips }) y z
-    ends_stuck n ex e = ends 5 (run_stuck way (limit - flips) y n ex e)
+    pub ends_stuck : (n : ℕ) (ex : ℤ) → way y ≡ stuck n ex → RunsTo way c sh limit x (record { ending = Stuck; flips = flips }) y z
+    ends_stuck n ex e = ends Stuck (run_stuck way (limit - flips) y n ex e)
 
     pub ends_limit : (n : ℕ) (ex : ℤ) → way y ≡ flip n ex → limit ≤ flips
-        → RunsTo way c sh limit x (record { number = 6; flips = flips }) y z
+        → RunsTo way c sh limit x (record { ending = Limit; flips = flips }) y z
     ends_limit n ex e l =
         let v : limit - flips ≡ 0 = omega arith in
-        ends 6 (ap (λ k. run way k y) v ∙ run_limit way y n ex e)
+        ends Limit (ap (λ k. run way k y) v ∙ run_limit way y n ex e)
 
     -- and one that goes on
     pub goes_on : (n : ℕ) (ex : ℤ) → way y ≡ flip n ex → flips < limit → (y' z' : Word) → y' ≡ flipped y n → z' ≡ laid c sh (flipped y n)
@@ -216,6 +220,6 @@ module _ (way : Way) (c : Code) (sh : Shape) (limit : ℕ) (x : Word) where
         passes = ap (λ k. run way k y) left ∙ run_flip way (limit - (flips + 1)) y n ex e
 
 -- The same run by another record of it.
-pub runs_as : {way : Way} {c : Code} {sh : Shape} {limit : ℕ} {x y z : Word} (r r' : Ran) → r'.number ≡ r.number → r'.flips ≡ r.flips
+pub runs_as : {way : Way} {c : Code} {sh : Shape} {limit : ℕ} {x y z : Word} (r r' : Ran) → r'.ending ≡ r.ending → r'.flips ≡ r.flips
     → RunsTo way c sh limit x r y z → RunsTo way c sh limit x r' y z
-runs_as r r' p q to = record { number = p ∙ to.number; flips = q ∙ to.flips; word = to.word; held = to.held }
+runs_as r r' p q to = record { number = ap number_of p ∙ to.number; flips = q ∙ to.flips; word = to.word; held = to.held }

@@ -5,12 +5,14 @@ use Rattle.rules.specs.Codes.{Code}
 use Rattle.rules.specs.Flipping.{Next as NextOf, quiet, stuck, flip, Way, run}
 use Rattle.layout.specs.declared.Shape.{Shape}
 use Rattle.rules.specs.Checks.{broken}
-use Rattle.layout.specs.Lent.{Lent, laid}
-use Rattle.flipping.specs.bounds.Keeping.{Kept}
+use Rattle.layout.specs.Lent.{Fit, Lent, laid}
+use Rattle.flipping.specs.declared.bounds.Places.{Places}
+use Rattle.flipping.specs.bounds.Keeping.{Kept, Laid}
 use Rattle.flipping.specs.narrow.Weighing.{Rows}
 use Rattle.flipping.specs.declared.runs.Next.{Next}
 use Rattle.flipping.specs.declared.runs.Next.TheVariants.{Quiet, Stuck, Flip}
 use Rattle.flipping.specs.declared.runs.Ran.{Ran}
+use Rattle.flipping.specs.runs.Endings.{number_of}
 
 -- z is the syndrome of a word under a code whose table is lent.
 pub record Holding (h : List ℕ) (sh : Shape) (z : Word) : Type 0 where
@@ -37,12 +39,15 @@ pub record Carried (c : Code) (sh : Shape) (from left : ℕ) (y : Word) (d count
   pub kept : Kept c sh from y d counts met
   pub left_is : left ≡ broken c y
 
--- There is a code of which this is kept.
-pub record Continuing (h : List ℕ) (sh : Shape) (from left : ℕ) (y : Word) (d counts met : List ℕ) : Type 0 where
+-- There is a code of which this is kept, and a table that these places are of.
+pub record Continuing (p : Places) (from left : ℕ) (y : Word) (d met : List ℕ) : Type 0 where
   pub code : Code
-  pub lent : Lent code h sh
+  pub table : List ℕ
+  pub fit : Fit table p.shape
+  pub lent : Lent code table p.shape
+  pub laid_in : Laid table p
   pub unsent : code.unsent ≡ from
-  pub carried : Carried code sh from left y d counts met
+  pub carried : Carried code p.shape from left y d p.counts met
 
 -- The same where one word holds a row, and the rows are kept.
 pub record CarriedNarrow (c : Code) (sh : Shape) (left : ℕ) (y : Word) (rows : List ℕ) : Type 0 where
@@ -69,7 +74,7 @@ Within bits (Flip n e) = n < bits
 
 -- Under a way of choosing, the word y and the syndrome z are those at the end of the run from x, and its number and flips are the run's.
 pub record RunsTo (way : Way) (c : Code) (sh : Shape) (limit : ℕ) (x : Word) (r : Ran) (y z : Word) : Type 0 where
-  pub number : r.number ≡ (run way limit x).number
+  pub number : number_of r.ending ≡ (run way limit x).number
   pub flips : r.flips ≡ length (run way limit x).flips
   pub word : y ≡ (run way limit x).word
   pub held : z ≡ laid c sh y

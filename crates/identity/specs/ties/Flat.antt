@@ -1,5 +1,5 @@
 -- Flat tables, and the lists of rules that they stand for.
-use Rattle.std.specs.Prelude.{Bool, ◌&&◌, ◌≡◌, List, [], ◌∷◌, ℕ, zero, suc, ◌+◌, ◌*◌, ◌/◌, ◌%◌, ◌^◌, ◌<◌, eqb, ltb, length, get_or}
+use Rattle.std.specs.Prelude.{Bool, ◌&&◌, ◌≡◌, List, [], ◌∷◌, ℕ, zero, suc, ◌+◌, ◌*◌, ◌/◌, ◌%◌, ◌^◌, eqb, ltb, length, get_or}
 use Rattle.bits.specs.Bits.{digit, when◌then◌else◌}
 use Rattle.rules.specs.Identity.{rows_tied_of, all_padded_of}
 
@@ -43,14 +43,10 @@ parity_of M rows blocks parity = pieces (row M blocks parity) (3 * blocks) 0 row
 abbrev pub generator_of : ℕ → ℕ → ℕ → List ℕ → List (List ℕ)
 generator_of M count parts generator = pieces (numbers M parts generator) (parts * words M) 0 count
 
--- The flat lists have the sizes that the counts say.
-pub record Sizes (M rows count parts : ℕ) (parity generator : List ℕ) : Type 0 where
-  pub some : 0 < M
-  pub small : M < 65536
-  pub few : count < 65536
-  pub narrow : parts < 65536
+-- The flat lists have the lengths that the sizes say.
+pub record Filled (M rows count parts : ℕ) (parity generator : List ℕ) : Type 0 where
   pub places : rows * (3 * (count + parts)) ≡ length parity
-  pub filled : count * (parts * words M) ≡ length generator
+  pub numbered : count * (parts * words M) ≡ length generator
 
 -- The identity of rules, at the lists that flat tables stand for.
 abbrev pub flat_tied : ℕ → ℕ → ℕ → ℕ → ℕ → List ℕ → List ℕ → Bool

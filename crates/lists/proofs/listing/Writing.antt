@@ -34,6 +34,9 @@ use Rattle.flipping.proofs.endings.Ends.{ends_at}
 use Rattle.catalogue.specs.tables.Flat.{Lends}
 use Rattle.word.specs.measured.Measured.{Measured}
 use Rattle.flipping.specs.runs.Passes.{Going, RunsTo}
+use Rattle.flipping.specs.declared.runs.Ending.{Ending}
+use Rattle.flipping.specs.declared.runs.Ending.TheVariants.{Quiet, Stuck, Limit}
+use Rattle.flipping.specs.runs.Endings.{number_of}
 use Rattle.flipping.proofs.runs.Passing.{going_start, ends_quiet, ends_stuck, ends_limit, goes_on}
 use Rattle.lists.specs.declared.listing.FlipRecord.{FlipRecord}
 use Rattle.lists.specs.declared.listing.Listing.{Listing}
@@ -232,10 +235,10 @@ module _ (n : ℕ) (word : List ℕ) (limit room : ℕ) (l : Listing) (flips : �
     unlike_five : (number : ℕ) → (number ≡ 5 → ⊥) → number ≡ r.number → reason (code n) r ≡ record { bit = 0; excess = pos 0 }
     unlike_five number d e = reason_none (code n) r (λ u. d (e ∙ u))
 
-    ends_as : (number why : ℕ) (ex : ℤ)
-        → RunsTo (by_excess (code n)) (code n) l.offer.shape limit (word_of n word) (record { number = number; flips = flips }) (wbit y)
-        (wbit z) → reason (code n) r ≡ record { bit = why; excess = ex } → Ends n word limit l flips (wbit y) number why ex
-    ends_as number why ex to reasoned = record {
+    ends_as : (how : Ending) (why : ℕ) (ex : ℤ)
+        → RunsTo (by_excess (code n)) (code n) l.offer.shape limit (word_of n word) (record { ending = how; flips = flips }) (wbit y)
+        (wbit z) → reason (code n) r ≡ record { bit = why; excess = ex } → Ends n word limit l flips (wbit y) (number_of how) why ex
+    ends_as how why ex to reasoned = record {
       measures = st.measures;
       number_is = to.number;
       flips_are = to.flips;
@@ -247,20 +250,20 @@ module _ (n : ℕ) (word : List ℕ) (limit room : ℕ) (l : Listing) (flips : �
     pub ends_by_quiet : by_excess (code n) (wbit y) ≡ quiet → Ends n word limit l flips (wbit y) 0 0 (pos 0)
     ends_by_quiet e =
         let to = ends_quiet (by_excess (code n)) (code n) _ limit (word_of n word) flips (wbit y) (wbit z) st.going e in
-        ends_as 0 0 (pos 0) to (unlike_five 0 (λ u. omega arith) to.number)
+        ends_as Quiet 0 (pos 0) to (unlike_five 0 (λ u. omega arith) to.number)
 
     pub ends_by_stuck : (k : ℕ) (ex ex' : ℤ) → ex' ≡ ex → by_excess (code n) (wbit y) ≡ stuck k ex
         → Ends n word limit l flips (wbit y) 5 k ex'
     ends_by_stuck k ex ex' same e =
         let to = ends_stuck (by_excess (code n)) (code n) _ limit (word_of n word) flips (wbit y) (wbit z) st.going k ex e in
-        ends_as 5 k ex' to (reason_stuck (code n) r (sym to.number) k ex (ap (by_excess (code n)) (sym to.word) ∙ e)
+        ends_as Stuck k ex' to (reason_stuck (code n) r (sym to.number) k ex (ap (by_excess (code n)) (sym to.word) ∙ e)
         ∙ ap (λ u. record { bit = k; excess = u }) (sym same))
 
     pub ends_by_limit : (k : ℕ) (ex : ℤ) → by_excess (code n) (wbit y) ≡ flip k ex → limit ≤ flips
         → Ends n word limit l flips (wbit y) 6 0 (pos 0)
     ends_by_limit k ex e q =
         let to = ends_limit (by_excess (code n)) (code n) _ limit (word_of n word) flips (wbit y) (wbit z) st.going k ex e q in
-        ends_as 6 0 (pos 0) to (unlike_five 6 (λ u. omega arith) to.number)
+        ends_as Limit 0 (pos 0) to (unlike_five 6 (λ u. omega arith) to.number)
 
     -- the answer of a list that has ended
     pub ended_lists : (number why : ℕ) (ex : ℤ) → Ends n word limit l flips (wbit y) number why ex → (l' : Listing) (h' y' z' : List ℕ)

@@ -5,7 +5,7 @@ use Prim.Native.Nat.{ℕ, ◌/◌}
 use native.Mathlib.Nat.{mod-lt}
 use native.Mathlib.Omega.{arith}
 use lib.ListN.{set}
-use Rattle.identity.specs.ties.Flat.{flat_tied}
+use Rattle.onedigit.specs.Wrong.{sized_tied}
 use Rattle.onedigit.proofs.digit_noticed.Goals as goal
 
 pub overflow_cast-t : goal.overflow_cast-t
@@ -20,7 +20,7 @@ returns c =
     let a = c.args in record {
       noticed = λ printed fits.
           c.word_noticed.ensures.noticed printed fits
-          ∙ ap (λ (w : ℕ). not (flat_tied a.m printed a.rows a.count a.parts a.parity.now
+          ∙ ap (λ (w : ℕ). not (sized_tied a.sizes printed a.parity.now
           (set a.generator.now (a.t / 15 / a.digits) w)))
           c.other_word-word.ensures;
       kept = c.word_noticed.ensures.kept;

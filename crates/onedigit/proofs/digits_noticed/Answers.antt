@@ -5,8 +5,7 @@ use Prim.Native.Nat.{ℕ, ◌*◌, ◌/◌, ◌≤◌, ◌<◌}
 use native.Mathlib.Omega.{arith}
 use lib.ListN.{length}
 use Rattle.bits.specs.Bits as bits
-use Rattle.identity.specs.ties.Flat.{Sizes}
-use Rattle.onedigit.specs.Wrong.{digit_noticed_of}
+use Rattle.onedigit.specs.Wrong.{Fitting, digit_noticed_of}
 use Rattle.bits.proofs.Counting.{tally_le, count-start}
 use Rattle.onedigit.proofs.Counts.{count_more, within, product_fits}
 use Rattle.onedigit.proofs.digits_noticed.Goals as goal
@@ -34,7 +33,7 @@ loop-t-init c =
       omega (arith, product_fits h l),
       omega arith,
       refl,
-      λ printed fits. count-start (digit_noticed_of a.m printed a.rows a.count a.parts a.digits a.parity.now
+      λ printed fits. count-start (digit_noticed_of a.sizes printed a.digits a.parity.now
           a.generator.now),
     )
 
@@ -45,7 +44,7 @@ digit_noticed-requires c =
     let same : a.generator.now ≡ l.generator = sym l.invariant.3 in
     let some : 0 < 15 = omega arith in
     let h : l.t < length a.generator.now * a.digits * 15 = omega arith in (
-      subst (λ (g : List ℕ). Sizes a.m a.rows a.count a.parts a.parity.now g) same c.requires.0,
+      subst (λ (g : List ℕ). Fitting a.sizes a.parity.now g) same c.requires.0,
       c.requires.1,
       c.requires.2,
       subst (λ (g : List ℕ). l.t / 15 / a.digits < length g) same
@@ -66,10 +65,10 @@ loop-t-preserved c =
       omega (arith, tally_le e.result),
       e.ensures.kept ∙ l.invariant.3,
       λ printed fits.
-          count_more l.t (digit_noticed_of a.m printed a.rows a.count a.parts a.digits a.parity.now a.generator.now)
+          count_more l.t (digit_noticed_of a.sizes printed a.digits a.parity.now a.generator.now)
           (l.invariant.4 printed fits)
           (e.ensures.noticed printed fits
-          ∙ ap (λ (g : List ℕ). digit_noticed_of a.m printed a.rows a.count a.parts a.digits a.parity.now g l.t)
+          ∙ ap (λ (g : List ℕ). digit_noticed_of a.sizes printed a.digits a.parity.now g l.t)
           l.invariant.3)
           c.one_if-noticed.ensures,
     )
@@ -83,7 +82,7 @@ returns c =
     let l = c.loop-t in
     let e : l.t ≡ length a.generator.now * a.digits * 15 = omega arith in record {
       noticed = λ printed fits.
-          l.invariant.4 printed fits ∙ ap (λ (x : ℕ). bits.count x (digit_noticed_of a.m printed a.rows a.count a.parts a.digits
+          l.invariant.4 printed fits ∙ ap (λ (x : ℕ). bits.count x (digit_noticed_of a.sizes printed a.digits
           a.parity.now a.generator.now)) e;
       kept = l.invariant.3;
     }

@@ -11,5 +11,5 @@ invariant-loop-t l =
     × (l.n ≤ 65535 * 65536 * 15)
     × (l.noticed ≤ l.t)
     × (l.generator ≡ l.initial.generator)
-    × ((printed : ℕ) → l.m ≤ printed
-    → l.noticed ≡ bits.count l.t (digit_noticed_of l.m printed l.rows l.count l.parts l.digits l.parity l.initial.generator))
+    × ((printed : ℕ) → l.sizes.m ≤ printed
+    → l.noticed ≡ bits.count l.t (digit_noticed_of l.sizes printed l.digits l.parity l.initial.generator))

@@ -11,5 +11,5 @@ invariant-loop-t l =
     × (l.n ≤ 65535 * 65536)
     × (l.noticed ≤ l.t)
     × (l.parity ≡ l.initial.parity)
-    × ((printed : ℕ) → l.m ≤ printed
-    → l.noticed ≡ bits.count l.t (entry_noticed_of l.m printed l.rows l.count l.parts l.initial.parity l.generator))
+    × ((printed : ℕ) → l.sizes.m ≤ printed
+    → l.noticed ≡ bits.count l.t (entry_noticed_of l.sizes printed l.initial.parity l.generator))

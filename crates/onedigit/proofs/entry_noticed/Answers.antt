@@ -3,7 +3,7 @@ use mathlib.Core.Path.{refl, sym, ap, ◌∙◌}
 use mathlib.Core.Bool.{Bool, not, ◌&&◌}
 use lib.ListN.{set}
 use borrow.Author.Tests.{not-true, not-false}
-use Rattle.identity.specs.ties.Flat.{flat_tied}
+use Rattle.onedigit.specs.Wrong.{sized_tied}
 use Rattle.onedigit.proofs.entry_noticed.Goals as goal
 use mathlib.Core.Path.{ap}
 use mathlib.Core.Bool.{not}
@@ -12,7 +12,7 @@ pub returns-then-not-wrong_entry : goal.returns-then-not-wrong_entry
 returns-then-not-wrong_entry c =
     let a = c.args in record {
       noticed = λ printed fits.
-          ap (λ (x : Bool). x && not (flat_tied a.m printed a.rows a.count a.parts (set a.parity.now a.place a.s)
+          ap (λ (x : Bool). x && not (sized_tied a.sizes printed (set a.parity.now a.place a.s)
           a.generator.now))
           (sym (not-true c.wrong_entry.result (ap not c.if-not-wrong_entry.true)) ∙ c.wrong_entry.ensures);
       kept = refl;
@@ -23,7 +23,7 @@ returns c =
     let a = c.args in record {
       noticed = λ printed fits.
           c.place_noticed.ensures.noticed printed fits
-          ∙ ap (λ (x : Bool). x && not (flat_tied a.m printed a.rows a.count a.parts (set a.parity.now a.place a.s)
+          ∙ ap (λ (x : Bool). x && not (sized_tied a.sizes printed (set a.parity.now a.place a.s)
           a.generator.now))
           (sym (not-false c.wrong_entry.result (ap not c.if-not-wrong_entry.false))
           ∙ c.wrong_entry.ensures);

@@ -28,8 +28,8 @@ returns c =
       omega (
         arith,
         fits,
-        n.ensures.noticed a.m (le_refl a.m),
+        n.ensures.noticed a.sizes.m (le_refl a.sizes.m),
         count-le (length a.generator.now * a.digits * 15)
-            (digit_noticed_of a.m a.m a.rows a.count a.parts a.digits a.parity.now a.generator.now),
+            (digit_noticed_of a.sizes a.sizes.m a.digits a.parity.now a.generator.now),
       ),
     )

@@ -12,11 +12,11 @@ pub returns : goal.returns
 returns c =
     let a = c.args in
     let p = a.parity.now in
-    let fits : length p * (a.m + 1) ≤ 65535 * 65536 = product_fits c.requires.1 (omega arith) in (
-      omega (arith, c.entries_tried-tried.ensures, count-le (length p * (a.m + 1)) (entry_wrong a.m p)),
+    let fits : length p * (a.sizes.m + 1) ≤ 65535 * 65536 = product_fits c.requires.1 (omega arith) in (
+      omega (arith, c.entries_tried-tried.ensures, count-le (length p * (a.sizes.m + 1)) (entry_wrong a.sizes.m p)),
       omega (
         arith,
-        c.entries_noticed-noticed.ensures.noticed a.m (le_refl a.m),
-        count-le (length p * (a.m + 1)) (entry_noticed_of a.m a.m a.rows a.count a.parts p a.generator.now),
+        c.entries_noticed-noticed.ensures.noticed a.sizes.m (le_refl a.sizes.m),
+        count-le (length p * (a.sizes.m + 1)) (entry_noticed_of a.sizes a.sizes.m p a.generator.now),
       ),
     )

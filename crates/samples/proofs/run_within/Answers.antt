@@ -10,12 +10,16 @@ begin-begun-requires c =
     let k = c.requires.0 in
     (record { number = k.number; offers = k.offers; is = ap (λ z. z.shape.size) k.is }, c.requires.4)
 
+pub invariant_of-parity : goal.invariant_of-parity
+invariant_of-parity c =
+    let k = c.requires.0 in
+    record { fit = (c.begin-begun.ensures k.number k.offers (ap (λ z. z.shape.size) k.is)).1.fit }
+
 pub run_judged-requires : goal.run_judged-requires
 run_judged-requires c =
     let k = c.requires.0 in
     let e = c.begin-begun.ensures k.number k.offers (ap (λ z. z.shape.size) k.is) in (
       k,
-      e.1.fit,
       (shaped k (e.0 ∙ sym (ap (λ z. z.shape) k.is))).0,
       c.requires.2 ∙ bits_are k.number k.is k.offers ∙ e.1.lent.bits_are,
       c.requires.3,

@@ -18,9 +18,9 @@ use Rattle.flipping.specs.declared.bounds.Places.{Places}
 use Rattle.flipping.specs.bounds.Reading.{Twice, Gathered}
 use Rattle.flipping.specs.bounds.Keeping.{Scored}
 use Rattle.flipping.proofs.bounds.Turned.{scored}
-use Rattle.std.specs.Prelude.{Ok, Err}
+use Rattle.std.specs.Prelude.{Result, Ok, Err}
 use Rattle.flipping.specs.declared.runs.Ending.{Ending}
-use Rattle.flipping.specs.runs.Endings.{number_of}
+use Rattle.flipping.specs.declared.runs.Ending.TheVariants.{Quiet}
 use Rattle.flipping.specs.runs.Passes.{Going}
 use Rattle.flipping.proofs.runs.Passing.{ends_quiet, runs_as}
 use Rattle.flipping.proofs.runs.Sizes.{sized_quiet}
@@ -31,7 +31,7 @@ use Rattle.samples.specs.smallest.Settling.{Leads}
 use Rattle.samples.specs.declared.sizing.Flip.{Flip}
 use Rattle.samples.specs.declared.sizing.Passed.{Passed}
 use Rattle.samples.specs.declared.sizing.Ended.{Ended}
-use Rattle.samples.specs.sizing.Passing.{Stands, StandsIn, Coming, Chooses, Passes, SizesTo}
+use Rattle.samples.specs.sizing.Passing.{Stands, StandsIn, Coming, ComingIn, PassesIn, Chooses, Passes, SizesTo}
 
 few : (b : Bool) → tally b ≤ 1
 few true = omega arith
@@ -101,6 +101,14 @@ module _ (c : Code) (h : List ℕ) (sh : Shape) (lent : Lent c h sh) (fit : Fit 
 
 -- ---- a pass
 
+-- what one comes to, over places that are the same
+abbrev pub Comes : List ℕ → ℕ → ℕ → List ℕ → List ℕ → List ℕ → List ℕ → ℕ → ℕ → List ℕ → List ℕ → List ℕ → List ℕ
+    → Result Passed Ending → Places → Type 0
+Comes samples limit flips y d met kept left unlike y' d' met' kept' r p = (c : Code) (h : List ℕ) (x : Word) → Lent c h p.shape
+    → c.unsent ≡ 0 → Fit h p.shape → Gathered h p.shape p.starts p.counts p.shape.blocks
+    → ComingIn c samples limit x flips y p d met kept left unlike
+    → PassesIn c samples limit x flips y' p d' met' kept' left unlike r
+
 -- one that flips the bit that comes next
 pub pass_goes : {c : Code} {h : List ℕ} {sh : Shape} {samples : List ℕ} {limit flips left unlike : ℕ} {x : Word}
     {y y' d d' starts counts met met' kept kept' : List ℕ} {n : Flip} {r : Passed} → Lent c h sh
@@ -128,7 +136,7 @@ pass_goes {c} {h} {sh} {samples} {limit} {flips} {left} {unlike} {x} {y} {n = n}
 module _ {c : Code} {sh : Shape} {samples : List ℕ} {limit flips left unlike : ℕ} {x : Word} {y d starts counts met kept : List ℕ} where
   -- one in which the run ends
   pub pass_ends : {how : Ending} → Passes c sh samples limit x flips y d starts counts met kept left unlike (Err how)
-      → x ≡ read samples → (e : Ended) → e.ran.number ≡ number_of how → e.ran.flips ≡ flips → e.last ≡ left → e.unlike ≡ unlike
+      → x ≡ read samples → (e : Ended) → e.ran.ending ≡ how → e.ran.flips ≡ flips → e.last ≡ left → e.unlike ≡ unlike
       → SizesTo c sh samples limit x e (wbit y)
   pass_ends p first e is_number is_flips is_last is_unlike = record {
     runs = runs_as _ _ is_number is_flips p.ends;
@@ -138,7 +146,7 @@ module _ {c : Code} {sh : Shape} {samples : List ℕ} {limit flips left unlike :
 
   -- none is left to be made
   pub comes_quiet : Coming c sh samples limit x flips y d starts counts met kept left unlike → left ≤ 0 → x ≡ read samples → (e : Ended)
-      → e.ran.number ≡ 0 → e.ran.flips ≡ flips → e.last ≡ 0 → e.unlike ≡ unlike → SizesTo c sh samples limit x e (wbit y)
+      → e.ran.ending ≡ Quiet → e.ran.flips ≡ flips → e.last ≡ 0 → e.unlike ≡ unlike → SizesTo c sh samples limit x e (wbit y)
   comes_quiet was quiet first e is_number is_flips is_last is_unlike =
       let none : broken c (wbit y) ≡ 0 = omega (arith, was.left_is) in
       record {

@@ -2,23 +2,24 @@
 use native.Mathlib.Omega.{arith}
 use borrow.Author.Rules.{rules}
 use Rattle.vectors.specs.Vectors.{wbit}
-use Rattle.syndromes.specs.Rows.{wide, spread, turned}
+use Rattle.syndromes.specs.Rows.{wide, spread}
 use Rattle.syndromes.proofs.Bounds.{wide_some}
 use Rattle.syndromes.proofs.Rowwise.{reached_none, reached-more}
 use Rattle.syndromes.proofs.add_block.Goals as goal
 
 pub loop-r-init : goal.loop-r-init
-loop-r-init c =
+loop-r-init g c =
     let a = c.args in
-    let pre = c.requires in
-    reached_none (wide a.sh) a.sh.rows (wide_some a.h.now a.sh pre.0)
-    (spread a.sh a.h.now a.b (turned (wbit a.d.now))) a.acc.now pre.3
+    let sh = a.parity.shape in
+    let h = a.parity.places.now in
+    reached_none (wide sh) sh.rows (wide_some h sh a.parity.fit) (spread sh h a.b (g.A.Addend.adds a.part sh)) a.acc.now c.requires.2
 
 pub loop-r-preserved : goal.loop-r-preserved
-loop-r-preserved c =
+loop-r-preserved g c =
     let a = c.args in
+    let sh = a.parity.shape in
+    let h = a.parity.places.now in
     let l = c.loop-r in
-    let some = wide_some a.h.now a.sh c.requires.0 in
-    reached-more (wide a.sh) a.sh.rows some (spread a.sh a.h.now a.b (turned (wbit a.d.now))) (wbit a.acc.now)
+    reached-more (wide sh) sh.rows (wide_some h sh a.parity.fit) (spread sh h a.b (g.A.Addend.adds a.part sh)) (wbit a.acc.now)
     l.acc l.r l.invariant
     _ (omega arith) (search rules) c.add_row.ensures

@@ -11,15 +11,15 @@ pub loop-b-init : goal.loop-b-init
 loop-b-init c =
     let a = c.args in
     let pre = c.requires in
-    pre.3 ∙ summed_none a.h.now a.sh pre.0 (wbit a.y.now)
+    pre.2 ∙ summed_none a.parity.places.now a.parity.shape a.parity.fit (wbit a.y.now)
 
 pub loop-b-preserved : goal.loop-b-preserved
 loop-b-preserved c =
     let a = c.args in
     let l = c.loop-b in
-    let sh = a.sh in
-    let h = a.h.now in
+    let sh = a.parity.shape in
+    let h = a.parity.places.now in
     c.add_wide_block.ensures
     ∙ ap (λ (x : Word). plus x (rowed (wide sh) sh.rows (spread sh h l.b
     (turned (twice sh.size (up_to sh.size (from (l.b * sh.size) (wbit a.y.now)))))))) l.invariant
-    ∙ summed_more h sh c.requires.0 (wbit a.y.now) l.b
+    ∙ summed_more h sh a.parity.fit (wbit a.y.now) l.b

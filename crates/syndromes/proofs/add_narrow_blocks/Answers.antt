@@ -11,19 +11,19 @@ use Rattle.syndromes.proofs.add_narrow_blocks.Goals as goal
 
 pub loop-b-init : goal.loop-b-init
 loop-b-init c =
-    c.requires.2 ∙ summed_none c.args.h.now c.args.sh c.requires.0 (wbit c.args.y.now)
+    c.requires.1 ∙ summed_none c.args.parity.places.now c.args.parity.shape c.args.parity.fit (wbit c.args.y.now)
 
 pub loop-b-preserved : goal.loop-b-preserved
 loop-b-preserved c =
-    let sh = c.args.sh in
-    let h = c.args.h.now in
+    let sh = c.args.parity.shape in
+    let h = c.args.parity.places.now in
     let y = wbit c.args.y.now in
     let l = c.loop-b in
     let M = sh.size in
     let block : Holds c.front-v.result (up_to M (from (l.b * M) y)) =
     λ i hi. c.front-v.ensures i hi
     ∙ ap (λ (p : Bool). ltb i M && p) (c.window.ensures i hi) in
-    c.add_narrow_block.ensures
+    c.add_block.ensures
     ∙ ap₂ (λ (x d : Word). plus x (rowed (wide sh) sh.rows (spread sh h l.b (turned d)))) l.invariant
     (c.double_word.ensures (from (l.b * M) y) block)
-    ∙ summed_more h sh c.requires.0 y l.b
+    ∙ summed_more h sh c.args.parity.fit y l.b

@@ -6,4 +6,4 @@ use Rattle.syndromes.proofs.add_narrow_blocks.Given as goal
 
 abbrev pub invariant-loop-b : goal.invariant-loop-b
 invariant-loop-b l =
-    wbit l.acc ≡ rowed (wide l.sh) l.sh.rows (summed l.sh l.h (wbit l.y) l.b)
+    wbit l.acc ≡ rowed (wide l.parity.shape) l.parity.shape.rows (summed l.parity.shape l.parity.places.now (wbit l.y) l.b)

@@ -11,11 +11,12 @@ use Rattle.syndromes.proofs.flip.Goals as goal
 pub returns-clause-checks : goal.returns-clause-checks
 returns-clause-checks c code lent x e =
     let a = c.args in
-    let pre = c.requires in
-    let h = a.h.now in
-    let M = a.sh.size in
-    let g = rowed (wide a.sh) a.sh.rows (spread a.sh h (a.n / M) (covering M (a.n % M))) in
-    c.flip_checks.ensures
+    let h = a.parity.places.now in
+    let sh = a.parity.shape in
+    let fit = a.parity.fit in
+    let M = sh.size in
+    let g = rowed (wide sh) sh.rows (spread sh h (a.n / M) (covering M (a.n % M))) in
+    c.add_block.ensures
     ∙ ap (λ (z : Word). plus z g) e
-    ∙ laid_flipped h a.sh pre.0 code lent x (a.n / M) (a.n % M) ((div-lt_iff_lt-mul pre.0.some).1 pre.1) (mod-lt a.n pre.0.some)
-    ∙ ap (λ (n : ℕ). laid code a.sh (flipped x n)) (div-add-mod' a.n M)
+    ∙ laid_flipped h sh fit code lent x (a.n / M) (a.n % M) ((div-lt_iff_lt-mul fit.some).1 c.requires) (mod-lt a.n fit.some)
+    ∙ ap (λ (n : ℕ). laid code sh (flipped x n)) (div-add-mod' a.n M)

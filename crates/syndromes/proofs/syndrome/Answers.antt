@@ -10,10 +10,12 @@ use Rattle.syndromes.proofs.syndrome.Goals as goal
 pub returns : goal.returns
 returns c code lent =
     let a = c.args in
-    let fit = c.requires.0 in
-    let w = wide a.sh in
+    let h = a.parity.places.now in
+    let sh = a.parity.shape in
+    let fit = a.parity.fit in
+    let w = wide sh in
     let y = wbit a.y.now in
     c.trim_rows.ensures
-    ∙ ap (within w a.sh.size a.sh.rows) c.add_all.ensures
-    ∙ within_rowed w a.sh.size a.sh.rows (wide_some a.h.now a.sh fit) (summed a.sh a.h.now y a.sh.blocks)
-    ∙ laid_summed a.h.now a.sh fit code lent y
+    ∙ ap (within w sh.size sh.rows) c.add_all.ensures
+    ∙ within_rowed w sh.size sh.rows (wide_some h sh fit) (summed sh h y sh.blocks)
+    ∙ laid_summed h sh fit code lent y

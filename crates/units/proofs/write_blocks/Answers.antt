@@ -14,22 +14,19 @@ use Rattle.units.proofs.Assembled.{more_blocks}
 use Rattle.units.proofs.write_blocks.Goals as goal
 use Rattle.units.proofs.write_blocks.Goals.{In-loop-k}
 
-pub word_octets-word-requires : goal.word_octets-word-requires
-word_octets-word-requires c = c.requires.0
-
 pub loop-k-init : goal.loop-k-init
 unfolding randomised codeblocks
 loop-k-init c = ap (λ z. drop z c.args.out.now) (sym (zero-mul c.word_octets-word.result))
 
 -- what is known in each pass
 goes_on : (c : In-loop-k) → Goes (length c.args.information.now) c.loop-k.k (c.loop-k.k * c.word_octets-word.result)
-    c.word_octets-word.result (length c.args.out.now) (blocks_for c.args.code (length c.args.information.now))
-    (code_of c.args.code).octets_of_information
+    c.word_octets-word.result (length c.args.out.now) (blocks_for c.args.code.number (length c.args.information.now))
+    (code_of c.args.code.number).octets_of_information
 goes_on c =
     let w = c.word_octets-word in
     let k = c.loop-k.k in
-    goes (length c.args.information.now) k c.args.code (k * w.result) w.result (length c.args.out.now) c.requires.0 w.ensures.0
-    (ap (λ z. k * z) w.ensures.0) c.requires.1
+    goes (length c.args.information.now) k c.args.code.number (k * w.result) w.result (length c.args.out.now) c.args.code.offered w.ensures.0
+    (ap (λ z. k * z) w.ensures.0) c.requires
     (begins_in k (length c.args.out.now) w.result c.loop-k-test.true (omega (arith, w.ensures.1)))
 
 pub overflow_mul-at : goal.overflow_mul-at
@@ -48,7 +45,6 @@ write_block-requires c =
     let w = c.word_octets-word in
     let at = h.k * w.result in
     let e : at + w.result - at ≡ w.result = omega arith in (
-      c.requires.0,
       g.some,
       ap (λ z. length (take z (drop at h.out))) e
           ∙ length-take-le w.result (drop at h.out) (omega (arith, g.next, length-drop at h.out))
@@ -61,20 +57,20 @@ loop-k-preserved c =
     let w = c.word_octets-word in
     let at = h.k * w.result in
     let next : at + w.result ≡ (h.k + 1) * w.result = omega arith in
-    more_blocks c.args.code c.args.information.now h.out c.args.out.now c.write_block.new.out h.k at w.result w.ensures.0
+    more_blocks c.args.code.number c.args.information.now h.out c.args.out.now c.write_block.new.out h.k at w.result w.ensures.0
     (ap (λ z. h.k * z) w.ensures.0) h.invariant c.write_block.ensures
-    ∙ ap (λ z. randomised telecommand 0 (codeblocks c.args.code c.args.information.now (h.k + 1)) ++ drop z c.args.out.now) next
+    ∙ ap (λ z. randomised telecommand 0 (codeblocks c.args.code.number c.args.information.now (h.k + 1)) ++ drop z c.args.out.now) next
 
 pub returns : goal.returns
 returns c =
     let h = c.loop-k in
     let w = c.word_octets-word in
-    let n = c.args.code in
+    let n = c.args.code.number in
     let o = c.args.out.now in
     let blocks = blocks_for n (length c.args.information.now) in
     let last : h.k ≡ length o / w.result = omega arith in
-    let e : h.k ≡ blocks = last ∙ ap₂ (λ x y. x / y) c.requires.1 w.ensures.0 ∙ all_there n blocks c.requires.0 in
-    let past : h.k * w.result ≡ length o = ap₂ (λ x y. x * y) e w.ensures.0 ∙ sym c.requires.1 in
+    let e : h.k ≡ blocks = last ∙ ap₂ (λ x y. x / y) c.requires w.ensures.0 ∙ all_there n blocks c.args.code.offered in
+    let past : h.k * w.result ≡ length o = ap₂ (λ x y. x * y) e w.ensures.0 ∙ sym c.requires in
     h.invariant
     ∙ ap₂ (λ x y. randomised telecommand 0 (codeblocks n c.args.information.now x) ++ y) e
     (drop_of_length-le o {i = h.k * w.result} (omega (arith, past)))

@@ -9,4 +9,4 @@ use Rattle.units.proofs.write_blocks.Given as goal
 
 abbrev pub invariant-loop-k : goal.invariant-loop-k
 invariant-loop-k l =
-    l.out ≡ randomised telecommand 0 (codeblocks l.code l.information l.k) ++ drop (l.k * l.word) l.initial.out
+    l.out ≡ randomised telecommand 0 (codeblocks l.code.number l.information l.k) ++ drop (l.k * l.word) l.initial.out

@@ -14,22 +14,22 @@ use Rattle.units.proofs.write_last.Goals as goal
 
 pub slice_bounds-part-end : goal.slice_bounds-part-end
 slice_bounds-part-end c =
-    let z = sizes c.args.code c.requires.0 in
-    omega (arith, ap length c.fill-part.ensures, c.requires.2, z.few)
+    let z = sizes c.args.code.number c.args.code.offered in
+    omega (arith, ap length c.fill-part.ensures, c.requires.0, z.few)
 
 pub slice_bounds-copy_from_slice-end : goal.slice_bounds-copy_from_slice-end
 slice_bounds-copy_from_slice-end c =
-    let z = sizes c.args.code c.requires.0 in
-    sym (length-take-le (length c.args.rest.now) c.fill-part.result (omega (arith, ap length c.fill-part.ensures, c.requires.2, z.few)))
+    let z = sizes c.args.code.number c.args.code.offered in
+    sym (length-take-le (length c.args.rest.now) c.fill-part.result (omega (arith, ap length c.fill-part.ensures, c.requires.0, z.few)))
 
 pub copy_from_slice-requires : goal.copy_from_slice-requires
 copy_from_slice-requires c =
-    let z = sizes c.args.code c.requires.0 in
-    length-take-le (length c.args.rest.now) c.fill-part.result (omega (arith, ap length c.fill-part.ensures, c.requires.2, z.few))
+    let z = sizes c.args.code.number c.args.code.offered in
+    length-take-le (length c.args.rest.now) c.fill-part.result (omega (arith, ap length c.fill-part.ensures, c.requires.0, z.few))
 
 pub slice_bounds-part-end-2 : goal.slice_bounds-part-end-2
 slice_bounds-part-end-2 c =
-    let z = sizes c.args.code c.requires.0 in
+    let z = sizes c.args.code.number c.args.code.offered in
     let e = ap₂ (λ x y. length (x ++ drop (length c.args.rest.now) y)) c.copy_from_slice.ensures.after (sym c.fill-part.ensures) in
     omega (
       arith,
@@ -37,31 +37,30 @@ slice_bounds-part-end-2 c =
       length-append c.args.rest.now (drop (length c.args.rest.now) (replicate 32 0x55)),
       length-drop
           (length c.args.rest.now) (replicate {A = ℕ} 32 0x55),
-      c.requires.1,
+      c.information_octets-size.ensures.0,
       z.few,
     )
 
 pub slice_bounds-write_part-end : goal.slice_bounds-write_part-end
 slice_bounds-write_part-end c =
-    let z = sizes c.args.code c.requires.0 in
-    let few : c.args.size ≤ 32 = omega (arith, c.requires.1, z.few) in
-    c.requires.1 ∙ sym (filled_part_length c.args.rest.now c.copy_from_slice.new.self c.fill-part.result c.args.size
-    (code c.args.code).octets_of_information c.copy_from_slice.ensures.after c.fill-part.ensures c.requires.2 c.requires.1 few)
+    let z = sizes c.args.code.number c.args.code.offered in
+    let few : c.information_octets-size.result ≤ 32 = omega (arith, c.information_octets-size.ensures.0, z.few) in
+    c.information_octets-size.ensures.0 ∙ sym (filled_part_length c.args.rest.now c.copy_from_slice.new.self c.fill-part.result c.information_octets-size.result
+    (code c.args.code.number).octets_of_information c.copy_from_slice.ensures.after c.fill-part.ensures c.requires.0 c.information_octets-size.ensures.0 few)
 
 pub write_part-requires : goal.write_part-requires
 write_part-requires c =
-    let z = sizes c.args.code c.requires.0 in
-    let few : c.args.size ≤ 32 = omega (arith, c.requires.1, z.few) in (
-      c.requires.0,
-      filled_part_length c.args.rest.now c.copy_from_slice.new.self c.fill-part.result c.args.size
-          (code c.args.code).octets_of_information c.copy_from_slice.ensures.after c.fill-part.ensures c.requires.2 c.requires.1 few,
-      c.requires.3,
+    let z = sizes c.args.code.number c.args.code.offered in
+    let few : c.information_octets-size.result ≤ 32 = omega (arith, c.information_octets-size.ensures.0, z.few) in (
+      filled_part_length c.args.rest.now c.copy_from_slice.new.self c.fill-part.result c.information_octets-size.result
+          (code c.args.code.number).octets_of_information c.copy_from_slice.ensures.after c.fill-part.ensures c.requires.0 c.information_octets-size.ensures.0 few,
+      c.requires.1,
     )
 
 pub returns : goal.returns
 returns c =
-    let z = sizes c.args.code c.requires.0 in
-    let few : c.args.size ≤ 32 = omega (arith, c.requires.1, z.few) in
-    c.write_part.ensures ∙ ap (λ z. randomised telecommand c.args.used (encoded_of c.args.code z))
-    (filled_part c.args.rest.now c.copy_from_slice.new.self c.fill-part.result c.args.size
-    (code c.args.code).octets_of_information c.copy_from_slice.ensures.after c.fill-part.ensures c.requires.2 c.requires.1 few)
+    let z = sizes c.args.code.number c.args.code.offered in
+    let few : c.information_octets-size.result ≤ 32 = omega (arith, c.information_octets-size.ensures.0, z.few) in
+    c.write_part.ensures ∙ ap (λ z. randomised telecommand c.args.used (encoded_of c.args.code.number z))
+    (filled_part c.args.rest.now c.copy_from_slice.new.self c.fill-part.result c.information_octets-size.result
+    (code c.args.code.number).octets_of_information c.copy_from_slice.ensures.after c.fill-part.ensures c.requires.0 c.information_octets-size.ensures.0 few)

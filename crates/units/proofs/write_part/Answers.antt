@@ -10,12 +10,12 @@ use Rattle.units.proofs.write_part.Goals as goal
 
 pub randomise-requires : goal.randomise-requires
 randomise-requires c =
-    let z = sizes c.args.code c.requires.0 in
+    let z = sizes c.args.code.number c.args.code.offered in
     omega (
       arith,
-      ap (λ x. length x.out) (c.encode.ensures ∙ encode_part c.args.code c.args.part.now c.args.out.now
-          c.requires.0 c.requires.1 c.requires.2),
-      length_encoded c.args.code c.args.part.now,
+      ap (λ x. length x.out) (c.encode.ensures ∙ encode_part c.args.code.number c.args.part.now c.args.out.now
+          c.args.code.offered c.requires.0 c.requires.1),
+      length_encoded c.args.code.number c.args.part.now,
       z.whole,
       z.few,
     )
@@ -24,5 +24,5 @@ pub returns : goal.returns
 returns c =
     c.randomise.ensures
     ∙ ap (randomised telecommand c.args.used)
-    (ap (λ x. x.out) (c.encode.ensures ∙ encode_part c.args.code c.args.part.now c.args.out.now c.requires.0 c.requires.1
-    c.requires.2))
+    (ap (λ x. x.out) (c.encode.ensures ∙ encode_part c.args.code.number c.args.part.now c.args.out.now c.args.code.offered c.requires.0
+    c.requires.1))

@@ -7,8 +7,8 @@ use Rattle.units.proofs.write_tail.Goals as goal
 
 pub copy_from_slice-requires : goal.copy_from_slice-requires
 unfolding tail
-copy_from_slice-requires c = c.requires.1 ∙ sym (ap length (front_tail c.args.code c.requires.0 _ c.tail_octets-long.ensures.0))
+copy_from_slice-requires c = c.requires ∙ sym (ap length (front_tail c.args.code.number c.args.code.offered _ c.tail_octets-long.ensures.0))
 
 pub returns : goal.returns
 unfolding tail
-returns c = c.copy_from_slice.ensures.after ∙ front_tail c.args.code c.requires.0 _ c.tail_octets-long.ensures.0
+returns c = c.copy_from_slice.ensures.after ∙ front_tail c.args.code.number c.args.code.offered _ c.tail_octets-long.ensures.0

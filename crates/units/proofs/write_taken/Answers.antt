@@ -19,16 +19,14 @@ slice_bounds-write_front-end-2 c =
     sym (length-take-le (length c.args.out.now - c.tail_octets.result) c.args.out.now (omega arith))
 
 pub write_front-requires : goal.write_front-requires
-write_front-requires c = (
-  c.requires.0,
-  length-take-le (length c.args.out.now - c.tail_octets.result) c.args.out.now (omega arith)
-      ∙ omega (arith, c.requires.1, c.tail_octets.ensures.0),
-)
+write_front-requires c =
+    length-take-le (length c.args.out.now - c.tail_octets.result) c.args.out.now (omega arith)
+    ∙ omega (arith, c.requires, c.tail_octets.ensures.0)
 
 pub returns : goal.returns
 unfolding unit
 returns c =
-    let n = c.args.code in
+    let n = c.args.code.number in
     let info = c.args.information.now in
     let out = c.args.out.now in
     let room : ℕ = length out - c.tail_octets.result in
@@ -37,5 +35,5 @@ returns c =
     ∙ ap (λ z. 8 + z) (length_randomised telecommand 0 (codeblocks n info (blocks_for n (length info)))
     ∙ length_codeblocks n info (blocks_for n (length info))) in
     ap₂ (λ x y. put_mid room (length (x ++ drop room out) - room) (x ++ drop room out) y) c.write_front.ensures c.write_tail.ensures
-    ∙ put_last (start ++ blocks) out (tail n) room (omega (arith, c.requires.1, c.tail_octets.ensures.0, long)) (omega arith)
+    ∙ put_last (start ++ blocks) out (tail n) room (omega (arith, c.requires, c.tail_octets.ensures.0, long)) (omega arith)
     ∙ append_assoc start blocks (tail n)

@@ -13,19 +13,19 @@ load-requires c = (omega arith, zero_words 5)
 
 pub loop-b-init : goal.loop-b-init
 loop-b-init c =
-    (omega arith, c.requires.4 ∙ summed_none c.args.h.now c.args.sh c.requires.0 (bit c.args.octets.now))
+    (omega arith, c.requires.3 ∙ summed_none c.args.parity.places.now c.args.parity.shape c.args.parity.fit (bit c.args.octets.now))
 
 pub loop-b-preserved : goal.loop-b-preserved
 loop-b-preserved c =
-    let sh = c.args.sh in
-    let h = c.args.h.now in
+    let sh = c.args.parity.shape in
+    let h = c.args.parity.places.now in
     let x = bit c.args.octets.now in
     let l = c.loop-b in (
       omega arith,
       c.add_narrow_block.ensures
           ∙ ap₂ (λ (z y : Word). plus z (rowed (wide sh) sh.rows (spread sh h l.b (turned (doubled sh.size y l.b)))))
           l.invariant.1 c.load.ensures
-          ∙ summed_more h sh c.requires.0 x l.b,
+          ∙ summed_more h sh c.args.parity.fit x l.b,
     )
 
 pub returns : goal.returns
@@ -33,4 +33,5 @@ returns c =
     let a = c.args in
     let l = c.loop-b in
     let all : l.b ≡ 4 = omega arith in
-    l.invariant.1 ∙ ap (λ (k : ℕ). rowed (wide a.sh) a.sh.rows (summed a.sh a.h.now (bit a.octets.now) k)) all
+    let sh = a.parity.shape in
+    l.invariant.1 ∙ ap (λ (k : ℕ). rowed (wide sh) sh.rows (summed sh a.parity.places.now (bit a.octets.now) k)) all

@@ -8,4 +8,4 @@ use Rattle.encoder.proofs.narrowparity.add_narrow.Given as goal
 
 abbrev pub invariant-loop-b : goal.invariant-loop-b
 invariant-loop-b l =
-    (l.b ≤ 4) × (wbit l.z ≡ rowed (wide l.sh) l.sh.rows (summed l.sh l.h (bit l.octets) l.b))
+    (l.b ≤ 4) × (wbit l.z ≡ rowed (wide l.parity.shape) l.parity.shape.rows (summed l.parity.shape l.parity.places.now (bit l.octets) l.b))

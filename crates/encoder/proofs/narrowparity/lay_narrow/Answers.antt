@@ -1,9 +1,7 @@
 -- `narrowparity::lay_narrow` meets its contract: the checks of a word whose parity is 0 are those of its information. Assumes nothing.
-use mathlib.Core.Path.{refl, sym, ap, ◌∙◌, subst}
+use mathlib.Core.Path.{sym, ap, ◌∙◌, subst}
 use native.Mathlib.Omega.{arith}
-use borrow.Author.Rules.{rules}
 use Rattle.bits.specs.Bits.{Word, bit}
-use Rattle.layout.specs.Lent.{Fit}
 use Rattle.rules.specs.Codes.{code, information}
 use Rattle.syndromes.specs.Rows.{within, wide}
 use Rattle.catalogue.specs.tables.Flat.{Lends}
@@ -11,33 +9,6 @@ use Rattle.encoder.specs.parityrows.Rows.{informed}
 use Rattle.encoder.proofs.parityrows.Informing.{laid_informed}
 use Rattle.encoder.proofs.parityrows.Ready.{ready, short_of}
 use Rattle.encoder.proofs.narrowparity.lay_narrow.Goals as goal
-
-pub lend_narrow-requires : goal.lend_narrow-requires
-lend_narrow-requires c =
-    let last = c.requires.2 in
-    (refl, λ e. absurd (omega (arith, last (λ a. omega arith) (λ a. omega arith))))
-
-pub add_narrow-requires : goal.add_narrow-requires
-add_narrow-requires c =
-    let k = c.requires.0 in
-    let narrow = c.requires.1 in
-    let t = c.lend_narrow in
-    let lends = t.ensures.0 k.number k.offers (ap (λ z. z.size) k.is) in (
-      subst (Fit t.new.h) (lends.0 ∙ sym k.is) lends.1.fit,
-      ap (λ z. z.words) narrow,
-      ap (λ z. z.blocks) narrow,
-      c.requires.3,
-      c.requires.4,
-    )
-
-pub trim_rows-requires : goal.trim_rows-requires
-trim_rows-requires c =
-    let k = c.requires.0 in
-    let t = c.lend_narrow in
-    let lends = t.ensures.0 k.number k.offers (ap (λ z. z.size) k.is) in
-    let fit = subst (Fit t.new.h) (lends.0 ∙ sym k.is) lends.1.fit in
-    let room = fit.room in
-    (fit.some, fit.held, fit.close, search rules)
 
 pub returns : goal.returns
 returns c =

@@ -19,7 +19,7 @@ loop-b-init c =
       omega arith,
       omega arith,
       number_start (odd_block x),
-      c.requires.7 ∙ summed_none a.h.now a.sh c.requires.0 x,
+      c.requires.6 ∙ summed_none a.parity.places.now a.parity.shape c.args.parity.fit x,
     )
 
 pub loop-b-preserved : goal.loop-b-preserved
@@ -27,7 +27,7 @@ loop-b-preserved c =
     let a = c.args in
     let l = c.loop-b in
     let x = later a.unsent (bit a.octets.now) in
-    let sh = a.sh in
+    let sh = a.parity.shape in
     let block = c.add_wide_block-odd in
     let e : block.result ≡ number (l.b + 1) (odd_block x) =
     block.ensures.odd ∙ number_more l.b l.odd (odd_block x) l.invariant.2 in (
@@ -35,9 +35,9 @@ loop-b-preserved c =
       fits (l.b + 1) 14 block.result (subst (λ (n : ℕ). n < 2 ^ (l.b + 1)) (sym e) (number_lt (l.b + 1) (odd_block x))) (omega arith),
       e,
       block.ensures.rows
-          ∙ ap (λ (z : Word). plus z (rowed (wide sh) sh.rows (spread sh a.h.now l.b (turned (doubled sh.size x l.b)))))
+          ∙ ap (λ (z : Word). plus z (rowed (wide sh) sh.rows (spread sh a.parity.places.now l.b (turned (doubled sh.size x l.b)))))
           l.invariant.3
-          ∙ summed_more a.h.now sh c.requires.0 x l.b,
+          ∙ summed_more a.parity.places.now sh c.args.parity.fit x l.b,
     )
 
 pub returns : goal.returns
@@ -46,7 +46,8 @@ returns c =
     let l = c.loop-b in
     let x = later a.unsent (bit a.octets.now) in
     let all : l.b ≡ 14 = omega arith in
+    let sh = a.parity.shape in
     record {
       odd = (l.invariant.1, l.invariant.2 ∙ ap (λ (n : ℕ). number n (odd_block x)) all);
-      rows = l.invariant.3 ∙ ap (λ (n : ℕ). rowed (wide a.sh) a.sh.rows (summed a.sh a.h.now x n)) all;
+      rows = l.invariant.3 ∙ ap (λ (n : ℕ). rowed (wide sh) sh.rows (summed sh a.parity.places.now x n)) all;
     }

@@ -9,5 +9,7 @@ use Rattle.encoder.proofs.wideparity.add_wide.Given as goal
 
 abbrev pub invariant-loop-b : goal.invariant-loop-b
 invariant-loop-b l =
-    (l.b ≤ 14) × (l.odd < 2 ^ 14) × (l.odd ≡ number l.b (odd_block (later l.unsent (bit l.octets))))
-    × (wbit l.z ≡ rowed (wide l.sh) l.sh.rows (summed l.sh l.h (later l.unsent (bit l.octets)) l.b))
+    let sh = l.parity.shape in
+    let x = later l.unsent (bit l.octets) in
+    (l.b ≤ 14) × (l.odd < 2 ^ 14) × (l.odd ≡ number l.b (odd_block x))
+    × (wbit l.z ≡ rowed (wide sh) sh.rows (summed sh l.parity.places.now x l.b))

@@ -9,11 +9,11 @@ use Rattle.encoder.proofs.wideparity.add_wide_block.Goals as goal
 pub returns : goal.returns
 returns c =
     let a = c.args in
-    let sh = a.sh in
+    let sh = a.parity.shape in
     let x = later a.unsent (bit a.octets.now) in
     let block = c.double_block-more in record {
       odd = block.ensures.odd;
       rows = c.add_block.ensures
-          ∙ ap (λ (d : Word). plus (wbit a.z.now) (rowed (wide sh) sh.rows (spread sh a.h.now a.b (turned d))))
-          (block.ensures.twofold ∙ ap (λ (m : ℕ). doubled m x a.b) (sym c.requires.1));
+          ∙ ap (λ (d : Word). plus (wbit a.z.now) (rowed (wide sh) sh.rows (spread sh a.parity.places.now a.b (turned d))))
+          (block.ensures.twofold ∙ ap (λ (m : ℕ). doubled m x a.b) (sym c.requires.0));
     }

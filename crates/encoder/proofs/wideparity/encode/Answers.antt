@@ -2,7 +2,6 @@
 use mathlib.Core.Path.{◌≡◌, refl, sym, ap, ap₂, ◌∙◌}
 use Prim.Native.Nat.{ℕ, ◌-◌}
 use native.Mathlib.Omega.{arith}
-use lib.Dec.{lit≤}
 use Rattle.bits.specs.Bits.{Word, bit, octets, ◌⊕◌}
 use Rattle.rules.specs.Codes.{code, information}
 use Rattle.rules.specs.Encoding.{lifted}
@@ -26,24 +25,6 @@ solve_wide-requires c =
       omega (arith, c.requires.2, few.information, few.word),
       few.unsent,
       zero_words 16,
-    )
-
-pub overflow_sub-o : goal.overflow_sub-o
-overflow_sub-o c =
-    omega (arith, (small c.requires.0).unsent)
-
-pub write-requires : goal.write-requires
-write-requires c =
-    let k = c.requires.0 in
-    let ok = ready_as k.number k.offers k.is (wide_is k.number k.offers k.is c.requires.1) in
-    let inside = ap (λ z. z.information) k.is in
-    let word = ap (λ z. z.word) k.is in
-    let unsent = ap (λ z. z.unsent) k.is in (
-      ok.fits,
-      lit≤ tt,
-      omega (arith, ok.enough, c.requires.2, inside, unsent),
-      omega (arith, ok.front, c.requires.3, word, unsent),
-      omega (arith, ok.behind_front, c.requires.3, word, unsent),
     )
 
 pub returns : goal.returns

@@ -2,10 +2,8 @@
 use mathlib.Core.Path.{sym, ap, ◌∙◌, subst}
 use Prim.Native.Nat.{ℕ, ◌*◌}
 use native.Mathlib.Omega.{arith}
-use borrow.Author.Rules.{rules}
 use Rattle.bits.specs.Bits.{Word, bit, number}
 use Rattle.vectors.specs.Vectors.{wbit, later}
-use Rattle.layout.specs.Lent.{Fit}
 use Rattle.word.specs.ownparity.Odd.{odd_block}
 use Rattle.rules.specs.Codes.{code, information}
 use Rattle.syndromes.specs.Rows.{rowed, within, wide, summed}
@@ -16,30 +14,6 @@ use Rattle.syndromes.proofs.Trimming.{within_rowed}
 use Rattle.encoder.proofs.parityrows.Laws.{wide_some, held_kept}
 use Rattle.encoder.proofs.parityrows.Ready.{ready, short_of}
 use Rattle.encoder.proofs.wideparity.lay_wide.Goals as goal
-
-pub add_wide-odd-requires : goal.add_wide-odd-requires
-add_wide-odd-requires c =
-    let k = c.requires.0 in
-    let wide = c.requires.1 in
-    let t = c.lend511 in
-    let lends = wide_lends k.number t.new.h t.ensures k.offers (sym wide ∙ k.is) in (
-      subst (Fit t.new.h) (sym wide) lends.fit,
-      ap (λ z. z.size) wide,
-      ap (λ z. z.words) wide,
-      ap (λ z. z.blocks) wide,
-      c.requires.2,
-      c.requires.3,
-      c.requires.4,
-      c.requires.5,
-    )
-
-pub trim_rows-requires : goal.trim_rows-requires
-trim_rows-requires c =
-    let wide = c.requires.1 in
-    let size = ap (λ z. z.size) wide in
-    let words = ap (λ z. z.words) wide in
-    let room = ap (λ z. z.rows * z.words) wide in
-    (omega (arith, size), omega (arith, size, words), omega (arith, size, words), search rules)
 
 pub returns : goal.returns
 returns c =

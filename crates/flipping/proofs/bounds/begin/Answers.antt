@@ -10,6 +10,6 @@ pub invariant_of-bounds : goal.invariant_of-bounds
 invariant_of-bounds c =
     let g = c.gather.ensures in
     record {
-      ready = ready (subst (Fit c.args.h.now) (sym g.0) c.requires) g.3 g.1 g.2 refl
+      ready = ready (subst (Fit c.args.parity.places.now) (sym g.0) c.args.parity.fit) g.3 g.1 g.2 refl
           (λ b hb. omega (arith, zeros_at 16 b));
     }

@@ -8,7 +8,7 @@ use Rattle.flipping.proofs.bounds.Entries.{listed_none}
 use Rattle.flipping.proofs.bounds.gather.Goals as goal
 
 pub overflow_mul-n : goal.overflow_mul-n
-overflow_mul-n c = omega (arith, c.requires.0.blocks)
+overflow_mul-n c = omega (arith, c.args.parity.fit.blocks)
 
 pub loop-row-init : goal.loop-row-init
 loop-row-init c =
@@ -17,15 +17,15 @@ loop-row-init c =
       omega arith,
       omega arith,
       omega arith,
-      c.requires.2,
-      subst (λ k. Listed a.starts.now (8 * a.b) k (3072 + a.sh.size) (asked a.h.now a.sh a.b 0)) none
-          (listed_none a.starts.now (8 * a.b) (3072 + a.sh.size) a.h.now a.sh a.b),
+      c.requires.1,
+      subst (λ k. Listed a.starts.now (8 * a.b) k (3072 + a.parity.shape.size) (asked a.parity.places.now a.parity.shape a.b 0)) none
+          (listed_none a.starts.now (8 * a.b) (3072 + a.parity.shape.size) a.parity.places.now a.parity.shape a.b),
       λ e h. refl,
     )
 
 pub note_row-n-requires : goal.note_row-n-requires
 note_row-n-requires c =
-    (c.requires.0, c.requires.1, search rules, c.loop-row.invariant.3, omega (arith, c.requires.0.blocks, c.requires.0.rows))
+    (c.requires.0, search rules, c.loop-row.invariant.3, omega (arith, c.args.parity.fit.blocks, c.args.parity.fit.rows))
 
 pub loop-row-preserved : goal.loop-row-preserved
 loop-row-preserved c =
@@ -41,15 +41,15 @@ loop-row-preserved c =
 
 pub overflow_mul-result : goal.overflow_mul-result
 overflow_mul-result c =
-    omega (arith, c.requires.0.blocks)
+    omega (arith, c.args.parity.fit.blocks)
 
 pub returns : goal.returns
 returns c =
     let a = c.args in
     let l = c.loop-row in
-    let all : l.row ≡ a.sh.rows = omega arith in (
-      omega (arith, c.requires.0.rows),
-      subst (λ k. Listed l.starts (8 * a.b) (l.n - 8 * a.b) (3072 + a.sh.size) (asked a.h.now a.sh a.b k)) all
-          l.invariant.4,
+    let all : l.row ≡ a.parity.shape.rows = omega arith in (
+      omega (arith, c.args.parity.fit.rows),
+      subst (λ k. Listed l.starts (8 * a.b) (l.n - 8 * a.b) (3072 + a.parity.shape.size)
+          (asked a.parity.places.now a.parity.shape a.b k)) all l.invariant.4,
       l.invariant.5,
     )

@@ -7,6 +7,6 @@ use Rattle.flipping.proofs.bounds.gather.Given as goal
 
 abbrev pub invariant-loop-row : goal.invariant-loop-row
 invariant-loop-row l =
-    (l.row ≤ l.sh.rows) × (8 * l.b ≤ l.n) × (l.n ≤ 8 * l.b + 2 * l.row) × (length l.starts ≡ 128)
-    × Listed l.starts (8 * l.b) (l.n - 8 * l.b) (3072 + l.sh.size) (asked l.h l.sh l.b l.row)
+    (l.row ≤ l.parity.shape.rows) × (8 * l.b ≤ l.n) × (l.n ≤ 8 * l.b + 2 * l.row) × (length l.starts ≡ 128)
+    × Listed l.starts (8 * l.b) (l.n - 8 * l.b) (3072 + l.parity.shape.size) (asked l.parity.places.now l.parity.shape l.b l.row)
     × ((e : ℕ) → e < 8 * l.b → get_or l.starts e 0 ≡ get_or l.initial.starts e 0)

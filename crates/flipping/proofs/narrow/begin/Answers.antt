@@ -1,6 +1,7 @@
 -- `narrow::begin`: after r passes the first r rows stand there. Assumes nothing.
 use Prim.Native.Nat.{◌+◌, ◌*◌}
 use native.Mathlib.Omega.{arith}
+use borrow.Author.Rules.{rules}
 use lib.ListN.{length-set}
 use Rattle.rules.specs.Checks.{check}
 use Rattle.vectors.specs.Vectors.{Holds}
@@ -9,10 +10,7 @@ use Rattle.flipping.proofs.narrow.Blocks.{laid_row, set_rows}
 use Rattle.flipping.proofs.narrow.begin.Goals as goal
 
 pub loop-r-init : goal.loop-r-init
-loop-r-init c = (omega arith, c.requires.5, λ k x e q l. absurd (omega arith))
-
-pub bounds-z-r : goal.bounds-z-r
-bounds-z-r c = omega (arith, c.requires.4)
+loop-r-init c = (omega arith, search rules, λ k x e q l. absurd (omega arith))
 
 pub repeated-requires : goal.repeated-requires
 repeated-requires c =
@@ -33,9 +31,6 @@ loop-r-preserved c =
           (laid_row k a.sh x c.requires.2 c.requires.1 a.z.now e l.r (omega (arith, c.requires.3))))
           (l.invariant.2 k x e),
     )
-
-pub shape_of-rows : goal.shape_of-rows
-shape_of-rows c = omega (arith, c.loop-r.invariant.1, c.requires.5)
 
 pub returns : goal.returns
 returns c k x e r l = c.loop-r.invariant.2 k x e r (omega arith)

@@ -13,11 +13,11 @@ use Rattle.flipping.proofs.narrow.flip.Goals as goal
 
 pub flip_bit-requires : goal.flip_bit-requires
 flip_bit-requires c =
-    omega (arith, c.requires.0.bits, c.requires.2, c.flip_bit-arg-1.given)
+    omega (arith, c.args.parity.fit.bits, c.requires.1, c.flip_bit-arg-1.given)
 
 pub repeated-each-requires : goal.repeated-each-requires
 repeated-each-requires c =
-    (c.requires.0.some, omega (arith, c.requires.0.held, c.requires.1))
+    (c.args.parity.fit.some, omega (arith, c.args.parity.fit.held, c.requires.0))
 
 --? div-flip-rows : tie.Need-nonzero-div-flip-rows
 --? div-flip-rows c =
@@ -33,24 +33,23 @@ pub flip_rows-requires : goal.flip_rows-requires
 flip_rows-requires c =
     let a = c.args in (
       c.requires.0,
-      c.requires.1,
       search rules,
-      (div-lt_iff_lt-mul c.requires.0.some).1 c.requires.2,
-      mod-lt a.bit c.requires.0.some,
-      c.repeated-each.ensures (eqb 0) (first_of_row a.sh.size c.requires.0.some),
+      (div-lt_iff_lt-mul c.args.parity.fit.some).1 c.requires.1,
+      mod-lt a.bit c.args.parity.fit.some,
+      c.repeated-each.ensures (eqb 0) (first_of_row a.parity.shape.size c.args.parity.fit.some),
     )
 
 pub returns : goal.returns
 returns c =
     let a = c.args in
-    let M = a.sh.size in
+    let M = a.parity.shape.size in
     let out = c.flip_rows.new.rows in
-    let inside = (div-lt_iff_lt-mul c.requires.0.some).1 c.requires.2 in record {
+    let inside = (div-lt_iff_lt-mul c.args.parity.fit.some).1 c.requires.1 in record {
       word = c.flip_bit.ensures;
       checks = λ k x lent is.
-          subst (λ n. Rows k a.sh (flipped x n) out) (div-add-mod' a.bit M)
+          subst (λ n. Rows k a.parity.shape (flipped x n) out) (div-add-mod' a.bit M)
           (λ q hq.
-          row_flipped k a.h.now a.sh lent c.requires.0 x (a.bit / M) (a.bit % M) q (get_or a.rows.now q 0) (get_or out q 0)
-          inside (mod-lt a.bit c.requires.0.some) (omega (arith, (c.requires.0.narrow c.requires.1).0)) (is q hq)
+          row_flipped k a.parity.places.now a.parity.shape lent a.parity.fit x (a.bit / M) (a.bit % M) q (get_or a.rows.now q 0)
+          (get_or out q 0) inside (mod-lt a.bit c.args.parity.fit.some) (omega (arith, (c.args.parity.fit.narrow c.requires.0).0)) (is q hq)
           (c.flip_rows.ensures q hq));
     }

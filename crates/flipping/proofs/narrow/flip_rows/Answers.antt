@@ -14,7 +14,7 @@ use Rattle.flipping.proofs.narrow.flip_rows.Goals as goal
 pub loop-r-init : goal.loop-r-init
 loop-r-init c = (
   omega arith,
-  c.requires.2,
+  c.requires.1,
   λ q l. refl,
   λ q
       l. absurd (omega arith),
@@ -26,34 +26,34 @@ bounds-rows-r c = omega (arith, c.loop-r.invariant.1)
 pub overflow_mul-r : goal.overflow_mul-r
 overflow_mul-r c =
     let a = c.args in
-    let room = place_room a.h.now a.sh c.requires.0 (c.requires.0.narrow c.requires.1).0 c.loop-r.r _
-    (omega arith) c.requires.3 in
+    let room = place_room a.parity.places.now a.parity.shape c.args.parity.fit (c.args.parity.fit.narrow c.requires.0).0 c.loop-r.r _
+    (omega arith) c.requires.2 in
     omega (arith, room.0, room.1)
 
 pub overflow_add-r : goal.overflow_add-r
 overflow_add-r c =
     let a = c.args in
-    let room = place_room a.h.now a.sh c.requires.0 (c.requires.0.narrow c.requires.1).0 c.loop-r.r _
-    (omega arith) c.requires.3 in
+    let room = place_room a.parity.places.now a.parity.shape c.args.parity.fit (c.args.parity.fit.narrow c.requires.0).0 c.loop-r.r _
+    (omega arith) c.requires.2 in
     omega (arith, room.0, room.1)
 
 pub overflow_mul-r-in-loop-r : goal.overflow_mul-r-in-loop-r
 overflow_mul-r-in-loop-r c =
     let a = c.args in
-    let room = place_room a.h.now a.sh c.requires.0 (c.requires.0.narrow c.requires.1).0 c.loop-r.r _
-    (omega arith) c.requires.3 in
+    let room = place_room a.parity.places.now a.parity.shape c.args.parity.fit (c.args.parity.fit.narrow c.requires.0).0 c.loop-r.r _
+    (omega arith) c.requires.2 in
     omega (arith, room.0, room.1)
 
 pub flip_row-requires : goal.flip_row-requires
 flip_row-requires c =
     let a = c.args in
-    let narrow = c.requires.0.narrow c.requires.1 in
-    let room = place_room a.h.now a.sh c.requires.0 narrow.0 c.loop-r.r _ (omega arith) c.requires.3 in (
-      c.requires.0.some,
-      omega (arith, c.requires.0.held, c.requires.1),
+    let narrow = c.args.parity.fit.narrow c.requires.0 in
+    let room = place_room a.parity.places.now a.parity.shape c.args.parity.fit narrow.0 c.loop-r.r _ (omega arith) c.requires.2 in (
+      c.args.parity.fit.some,
+      omega (arith, c.args.parity.fit.held, c.requires.0),
       narrow.1,
+      c.requires.3,
       c.requires.4,
-      c.requires.5,
       room.0,
     )
 
@@ -70,8 +70,8 @@ loop-r-preserved c =
       omega (arith, length-set l.rows l.r v, l.invariant.1),
       λ q h. get_or-set_other l.rows l.r q v 0 (λ e. omega arith) ∙ l.invariant.2 q (omega arith),
       set_rows l.rows (λ q z. (f : Word) → Holds (get_or was q 0) f
-          → Holds z (λ i. f i ⊕ over (shifts_of a.sh a.h.now q a.b)
-          (λ s. eqb (i % a.sh.size) ((a.k + (a.sh.size - s)) % a.sh.size))))
+          → Holds z (λ i. f i ⊕ over (shifts_of a.parity.shape a.parity.places.now q a.b)
+          (λ s. eqb (i % a.parity.shape.size) ((a.k + (a.parity.shape.size - s)) % a.parity.shape.size))))
           l.r v (omega (arith, l.invariant.1))
           (λ f is. c.flip_row.ensures f (subst (λ z. Holds z f) (sym (l.invariant.2 l.r (omega arith))) is))
           l.invariant.3,

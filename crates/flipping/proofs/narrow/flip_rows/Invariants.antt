@@ -13,4 +13,5 @@ invariant-loop-r l =
     (l.r ≤ 4) × (length l.rows ≡ 4) × ((q : ℕ) → l.r ≤ q → get_or l.rows q 0 ≡ get_or l.initial.rows q 0)
     × ((q : ℕ) → q < l.r → (f : Word) → Holds (get_or l.initial.rows q 0) f
     → Holds (get_or l.rows q 0)
-    (λ i. f i ⊕ over (shifts_of l.sh l.h q l.b) (λ s. eqb (i % l.sh.size) ((l.k + (l.sh.size - s)) % l.sh.size))))
+    (λ i. f i ⊕ over (shifts_of l.parity.shape l.parity.places.now q l.b)
+    (λ s. eqb (i % l.parity.shape.size) ((l.k + (l.parity.shape.size - s)) % l.parity.shape.size))))

@@ -16,42 +16,42 @@ pub loop-r-init : goal.loop-r-init
 loop-r-init c =
     let a = c.args in (
       omega arith,
-      sym (total_none (λ q. length (shifts_of a.sh a.h.now q a.b))),
+      sym (total_none (λ q. length (shifts_of a.parity.shape a.parity.places.now q a.b))),
       omega arith,
-      λ k x counts is all. weighs_none counts (broke k a.h.now a.sh a.b x 0) a.mask (λ i. total_none _) all,
+      λ k x counts is all. weighs_none counts (broke k a.parity.places.now a.parity.shape a.b x 0) a.mask (λ i. total_none _) all,
     )
 
 pub bounds-rows-r : goal.bounds-rows-r
-bounds-rows-r c = omega (arith, c.requires.2)
+bounds-rows-r c = omega (arith, c.requires.1)
 
 pub overflow_mul-r : goal.overflow_mul-r
 overflow_mul-r c =
     let a = c.args in
-    let room = place_room a.h.now a.sh c.requires.0 (c.requires.0.narrow c.requires.1).0 c.loop-r.r a.b
-    (omega arith) c.requires.3 in
+    let room = place_room a.parity.places.now a.parity.shape c.args.parity.fit (c.args.parity.fit.narrow c.requires.0).0 c.loop-r.r a.b
+    (omega arith) c.requires.2 in
     omega (arith, room.0, room.1)
 
 pub overflow_add-r : goal.overflow_add-r
 overflow_add-r c =
     let a = c.args in
-    let room = place_room a.h.now a.sh c.requires.0 (c.requires.0.narrow c.requires.1).0 c.loop-r.r a.b
-    (omega arith) c.requires.3 in
+    let room = place_room a.parity.places.now a.parity.shape c.args.parity.fit (c.args.parity.fit.narrow c.requires.0).0 c.loop-r.r a.b
+    (omega arith) c.requires.2 in
     omega (arith, room.0, room.1)
 
 pub overflow_mul-r-in-loop-r : goal.overflow_mul-r-in-loop-r
 overflow_mul-r-in-loop-r c =
     let a = c.args in
-    let room = place_room a.h.now a.sh c.requires.0 (c.requires.0.narrow c.requires.1).0 c.loop-r.r a.b
-    (omega arith) c.requires.3 in
+    let room = place_room a.parity.places.now a.parity.shape c.args.parity.fit (c.args.parity.fit.narrow c.requires.0).0 c.loop-r.r a.b
+    (omega arith) c.requires.2 in
     omega (arith, room.0, room.1)
 
 pub with_row-w-requires : goal.with_row-w-requires
 with_row-w-requires c =
     let a = c.args in
     let l = c.loop-r in
-    let narrow = c.requires.0.narrow c.requires.1 in
-    let room = place_room a.h.now a.sh c.requires.0 narrow.0 l.r a.b (omega arith) c.requires.3 in
-    (omega (arith, l.invariant.2), c.requires.0.some, omega (arith, c.requires.0.held, c.requires.1), narrow.1, room.0)
+    let narrow = c.args.parity.fit.narrow c.requires.0 in
+    let room = place_room a.parity.places.now a.parity.shape c.args.parity.fit narrow.0 l.r a.b (omega arith) c.requires.2 in
+    (omega (arith, l.invariant.2), c.args.parity.fit.some, omega (arith, c.args.parity.fit.held, c.requires.0), narrow.1, room.0)
 
 pub loop-r-preserved : goal.loop-r-preserved
 loop-r-preserved c =
@@ -59,13 +59,13 @@ loop-r-preserved c =
     let l = c.loop-r in
     let e = c.with_row-w.ensures in (
       omega arith,
-      omega (arith, e.0, l.invariant.1, total_more l.r (λ q. length (shifts_of a.sh a.h.now q a.b))),
+      omega (arith, e.0, l.invariant.1, total_more l.r (λ q. length (shifts_of a.parity.shape a.parity.places.now q a.b))),
       omega (arith, e.1, l.invariant.2),
       λ k x counts is all.
           weighs_as
-          (λ i hi. sym (total_more l.r (λ q. count_of (shifts_of a.sh a.h.now q a.b)
-          (λ z. check k x (q * a.sh.size + (i + (a.sh.size - z)) % a.sh.size)))))
-          (e.2 counts (λ i. check k x (l.r * a.sh.size + i)) (broke k a.h.now a.sh a.b x l.r)
+          (λ i hi. sym (total_more l.r (λ q. count_of (shifts_of a.parity.shape a.parity.places.now q a.b)
+          (λ z. check k x (q * a.parity.shape.size + (i + (a.parity.shape.size - z)) % a.parity.shape.size)))))
+          (e.2 counts (λ i. check k x (l.r * a.parity.shape.size + i)) (broke k a.parity.places.now a.parity.shape a.b x l.r)
           (l.invariant.3 k x counts is all) (is l.r (omega arith))),
     )
 
@@ -74,7 +74,8 @@ returns c =
     let a = c.args in
     let l = c.loop-r in
     let all : l.r ≡ 4 = omega arith in (
-      subst (λ r. l.w.checks ≡ total r (λ q. length (shifts_of a.sh a.h.now q a.b))) all l.invariant.1,
+      subst (λ r. l.w.checks ≡ total r (λ q. length (shifts_of a.parity.shape a.parity.places.now q a.b))) all l.invariant.1,
       omega (arith, l.invariant.2),
-      λ k x counts is mask. subst (λ r. Weighs counts (broke k a.h.now a.sh a.b x r) l.w) all (l.invariant.3 k x counts is mask),
+      λ k x counts is mask. subst (λ r. Weighs counts (broke k a.parity.places.now a.parity.shape a.b x r) l.w) all
+          (l.invariant.3 k x counts is mask),
     )

@@ -11,5 +11,6 @@ use Rattle.flipping.proofs.narrow.weigh.Given as goal
 
 abbrev pub invariant-loop-r : goal.invariant-loop-r
 invariant-loop-r l =
-    (l.r ≤ 4) × (l.w.checks ≡ total l.r (λ q. length (shifts_of l.sh l.h q l.b))) × (l.w.checks ≤ 2 * l.r)
-    × ((c : Code) (x counts : Word) → Rows c l.sh x l.rows → Holds l.mask counts → Weighs counts (broke c l.h l.sh l.b x l.r) l.w)
+    (l.r ≤ 4) × (l.w.checks ≡ total l.r (λ q. length (shifts_of l.parity.shape l.parity.places.now q l.b))) × (l.w.checks ≤ 2 * l.r)
+    × ((c : Code) (x counts : Word) → Rows c l.parity.shape x l.rows → Holds l.mask counts
+    → Weighs counts (broke c l.parity.places.now l.parity.shape l.b x l.r) l.w)

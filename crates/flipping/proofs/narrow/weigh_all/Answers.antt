@@ -12,24 +12,25 @@ pub loop-b-preserved : goal.loop-b-preserved
 loop-b-preserved c =
     let a = c.args in
     let l = c.loop-b in
-    let hb : l.b < a.sh.blocks = c.loop-b-test.true in
+    let hb : l.b < a.parity.shape.blocks = c.loop-b-test.true in
     let w = c.weigh in
     let r = c.highest.result in
-    let four = (c.requires.0.narrow c.requires.1).0 in (
+    let four = (c.args.parity.fit.narrow c.requires.0).0 in (
       omega (arith, length-set l.levels l.b r, l.invariant.0),
       λ k x lent is.
-          let all : w.result.checks ≡ total a.sh.rows (λ q. length (shifts_of a.sh a.h.now q l.b)) =
-          w.ensures.0 ∙ ap (λ n. total n (λ q. length (shifts_of a.sh a.h.now q l.b))) (sym four) in
-          weighed_more k a.sh a.from x l.levels l.b r (omega (arith, l.invariant.0, c.requires.0.blocks)) (l.invariant.1 k x lent is)
-          (c.highest.ensures (omega (arith, all, lent.few l.b hb)) (sent a.sh.size a.from l.b)
-          (broke k a.h.now a.sh l.b x 4) (λ i. score k x (l.b * a.sh.size + i))
-          (w.ensures.2 k x (sent a.sh.size a.from l.b) is c.sent_in.ensures)
+          let all : w.result.checks ≡ total a.parity.shape.rows (λ q. length (shifts_of a.parity.shape a.parity.places.now q l.b)) =
+          w.ensures.0 ∙ ap (λ n. total n (λ q. length (shifts_of a.parity.shape a.parity.places.now q l.b))) (sym four) in
+          weighed_more k a.parity.shape a.from x l.levels l.b r (omega (arith, l.invariant.0, a.parity.fit.blocks))
+          (l.invariant.1 k x lent is)
+          (c.highest.ensures (omega (arith, all, lent.few l.b hb)) (sent a.parity.shape.size a.from l.b)
+          (broke k a.parity.places.now a.parity.shape l.b x 4) (λ i. score k x (l.b * a.parity.shape.size + i))
+          (w.ensures.2 k x (sent a.parity.shape.size a.from l.b) is c.sent_in.ensures)
           (λ i hi q.
           omega (
             arith,
             all,
-            score_is k a.h.now a.sh lent c.requires.0 x l.b i hb (sent_lt a.sh.size a.from l.b i q),
-            ap (λ n. broke k a.h.now a.sh l.b x n i) four,
+            score_is k a.parity.places.now a.parity.shape lent c.args.parity.fit x l.b i hb (sent_lt a.parity.shape.size a.from l.b i q),
+            ap (λ n. broke k a.parity.places.now a.parity.shape l.b x n i) four,
           ))),
     )
 

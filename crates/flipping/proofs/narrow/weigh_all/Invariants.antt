@@ -10,5 +10,5 @@ use Rattle.flipping.proofs.narrow.weigh_all.Given as goal
 abbrev pub invariant-loop-b : goal.invariant-loop-b
 invariant-loop-b l =
     (length l.levels ≡ 16)
-    × ((c : Code) (x : Word) → Lent c l.h l.sh → Rows c l.sh x l.rows
-    → Weighed c l.sh l.from x (scores_of l.levels) (masks_of l.levels) l.b)
+    × ((c : Code) (x : Word) → Lent c l.parity.places.now l.parity.shape → Rows c l.parity.shape x l.rows
+    → Weighed c l.parity.shape l.from x (scores_of l.levels) (masks_of l.levels) l.b)

@@ -15,7 +15,7 @@ use Rattle.flipping.proofs.runs.Passing.{chosen_kept, chosen_met, chosen_left, c
 use Rattle.flipping.proofs.runs.go_on.Goals as goal
 
 pub returns-then-top-le8 : goal.returns-then-top-le8
-returns-then-top-le8 c k lent u w =
+returns-then-top-le8 c k h fit lent g u w =
     let a = c.args in
     let p = a.bounds.now.places in
     let l = c.loop-left in
@@ -23,8 +23,8 @@ returns-then-top-le8 c k lent u w =
     let low = subst (λ q. Lowers q a.from (wbit l.rows) l.bounds.met f.new.self.met) l.invariant.1 f.ensures.1 in
     let found = subst (λ q. Finds q a.from (wbit l.rows) l.bounds.met f.result.score f.result.bit f.new.self.met) l.invariant.1
     f.ensures.2 in
-    let i = l.invariant.2 k lent u w in
-    let top = chosen_top k a.h.now p.shape lent c.requires.0 p.starts p.counts c.requires.1 a.from (wbit l.y)
+    let i = l.invariant.2 k h fit lent g u w in
+    let top = chosen_top k h p.shape lent fit p.starts p.counts g a.from (wbit l.y)
     l.rows l.bounds.met _ f.result.score f.result.bit i.1.kept low found in
     let next = next_stuck lent (wbit l.y) top u
     (λ e. omega (arith, i.1.left_is, e, c.loop-left-test.true))
@@ -35,7 +35,7 @@ returns-then-top-le8 c k lent u w =
     )
 
 pub returns-then-flips-most : goal.returns-then-flips-most
-returns-then-flips-most c k lent u w =
+returns-then-flips-most c k h fit lent g u w =
     let a = c.args in
     let p = a.bounds.now.places in
     let l = c.loop-left in
@@ -43,8 +43,8 @@ returns-then-flips-most c k lent u w =
     let low = subst (λ q. Lowers q a.from (wbit l.rows) l.bounds.met f.new.self.met) l.invariant.1 f.ensures.1 in
     let found = subst (λ q. Finds q a.from (wbit l.rows) l.bounds.met f.result.score f.result.bit f.new.self.met) l.invariant.1
     f.ensures.2 in
-    let i = l.invariant.2 k lent u w in
-    let top = chosen_top k a.h.now p.shape lent c.requires.0 p.starts p.counts c.requires.1 a.from (wbit l.y)
+    let i = l.invariant.2 k h fit lent g u w in
+    let top = chosen_top k h p.shape lent fit p.starts p.counts g a.from (wbit l.y)
     l.rows l.bounds.met _ f.result.score f.result.bit i.1.kept low found in
     let next = next_flip lent (wbit l.y) top u
     (λ e. omega (arith, i.1.left_is, e, c.loop-left-test.true))
@@ -61,16 +61,16 @@ overflow_sub-left-in-loop-left c =
     let p = a.bounds.now.places in
     let l = c.loop-left in
     let f = c.choose-best in
-    let w = c.requires.4 in
+    let w = c.requires.2 in
     let low = subst (λ q. Lowers q a.from (wbit l.rows) l.bounds.met f.new.self.met) l.invariant.1 f.ensures.1 in
     let found = subst (λ q. Finds q a.from (wbit l.rows) l.bounds.met f.result.score f.result.bit f.new.self.met) l.invariant.1
     f.ensures.2 in
-    let i = l.invariant.2 w.code w.lent w.unsent w.carried in
+    let i = l.invariant.2 w.code w.table w.fit w.lent w.laid_in w.unsent w.carried in
     omega (
       arith,
       i.1.left_is,
-      chosen_left w.code a.h.now p.shape w.lent c.requires.0 p.starts p.counts
-          c.requires.1 a.from (wbit l.y) l.rows l.bounds.met _ f.result.score f.result.bit i.1.kept low found c.if-top-le8.false,
+      chosen_left w.code w.table p.shape w.lent w.fit p.starts p.counts w.laid_in a.from (wbit l.y) l.rows l.bounds.met _
+          f.result.score f.result.bit i.1.kept low found c.if-top-le8.false,
     )
 
 pub loop-left-preserved : goal.loop-left-preserved
@@ -88,15 +88,15 @@ loop-left-preserved c =
     let some = c.if-top-le8.false in (
       omega (arith, c.if-flips-most.false),
       b.ensures.checks.0 ∙ (f.ensures.0 ∙ l.invariant.1),
-      λ k lent u w.
-          let i = l.invariant.2 k lent u w in
-          let top = chosen_top k a.h.now p.shape lent c.requires.0 p.starts p.counts c.requires.1 a.from (wbit l.y)
+      λ k h fit lent g u w.
+          let i = l.invariant.2 k h fit lent g u w in
+          let top = chosen_top k h p.shape lent fit p.starts p.counts g a.from (wbit l.y)
           l.rows l.bounds.met _ f.result.score f.result.bit i.1.kept low found in
-          let kept = chosen_kept k a.h.now p.shape lent c.requires.0 p.starts p.counts c.requires.1 a.from
+          let kept = chosen_kept k h p.shape lent fit p.starts p.counts g a.from
           (wbit l.y) l.rows l.bounds.met _ f.result.score f.result.bit i.1.kept low found in
-          let met = chosen_met k a.h.now p.shape lent c.requires.0 p.starts p.counts c.requires.1 a.from (wbit l.y)
+          let met = chosen_met k h p.shape lent fit p.starts p.counts g a.from (wbit l.y)
           l.rows l.bounds.met _ f.result.score f.result.bit i.1.kept low found in
-          let left = chosen_left k a.h.now p.shape lent c.requires.0 p.starts p.counts c.requires.1 a.from
+          let left = chosen_left k h p.shape lent fit p.starts p.counts g a.from
           (wbit l.y) l.rows l.bounds.met _ f.result.score f.result.bit i.1.kept low found some in
           let next = next_flip lent (wbit l.y) top u
           (λ e. omega (arith, i.1.left_is, e, c.loop-left-test.true)) some in
@@ -105,18 +105,18 @@ loop-left-preserved c =
                 (goes_on (by_excess k) k p.shape a.limit (wbit a.y.now) l.flips (wbit l.y) _ i.0 _ _ next
                 c.if-flips-most.false _ _ refl
                 refl),
-            carried_more here (flips k a.h.now a.from (wbit l.y) lent c.requires.1 kept met)
+            carried_more here (flips k h a.from (wbit l.y) lent g kept met)
                 (omega (arith, left, i.1.left_is)),
           ),
       l.invariant.3,
     )
 
 pub returns : goal.returns
-returns c k lent u w =
+returns c k h fit lent g u w =
     let a = c.args in
     let p = a.bounds.now.places in
     let l = c.loop-left in
-    let i = l.invariant.2 k lent u w in
+    let i = l.invariant.2 k h fit lent g u w in
     let none : broken k (wbit l.y) ≡ 0 = omega (arith, i.1.left_is, c.loop-left-test.false) in (
       runs_as _ _ c.at_end-2.ensures.0 c.at_end-2.ensures.1 (ends_quiet (by_excess k) k p.shape a.limit (wbit a.y.now)
           l.flips (wbit l.y) _ i.0 (quiet_next k (wbit l.y) none)),

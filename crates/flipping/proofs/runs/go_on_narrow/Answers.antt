@@ -19,7 +19,7 @@ loop-left-init c =
     let a = c.args in (
       omega arith,
       λ k lent u w. (
-        going_start (by_size (smaller a.samples.now) k) k a.sh a.limit (wbit a.y.now) (laid k a.sh (wbit a.y.now)) refl,
+        going_start (by_size (smaller a.samples.now) k) k a.parity.shape a.limit (wbit a.y.now) (laid k a.parity.shape (wbit a.y.now)) refl,
         w,
       ),
       search rules,
@@ -28,13 +28,12 @@ loop-left-init c =
 pub choose-chosen-requires : goal.choose-chosen-requires
 choose-chosen-requires c =
     let l = c.loop-left in
-    let w = c.requires.5 in
+    let w = c.requires.4 in
     let i = l.invariant.1 w.code w.lent w.unsent w.carried in (
       c.requires.0,
       c.requires.1,
       c.requires.2,
       c.requires.3,
-      c.requires.4,
       record { code = w.code; word = wbit l.y; lent = w.lent; rows_are = i.1.rows_are },
     )
 
@@ -45,10 +44,10 @@ returns-then-high-le8 c k lent u w =
     let i = l.invariant.1 k lent u w in
     let way = by_size (smaller a.samples.now) k in
     let next = chosen_stuck a.samples.now lent (wbit l.y) c.choose-chosen.result
-    (c.choose-chosen.ensures k (wbit l.y) lent i.1.rows_are) u (some_sent lent c.requires.2 c.requires.3 u)
+    (c.choose-chosen.ensures k (wbit l.y) lent i.1.rows_are) u (some_sent lent c.requires.1 c.requires.2 u)
     (λ e. omega (arith, i.1.left_is, e, c.loop-left-test.true)) c.if-high-le8.true in (
       runs_as _ _ c.at_end.ensures.0 c.at_end.ensures.1
-          (ends_stuck way k a.sh a.limit (wbit a.y.now) l.flips (wbit l.y) _ i.0 _ _ next),
+          (ends_stuck way k a.parity.shape a.limit (wbit a.y.now) l.flips (wbit l.y) _ i.0 _ _ next),
       c.at_end.ensures.2 ∙ i.1.left_is,
     )
 
@@ -62,17 +61,16 @@ returns-then-flips-end c k lent u w =
     (c.choose-chosen.ensures k (wbit l.y) lent i.1.rows_are) c.if-high-le8.false u
     (λ e. omega (arith, i.1.left_is, e, c.loop-left-test.true)) in (
       runs_as _ _ c.at_end-then-flips-end.ensures.0 c.at_end-then-flips-end.ensures.1
-          (ends_limit way k a.sh a.limit (wbit a.y.now) l.flips (wbit l.y) _ i.0 _ _ next c.if-flips-end.true),
+          (ends_limit way k a.parity.shape a.limit (wbit a.y.now) l.flips (wbit l.y) _ i.0 _ _ next c.if-flips-end.true),
       c.at_end-then-flips-end.ensures.2 ∙ i.1.left_is,
     )
 
 pub flip-requires : goal.flip-requires
 flip-requires c =
     let l = c.loop-left in
-    let w = c.requires.5 in
+    let w = c.requires.4 in
     let i = l.invariant.1 w.code w.lent w.unsent w.carried in (
       c.requires.0,
-      c.requires.1,
       chosen_inside c.args.samples.now w.lent (wbit l.y) c.choose-chosen.result
           (c.choose-chosen.ensures w.code (wbit l.y) w.lent i.1.rows_are) c.if-high-le8.false,
     )
@@ -84,7 +82,7 @@ overflow_sub-left c =
 pub overflow_sub-left-in-loop-left : goal.overflow_sub-left-in-loop-left
 overflow_sub-left-in-loop-left c =
     let l = c.loop-left in
-    let w = c.requires.5 in
+    let w = c.requires.4 in
     let i = l.invariant.1 w.code w.lent w.unsent w.carried in
     omega (
       arith,
@@ -114,8 +112,8 @@ loop-left-preserved c =
           let best = c.choose-chosen.ensures k (wbit l.y) lent i.1.rows_are in
           let next = chosen_flip a.samples.now lent (wbit l.y) c.choose-chosen.result best c.if-high-le8.false u
           (λ e. omega (arith, i.1.left_is, e, c.loop-left-test.true)) in (
-            subst (λ z. Going way k a.sh a.limit (wbit a.y.now) (l.flips + 1) z (laid k a.sh z)) (sym f.word)
-                (goes_on way k a.sh a.limit (wbit a.y.now) l.flips (wbit l.y) _ i.0 _ _ next c.if-flips-end.false _ _ refl
+            subst (λ z. Going way k a.parity.shape a.limit (wbit a.y.now) (l.flips + 1) z (laid k a.parity.shape z)) (sym f.word)
+                (goes_on way k a.parity.shape a.limit (wbit a.y.now) l.flips (wbit l.y) _ i.0 _ _ next c.if-flips-end.false _ _ refl
                 refl),
             carried_narrow f.word (f.checks k (wbit l.y) lent i.1.rows_are)
                 (omega (
@@ -135,7 +133,7 @@ returns c k lent u w =
     let i = l.invariant.1 k lent u w in
     let none : broken k (wbit l.y) ≡ 0 = omega (arith, i.1.left_is, c.loop-left-test.false) in (
       runs_as _ _ c.at_end-2.ensures.0 c.at_end-2.ensures.1
-          (ends_quiet way k a.sh a.limit (wbit a.y.now) l.flips (wbit l.y) _ i.0
+          (ends_quiet way k a.parity.shape a.limit (wbit a.y.now) l.flips (wbit l.y) _ i.0
           (sized_quiet (smaller a.samples.now) k (wbit l.y) none)),
       c.at_end-2.ensures.2 ∙ sym none,
     )

@@ -11,10 +11,11 @@ use Rattle.flipping.proofs.runs.go_on_narrow.Given as goal
 
 abbrev pub invariant-loop-left : goal.invariant-loop-left
 invariant-loop-left l =
-    (l.flips ≤ l.limit) × ((c : Code) → Lent c l.h l.sh → c.unsent ≡ l.from → CarriedNarrow c l.sh l.first (wbit l.initial.y) l.initial.rows
+    (l.flips ≤ l.limit) × ((c : Code) → Lent c l.parity.places.now l.parity.shape → c.unsent ≡ l.from
+    → CarriedNarrow c l.parity.shape l.first (wbit l.initial.y) l.initial.rows
     → Going (by_size (smaller
-    l.samples) c) c l.sh l.limit (wbit l.initial.y) l.flips (wbit l.y) (laid c l.sh (wbit l.y))
-    × CarriedNarrow c l.sh l.left (wbit l.y) l.rows) × (l.limit < 65536)
+    l.samples) c) c l.parity.shape l.limit (wbit l.initial.y) l.flips (wbit l.y) (laid c l.parity.shape (wbit l.y))
+    × CarriedNarrow c l.parity.shape l.left (wbit l.y) l.rows) × (l.limit < 65536)
 
 abbrev pub decreases-loop-left : goal.decreases-loop-left
 decreases-loop-left l = l.limit - l.flips

@@ -2,7 +2,6 @@
 use mathlib.Core.Path.{refl, sym, ap, ◌∙◌}
 use mathlib.Core.List.{[]}
 use native.Mathlib.Omega.{arith}
-use borrow.Author.Rules.{rules}
 use Rattle.rules.specs.Flipping.{flip}
 use Rattle.flipping.proofs.runs.Passing.{score_fits, excess_fits, excess_kept}
 use Rattle.flipping.proofs.runs.Sizes.{chosen_inside, chosen_flip, chosen_small, sized_equal}
@@ -10,40 +9,37 @@ use Rattle.flipping.proofs.runs.next_narrow.Goals as goal
 
 pub begin-requires : goal.begin-requires
 begin-requires c = (
-  c.requires.0.some,
-  omega (arith, c.requires.0.held, c.requires.4),
-  c.requires.4,
-  (c.requires.0.narrow c.requires.4).0,
-  search rules,
-  refl,
+  c.args.parity.fit.some,
+  omega (arith, c.args.parity.fit.held, c.requires.3),
+  c.requires.3,
+  (c.args.parity.fit.narrow c.requires.3).0,
 )
 
 pub choose-best-requires : goal.choose-best-requires
 choose-best-requires c =
-    let w = c.requires.3 in (
+    let w = c.requires.2 in (
+      c.requires.3,
       c.requires.0,
-      c.requires.4,
       c.requires.1,
-      c.requires.2,
       λ some. absurd (omega arith),
       record { code = w.code; word = w.word; lent = w.lent; rows_are = c.begin.ensures w.code w.word w.held },
     )
 
 pub overflow_cast-excess : goal.overflow_cast-excess
 overflow_cast-excess c =
-    let w = c.requires.3 in
+    let w = c.requires.2 in
     score_fits _ (chosen_small [] w.lent w.word c.choose-best.result
     (c.choose-best.ensures w.code w.word w.lent (c.begin.ensures w.code w.word w.held)) c.if-best-gt8.true)
 
 pub overflow_sub-excess : goal.overflow_sub-excess
 overflow_sub-excess c =
-    let w = c.requires.3 in
+    let w = c.requires.2 in
     excess_fits _ (chosen_small [] w.lent w.word c.choose-best.result
     (c.choose-best.ensures w.code w.word w.lent (c.begin.ensures w.code w.word w.held)) c.if-best-gt8.true)
 
 pub returns-then-best-gt8 : goal.returns-then-best-gt8
 returns-then-best-gt8 c =
-    let w = c.requires.3 in
+    let w = c.requires.2 in
     let best = c.choose-best in
     let rows = c.begin.ensures in
     let high = c.if-best-gt8.true in

@@ -17,16 +17,16 @@ returns-then-first-eq0 c k b =
     let y = wbit a.y.now in
     let none : broken k y ≡ 0 = sym b.broken ∙ c.if-first-eq0.true in (
       runs_as _ _ c.at_end.ensures.0 c.at_end.ensures.1
-          (ends_quiet (by_excess k) k a.sh a.limit y 0 y (laid k a.sh y)
-          (going_start (by_excess k) k a.sh a.limit y (laid k a.sh y) refl) (quiet_next k y none)),
+          (ends_quiet (by_excess k) k a.parity.shape a.limit y 0 y (laid k a.parity.shape y)
+          (going_start (by_excess k) k a.parity.shape a.limit y (laid k a.parity.shape y) refl) (quiet_next k y none)),
       c.at_end.ensures.2 ∙ sym none,
     )
 
 pub run_narrow-requires : goal.run_narrow-requires
 run_narrow-requires c =
-    (c.requires.0, c.requires.1, c.requires.2, λ some. absurd (omega arith), c.requires.3, search rules)
+    (c.requires.0, c.requires.1, λ some. absurd (omega arith), c.requires.2, search rules)
 
-pub returns-then-sh-eq1 : goal.returns-then-sh-eq1
-returns-then-sh-eq1 c k b =
+pub returns-then-parity-eq1 : goal.returns-then-parity-eq1
+returns-then-parity-eq1 c k b =
     let to = c.run_narrow.ensures k b in
     (equal_runs to.0, to.1)

@@ -11,21 +11,23 @@ use Rattle.flipping.proofs.runs.run_bounded.Goals as goal
 pub go_on-requires : goal.go_on-requires
 go_on-requires c =
     let a = c.args in
+    let h = a.parity.places.now in
     let b = c.begin-bounds in
     let e = sym b.ensures.1 in
-    let w = c.requires.3 in
+    let w = c.requires.2 in
     let k = w.begins in (
-      subst (Fit a.h.now) e c.requires.0,
-      b.ensures.2,
-      subst (λ s. 1 ≤ s.blocks) e c.requires.1,
-      subst (λ s. a.from < s.size) e c.requires.2,
+      subst (λ s. 1 ≤ s.blocks) e c.requires.0,
+      subst (λ s. a.from < s.size) e c.requires.1,
       record {
         code = w.code;
-        lent = subst (Lent w.code a.h.now) e k.lent;
+        table = h;
+        fit = subst (Fit h) e a.parity.fit;
+        lent = subst (Lent w.code h) e k.lent;
+        laid_in = b.ensures.2;
         unsent = k.unsent;
         carried = record {
-          kept = begun_kept w.code a.h.now a.sh k.lent c.requires.0 a.from (wbit a.y.now) _ k.held b.result.places b.ensures.1 b.ensures.2
-              _ _ b.ensures.0 b.ensures.3;
+          kept = begun_kept w.code h a.parity.shape k.lent a.parity.fit a.from (wbit a.y.now) _ k.held b.result.places b.ensures.1
+              b.ensures.2 _ _ b.ensures.0 b.ensures.3;
           left_is = k.broken;
         };
       },
@@ -34,12 +36,13 @@ go_on-requires c =
 pub returns : goal.returns
 returns c k w =
     let a = c.args in
+    let h = a.parity.places.now in
     let b = c.begin-bounds in
     let e = b.ensures.1 in
     let g = c.go_on in
-    let done = g.ensures k (subst (Lent k a.h.now) (sym e) w.lent) w.unsent
+    let done = g.ensures k h (subst (Fit h) (sym e) a.parity.fit) (subst (Lent k h) (sym e) w.lent) b.ensures.2 w.unsent
     (record {
-      kept = begun_kept k a.h.now a.sh w.lent c.requires.0 a.from (wbit a.y.now) _ w.held b.result.places b.ensures.1 b.ensures.2 _ _
+      kept = begun_kept k h a.parity.shape w.lent a.parity.fit a.from (wbit a.y.now) _ w.held b.result.places b.ensures.1 b.ensures.2 _ _
           b.ensures.0 b.ensures.3;
       left_is = w.broken;
     }) in

@@ -1,29 +1,24 @@
 -- `runs::run_narrow`: the rows are made, and the run goes on from them. Assumes nothing.
-use mathlib.Core.Path.{refl}
 use native.Mathlib.Omega.{arith}
-use borrow.Author.Rules.{rules}
 use Rattle.vectors.specs.Vectors.{wbit}
 use Rattle.flipping.proofs.runs.run_narrow.Goals as goal
 
 pub begin-requires : goal.begin-requires
 begin-requires c = (
-  c.requires.0.some,
-  omega (arith, c.requires.0.held, c.requires.5),
-  c.requires.5,
-  (c.requires.0.narrow c.requires.5).0,
-  search rules,
-  refl,
+  c.args.parity.fit.some,
+  omega (arith, c.args.parity.fit.held, c.requires.4),
+  c.requires.4,
+  (c.args.parity.fit.narrow c.requires.4).0,
 )
 
 pub go_on_narrow-requires : goal.go_on_narrow-requires
 go_on_narrow-requires c =
-    let w = c.requires.4 in
+    let w = c.requires.3 in
     let k = w.begins in (
+      c.requires.4,
       c.requires.0,
-      c.requires.5,
       c.requires.1,
       c.requires.2,
-      c.requires.3,
       record {
         code = w.code;
         lent = k.lent;

@@ -10,20 +10,26 @@ use Rattle.identity.proofs.ties.tied.Goals as goal
 
 pub returns-then-rows_tied : goal.returns-then-rows_tied
 returns-then-rows_tied c printed fits =
-    let a = c.args in
-    let G = generator_of a.m a.count a.parts a.generator.now in
-    let P = parity_of a.m a.rows (a.count + a.parts) a.parity.now in
-    let pos : 0 < a.m = omega arith in
+    let a = c.args.tables in
+    let m = a.sizes.m in
+    let count = a.sizes.information_blocks in
+    let parts = a.sizes.parity_blocks in
+    let G = generator_of m count parts a.generator.now in
+    let P = parity_of m a.sizes.rows (count + parts) a.parity.now in
+    let pos : 0 < m = omega arith in
     c.all_padded.ensures
-    ∙ ap (λ (x : Bool). x && all_padded_of a.m G)
-    (sym (same_rows a.m printed pos fits P G ∙ sym c.rows_tied.ensures ∙ c.if-rows_tied.true))
+    ∙ ap (λ (x : Bool). x && all_padded_of m G)
+    (sym (same_rows m printed pos fits P G ∙ sym c.rows_tied.ensures ∙ c.if-rows_tied.true))
 
 pub returns-else-rows_tied : goal.returns-else-rows_tied
 returns-else-rows_tied c printed fits =
-    let a = c.args in
-    let G = generator_of a.m a.count a.parts a.generator.now in
-    let P = parity_of a.m a.rows (a.count + a.parts) a.parity.now in
-    let pos : 0 < a.m = omega arith in
+    let a = c.args.tables in
+    let m = a.sizes.m in
+    let count = a.sizes.information_blocks in
+    let parts = a.sizes.parity_blocks in
+    let G = generator_of m count parts a.generator.now in
+    let P = parity_of m a.sizes.rows (count + parts) a.parity.now in
+    let pos : 0 < m = omega arith in
     c.if-rows_tied.false
-    ∙ ap (λ (x : Bool). x && all_padded_of a.m G)
-    (sym (same_rows a.m printed pos fits P G ∙ sym c.rows_tied.ensures ∙ c.if-rows_tied.false))
+    ∙ ap (λ (x : Bool). x && all_padded_of m G)
+    (sym (same_rows m printed pos fits P G ∙ sym c.rows_tied.ensures ∙ c.if-rows_tied.false))

@@ -7,11 +7,15 @@ use Rattle.refusals.proofs.Admitted.{shaped, unsent_is}
 use Rattle.flipping.proofs.endings.Ends.{begins, beginning}
 use Rattle.lists.proofs.listing.count_flips.Goals as goal
 
+pub invariant_of-parity : goal.invariant_of-parity
+invariant_of-parity c =
+    let k = c.args.received.code.known in
+    record { fit = (c.measure-sh.ensures.1 k.number k.offers k.is).lends.fit }
+
 pub run-ended-requires : goal.run-ended-requires
 run-ended-requires c =
     let k = c.args.received.code.known in
     let e = c.measure-sh.ensures.1 k.number k.offers k.is in (
-      e.lends.fit,
       (shaped k c.measure-sh.ensures.0).0,
       (shaped k c.measure-sh.ensures.0).1,
       beginning k.number c.args.received.word.now _ _ _ _ e c.broken-first.result c.broken-first.ensures c.args.received.code.offer.unsent

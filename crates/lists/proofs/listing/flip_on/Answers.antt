@@ -24,10 +24,6 @@ returns-then-flips-l c =
           ended_lists n _ limit room _ _ _ _ _ st _ _ _ ends _ _ _ _ r.ensures.0 r.ensures.1 (r.ensures.2 n limit is ends),
     )
 
-pub flip-requires : goal.flip-requires
-flip-requires c =
-    (c.requires.0.stands.lends.fit, c.requires.1)
-
 pub overflow_cast-bit : goal.overflow_cast-bit
 overflow_cast-bit c =
     omega (arith, c.requires.0.stands.lends.fit.bits, c.requires.1)

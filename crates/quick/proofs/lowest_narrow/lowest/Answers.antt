@@ -1,5 +1,5 @@
 -- `quicknarrow::lowest`: the octets loaded, and their rows. Assumes nothing.
-use mathlib.Core.Path.{refl, sym, ap, ◌∙◌}
+use mathlib.Core.Path.{sym, ap, ◌∙◌}
 use native.Mathlib.Omega.{arith}
 use Rattle.rules.specs.Codes.{code}
 use Rattle.rules.specs.Checks.{lowest}
@@ -8,11 +8,7 @@ use Rattle.catalogue.proofs.offer.Offers.{fixed}
 use Rattle.word.proofs.received.Handed.{taken_whole}
 use Rattle.vectors.proofs.Filling.{zero_words}
 use Rattle.quick.proofs.groups.Shapes.{checked}
-use borrow.Author.Rules.{rules}
 use Rattle.quick.proofs.lowest_narrow.lowest.Goals as goal
-
-pub lend_narrow-sh-requires : goal.lend_narrow-sh-requires
-lend_narrow-sh-requires c = (refl, c.requires.2)
 
 pub load-requires : goal.load-requires
 load-requires c =
@@ -20,12 +16,6 @@ load-requires c =
     let w = (checked k.number k.offers).narrow (λ e. c.requires.2 (ap (λ o. o.shape.size) k.is ∙ e)) in
     let word = c.requires.1 ∙ ap (λ o. o.word) k.is in
     (omega (arith, w.0, word), zero_words 17)
-
-pub rows_lowest-requires : goal.rows_lowest-requires
-rows_lowest-requires c =
-    let k = c.requires.0 in
-    let l = c.lend_narrow-sh.ensures in
-    ((l.0 k.number k.offers (ap (λ o. o.shape.size) k.is)).1.fit, l.1, search rules)
 
 pub returns : goal.returns
 returns c n off is =

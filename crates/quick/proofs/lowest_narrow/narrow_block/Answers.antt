@@ -1,82 +1,30 @@
 -- `quicknarrow::narrow_block`: the block doubled, and its two places. Assumes nothing.
 use mathlib.Core.Path.{sym, ap, ap₂, ◌∙◌}
 use mathlib.Core.Bool.{Bool, ◌&&◌}
-use Prim.Native.Nat.{◌+◌, ◌*◌, ◌≤◌}
-use native.Mathlib.Nat.{mul-le-mul}
+use Prim.Native.Nat.{◌+◌, ◌*◌}
 use native.Mathlib.Omega.{arith}
 use lib.Dec.{ltb}
 use Rattle.bits.specs.Bits.{Word, ◌⊕◌}
 use Rattle.layout.specs.Lent.{place_of}
 use Rattle.layout.proofs.Lending.{read_any}
-use Rattle.syndromes.proofs.Bounds.{block_room, place_room}
+use Rattle.syndromes.proofs.Bounds.{place_room}
 use Rattle.vectors.specs.Vectors.{wbit, Holds, up_to, from}
 use Rattle.vectors.proofs.Places.{digit_xor}
 use Rattle.quick.specs.groups.Groups.{reached}
 use Rattle.quick.proofs.groups.Groups.{placed_first, placed_second}
 use Rattle.quick.proofs.lowest_narrow.narrow_block.Goals as goal
 
-pub overflow_mul-b : goal.overflow_mul-b
-overflow_mul-b c =
-    omega (arith, block_room c.args.h.now c.args.sh c.requires.0 c.args.b c.requires.2)
-
-pub window-requires : goal.window-requires
-window-requires c =
-    let few : c.args.b ≤ 15 = omega (arith, c.requires.0.blocks, c.requires.2) in
-    omega (arith, mul-le-mul few c.requires.1, c.requires.4)
-
-pub overflow_mul-at : goal.overflow_mul-at
-overflow_mul-at c =
-    omega (arith, place_room c.args.h.now c.args.sh c.requires.0 c.args.r c.args.b c.requires.3 c.requires.2)
-
-pub overflow_add-at : goal.overflow_add-at
-overflow_add-at c =
-    omega (arith, place_room c.args.h.now c.args.sh c.requires.0 c.args.r c.args.b c.requires.3 c.requires.2)
-
-pub overflow_mul-at-2 : goal.overflow_mul-at-2
-overflow_mul-at-2 c =
-    omega (arith, place_room c.args.h.now c.args.sh c.requires.0 c.args.r c.args.b c.requires.3 c.requires.2)
-
-pub offset_bounds-h-at : goal.offset_bounds-h-at
-offset_bounds-h-at c =
-    omega (arith, place_room c.args.h.now c.args.sh c.requires.0 c.args.r c.args.b c.requires.3 c.requires.2)
-
-pub bounds-h-at : goal.bounds-h-at
-bounds-h-at c =
-    omega (arith, place_room c.args.h.now c.args.sh c.requires.0 c.args.r c.args.b c.requires.3 c.requires.2)
-
-pub overflow_cast-h : goal.overflow_cast-h
-overflow_cast-h c =
-    let a = c.args in
-    omega (arith, c.type_inv.h (place_of a.sh a.r a.b))
-
-pub overflow_add-at-2 : goal.overflow_add-at-2
-overflow_add-at-2 c =
-    omega (arith, place_room c.args.h.now c.args.sh c.requires.0 c.args.r c.args.b c.requires.3 c.requires.2)
-
-pub offset_bounds-h-at-2 : goal.offset_bounds-h-at-2
-offset_bounds-h-at-2 c =
-    omega (arith, place_room c.args.h.now c.args.sh c.requires.0 c.args.r c.args.b c.requires.3 c.requires.2)
-
-pub bounds-h-at-2 : goal.bounds-h-at-2
-bounds-h-at-2 c =
-    omega (arith, place_room c.args.h.now c.args.sh c.requires.0 c.args.r c.args.b c.requires.3 c.requires.2)
-
-pub overflow_cast-h-2 : goal.overflow_cast-h-2
-overflow_cast-h-2 c =
-    let a = c.args in
-    omega (arith, c.type_inv.h (place_of a.sh a.r a.b + 1))
-
 pub returns : goal.returns
 returns c =
     let f = c.front-block in
     let w = c.window in
-    let sh = c.args.sh in
-    let h = c.args.h.now in
+    let sh = c.args.parity.shape in
+    let h = c.args.parity.places.now in
     let y = wbit c.args.y.now in
     let b = c.args.b in
     let r = c.args.r in
     let M = sh.size in
-    let inside = place_room h sh c.requires.0 r b c.requires.3 c.requires.2 in
+    let inside = place_room h sh c.args.parity.fit r b c.requires.2 c.requires.1 in
     let block : Holds f.result (up_to M (from (b * M) y)) =
     λ i hi. f.ensures i hi ∙ ap (λ (p : Bool). ltb i M && p) (w.ensures i hi) in
     let twin = c.double_word-d.ensures (from (b * M) y) block in

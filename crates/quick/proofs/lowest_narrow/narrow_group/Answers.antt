@@ -12,7 +12,7 @@ use Rattle.quick.proofs.lowest_narrow.narrow_group.Goals as goal
 pub loop-b-init : goal.loop-b-init
 loop-b-init c =
     let a = c.args in
-    (omega arith, λ i hi. group_none a.sh a.h.now (wbit a.y.now) a.r i)
+    (omega arith, λ i hi. group_none a.parity.shape a.parity.places.now (wbit a.y.now) a.r i)
 
 pub loop-b-preserved : goal.loop-b-preserved
 loop-b-preserved c =
@@ -22,12 +22,12 @@ loop-b-preserved c =
       λ i hi.
           digit_xor 64 l.v c.narrow_block-v.result i
           ∙ ap₂ ◌⊕◌ (l.invariant.1 i hi) (c.narrow_block-v.ensures i hi)
-          ∙ group_block a.sh a.h.now (wbit a.y.now) a.r l.b i,
+          ∙ group_block a.parity.shape a.parity.places.now (wbit a.y.now) a.r l.b i,
     )
 
 pub returns : goal.returns
 returns c =
     let a = c.args in
     let l = c.loop-b in
-    let e : l.b ≡ a.sh.blocks = omega arith in
-    λ i hi. l.invariant.1 i hi ∙ ap (λ (b : ℕ). group a.sh a.h.now (wbit a.y.now) a.r (2 * b) i) e
+    let e : l.b ≡ a.parity.shape.blocks = omega arith in
+    λ i hi. l.invariant.1 i hi ∙ ap (λ (b : ℕ). group a.parity.shape a.parity.places.now (wbit a.y.now) a.r (2 * b) i) e

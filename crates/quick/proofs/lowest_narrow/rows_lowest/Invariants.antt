@@ -10,4 +10,5 @@ use Rattle.quick.proofs.lowest_narrow.rows_lowest.Given as goal
 
 abbrev pub invariant-loop-r : goal.invariant-loop-r
 invariant-loop-r l =
-    (l.r ≤ l.sh.rows) × ((c : Code) → Lent c l.h l.sh → (j : ℕ) → j < l.r * l.sh.size → check c (wbit l.y) j ≡ false)
+    let sh = l.parity.shape in
+    (l.r ≤ sh.rows) × ((c : Code) → Lent c l.parity.places.now sh → (j : ℕ) → j < l.r * sh.size → check c (wbit l.y) j ≡ false)

@@ -6,4 +6,6 @@ use Rattle.quick.specs.groups.Groups.{Begun}
 use Rattle.quick.proofs.lowest_wide.begin_row.Given as goal
 
 abbrev pub invariant-loop-k : goal.invariant-loop-k
-invariant-loop-k l = (l.k ≤ 2 * l.sh.blocks) × (length l.begins ≡ 2 * l.sh.blocks) × Begun l.k l.sh l.h l.r l.begins
+invariant-loop-k l =
+    let sh = l.parity.shape in
+    (l.k ≤ 2 * sh.blocks) × (length l.begins ≡ 2 * sh.blocks) × Begun l.k sh l.parity.places.now l.r l.begins

@@ -9,4 +9,5 @@ use Rattle.quick.proofs.lowest_wide.first_group.Given as goal
 
 abbrev pub invariant-loop-k : goal.invariant-loop-k
 invariant-loop-k l =
-    (l.k ≤ 2 * l.sh.blocks) × ((c : Code) → l.u ≡ c.unsent → Has 64 l.v (group l.sh l.h (lifted c (bit l.octets)) 0 l.k))
+    let sh = l.parity.shape in
+    (l.k ≤ 2 * sh.blocks) × ((c : Code) → l.u ≡ c.unsent → Has 64 l.v (group sh l.parity.places.now (lifted c (bit l.octets)) 0 l.k))

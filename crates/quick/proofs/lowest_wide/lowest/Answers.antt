@@ -37,6 +37,12 @@ lent n off e h is = (by_size_lem 511 h near (record {
 full : (h : List ℕ) → h ≡ flat16 (pairs parity511) → Full h near
 full h is = subst (λ z. Full z near) (sym is) every_shift
 
+pub invariant_of-parity : goal.invariant_of-parity
+invariant_of-parity c =
+    let k = c.requires.0 in
+    let e : 511 ≡ (offer_of k.number).shape.size = sym c.requires.2 ∙ ap (λ o. o.shape.size) k.is in
+    record { fit = (lent k.number k.offers e _ c.lend511.ensures).fit }
+
 pub first_group-v-requires : goal.first_group-v-requires
 first_group-v-requires c =
     let k = c.requires.0 in
@@ -44,9 +50,7 @@ first_group-v-requires c =
     let w = (checked k.number k.offers).wide (sym e) in
     let word = c.requires.1 ∙ ap (λ o. o.word) k.is in
     let unsent = ap (λ o. o.unsent) k.is in
-    let few = small k in
-    let l = lent k.number k.offers e _ c.lend511.ensures in (
-      l.fit,
+    let few = small k in (
       lit≤ tt,
       lit≤ tt,
       omega (arith, w.0, word, unsent),
@@ -68,11 +72,8 @@ returns-then-v-ne0 c n off is =
 
 pub whole_lowest-requires : goal.whole_lowest-requires
 whole_lowest-requires c =
-    let k = c.requires.0 in
-    let e : 511 ≡ (offer_of k.number).shape.size = sym c.requires.2 ∙ ap (λ o. o.shape.size) k.is in
-    let few = small k in
-    let is = c.lend511.ensures in
-    ((lent k.number k.offers e _ is).fit, full _ is, lit< tt, refl, few.unsent, omega (arith, few.word, c.requires.1))
+    let few = small c.requires.0 in
+    (full _ c.lend511.ensures, lit< tt, refl, few.unsent, omega (arith, few.word, c.requires.1))
 
 pub returns : goal.returns
 returns c n off is =

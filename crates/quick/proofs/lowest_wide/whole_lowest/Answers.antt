@@ -4,21 +4,15 @@ use Rattle.bits.specs.Bits.{Word, bit}
 use Rattle.rules.specs.Encoding.{lifted}
 use Rattle.vectors.proofs.Filling.{zero_words}
 use Rattle.quick.specs.groups.Groups.{Twofold}
-use Rattle.quick.proofs.lowest_wide.Doubled.{fit_size}
-use borrow.Author.Rules.{rules}
 use Rattle.quick.proofs.lowest_wide.whole_lowest.Goals as goal
 
 pub take-requires : goal.take-requires
 take-requires c =
-    (c.requires.5, c.requires.4, refl, zero_words 130)
-
-pub double_blocks-requires : goal.double_blocks-requires
-double_blocks-requires c =
-    (c.requires.2, fit_size c.requires.0, c.requires.3, c.requires.0.bits, search rules, refl)
+    (c.requires.4, c.requires.3, refl, zero_words 130)
 
 pub returns : goal.returns
 returns c code lent e =
     let bits = c.take.ensures code e in
     let two = c.double_blocks in
     c.wide_rows_lowest.ensures code (lifted code (bit c.args.octets.now)) lent
-    (subst (λ (x : Word). Twofold c.args.sh.blocks c.args.sh.size x two.new.d) bits two.ensures)
+    (subst (λ (x : Word). Twofold c.args.parity.shape.blocks c.args.parity.shape.size x two.new.d) bits two.ensures)

@@ -10,6 +10,8 @@ use Rattle.quick.specs.groups.Groups.{Twofold}
 use Rattle.quick.proofs.lowest_wide.wide_rows_lowest.Given as goal
 
 abbrev pub invariant-loop-row : goal.invariant-loop-row
-invariant-loop-row l = (l.row ≤ l.sh.rows)
-    × ((c : Code) (x : Word) → Lent c l.h l.sh → Twofold l.sh.blocks l.sh.size x l.d → (j : ℕ) → j < l.row * l.sh.size
+invariant-loop-row l =
+    let sh = l.parity.shape in
+    (l.row ≤ sh.rows)
+    × ((c : Code) (x : Word) → Lent c l.parity.places.now sh → Twofold sh.blocks sh.size x l.d → (j : ℕ) → j < l.row * sh.size
     → check c x j ≡ false)

@@ -17,15 +17,6 @@ returns-then-is_one-is_set c =
     (sym (ap₂ beq c.is_one.ensures c.is_set.ensures) ∙ c.if-is_one-is_set.true) in
     (omega arith, λ h. omega arith)
 
-pub returns-then-unlike-eq0 : goal.returns-then-unlike-eq0
-unfolding read
-returns-then-unlike-eq0 c =
-    let a = c.args in
-    let x = read a.samples.now a.bit in
-    let other : tally (x ⊕ wbit a.y.now a.bit) ≡ 1 = apart x (wbit a.y.now a.bit)
-    (sym (ap₂ beq c.is_one.ensures c.is_set.ensures) ∙ c.if-is_one-is_set.false) in
-    (omega arith, λ h. absurd (omega (arith, c.if-unlike-eq0.true)))
-
 pub returns : goal.returns
 unfolding read
 returns c =
@@ -33,4 +24,4 @@ returns c =
     let x = read a.samples.now a.bit in
     let other : tally (x ⊕ wbit a.y.now a.bit) ≡ 1 = apart x (wbit a.y.now a.bit)
     (sym (ap₂ beq c.is_one.ensures c.is_set.ensures) ∙ c.if-is_one-is_set.false) in
-    (omega arith, λ h. omega (arith, c.if-unlike-eq0.false))
+    (omega (arith, c.saturating_sub.ensures), λ h. omega (arith, c.saturating_sub.ensures))

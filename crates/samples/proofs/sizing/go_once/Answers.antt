@@ -19,14 +19,14 @@ pass-requires c =
     let a = c.args in
     let n = c.comes_next in
     let f = c.in_ok-flip in
-    let w = c.requires.6 in
-    let next = (n.ensures.2 w.code a.h.now (wbit a.y.now) w.lent w.unsent c.requires.0 c.requires.1
-    (λ z. omega (arith, z, w.left_is, c.requires.5)) w.stands).1 in (
-      subst (Sampled a.samples.now) (sym n.ensures.0) c.requires.3,
-      omega (arith, c.requires.3, c.requires.0.bits),
-      omega (arith, c.requires.3, f.ensures.1.0),
+    let w = c.requires.4 in
+    let next = (n.ensures.2 w.code w.table (wbit a.y.now) w.lent w.unsent w.fit w.gathered
+    (λ z. omega (arith, z, w.left_is, c.requires.3)) w.stands).1 in (
+      subst (Sampled a.samples.now) (sym n.ensures.0) c.requires.1,
+      omega (arith, c.requires.1, w.fit.bits),
+      omega (arith, c.requires.1, f.ensures.1.0),
       omega (arith, w.left_is, IfOk-at_ok _ f.was next.fewer),
-      c.requires.4,
+      c.requires.2,
     )
 
 pub returns : goal.returns
@@ -44,9 +44,9 @@ returns c =
     → StandsIn k x (flipped (wbit a.y.now) f.flip.bit) q c.pass.new.rows new.bounds.met new.bits) n.ensures.0 t.5 in (
       t.0 ∙ n.ensures.0,
       (f.ensures.1.1, t.2),
-      λ k y lent u i.
-          let next = n.ensures.2 k a.h.now (wbit a.y.now) lent u c.requires.0 c.requires.1
-          (λ z. omega (arith, z, i.left_is, c.requires.5)) (i.stands c.requires.5) in
+      λ k h y lent u fit g i.
+          let next = n.ensures.2 k h (wbit a.y.now) lent u fit g
+          (λ z. omega (arith, z, i.left_is, c.requires.3)) (i.stands c.requires.3) in
           pass_goes lent i (subst (Chooses k a.kept.now.bounds.places.shape x a.limit a.flips (wbit a.y.now)) f.was next.1) f.ensures.1.0
-          t.1 t.3 t.4 (λ some. stands k a.h.now lent c.requires.1 some next.0),
+          t.1 t.3 t.4 (λ some. stands k h lent g some next.0),
     )

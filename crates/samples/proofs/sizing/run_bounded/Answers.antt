@@ -12,32 +12,37 @@ use Rattle.samples.proofs.sizing.run_bounded.Goals as goal
 pub go_on-requires : goal.go_on-requires
 go_on-requires c =
     let a = c.args in
+    let h = a.parity.places.now in
+    let fit = a.parity.fit in
     let b = c.begin in
     let e = sym b.ensures.1 in
-    let w = c.requires.4 in
+    let w = c.requires.3 in
     let k = w.begins in (
-      subst (Fit a.h.now) e c.requires.0,
-      b.ensures.2,
-      subst (λ s. 1 ≤ s.blocks) e c.requires.1,
-      subst (λ s. length a.samples.now ≡ s.blocks * s.size) e c.requires.2,
-      c.requires.3,
+      subst (λ s. 1 ≤ s.blocks) e c.requires.0,
+      subst (λ s. length a.samples.now ≡ s.blocks * s.size) e c.requires.1,
+      c.requires.2,
       record {
         code = w.code;
-        lent = subst (Lent w.code a.h.now) e k.lent;
+        table = h;
+        fit = subst (Fit h) e fit;
+        lent = subst (Lent w.code h) e k.lent;
+        gathered = b.ensures.2;
         unsent = k.unsent;
         left_is = k.broken;
-        stands = begun_stands w.code a.sh a.samples.now (wbit a.y.now) _ b.result.places _ _ b.ensures.1 c.requires.0.blocks
-            (omega (arith, c.requires.2, c.requires.0.bits)) k.held b.ensures.0 b.ensures.3;
+        stands = begun_stands w.code a.parity.shape a.samples.now (wbit a.y.now) _ b.result.places _ _ b.ensures.1 fit.blocks
+            (omega (arith, c.requires.1, fit.bits)) k.held b.ensures.0 b.ensures.3;
       },
     )
 
 pub returns : goal.returns
 returns c k w =
     let a = c.args in
+    let h = a.parity.places.now in
+    let fit = a.parity.fit in
     let b = c.begin in
     let e = b.ensures.1 in
     let g = c.go_on in
     subst (λ s. SizesTo k s a.samples.now a.limit (wbit a.y.now) g.result (wbit g.new.y)) e
-    (g.ensures k (subst (Lent k a.h.now) (sym e) w.lent) w.unsent w.broken
-    (begun_stands k a.sh a.samples.now (wbit a.y.now) _ b.result.places _ _ e c.requires.0.blocks
-    (omega (arith, c.requires.2, c.requires.0.bits)) w.held b.ensures.0 b.ensures.3))
+    (g.ensures k h (subst (Lent k h) (sym e) w.lent) w.unsent (subst (Fit h) (sym e) fit) b.ensures.2 w.broken
+    (begun_stands k a.parity.shape a.samples.now (wbit a.y.now) _ b.result.places _ _ e fit.blocks
+    (omega (arith, c.requires.1, fit.bits)) w.held b.ensures.0 b.ensures.3))

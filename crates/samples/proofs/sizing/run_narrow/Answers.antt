@@ -14,11 +14,11 @@ returns c k e =
     let a = c.args in
     let end = c.ended_narrow.ensures in
     let to = c.run_narrow-end.ensures k e in
-    let few = narrow_few a.sh c.requires.0 c.requires.4 c.requires.2 in
+    let few = narrow_few a.parity.shape a.parity.fit c.requires.3 c.requires.1 in
     record {
       runs = runs_as _ _ end.0 end.1 to.0;
       last = end.2 ∙ to.1;
-      differs = end.3 ∙ differs_words (smaller a.samples.now) k (some_sent e.lent c.requires.1 c.requires.0.some e.unsent)
-          a.limit _ (wbit a.y.now) _ _ a.y.now (omega (arith, e.lent.bits_are, c.requires.2)) (omega (arith, few))
+      differs = end.3 ∙ differs_words (smaller a.samples.now) k (some_sent e.lent c.requires.0 a.parity.fit.some e.unsent)
+          a.limit _ (wbit a.y.now) _ _ a.y.now (omega (arith, e.lent.bits_are, c.requires.1)) (omega (arith, few))
           (λ j l. ap (λ x. get_or x j 0) c.copy_from_slice.ensures.after ∙ get_or-take 16 a.y.now j 0 l) refl to.0.word;
     }

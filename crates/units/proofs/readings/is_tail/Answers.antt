@@ -9,4 +9,4 @@ pub returns : goal.returns
 unfolding tail
 returns c =
     c.eq.ensures ∙ same_is c.args.end.now _
-    ∙ ap (same_of c.args.end.now) (front_tail c.args.code c.requires _ c.tail_octets-long.ensures.0)
+    ∙ ap (same_of c.args.end.now) (front_tail c.args.code.number c.args.code.offered _ c.tail_octets-long.ensures.0)

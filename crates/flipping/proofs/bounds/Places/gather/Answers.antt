@@ -15,6 +15,6 @@ loop-b-preserved c =
       i.0,
       search rules,
       length-set l.self.counts l.b g.result ∙ i.2,
-      gathered_more a.h.now a.self.now.shape l.self.starts _ l.self.counts l.b g.result (omega (arith, c.requires.blocks, i.2))
-          g.ensures.0 g.ensures.1 g.ensures.2 i.3,
+      gathered_more a.parity.places.now a.parity.shape l.self.starts _ l.self.counts l.b g.result
+          (omega (arith, a.parity.fit.blocks, i.2)) g.ensures.0 g.ensures.1 g.ensures.2 i.3,
     )

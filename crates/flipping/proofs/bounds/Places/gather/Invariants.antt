@@ -5,5 +5,5 @@ use Rattle.flipping.specs.bounds.Reading.{Gathered}
 use Rattle.flipping.proofs.bounds.Places.gather.Given as goal
 
 abbrev pub invariant-loop-b : goal.invariant-loop-b
-invariant-loop-b l = (l.self.shape ≡ l.sh) × (length l.self.starts ≡ 128) × (length l.self.counts ≡ 16)
-    × Gathered l.h l.sh l.self.starts l.self.counts l.b
+invariant-loop-b l = (l.self.shape ≡ l.parity.shape) × (length l.self.starts ≡ 128) × (length l.self.counts ≡ 16)
+    × Gathered l.parity.places.now l.parity.shape l.self.starts l.self.counts l.b

@@ -1,8 +1,0 @@
--- `syndromes::flip_checks` meets its contract: after r passes the first r rows have it. Assumes nothing.
-use Rattle.vectors.specs.Vectors.{wbit}
-use Rattle.syndromes.specs.Rows.{wide, spread, covering}
-use Rattle.syndromes.proofs.Rowwise.{Reached}
-use Rattle.syndromes.proofs.flip_checks.Given as goal
-
-abbrev pub invariant-loop-r : goal.invariant-loop-r
-invariant-loop-r l = Reached (wide l.sh) l.sh.rows (spread l.sh l.h l.b (covering l.sh.size l.k)) (wbit l.initial.z) l.z l.r
