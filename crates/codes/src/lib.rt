@@ -121,10 +121,11 @@ fn encoded(code: u8, information: &[u8], word: &mut [u8]) -> Result<(), Refusal>
         word.len(),
         o.word,
     )?;
-    if six_set(KnownOffer { offer: o }, information) {
+    let known = KnownOffer { offer: o };
+    if six_set(known, information) {
         return Err(Refusal::LastSix);
     }
-    solver::encode(o, information, word);
+    solver::encode(known, information, word);
     Ok(())
 }
 

@@ -69,9 +69,9 @@ fn lowest_broken(received: Received) -> u32
     let o = received.code.offer;
     let sh = o.shape;
     if sh.size == 511 {
-        return lowest_wide::lowest(o, received.word);
+        return lowest_wide::lowest(received);
     }
-    lowest_narrow::lowest(o, received.word)
+    lowest_narrow::lowest(received)
 }
 
 // Whether every check of a word of the right length is met, and how many were evaluated.
