@@ -2,6 +2,8 @@
 ghost use Rattle.std.specs.Prelude.{◌≡◌, true, ◌≤◌};
 ghost use Rattle.rules.specs.Codes.{code as code_of, offered};
 ghost use Rattle.catalogue.specs.offer.Offers.{telecommand_shape as telecommand_shape_of, telecommand_offer, near_earth_offer, offer_of};
+ghost use Rattle.catalogue.specs.offer.Offers.{Known};
+ghost use Rattle.catalogue.specs.offer.Once.{known_once};
 
 use layout::Shape;
 
@@ -24,6 +26,13 @@ pub struct Offer {
     pub asked: bool,
     // its parity table
     pub shape: Shape,
+}
+
+// What some code number fixes, of a code that is offered.
+#[derive(Clone, Copy)]
+pub struct KnownOffer {
+    pub offer: Offer,
+    pub ghost known: { Known offer } by { known_once offer },
 }
 
 // The shape of a near-Earth code's parity table: two rows of 16 blocks, each in eight words.

@@ -11,7 +11,8 @@ ghost use Rattle.rules.specs.Flipping.{by_excess};
 ghost use Rattle.answers.specs.Calls.{six_set_of, fault, checked_from, ran_from, stepped_from, next_step};
 ghost use Rattle.answers.specs.Calls.{refused_check_of, refused_step_of};
 ghost use Rattle.answers.specs.Calls.{encode_answer, check_answer, opened_from, open_answer, correct_answer, step_answer};
-ghost use Rattle.catalogue.specs.offer.Offers.{offer_of, Known};
+ghost use Rattle.catalogue.specs.offer.Offers.{offer_of};
+ghost use Rattle.word.specs.measured.Measured.{Blank};
 ghost use Rattle.vectors.specs.Vectors.{wbit};
 ghost use Rattle.flipping.specs.runs.Passes.{Within, comes_next_of};
 ghost use Rattle.flipping.specs.endings.Answers.{as_corrected};
@@ -20,15 +21,17 @@ ghost use Rattle.codes.specs.Ends.{RunEnds};
 ghost use Rattle.codes.specs.Answers.{as_encoded, as_checked, as_opened, as_stepped};
 
 use catalogue::offer;
-use catalogue::offer::Offer;
+use catalogue::offer::KnownOffer;
 use encoder::solver;
 use flipping::endings::Corrected;
 use flipping::runs::{Ended, Next};
 use flipping::{endings, runs};
-use layout::{Parity, SYNDROME, TABLE, WORD};
+use layout::{Parity, WORD};
 use refusals::Refusal;
 use vectors::copying;
-use word::{judging, measured, received};
+use word::measured::Room;
+use word::received::Received;
+use word::{judging, received};
 
 // A record of C's: its number says whether the rest counts.
 #[repr(C)]
@@ -58,10 +61,10 @@ pub struct Opened<'a> {
     pub part: &'a [u8],
 }
 
-// What is wrong with a word, by the number that `judging::fault` gives, and its lowest broken check.
+// What is wrong with a word, if anything is, and its lowest broken check.
 #[derive(Clone, Copy)]
 struct Found {
-    number: u8,
+    fault: Result<(), Refusal>,
     lowest: u32,
 }
 
@@ -97,10 +100,11 @@ fn refused_step(refusal: Refusal) -> Stepped
 }
 
 // Whether the last octet of the information is not a multiple of what it must be: one of code 4's last six bits is set.
-fn six_set(o: Offer, information: &[u8]) -> bool
-    requires { Known o × (length information.now ≡ o.information) }
-    ensures { (n : ℕ) → offered n ≡ true → o ≡ offer_of n → result ≡ six_set_of n information.now }
+fn six_set(code: KnownOffer, information: &[u8]) -> bool
+    requires { length information.now ≡ code.offer.information }
+    ensures { (n : ℕ) → offered n ≡ true → code.offer ≡ offer_of n → result ≡ six_set_of n information.now }
 {
+    let o = code.offer;
     let last = o.information - 1;
     information[last] % o.multiple != 0
 }
@@ -117,10 +121,11 @@ fn encoded(code: u8, information: &[u8], word: &mut [u8]) -> Result<(), Refusal>
         word.len(),
         o.word,
     )?;
-    if six_set(o, information) {
+    let known = KnownOffer { offer: o };
+    if six_set(known, information) {
         return Err(Refusal::LastSix);
     }
-    solver::encode(o, information, word);
+    solver::encode(known, information, word);
     Ok(())
 }
 
@@ -131,20 +136,17 @@ pub fn encode(code: u8, information: &[u8], word: &mut [u8]) -> u8
     refusals::number(encoded(code, information, word))
 }
 
-// How many checks of a word of the right length are broken, and the lowest of them. This and each function that measures a word makes
-// room for it: a struct of that room would be returned as a copy.
-fn check_taken(o: Offer, word: &[u8]) -> Checked
-    requires { Known o × (length word.now ≡ o.word) }
-    ensures { (n : ℕ) → offered n ≡ true → o ≡ offer_of n → as_checked result ≡ checked_from n word.now }
+// How many checks of a word of the right length are broken, and the lowest of them.
+fn check_taken(received: Received) -> Checked
+    ensures { (n : ℕ) → offered n ≡ true → received.entry.code.offer ≡ offer_of n
+        → as_checked result ≡ checked_from n received.entry.word.now }
 {
-    let mut h = [0u16; TABLE];
-    let mut y = [0u64; WORD];
-    let mut z = [0u64; SYNDROME];
-    let sh = measured::measure(o, word, &mut h, &mut y, &mut z);
+    let mut room = Room::new();
+    let sh = room.measure(received);
     Checked {
         number: 0,
-        broken: syndromes::broken(&z),
-        lowest: syndromes::lowest(&z, sh),
+        broken: syndromes::broken(&room.z),
+        lowest: syndromes::lowest(&room.z, sh),
     }
 }
 
@@ -154,38 +156,43 @@ pub fn check(code: u8, word: &[u8]) -> Checked
 {
     let o = offer::of(code);
     match refusals::admit(o.offered, word.len(), o.word, 0, 0) {
-        Ok(()) => check_taken(o, word),
+        Ok(()) => check_taken(Received {
+            code: KnownOffer { offer: o },
+            word,
+        }),
         Err(refusal) => refused_check(refusal),
     }
 }
 
 // What is wrong with a word of the right length, and its lowest broken check.
-fn fault_of(o: Offer, word: &[u8]) -> Found
-    requires { Known o × (length word.now ≡ o.word) }
-    ensures { (n : ℕ) → offered n ≡ true → o ≡ offer_of n → (result.number ≡ fault n word.now)
-        × (result.lowest ≡ lowest (code_of n) (lifted (code_of n) (bit word.now))) }
+fn fault_of(received: Received) -> Found
+    ensures { (n : ℕ) → offered n ≡ true → received.entry.code.offer ≡ offer_of n
+        → (number_in result.fault ≡ fault n received.entry.word.now)
+        × (result.lowest ≡ lowest (code_of n) (lifted (code_of n) (bit received.entry.word.now))) }
 {
-    let mut h = [0u16; TABLE];
-    let mut y = [0u64; WORD];
-    let mut z = [0u64; SYNDROME];
-    let sh = measured::measure(o, word, &mut h, &mut y, &mut z);
+    let mut room = Room::new();
+    let sh = room.measure(received);
     Found {
-        number: judging::fault(o, &y, &z),
-        lowest: syndromes::lowest(&z, sh),
+        fault: judging::fault(received.code, &room.y, &room.z),
+        lowest: syndromes::lowest(&room.z, sh),
     }
 }
 
 // The information octets of a word of the right length, where it is a codeword.
-fn open_taken<'a>(o: Offer, word: &'a [u8]) -> Opened<'a>
-    requires { Known o × (length word.now ≡ o.word) }
-    ensures { (n : ℕ) → offered n ≡ true → o ≡ offer_of n
-        → as_opened result.number result.lowest result.part.now ≡ opened_from n word.now }
+fn open_taken<'a>(received: Received<'a>) -> Opened<'a>
+    ensures { (n : ℕ) → offered n ≡ true → received.entry.code.offer ≡ offer_of n
+        → as_opened result.number result.lowest result.part.now ≡ opened_from n received.entry.word.now }
 {
-    let f = fault_of(o, word);
-    let end = if f.number == 0 { o.information } else { 0 };
+    let o = received.code.offer;
+    let word = received.word;
+    let found = fault_of(received);
+    let end = match found.fault {
+        Ok(()) => o.information,
+        Err(_) => 0,
+    };
     Opened {
-        number: f.number,
-        lowest: f.lowest,
+        number: refusals::number(found.fault),
+        lowest: found.lowest,
         part: &word[..end],
     }
 }
@@ -196,7 +203,10 @@ pub fn open<'a>(code: u8, word: &'a [u8]) -> Opened<'a>
 {
     let o = offer::of(code);
     match refusals::admit(o.opens, word.len(), o.word, 0, 0) {
-        Ok(()) => open_taken(o, word),
+        Ok(()) => open_taken(Received {
+            code: KnownOffer { offer: o },
+            word,
+        }),
         Err(refusal) => Opened {
             number: refusal.number(),
             lowest: 0,
@@ -205,26 +215,21 @@ pub fn open<'a>(code: u8, word: &'a [u8]) -> Opened<'a>
     }
 }
 
-// The flipping run on a word of the right length; h, y and z are handed over as zeros, and y comes back as the word at its end.
-fn run_taken(
-    o: Offer,
-    word: &[u8],
-    limit: u16,
-    h: &mut [u16; TABLE],
-    y: &mut [u64; WORD],
-    z: &mut [u64; SYNDROME],
-) -> Course
-    requires { Known o × (length word.now ≡ o.word) × (wbit y.old ≡ (λ n. false)) × (wbit z.old ≡ (λ n. false)) }
-    ensures { (n : ℕ) → offered n ≡ true → o ≡ offer_of n → RunEnds n word.now limit result (wbit y.new) }
+// The flipping run on a word of the right length; y and z of the room are handed over as zeros, and y comes back as the word at its end.
+fn run_taken(received: Received, limit: u16, room: &mut Room) -> Course
+    requires { Blank room.old.y room.old.z }
+    ensures { (n : ℕ) → offered n ≡ true → received.entry.code.offer ≡ offer_of n
+        → RunEnds n received.entry.word.now limit result (wbit room.new.y) }
 {
-    let sh = measured::measure(o, word, h, y, z);
-    let first = syndromes::broken(z);
-    let lowest = syndromes::lowest(z, sh);
+    let o = received.code.offer;
+    let sh = room.measure(received);
+    let first = syndromes::broken(&room.z);
+    let lowest = syndromes::lowest(&room.z, sh);
     let parity = Parity {
-        places: h,
+        places: &room.h,
         shape: sh,
     };
-    let ended = runs::run(y, z, parity, o.unsent, limit, first);
+    let ended = runs::run(&mut room.y, &room.z, parity, o.unsent, limit, first);
     Course {
         ended,
         first,
@@ -233,27 +238,29 @@ fn run_taken(
 }
 
 // The word y into an output of the right length, if its number says that it is taken.
-fn write_taken(o: Offer, number: u8, y: &mut [u64; WORD], out: &mut [u8])
-    requires { Known o × (length out.old ≡ o.word) }
-    ensures { (n : ℕ) → offered n ≡ true → o ≡ offer_of n
+fn write_taken(code: KnownOffer, number: u8, y: &mut [u64; WORD], out: &mut [u8])
+    requires { length out.old ≡ code.offer.word }
+    ensures { (n : ℕ) → offered n ≡ true → code.offer ≡ offer_of n
         → out.new ≡ (when eqb number 0 then written (code_of n) (wbit y.old) else out.old) }
 {
     if number == 0 {
+        let o = code.offer;
         received::write(y, o.unsent, o.bits, out);
     }
 }
 
 // What correct gives of a run that has ended with the word y: its numbers, and the word where it is taken.
-fn finish(o: Offer, word: &[u8], y: &mut [u64; WORD], run: Course, out: &mut [u8]) -> Corrected
-    requires { Known o × (length word.now ≡ o.word) × (length out.old ≡ o.word) }
-    ensures { (n limit : ℕ) → offered n ≡ true → o ≡ offer_of n → RunEnds n word.now limit run (wbit y.old)
-        → as_corrected result out.new ≡ ran_from n word.now limit out.old }
+fn finish(received: Received, y: &mut [u64; WORD], run: Course, out: &mut [u8]) -> Corrected
+    requires { length out.old ≡ received.code.offer.word }
+    ensures { (n limit : ℕ) → offered n ≡ true → received.entry.code.offer ≡ offer_of n
+        → RunEnds n received.entry.word.now limit run (wbit y.old)
+        → as_corrected result out.new ≡ ran_from n received.entry.word.now limit out.old }
 {
     let ended = run.ended;
     let ran = ended.ran;
-    let unlike = endings::unlike_after(o, word, y, ran.flips);
-    let number = judging::judge(o, y, ran.ending.number());
-    write_taken(o, number, y, out);
+    let unlike = endings::unlike_after(received, y, ran.flips);
+    let number = judging::judge(received.code, y, ran.ending.number());
+    write_taken(received.code, number, y, out);
     Corrected {
         number,
         flips: ran.flips,
@@ -265,16 +272,14 @@ fn finish(o: Offer, word: &[u8], y: &mut [u64; WORD], run: Course, out: &mut [u8
 }
 
 // The flipping run on a word of the right length, into an output of the right length.
-fn correct_taken(o: Offer, word: &[u8], limit: u16, out: &mut [u8]) -> Corrected
-    requires { Known o × (length word.now ≡ o.word) × (length out.old ≡ o.word) }
-    ensures { (n : ℕ) → offered n ≡ true → o ≡ offer_of n
-        → as_corrected result out.new ≡ ran_from n word.now limit out.old }
+fn correct_taken(received: Received, limit: u16, out: &mut [u8]) -> Corrected
+    requires { length out.old ≡ received.code.offer.word }
+    ensures { (n : ℕ) → offered n ≡ true → received.entry.code.offer ≡ offer_of n
+        → as_corrected result out.new ≡ ran_from n received.entry.word.now limit out.old }
 {
-    let mut h = [0u16; TABLE];
-    let mut y = [0u64; WORD];
-    let mut z = [0u64; SYNDROME];
-    let run = run_taken(o, word, limit, &mut h, &mut y, &mut z);
-    finish(o, word, &mut y, run, out)
+    let mut room = Room::new();
+    let run = run_taken(received, limit, &mut room);
+    finish(received, &mut room.y, run, out)
 }
 
 // The flipping run on a received word, under a limit.
@@ -283,52 +288,55 @@ pub fn correct(code: u8, word: &[u8], limit: u16, out: &mut [u8]) -> Corrected
 {
     let o = offer::of(code);
     match refusals::admit(o.offered, word.len(), o.word, out.len(), o.word) {
-        Ok(()) => correct_taken(o, word, limit, out),
+        Ok(()) => {
+            let received = Received {
+                code: KnownOffer { offer: o },
+                word,
+            };
+            correct_taken(received, limit, out)
+        }
         Err(refusal) => endings::refused_correct(refusal.number()),
     }
 }
 
-// What comes next for a word of the right length; h, y and z are handed over as zeros, and y comes back as the word's bits.
-fn next_of(
-    o: Offer,
-    word: &[u8],
-    h: &mut [u16; TABLE],
-    y: &mut [u64; WORD],
-    z: &mut [u64; SYNDROME],
-) -> Next
-    requires { Known o × (length word.now ≡ o.word) × (wbit y.old ≡ (λ n. false)) × (wbit z.old ≡ (λ n. false)) }
-    ensures { Within 8176 result × ((n : ℕ) → offered n ≡ true → o ≡ offer_of n
-        → (wbit y.new ≡ lifted (code_of n) (bit word.now))
-        × (by_excess (code_of n) (lifted (code_of n) (bit word.now)) ≡ comes_next_of result)) }
+// What comes next for a word of the right length; y and z of the room are handed over as zeros, and y comes back as the word's bits.
+fn next_of(received: Received, room: &mut Room) -> Next
+    requires { Blank room.old.y room.old.z }
+    ensures { Within 8176 result × ((n : ℕ) → offered n ≡ true → received.entry.code.offer ≡ offer_of n
+        → (wbit room.new.y ≡ lifted (code_of n) (bit received.entry.word.now))
+        × (by_excess (code_of n) (lifted (code_of n) (bit received.entry.word.now)) ≡ comes_next_of result)) }
 {
-    let sh = measured::measure(o, word, h, y, z);
+    let o = received.code.offer;
+    let sh = room.measure(received);
     let parity = Parity {
-        places: h,
+        places: &room.h,
         shape: sh,
     };
-    runs::comes_next(z, parity, o.unsent)
+    runs::comes_next(&room.z, parity, o.unsent)
 }
 
 // A word with one bit flipped, into an output of the right length.
-fn write_flipped(o: Offer, y: &mut [u64; WORD], bit: usize, out: &mut [u8])
-    requires { Known o × (bit < 8176) × (length out.old ≡ o.word) }
-    ensures { (n : ℕ) → offered n ≡ true → o ≡ offer_of n
+fn write_flipped(code: KnownOffer, y: &mut [u64; WORD], bit: usize, out: &mut [u8])
+    requires { (bit < 8176) × (length out.old ≡ code.offer.word) }
+    ensures { (n : ℕ) → offered n ≡ true → code.offer ≡ offer_of n
         → out.new ≡ written (code_of n) (flipped (wbit y.old) bit) }
 {
+    let o = code.offer;
     vectors::flip_bit(y, bit);
     received::write(y, o.unsent, o.bits, out);
 }
 
 // What step gives of a word y and what comes next for it.
-fn step_out(o: Offer, word: &[u8], next: Next, y: &mut [u64; WORD], out: &mut [u8]) -> Stepped
-    requires { Known o × (length word.now ≡ o.word) × (length out.old ≡ o.word) × Within 8176 next }
-    ensures { (n : ℕ) → offered n ≡ true → o ≡ offer_of n → wbit y.old ≡ lifted (code_of n) (bit word.now)
-        → as_stepped result out.new ≡ next_step (code_of n) word.now (lifted (code_of n) (bit word.now))
-        out.old (comes_next_of next) }
+fn step_out(received: Received, next: Next, y: &mut [u64; WORD], out: &mut [u8]) -> Stepped
+    requires { (length out.old ≡ received.code.offer.word) × Within 8176 next }
+    ensures { (n : ℕ) → offered n ≡ true → received.entry.code.offer ≡ offer_of n
+        → wbit y.old ≡ lifted (code_of n) (bit received.entry.word.now)
+        → as_stepped result out.new ≡ next_step (code_of n) received.entry.word.now
+        (lifted (code_of n) (bit received.entry.word.now)) out.old (comes_next_of next) }
 {
     match next {
         Next::Quiet => {
-            copying::copy(word, out);
+            copying::copy(received.word, out);
             Stepped {
                 number: 0,
                 quiet: true,
@@ -338,7 +346,7 @@ fn step_out(o: Offer, word: &[u8], next: Next, y: &mut [u64; WORD], out: &mut [u
         }
         Next::Stuck(_, _) => refused_step(Refusal::Stuck),
         Next::Flip(bit, excess) => {
-            write_flipped(o, y, bit, out);
+            write_flipped(received.code, y, bit, out);
             Stepped {
                 number: 0,
                 quiet: false,
@@ -350,16 +358,14 @@ fn step_out(o: Offer, word: &[u8], next: Next, y: &mut [u64; WORD], out: &mut [u
 }
 
 // One flip of the run on a word of the right length, into an output of the right length.
-fn step_taken(o: Offer, word: &[u8], out: &mut [u8]) -> Stepped
-    requires { Known o × (length word.now ≡ o.word) × (length out.old ≡ o.word) }
-    ensures { (n : ℕ) → offered n ≡ true → o ≡ offer_of n
-        → as_stepped result out.new ≡ stepped_from n word.now out.old }
+fn step_taken(received: Received, out: &mut [u8]) -> Stepped
+    requires { length out.old ≡ received.code.offer.word }
+    ensures { (n : ℕ) → offered n ≡ true → received.entry.code.offer ≡ offer_of n
+        → as_stepped result out.new ≡ stepped_from n received.entry.word.now out.old }
 {
-    let mut h = [0u16; TABLE];
-    let mut y = [0u64; WORD];
-    let mut z = [0u64; SYNDROME];
-    let next = next_of(o, word, &mut h, &mut y, &mut z);
-    step_out(o, word, next, &mut y, out)
+    let mut room = Room::new();
+    let next = next_of(received, &mut room);
+    step_out(received, next, &mut room.y, out)
 }
 
 // One flip of the run, with the bit's number and excess; or quiet, in which case the word is copied.
@@ -368,7 +374,13 @@ pub fn step(code: u8, word: &[u8], out: &mut [u8]) -> Stepped
 {
     let o = offer::of(code);
     match refusals::admit(o.steps, word.len(), o.word, out.len(), o.word) {
-        Ok(()) => step_taken(o, word, out),
+        Ok(()) => {
+            let received = Received {
+                code: KnownOffer { offer: o },
+                word,
+            };
+            step_taken(received, out)
+        }
         Err(refusal) => refused_step(refusal),
     }
 }

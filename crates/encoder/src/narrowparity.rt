@@ -7,13 +7,13 @@ ghost use Rattle.rules.specs.Codes.{code as code_of};
 ghost use Rattle.vectors.specs.Vectors.{wbit, both, Holds, up_to};
 ghost use Rattle.layout.specs.Lent.{laid};
 ghost use Rattle.syndromes.specs.Rows.{plus, doubled, turned, block_rows, word_rows};
-ghost use Rattle.catalogue.specs.offer.Offers.{offer_of, Known};
+ghost use Rattle.catalogue.specs.offer.Offers.{offer_of};
 ghost use Rattle.encoder.specs.steps.Steps.{rows_in, stepped, walked};
 ghost use Rattle.encoder.specs.parityrows.Rows.{held, Fits, copies, steps_of, Within, Shaped, narrow_shape, end_rows, Informs, word_of};
 
 use super::parityrows;
 use super::parityrows::END;
-use catalogue::offer::Offer;
+use catalogue::offer::KnownOffer;
 use catalogue::{offer, tables};
 use layout::{Parity, SYNDROME, Shape, TABLE};
 use vectors::Pair;
@@ -183,11 +183,13 @@ fn solve_narrow(octets: &[u8], sh: Shape, z: &mut [u64; SYNDROME])
 }
 
 // The word of a telecommand code.
-pub fn encode(o: Offer, information: &[u8], word: &mut [u8])
-    requires { Known o × (o.shape.size ≡ 511 → ⊥) × (length information.now ≡ o.information) × (length word.old ≡ o.word) }
-    ensures { (n : ℕ) → offered n ≡ true → o ≡ offer_of n → Informs n information.now
+pub fn encode(code: KnownOffer, information: &[u8], word: &mut [u8])
+    requires { (code.offer.shape.size ≡ 511 → ⊥) × (length information.now ≡ code.offer.information)
+        × (length word.old ≡ code.offer.word) }
+    ensures { (n : ℕ) → offered n ≡ true → code.offer ≡ offer_of n → Informs n information.now
         → word.new ≡ word_of n information.now }
 {
+    let o = code.offer;
     let size = o.shape.size;
     let sh = offer::telecommand_shape(size);
     let mut z = [0u64; SYNDROME];

@@ -8,7 +8,7 @@ ghost use Rattle.vectors.specs.Vectors.{wbit, Holds, up_to, later, added, twice}
 ghost use Rattle.layout.specs.Lent.{laid};
 ghost use Rattle.layout.specs.Rooms.{doubled_room, syndrome_room};
 ghost use Rattle.syndromes.specs.Rows.{plus, doubled, turned, block_rows, word_rows};
-ghost use Rattle.catalogue.specs.offer.Offers.{offer_of, Known};
+ghost use Rattle.catalogue.specs.offer.Offers.{offer_of};
 ghost use Rattle.word.specs.ownparity.Odd.{odd_block, odd_together_of};
 ghost use Rattle.encoder.specs.steps.Steps.{source, rows_in, stepped, walked};
 ghost use Rattle.encoder.specs.parityrows.Rows.{held, Kept, two_rows, Fits, copies, steps_of, Within, Shaped};
@@ -16,7 +16,7 @@ ghost use Rattle.encoder.specs.parityrows.Rows.{wide_shape, end_rows, Informs, w
 
 use super::parityrows;
 use super::parityrows::END;
-use catalogue::offer::{NEAR_EARTH, Offer};
+use catalogue::offer::{KnownOffer, NEAR_EARTH};
 use catalogue::tables;
 use layout::{BLOCK, DOUBLED, Parity, SYNDROME, Shape, TABLE};
 use syndromes::addends::Doubled;
@@ -218,11 +218,12 @@ fn solve_wide(octets: &[u8], unsent: usize, sh: Shape, z: &mut [u64; SYNDROME])
 }
 
 // The word of a near-Earth code. The shape stands in numbers, so that a compiler sees them in the walk.
-pub fn encode(o: Offer, information: &[u8], word: &mut [u8])
-    requires { Known o × (o.shape.size ≡ 511) × (length information.now ≡ o.information) × (length word.old ≡ o.word) }
-    ensures { (n : ℕ) → offered n ≡ true → o ≡ offer_of n → Informs n information.now
+pub fn encode(code: KnownOffer, information: &[u8], word: &mut [u8])
+    requires { (code.offer.shape.size ≡ 511) × (length information.now ≡ code.offer.information) × (length word.old ≡ code.offer.word) }
+    ensures { (n : ℕ) → offered n ≡ true → code.offer ≡ offer_of n → Informs n information.now
         → word.new ≡ word_of n information.now }
 {
+    let o = code.offer;
     let sh = NEAR_EARTH;
     let mut z = [0u64; SYNDROME];
     solve_wide(information, o.unsent, sh, &mut z);

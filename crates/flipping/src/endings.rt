@@ -1,16 +1,16 @@
 // How correct ends: its record and that record's refused form, and in how many bits the word at the end of a run is another.
-ghost use Rattle.std.specs.Prelude.{◌≡◌, true, List, ℕ, length};
+ghost use Rattle.std.specs.Prelude.{◌≡◌, true, List, ℕ};
 ghost use Rattle.bits.specs.Bits.{bit};
 ghost use Rattle.rules.specs.Codes.{code as code_of, offered};
 ghost use Rattle.rules.specs.Encoding.{lifted};
 ghost use Rattle.answers.specs.Calls.{differing, refused_correct_of};
-ghost use Rattle.catalogue.specs.offer.Offers.{offer_of, Known};
+ghost use Rattle.catalogue.specs.offer.Offers.{offer_of};
 ghost use Rattle.vectors.specs.Vectors.{wbit};
 ghost use Rattle.flipping.specs.endings.Ends.{EndsAt};
 ghost use Rattle.flipping.specs.endings.Answers.{as_corrected};
 
-use catalogue::offer::Offer;
 use layout::WORD;
+use word::received::Received;
 use word::unlike;
 
 // A record of C's: its number says whether the rest counts.
@@ -40,13 +40,14 @@ pub fn refused_correct(number: u8) -> Corrected
 }
 
 // In how many bits the word at the end of a run differs from the received one: no flip leaves it, and one flips one bit.
-pub fn unlike_after(o: Offer, word: &[u8], y: &[u64; WORD], flips: u32) -> u32
-    requires { Known o × (length word.now ≡ o.word) }
-    ensures { (n : ℕ) → offered n ≡ true → o ≡ offer_of n → EndsAt (code_of n) (bit word.now) (wbit y.now) flips
-        → result ≡ differing (code_of n) (lifted (code_of n) (bit word.now)) (wbit y.now) }
+pub fn unlike_after(received: Received, y: &[u64; WORD], flips: u32) -> u32
+    ensures { (n : ℕ) → offered n ≡ true → received.entry.code.offer ≡ offer_of n
+        → EndsAt (code_of n) (bit received.entry.word.now) (wbit y.now) flips
+        → result ≡ differing (code_of n) (lifted (code_of n) (bit received.entry.word.now)) (wbit y.now) }
 {
     if flips <= 1 {
         return flips;
     }
-    unlike::unlike(word, y, o.unsent, o.bits - o.unsent) as u32
+    let o = received.code.offer;
+    unlike::unlike(received.word, y, o.unsent, o.bits - o.unsent) as u32
 }

@@ -7,21 +7,24 @@ ghost use Rattle.rules.specs.Flipping.{by_excess, flip, run};
 ghost use Rattle.answers.specs.Lists.{Entry, refused_list};
 ghost use Rattle.vectors.specs.Vectors.{wbit};
 ghost use Rattle.layout.specs.Lent.{Fit, Lent, laid};
-ghost use Rattle.catalogue.specs.offer.Offers.{offer_of, Known};
+ghost use Rattle.catalogue.specs.offer.Offers.{offer_of};
+ghost use Rattle.word.specs.measured.Measured.{Blank};
 ghost use Rattle.flipping.specs.runs.Passes.{Holding, Within, comes_next_of};
 ghost use Rattle.refusals.specs.Numbers.{number_of};
 ghost use Rattle.lists.specs.listing.Answers.{listed_as};
 ghost use Rattle.lists.specs.declared.listing.FlipRecord.{FlipRecord};
 ghost use Rattle.flipping.specs.endings.Ends.{word_of, run_of};
-ghost use Rattle.lists.specs.listing.Listings.{ends_with, Blank, Ends, Stands, Standing, Lists, Goes};
+ghost use Rattle.lists.specs.listing.Listings.{ends_with, Ends, Stands, Standing, Lists, Goes};
 
 use catalogue::offer;
-use catalogue::offer::Offer;
+use catalogue::offer::{KnownOffer, Offer};
 use flipping::runs::Next;
 use flipping::{endings, runs};
-use layout::{Parity, SYNDROME, TABLE, WORD};
+use layout::{Parity, WORD};
 use refusals::Refusal;
-use word::{judging, measured};
+use word::judging;
+use word::measured::Room;
+use word::received::Received;
 
 // For a flip: its bit number, its excess, and the broken checks left after it.
 #[repr(C)]
@@ -91,23 +94,23 @@ fn refused(refusal: Refusal) -> Listing
 fn ended(
     l: Listing,
     flips: usize,
-    word: &[u8],
+    received: Received,
     y: &[u64; WORD],
     number: u8,
     bit: u32,
     excess: i8,
 ) -> Listing
-    requires { Known l.offer × (length word.now ≡ l.offer.word) × (flips ≤ 65535) }
+    requires { flips ≤ 65535 }
     ensures { (result.goes ≡ false) × (result.place ≡ flips)
-        × ((n limit : ℕ) → Ends n word.now limit l flips (wbit y.now) number bit excess → (table : List Entry)
-        → listed_as result.answer table ≡ ends_with n word.now limit table) }
+        × ((n limit : ℕ) → received.entry.code.offer ≡ offer_of n
+        → Ends n received.entry.word.now limit l flips (wbit y.now) number bit excess → (table : List Entry)
+        → listed_as result.answer table ≡ ends_with n received.entry.word.now limit table) }
 {
-    let o = l.offer;
     let begun = l.answer;
     let record = l.record;
     let count = flips as u32;
-    let unlike = endings::unlike_after(o, word, y, count);
-    let judged = judging::judge(o, y, number);
+    let unlike = endings::unlike_after(received, y, count);
+    let judged = judging::judge(received.code, y, number);
     Listing {
         goes: false, // no record is written past the list
         place: flips,
@@ -123,7 +126,7 @@ fn ended(
             excess,
         },
         limit: l.limit,
-        offer: o,
+        offer: l.offer,
     }
 }
 
@@ -132,99 +135,83 @@ fn went(l: Listing, flips: usize, bit: u32, excess: i8, left: u32) -> Listing
     ensures { (result.goes ≡ true) × (result.place ≡ flips) × (result.record ≡ record { bit = bit; excess = excess; left = left })
         × (result.answer ≡ l.answer) × (result.limit ≡ l.limit) × (result.offer ≡ l.offer) }
 {
-    let o = l.offer;
-    let begun = l.answer;
     Listing {
         goes: true,
         place: flips,
         record: FlipRecord { bit, excess, left },
-        answer: begun,
+        answer: l.answer,
         limit: l.limit,
-        offer: o,
+        offer: l.offer,
     }
 }
 
-// What comes next for the word whose syndrome is z.
-fn coming(l: Listing, h: &[u16; TABLE], z: &[u64; SYNDROME]) -> Next
-    requires { Known l.offer × Fit h.now l.offer.shape × Holding h.now l.offer.shape (wbit z.now) }
-    ensures { Within (l.offer.shape.blocks * l.offer.shape.size) result
-        × ((c : Code) → Lent c h.now l.offer.shape → c.unsent ≡ l.offer.unsent → (x : Word)
-        → wbit z.now ≡ laid c l.offer.shape x → by_excess c x ≡ comes_next_of result) }
+// What comes next for the word that was measured.
+fn coming(code: KnownOffer, room: &Room) -> Next
+    requires { Fit room.now.h code.offer.shape × Holding room.now.h code.offer.shape (wbit room.now.z) }
+    ensures { Within (code.offer.shape.blocks * code.offer.shape.size) result
+        × ((c : Code) → Lent c room.now.h code.offer.shape → c.unsent ≡ code.offer.unsent → (x : Word)
+        → wbit room.now.z ≡ laid c code.offer.shape x → by_excess c x ≡ comes_next_of result) }
 {
-    let o = l.offer;
+    let o = code.offer;
     let parity = Parity {
-        places: h,
+        places: &room.h,
         shape: o.shape,
     };
-    runs::comes_next(z, parity, o.unsent)
+    runs::comes_next(&room.z, parity, o.unsent)
 }
 
 // The list after one flip more, or at the limit.
 fn flip_on(
     l: Listing,
     flips: usize,
-    word: &[u8],
+    received: Received,
     bit: usize,
     excess: i8,
-    h: &[u16; TABLE],
-    y: &mut [u64; WORD],
-    z: &mut [u64; SYNDROME],
+    room: &mut Room,
 ) -> Listing
-    requires { Standing word.now l flips h.now y.old z.old × (bit < l.offer.shape.blocks * l.offer.shape.size) }
-    ensures { (result.place ≡ flips) × ((n limit room : ℕ)
-        → Stands n word.now limit room l flips h.now y.old z.old
-        → by_excess (code_of n) (wbit y.old) ≡ flip bit excess
-        → Lists n word.now limit room result h.now y.new z.new) }
+    requires { Standing received.word.now l flips room.old.h room.old.y room.old.z × (bit < l.offer.shape.blocks * l.offer.shape.size) }
+    ensures { (result.place ≡ flips) × ((n limit places : ℕ) → received.entry.code.offer ≡ offer_of n
+        → Stands n received.entry.word.now limit places l flips room.old.h room.old.y room.old.z
+        → by_excess (code_of n) (wbit room.old.y) ≡ flip bit excess
+        → Lists n received.entry.word.now limit places result room.new.h room.new.y room.new.z) }
 {
     if flips >= l.limit as usize {
-        return ended(l, flips, word, y, 6, 0, 0);
+        return ended(l, flips, received, &room.y, 6, 0, 0);
     }
     let o = l.offer;
     let parity = Parity {
-        places: h,
+        places: &room.h,
         shape: o.shape,
     };
-    syndromes::flip(y, z, parity, bit);
-    let left = syndromes::broken(z);
+    syndromes::flip(&mut room.y, &mut room.z, parity, bit);
+    let left = syndromes::broken(&room.z);
     went(l, flips, bit as u32, excess, left)
 }
 
 // What comes after so many flips: one more, or the end.
-fn pass(
-    l: Listing,
-    flips: usize,
-    word: &[u8],
-    h: &mut [u16; TABLE],
-    y: &mut [u64; WORD],
-    z: &mut [u64; SYNDROME],
-) -> Listing
-    requires { Standing word.now l flips h.old y.old z.old }
-    ensures { (result.place ≡ flips) × ((n limit room : ℕ)
-        → Stands n word.now limit room l flips h.old y.old z.old
-        → Lists n word.now limit room result h.new y.new z.new) }
+fn pass(l: Listing, flips: usize, word: &[u8], room: &mut Room) -> Listing
+    requires { Standing word.now l flips room.old.h room.old.y room.old.z }
+    ensures { (result.place ≡ flips) × ((n limit places : ℕ)
+        → Stands n word.now limit places l flips room.old.h room.old.y room.old.z
+        → Lists n word.now limit places result room.new.h room.new.y room.new.z) }
 {
-    let next = coming(l, h, z);
-    match next {
-        Next::Quiet => ended(l, flips, word, y, 0, 0, 0),
-        Next::Stuck(bit, excess) => ended(l, flips, word, y, 5, bit as u32, excess),
-        Next::Flip(bit, excess) => flip_on(l, flips, word, bit, excess, h, y, z),
+    let code = KnownOffer { offer: l.offer };
+    let received = Received { code, word };
+    match coming(code, room) {
+        Next::Quiet => ended(l, flips, received, &room.y, 0, 0, 0),
+        Next::Stuck(bit, excess) => { ended(l, flips, received, &room.y, 5, bit as u32, excess) }
+        Next::Flip(bit, excess) => flip_on(l, flips, received, bit, excess, room),
     }
 }
 
 // The next record of the list, or its end.
-pub fn next(
-    l: Listing,
-    word: &[u8],
-    h: &mut [u16; TABLE],
-    y: &mut [u64; WORD],
-    z: &mut [u64; SYNDROME],
-) -> Listing
-    requires { Goes word.now l h.old y.old z.old }
-    ensures { (result.place ≡ l.place + 1) × ((n limit room : ℕ)
-        → Lists n word.now limit room l h.old y.old z.old
-        → Lists n word.now limit room result h.new y.new z.new) }
+pub fn next(l: Listing, word: &[u8], room: &mut Room) -> Listing
+    requires { Goes word.now l room.old.h room.old.y room.old.z }
+    ensures { (result.place ≡ l.place + 1) × ((n limit places : ℕ)
+        → Lists n word.now limit places l room.old.h room.old.y room.old.z
+        → Lists n word.now limit places result room.new.h room.new.y room.new.z) }
 {
-    pass(l, l.place + 1, word, h, y, z)
+    pass(l, l.place + 1, word, room)
 }
 
 // No run has more flips than checks are broken at its start; for the near-Earth codes than half as many.
@@ -239,36 +226,35 @@ fn most_flips(o: Offer, first: u32) -> u32
 }
 
 // How many flips the run on a word has.
-fn count_flips(o: Offer, word: &[u8], limit: u16) -> usize
-    requires { Known o × (length word.now ≡ o.word) }
-    ensures { (n : ℕ) → offered n ≡ true → o ≡ offer_of n → result ≡ length (run_of n word.now limit).flips }
+fn count_flips(received: Received, limit: u16) -> usize
+    ensures { (n : ℕ) → offered n ≡ true → received.entry.code.offer ≡ offer_of n
+        → result ≡ length (run_of n received.entry.word.now limit).flips }
 {
-    let mut h = [0u16; TABLE];
-    let mut y = [0u64; WORD];
-    let mut z = [0u64; SYNDROME];
-    let sh = measured::measure(o, word, &mut h, &mut y, &mut z);
-    let first = syndromes::broken(&z);
+    let o = received.code.offer;
+    let mut room = Room::new();
+    let sh = room.measure(received);
+    let first = syndromes::broken(&room.z);
     let parity = Parity {
-        places: &h,
+        places: &room.h,
         shape: sh,
     };
-    let ended = runs::run(&mut y, &z, parity, o.unsent, limit, first);
+    let ended = runs::run(&mut room.y, &room.z, parity, o.unsent, limit, first);
     ended.ran.flips as usize
 }
 
 // Whether a table of so many places serves the run on a word: by the bounds where they tell, else the flips are counted.
-fn serves(o: Offer, word: &[u8], limit: u16, first: u32, room: usize) -> bool
-    requires { Known o × (length word.now ≡ o.word) }
-    ensures { (n : ℕ) → offered n ≡ true → o ≡ offer_of n → first ≡ broken (code_of n) (word_of n word.now)
-        → result ≡ leb (length (run_of n word.now limit).flips) room }
+fn serves(received: Received, limit: u16, first: u32, places: usize) -> bool
+    ensures { (n : ℕ) → offered n ≡ true → received.entry.code.offer ≡ offer_of n
+        → first ≡ broken (code_of n) (word_of n received.entry.word.now)
+        → result ≡ leb (length (run_of n received.entry.word.now limit).flips) places }
 {
-    if limit as usize <= room {
+    if limit as usize <= places {
         return true;
     }
-    if most_flips(o, first) as usize <= room {
+    if most_flips(received.code.offer, first) as usize <= places {
         return true;
     }
-    count_flips(o, word, limit) <= room
+    count_flips(received, limit) <= places
 }
 
 // The list before the first flip, of a word of which so many checks are broken, and this the lowest.
@@ -299,64 +285,48 @@ fn begun(o: Offer, limit: u16, first: u32, lowest: u32) -> Listing
     }
 }
 
-// The list of a word of the right length before the first flip; h, y and z are handed over as zeros.
-fn measured_list(
-    o: Offer,
-    word: &[u8],
-    limit: u16,
-    h: &mut [u16; TABLE],
-    y: &mut [u64; WORD],
-    z: &mut [u64; SYNDROME],
-) -> Listing
-    requires { Known o × (length word.now ≡ o.word) × Blank y.old z.old }
-    ensures { (n : ℕ) → offered n ≡ true → o ≡ offer_of n → (result.answer.first ≡ broken (code_of n) (word_of n word.now))
-        × ((room : ℕ) → leb (length (run_of n word.now limit).flips) room ≡ true
-        → Stands n word.now limit room result 0 h.new y.new z.new) }
+// The list of a word of the right length before the first flip; y and z of the room are handed over as zeros.
+fn measured_list(received: Received, limit: u16, room: &mut Room) -> Listing
+    requires { Blank room.old.y room.old.z }
+    ensures { (n : ℕ) → offered n ≡ true → received.entry.code.offer ≡ offer_of n
+        → (result.answer.first ≡ broken (code_of n) (word_of n received.entry.word.now))
+        × ((places : ℕ) → leb (length (run_of n received.entry.word.now limit).flips) places ≡ true
+        → Stands n received.entry.word.now limit places result 0 room.new.h room.new.y room.new.z) }
 {
-    let sh = measured::measure(o, word, h, y, z);
-    let first = syndromes::broken(z);
-    let lowest = syndromes::lowest(z, sh);
-    begun(o, limit, first, lowest)
+    let sh = room.measure(received);
+    let first = syndromes::broken(&room.z);
+    let lowest = syndromes::lowest(&room.z, sh);
+    begun(received.code.offer, limit, first, lowest)
 }
 
 // The list of the run on a word of the right length.
-fn begin_taken(
-    o: Offer,
-    word: &[u8],
-    limit: u16,
-    room: usize,
-    h: &mut [u16; TABLE],
-    y: &mut [u64; WORD],
-    z: &mut [u64; SYNDROME],
-) -> Listing
-    requires { Known o × (length word.now ≡ o.word) × Blank y.old z.old }
-    ensures { (result.place ≡ 0) × ((n : ℕ) → offered n ≡ true → o ≡ offer_of n
-        → Lists n word.now limit room result h.new y.new z.new) }
+fn begin_taken(received: Received, limit: u16, places: usize, room: &mut Room) -> Listing
+    requires { Blank room.old.y room.old.z }
+    ensures { (result.place ≡ 0) × ((n : ℕ) → offered n ≡ true → received.entry.code.offer ≡ offer_of n
+        → Lists n received.entry.word.now limit places result room.new.h room.new.y room.new.z) }
 {
-    let l = measured_list(o, word, limit, h, y, z);
+    let l = measured_list(received, limit, room);
     let answer = l.answer;
-    if !serves(o, word, limit, answer.first, room) {
+    if !serves(received, limit, answer.first, places) {
         return refused(Refusal::Places);
     }
-    pass(l, 0, word, h, y, z)
+    pass(l, 0, received.word, room)
 }
 
-// The list of the run on a received word, under a limit, for a table of so many places; h, y and z are handed over as zeros.
-pub fn begin(
-    code: u8,
-    word: &[u8],
-    limit: u16,
-    room: usize,
-    h: &mut [u16; TABLE],
-    y: &mut [u64; WORD],
-    z: &mut [u64; SYNDROME],
-) -> Listing
-    requires { Blank y.old z.old }
-    ensures { (result.place ≡ 0) × Lists code word.now limit room result h.new y.new z.new }
+// The list of the run on a received word, under a limit, for a table of so many places; y and z of the room are handed over as zeros.
+pub fn begin(code: u8, word: &[u8], limit: u16, places: usize, room: &mut Room) -> Listing
+    requires { Blank room.old.y room.old.z }
+    ensures { (result.place ≡ 0) × Lists code word.now limit places result room.new.h room.new.y room.new.z }
 {
     let o = offer::of(code);
     match refusals::admit(o.offered, word.len(), o.word, 0, 0) {
-        Ok(()) => begin_taken(o, word, limit, room, h, y, z),
+        Ok(()) => {
+            let received = Received {
+                code: KnownOffer { offer: o },
+                word,
+            };
+            begin_taken(received, limit, places, room)
+        }
         Err(refusal) => refused(refusal),
     }
 }

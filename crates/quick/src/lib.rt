@@ -7,19 +7,20 @@ pub mod groups;
 pub mod lowest_narrow;
 pub mod lowest_wide;
 
-ghost use Rattle.std.specs.Prelude.{◌≡◌, true, ℕ, ◌≤◌, length};
+ghost use Rattle.std.specs.Prelude.{◌≡◌, true, ℕ, ◌≤◌};
 ghost use Rattle.bits.specs.Bits.{Word, bit};
 ghost use Rattle.rules.specs.Codes.{Code, code as code_of, checks, offered};
 ghost use Rattle.rules.specs.Checks.{check, lowest as lowest_of};
 ghost use Rattle.rules.specs.Encoding.{lifted};
-ghost use Rattle.catalogue.specs.offer.Offers.{offer_of, Known};
+ghost use Rattle.catalogue.specs.offer.Offers.{offer_of};
 ghost use Rattle.quick.specs.Quick.{read, as_read, refused_quick, quick_answer};
 ghost use Rattle.quick.specs.Answers.{as_quick};
 ghost use Rattle.refusals.specs.Numbers.{number_of};
 
 use catalogue::offer;
-use catalogue::offer::Offer;
+use catalogue::offer::KnownOffer;
 use refusals::Refusal;
+use word::received::Received;
 
 // A record of C's: its number says whether the rest counts.
 #[repr(C)]
@@ -61,26 +62,26 @@ fn answer(lowest: u32, all: u32) -> Answered
 }
 
 // The lowest broken check, or the number of checks if none is broken.
-fn lowest_broken(o: Offer, word: &[u8]) -> u32
-    requires { Known o × (length word.now ≡ o.word) }
-    ensures { (n : ℕ) → offered n ≡ true → o ≡ offer_of n
-        → result ≡ lowest_of (code_of n) (lifted (code_of n) (bit word.now)) }
+fn lowest_broken(received: Received) -> u32
+    ensures { (n : ℕ) → offered n ≡ true → received.entry.code.offer ≡ offer_of n
+        → result ≡ lowest_of (code_of n) (lifted (code_of n) (bit received.entry.word.now)) }
 {
+    let o = received.code.offer;
     let sh = o.shape;
     if sh.size == 511 {
-        return lowest_wide::lowest(o, word);
+        return lowest_wide::lowest(received);
     }
-    lowest_narrow::lowest(o, word)
+    lowest_narrow::lowest(received)
 }
 
 // Whether every check of a word of the right length is met, and how many were evaluated.
-fn quick_taken(o: Offer, word: &[u8]) -> Answered
-    requires { Known o × (length word.now ≡ o.word) }
-    ensures { (n : ℕ) → offered n ≡ true → o ≡ offer_of n
-        → as_quick result ≡ as_read (read (checks (code_of n)) (check (code_of n) (lifted (code_of n) (bit word.now)))) }
+fn quick_taken(received: Received) -> Answered
+    ensures { (n : ℕ) → offered n ≡ true → received.entry.code.offer ≡ offer_of n → as_quick result
+        ≡ as_read (read (checks (code_of n)) (check (code_of n) (lifted (code_of n) (bit received.entry.word.now)))) }
 {
+    let o = received.code.offer;
     let sh = o.shape;
-    let lowest = lowest_broken(o, word);
+    let lowest = lowest_broken(received);
     answer(lowest, (sh.rows * sh.size) as u32)
 }
 
@@ -90,7 +91,10 @@ pub fn quick(code: u8, word: &[u8]) -> Answered
 {
     let o = offer::of(code);
     match refusals::admit(o.offered, word.len(), o.word, 0, 0) {
-        Ok(()) => quick_taken(o, word),
+        Ok(()) => quick_taken(Received {
+            code: KnownOffer { offer: o },
+            word,
+        }),
         Err(refusal) => refused(refusal),
     }
 }

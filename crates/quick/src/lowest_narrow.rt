@@ -6,13 +6,13 @@ ghost use Rattle.rules.specs.Checks.{lowest as lowest_of};
 ghost use Rattle.rules.specs.Encoding.{lifted};
 ghost use Rattle.vectors.specs.Vectors.{wbit, both, up_to, from, twice};
 ghost use Rattle.layout.specs.Lent.{Lent};
-ghost use Rattle.catalogue.specs.offer.Offers.{offer_of, Known};
+ghost use Rattle.catalogue.specs.offer.Offers.{offer_of};
 ghost use Rattle.quick.specs.groups.Groups.{Has, reached, placed, group};
 
-use catalogue::offer::Offer;
 use catalogue::tables;
 use layout::{Parity, TABLE};
 use vectors::Pair;
+use word::received::Received;
 
 // What the shift s adds to the checks of a row, where one word holds the block of m bits; d is the block twice over.
 fn narrow_entry(d: Pair, m: usize, s: usize) -> u64
@@ -69,16 +69,17 @@ fn rows_lowest(y: &[u64], parity: Parity) -> u32
 }
 
 // The lowest broken check where one word holds a row.
-pub fn lowest(o: Offer, word: &[u8]) -> u32
-    requires { Known o × (length word.now ≡ o.word) × (o.shape.size ≡ 511 → ⊥) }
-    ensures { (n : ℕ) → offered n ≡ true → o ≡ offer_of n
-        → result ≡ lowest_of (code_of n) (lifted (code_of n) (bit word.now)) }
+pub fn lowest(received: Received) -> u32
+    requires { received.code.offer.shape.size ≡ 511 → ⊥ }
+    ensures { (n : ℕ) → offered n ≡ true → received.entry.code.offer ≡ offer_of n
+        → result ≡ lowest_of (code_of n) (lifted (code_of n) (bit received.entry.word.now)) }
 {
+    let o = received.code.offer;
     let of = o.shape;
     let mut h = [0u16; TABLE];
     let sh = tables::lend_narrow(of.size, &mut h);
     let mut y = [0u64; 17];
-    vectors::load(word, &mut y);
+    vectors::load(received.word, &mut y);
     let parity = Parity {
         places: &h,
         shape: sh,

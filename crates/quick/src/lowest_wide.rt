@@ -6,13 +6,14 @@ ghost use Rattle.rules.specs.Checks.{check, lowest as lowest_of};
 ghost use Rattle.rules.specs.Encoding.{lifted};
 ghost use Rattle.vectors.specs.Vectors.{wbit, Holds, up_to, from, twice};
 ghost use Rattle.layout.specs.Lent.{Lent};
-ghost use Rattle.catalogue.specs.offer.Offers.{offer_of, Known};
+ghost use Rattle.catalogue.specs.offer.Offers.{offer_of};
 ghost use Rattle.quick.specs.groups.Groups.{Has, reached, group, Twofold, Begun, Full, Inside, behind};
 
-use catalogue::offer::{NEAR_EARTH, Offer};
+use catalogue::offer::NEAR_EARTH;
 use catalogue::tables;
 use layout::{BLOCK, Parity, Shape, TABLE, WORD};
 use word::received;
+use word::received::Received;
 
 // The 64 bits of the octets from bit p on, of nine octets.
 fn octets_from(octets: &[u8], p: usize) -> u64
@@ -196,20 +197,21 @@ fn whole_lowest(octets: &[u8], u: usize, parity: Parity) -> u32
 
 // The lowest broken check where a row is wider than a group. The first group comes straight from the octets; if it is met, the word is
 // laid out, and group comes after group, from the first on: to begin with the second would cost more instructions, not fewer.
-pub fn lowest(o: Offer, word: &[u8]) -> u32
-    requires { Known o × (length word.now ≡ o.word) × (o.shape.size ≡ 511) }
-    ensures { (n : ℕ) → offered n ≡ true → o ≡ offer_of n
-        → result ≡ lowest_of (code_of n) (lifted (code_of n) (bit word.now)) }
+pub fn lowest(received: Received) -> u32
+    requires { received.code.offer.shape.size ≡ 511 }
+    ensures { (n : ℕ) → offered n ≡ true → received.entry.code.offer ≡ offer_of n
+        → result ≡ lowest_of (code_of n) (lifted (code_of n) (bit received.entry.word.now)) }
 {
+    let o = received.code.offer;
     let mut h = [0u16; TABLE];
     tables::lend511(&mut h);
     let parity = Parity {
         places: &h,
         shape: NEAR_EARTH,
     };
-    let v = first_group(word, o.unsent, parity);
+    let v = first_group(received.word, o.unsent, parity);
     if v != 0 {
         return u64::leading_zeros(v);
     }
-    whole_lowest(word, o.unsent, parity)
+    whole_lowest(received.word, o.unsent, parity)
 }

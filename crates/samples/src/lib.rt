@@ -13,7 +13,7 @@ ghost use Rattle.answers.specs.Calls.{refusal as refusal_of};
 ghost use Rattle.refusals.specs.Numbers.{number_in};
 ghost use Rattle.vectors.specs.Vectors.{wbit};
 ghost use Rattle.layout.specs.Lent.{laid};
-ghost use Rattle.catalogue.specs.offer.Offers.{offer_of, Known};
+ghost use Rattle.catalogue.specs.offer.Offers.{offer_of};
 ghost use Rattle.catalogue.specs.tables.Flat.{Lends};
 ghost use Rattle.word.specs.measured.Measured.{Size};
 ghost use Rattle.flipping.specs.runs.Passes.{Begins, Beginning};
@@ -26,7 +26,7 @@ ghost use Rattle.samples.specs.Answers.{samples_answer};
 ghost use Rattle.samples.specs.Found.{ran_patterns, Finds};
 
 use catalogue::offer;
-use catalogue::offer::Offer;
+use catalogue::offer::{KnownOffer, Offer};
 use flipping::endings;
 use flipping::endings::Corrected;
 use layout::{Parity, SYNDROME, Shape, TABLE, WORD};
@@ -35,6 +35,15 @@ use word::{judging, measured, received};
 
 // The most samples that a code takes.
 const MOST: usize = 8176;
+
+// Samples by their bit patterns, one for each bit of a word, of a code that correct on samples takes.
+#[derive(Clone, Copy)]
+struct Sampled<'a> {
+    code: KnownOffer,
+    samples: &'a [u32],
+    ghost taken: { code.offer.steps ≡ true },
+    ghost whole: { length samples.now ≡ code.offer.bits },
+}
 
 // What a run begins with: its code's shape, and how many checks of the word are broken and the lowest of them.
 #[derive(Clone, Copy)]
@@ -61,7 +70,7 @@ fn begin(size: usize, y: &[u64; WORD], h: &mut [u16; TABLE], z: &mut [u64; SYNDR
 
 // The run on the bits y, whose syndrome is z, and its judgement; y is the word at its end. So many checks are broken, and so is the lowest.
 fn run_judged(
-    o: Offer,
+    code: KnownOffer,
     samples: &[u32],
     limit: u16,
     y: &mut [u64; WORD],
@@ -70,17 +79,17 @@ fn run_judged(
     first: u32,
     lowest: u32,
 ) -> Corrected
-    requires { Known o × (1 ≤ parity.shape.blocks) × (length samples.now ≡ parity.shape.blocks * parity.shape.size)
+    requires { (1 ≤ parity.shape.blocks) × (length samples.now ≡ parity.shape.blocks * parity.shape.size)
         × (wbit y.old ≡ read_of samples.now)
         × Beginning parity.places.now parity.shape 0 first (wbit y.old) (wbit z.now) }
-    ensures { (n : ℕ) → offered n ≡ true → o ≡ offer_of n → T (offered n && not (eqb n 5))
+    ensures { (n : ℕ) → offered n ≡ true → code.offer ≡ offer_of n → T (offered n && not (eqb n 5))
         → Begins (code_of n) parity.entry.places.now parity.entry.shape 0 first (wbit y.old) (wbit z.now)
         → lowest ≡ lowest_of (code_of n) (wbit y.old) → Finds n samples.now limit (wbit y.new) result }
 {
     let end = sizing::run(samples, y, z, parity, limit, first);
     let ran = end.ran;
     Corrected {
-        number: judging::judge(o, y, ran.ending.number()),
+        number: judging::judge(code, y, ran.ending.number()),
         flips: ran.flips,
         first,
         last: end.last,
@@ -91,67 +100,71 @@ fn run_judged(
 
 // The same from the start, with room for the table and the syndrome, which is handed over as zeros.
 fn run_within(
-    o: Offer,
-    samples: &[u32],
+    sampled: Sampled,
     limit: u16,
     y: &mut [u64; WORD],
     h: &mut [u16; TABLE],
     z: &mut [u64; SYNDROME],
 ) -> Corrected
-    requires { Known o × (o.steps ≡ true) × (length samples.now ≡ o.bits) × (wbit y.old ≡ read_of samples.now)
-        × (wbit z.old ≡ (λ n. false)) }
-    ensures { (n : ℕ) → offered n ≡ true → o ≡ offer_of n → Finds n samples.now limit (wbit y.new) result }
+    requires { (wbit y.old ≡ read_of sampled.samples.now) × (wbit z.old ≡ (λ n. false)) }
+    ensures { (n : ℕ) → offered n ≡ true → sampled.entry.code.offer ≡ offer_of n
+        → Finds n sampled.entry.samples.now limit (wbit y.new) result }
 {
+    let o = sampled.code.offer;
     let of = o.shape;
     let begun = begin(of.size, y, h, z);
     let parity = Parity {
         places: h,
         shape: begun.shape,
     };
-    run_judged(o, samples, limit, y, z, parity, begun.first, begun.lowest)
+    run_judged(
+        sampled.code,
+        sampled.samples,
+        limit,
+        y,
+        z,
+        parity,
+        begun.first,
+        begun.lowest,
+    )
 }
 
 // The run on the bits y that were read from as many samples as the code has bits, and its judgement; y is the word at its end.
-fn run_read(o: Offer, samples: &[u32], limit: u16, y: &mut [u64; WORD]) -> Corrected
-    requires { Known o × (o.steps ≡ true) × (length samples.now ≡ o.bits) × (wbit y.old ≡ read_of samples.now) }
-    ensures { (n : ℕ) → offered n ≡ true → o ≡ offer_of n → Finds n samples.now limit (wbit y.new) result }
+fn run_read(sampled: Sampled, limit: u16, y: &mut [u64; WORD]) -> Corrected
+    requires { wbit y.old ≡ read_of sampled.samples.now }
+    ensures { (n : ℕ) → offered n ≡ true → sampled.entry.code.offer ≡ offer_of n
+        → Finds n sampled.entry.samples.now limit (wbit y.new) result }
 {
     let mut h = [0u16; TABLE];
     let mut z = [0u64; SYNDROME];
-    run_within(o, samples, limit, y, &mut h, &mut z)
+    run_within(sampled, limit, y, &mut h, &mut z)
 }
 
 // The same, into an output of the right length if the run is not refused.
-fn correct_read(
-    o: Offer,
-    samples: &[u32],
-    limit: u16,
-    y: &mut [u64; WORD],
-    out: &mut [u8],
-) -> Corrected
-    requires { Known o × (o.steps ≡ true) × (length samples.now ≡ o.bits) × (length out.old ≡ o.word)
-        × (wbit y.old ≡ read_of samples.now) }
-    ensures { (n : ℕ) → offered n ≡ true → o ≡ offer_of n
-        → as_corrected result out.new ≡ ran_patterns n samples.now limit out.old }
+fn correct_read(sampled: Sampled, limit: u16, y: &mut [u64; WORD], out: &mut [u8]) -> Corrected
+    requires { (length out.old ≡ sampled.code.offer.word) × (wbit y.old ≡ read_of sampled.samples.now) }
+    ensures { (n : ℕ) → offered n ≡ true → sampled.entry.code.offer ≡ offer_of n
+        → as_corrected result out.new ≡ ran_patterns n sampled.entry.samples.now limit out.old }
 {
-    let r = run_read(o, samples, limit, y);
+    let r = run_read(sampled, limit, y);
     if r.number == 0 {
+        let o = sampled.code.offer;
         received::write(y, o.unsent, o.bits, out);
     }
     r
 }
 
 // The run on samples, as many as the code has bits, into an output of the right length; 16 if one of them is not finite.
-fn correct_taken(o: Offer, samples: &[u32], limit: u16, out: &mut [u8]) -> Corrected
-    requires { Known o × (o.steps ≡ true) × (length samples.now ≡ o.bits) × (length out.old ≡ o.word) }
-    ensures { (n : ℕ) → offered n ≡ true → o ≡ offer_of n
-        → as_corrected result out.new ≡ samples_answer n (samples_of samples.now) limit out.old }
+fn correct_taken(sampled: Sampled, limit: u16, out: &mut [u8]) -> Corrected
+    requires { length out.old ≡ sampled.code.offer.word }
+    ensures { (n : ℕ) → offered n ≡ true → sampled.entry.code.offer ≡ offer_of n
+        → as_corrected result out.new ≡ samples_answer n (samples_of sampled.entry.samples.now) limit out.old }
 {
     let mut y = [0u64; WORD];
-    if !magnitudes::read(samples, &mut y) {
+    if !magnitudes::read(sampled.samples, &mut y) {
         return endings::refused_correct(16);
     }
-    correct_read(o, samples, limit, &mut y, out)
+    correct_read(sampled, limit, &mut y, out)
 }
 
 // Admits so many samples and an output of so many octets.
@@ -167,7 +180,13 @@ pub fn correct_patterns(code: u8, samples: &[u32], limit: u16, out: &mut [u8]) -
 {
     let o = offer::of(code);
     match admit(o, samples.len(), out.len()) {
-        Ok(()) => correct_taken(o, samples, limit, out),
+        Ok(()) => {
+            let sampled = Sampled {
+                code: KnownOffer { offer: o },
+                samples,
+            };
+            correct_taken(sampled, limit, out)
+        }
         Err(refusal) => endings::refused_correct(refusal.number()),
     }
 }
@@ -194,15 +213,19 @@ fn load(samples: &[f32], patterns: &mut [u32])
 }
 
 // The run on samples, as many as the code has bits, into an output of the right length; 16 if one of them is not finite.
-fn correct_loaded(o: Offer, samples: &[f32], limit: u16, out: &mut [u8]) -> Corrected
-    requires { Known o × (o.steps ≡ true) × (length samples.now ≡ o.bits) × (length out.old ≡ o.word) }
-    ensures { (n : ℕ) → offered n ≡ true → o ≡ offer_of n
+fn correct_loaded(code: KnownOffer, samples: &[f32], limit: u16, out: &mut [u8]) -> Corrected
+    requires { (code.offer.steps ≡ true) × (length samples.now ≡ code.offer.bits) × (length out.old ≡ code.offer.word) }
+    ensures { (n : ℕ) → offered n ≡ true → code.offer ≡ offer_of n
         → as_corrected result out.new ≡ samples_answer n samples.now limit out.old }
 {
     let mut patterns = [0u32; MOST];
     let n = samples.len();
     load(samples, &mut patterns);
-    correct_taken(o, &patterns[..n], limit, out)
+    let sampled = Sampled {
+        code,
+        samples: &patterns[..n],
+    };
+    correct_taken(sampled, limit, out)
 }
 
 // The run on samples, one for each bit, under a limit.
@@ -211,7 +234,7 @@ pub fn correct_samples(code: u8, samples: &[f32], limit: u16, out: &mut [u8]) ->
 {
     let o = offer::of(code);
     match admit(o, samples.len(), out.len()) {
-        Ok(()) => correct_loaded(o, samples, limit, out),
+        Ok(()) => correct_loaded(KnownOffer { offer: o }, samples, limit, out),
         Err(refusal) => endings::refused_correct(refusal.number()),
     }
 }

@@ -4,12 +4,12 @@
 #![tactic(auto)]
 
 use catalogue::offer;
-use layout::{SYNDROME, TABLE, WORD};
 use lists::listing;
 use std::io;
 use std::io::{Read, Write};
 use std::process::ExitCode;
 use streams::Failure;
+use word::measured::Room;
 use wordlog::lines;
 
 // No run of any code has more flips than this.
@@ -41,15 +41,13 @@ fn follow<W: Write>(
     word: &[u8],
     shown: bool,
 ) -> io::Result<listing::Listing> {
-    let mut h = [0u16; TABLE];
-    let mut y = [0u64; WORD];
-    let mut z = [0u64; SYNDROME];
-    let mut l = listing::begin(code, word, limit, PLACES, &mut h, &mut y, &mut z);
+    let mut room = Room::new();
+    let mut l = listing::begin(code, word, limit, PLACES, &mut room);
     while l.goes {
         if shown {
             put_flip(output, l.record)?;
         }
-        l = listing::next(l, word, &mut h, &mut y, &mut z);
+        l = listing::next(l, word, &mut room);
     }
     Ok(l)
 }

@@ -6,7 +6,16 @@ ghost use Rattle.rules.specs.Encoding.{lifted, written};
 ghost use Rattle.vectors.specs.Vectors.{wbit, Holds, up_to, from, later};
 ghost use Rattle.layout.specs.Rooms.{word_room};
 
+use catalogue::offer::KnownOffer;
 use layout::WORD;
+
+// A received word, and its code, which says how long it is.
+#[derive(Clone, Copy)]
+pub struct Received<'a> {
+    pub code: KnownOffer,
+    pub word: &'a [u8],
+    pub ghost whole: { length word.now ≡ code.offer.word },
+}
 
 // The bits that the checks are over, from octets that are handed in, into a vector of zeros; the unsent ones stand in front as zeros.
 pub fn take(octets: &[u8], unsent: usize, y: &mut [u64])

@@ -7,12 +7,6 @@ use Rattle.refusals.proofs.Admitted.{offered_by, check_refusal, taken, word_long
 use Rattle.refusals.proofs.Numbers.{some}
 use Rattle.codes.proofs.check.Goals as goal
 
-pub check_taken-requires : goal.check_taken-requires
-check_taken-requires c =
-    let is = c.of-o.ensures in
-    let t = taken c.args.code is c.of-o.result.offered (offered_by c.args.code is) (length c.args.word.now) _ 0 0 c.in-Ok.ensures refl in
-    (t.known, t.input_is)
-
 pub returns-in-Ok : goal.returns-in-Ok
 returns-in-Ok c =
     let n = c.args.code in

@@ -2,16 +2,12 @@
 use mathlib.Core.Path.{ap, ap₂, ◌∙◌}
 use Rattle.rules.specs.Codes.{code}
 use Rattle.rules.specs.Checks.{broken, lowest}
-use Rattle.vectors.proofs.Filling.{zero_words}
 use Rattle.refusals.proofs.Admitted.{fitting}
 use Rattle.codes.proofs.check_taken.Goals as goal
 
-pub measure-sh-requires : goal.measure-sh-requires
-measure-sh-requires c = (c.requires.0, c.requires.1, zero_words 130, zero_words 16)
-
 pub lowest-requires : goal.lowest-requires
 lowest-requires c =
-    let k = c.requires.0 in
+    let k = c.args.received.code.known in
     let w = fitting (c.measure-sh.ensures.1 k.number k.offers k.is).lends.fit in
     (w.0, w.1, w.2, w.3)
 

@@ -11,7 +11,7 @@ pub correct_taken-requires : goal.correct_taken-requires
 correct_taken-requires c =
     let is = c.of-o.ensures in
     let t = taken c.args.code is c.of-o.result.offered (offered_by c.args.code is) _ _ _ _ c.in-Ok.ensures refl in
-    (t.known, t.input_is, t.output-is)
+    t.output-is
 
 pub returns-in-Ok : goal.returns-in-Ok
 returns-in-Ok c =

@@ -21,7 +21,7 @@ six_set-requires c =
     let is = c.of-o.ensures in
     let t = taken n is c.of-o.result.offered (offered_by n is) (length c.args.information.now) _
     (length c.args.word.now) c.of-o.result.word c.in_ok-admit.ensures refl in
-    (t.known, t.input_is)
+    t.input_is
 
 pub returns-then-six_set : goal.returns-then-six_set
 returns-then-six_set c =
@@ -39,7 +39,7 @@ encode-requires c =
     let is = c.of-o.ensures in
     let t = taken n is c.of-o.result.offered (offered_by n is) (length c.args.information.now) _
     (length c.args.word.now) c.of-o.result.word c.in_ok-admit.ensures refl in
-    (t.known, t.input_is, t.output-is)
+    (t.input_is, t.output-is)
 
 pub returns : goal.returns
 returns c =

@@ -6,15 +6,11 @@ use Rattle.codes.proofs.Correcting.{ran_met, ran_unsent, ran_ends, corrected_is}
 use Rattle.flipping.specs.endings.Ends.{run_of}
 use Rattle.codes.proofs.finish.Goals as goal
 
-pub judge-number-requires : goal.judge-number-requires
-judge-number-requires c =
-    c.requires.0
-
 pub returns : goal.returns
 returns c n limit off is e =
     let some = (published n (is_offered n off)).some in
     corrected_is n _ limit _ _ e _ _
-    (c.judge-number.ensures n off is (run_of n c.args.word.now limit) (sym e.number ∙ sym c.number.ensures)
+    (c.judge-number.ensures n off is (run_of n c.args.received.word.now limit) (sym e.number ∙ sym c.number.ensures)
     (sym e.word_is) (λ z. ran_met n _ limit _ _ e some (sym c.number.ensures ∙ z))
     (ran_unsent n _ limit _ _ e some))
     (c.unlike_after-unlike.ensures n off is (ran_ends n _ limit _ _ e some)) _ _ (c.write_taken.ensures n off is)

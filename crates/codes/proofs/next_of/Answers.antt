@@ -8,12 +8,12 @@ use Rattle.codes.proofs.next_of.Goals as goal
 
 pub invariant_of-parity : goal.invariant_of-parity
 invariant_of-parity c =
-    let k = c.requires.0 in
+    let k = c.args.received.code.known in
     record { fit = (c.measure-sh.ensures.1 k.number k.offers k.is).lends.fit }
 
 pub comes_next-requires : goal.comes_next-requires
 comes_next-requires c =
-    let k = c.requires.0 in
+    let k = c.args.received.code.known in
     let e = c.measure-sh.ensures.1 k.number k.offers k.is in (
       (shaped k c.measure-sh.ensures.0).0,
       (shaped k c.measure-sh.ensures.0).1,
@@ -22,7 +22,7 @@ comes_next-requires c =
 
 pub returns : goal.returns
 returns c =
-    let k = c.requires.0 in (
+    let k = c.args.received.code.known in (
       within_bits _ c.comes_next.result (c.measure-sh.ensures.1 k.number k.offers k.is).lends.fit.bits
           c.comes_next.ensures.0,
       λ n off is.

@@ -7,12 +7,6 @@ use Rattle.refusals.proofs.Admitted.{as_truth, opens_by, opens_offered, open_ref
 use Rattle.refusals.proofs.Numbers.{some}
 use Rattle.codes.proofs.open.Goals as goal
 
-pub open_taken-requires : goal.open_taken-requires
-open_taken-requires c =
-    let is = c.of-o.ensures in
-    let t = taken c.args.code is c.of-o.result.opens (opens_offered c.args.code is) (length c.args.word.now) _ 0 0 c.in-Ok.ensures refl in
-    (t.known, t.input_is)
-
 pub returns-in-Ok : goal.returns-in-Ok
 returns-in-Ok c =
     let n = c.args.code in

@@ -8,17 +8,17 @@ use Rattle.codes.proofs.run_taken.Goals as goal
 
 pub lowest-lowest-requires : goal.lowest-lowest-requires
 lowest-lowest-requires c =
-    let k = c.requires.0 in
+    let k = c.args.received.code.known in
     fitting (c.measure-sh.ensures.1 k.number k.offers k.is).lends.fit
 
 pub invariant_of-parity : goal.invariant_of-parity
 invariant_of-parity c =
-    let k = c.requires.0 in
+    let k = c.args.received.code.known in
     record { fit = (c.measure-sh.ensures.1 k.number k.offers k.is).lends.fit }
 
 pub run-ended-requires : goal.run-ended-requires
 run-ended-requires c =
-    let k = c.requires.0 in
+    let k = c.args.received.code.known in
     let e = c.measure-sh.ensures.1 k.number k.offers k.is in (
       (shaped k c.measure-sh.ensures.0).0,
       (shaped k c.measure-sh.ensures.0).1,

@@ -6,15 +6,15 @@ use Rattle.codes.proofs.six_set.Goals as goal
 
 pub overflow_sub-last : goal.overflow_sub-last
 overflow_sub-last c =
-    (small c.requires.0).some
+    (small c.args.code.known).some
 
 pub bounds-information-last : goal.bounds-information-last
 bounds-information-last c =
-    omega (arith, c.requires.1, (small c.requires.0).some)
+    omega (arith, c.requires, (small c.args.code.known).some)
 
 --? rem-result : tie.Need-nonzero-rem-result
 --? rem-result c =
---?     (small c.before.before.before.requires.0).multiple
+--?     (small c.args.code.known).multiple
 
 pub returns : goal.returns
 returns c =

@@ -9,7 +9,7 @@ pub step_taken-requires : goal.step_taken-requires
 step_taken-requires c =
     let is = c.of-o.ensures in
     let t = taken c.args.code is c.of-o.result.steps (steps_offered c.args.code is) _ _ _ _ c.in-Ok.ensures refl in
-    (t.known, t.input_is, t.output-is)
+    t.output-is
 
 pub returns-in-Ok : goal.returns-in-Ok
 returns-in-Ok c =

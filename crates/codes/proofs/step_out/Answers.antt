@@ -15,11 +15,11 @@ use Rattle.codes.proofs.step_out.Goals as goal
 
 pub write_flipped-requires : goal.write_flipped-requires
 write_flipped-requires c =
-    (c.requires.0, subst (Within 8176) c.in-Flip.is c.requires.3, c.requires.2)
+    (subst (Within 8176) c.in-Flip.is c.requires.1, c.requires.0)
 
 pub overflow_cast-result : goal.overflow_cast-result
 overflow_cast-result c =
-    let l = subst (Within 8176) c.in-Flip.is c.requires.3 in
+    let l = subst (Within 8176) c.in-Flip.is c.requires.1 in
     search rules
 
 pub returns-in-Quiet : goal.returns-in-Quiet
@@ -32,7 +32,7 @@ pub returns-in-Stuck : goal.returns-in-Stuck
 unfolding next_step
 returns-in-Stuck c n off is e =
     c.refused_step.ensures c.args.out.now
-    ∙ ap (next_step (code n) c.args.word.now _ c.args.out.now) (sym (ap comes_next_of c.in-Stuck.is))
+    ∙ ap (next_step (code n) c.args.received.word.now _ c.args.out.now) (sym (ap comes_next_of c.in-Stuck.is))
 
 pub returns-in-Flip : goal.returns-in-Flip
 unfolding next_step
@@ -43,4 +43,4 @@ returns-in-Flip c n off is e =
     let fits : SFits w8 ex = search (rules, known) in
     ap₂ (λ z o. record { number = 0; quiet = false; bit = b; excess = z; out = o }) (to_z-of_z w8 ex fits)
     (c.write_flipped.ensures n off is ∙ ap (λ y. written (code n) (flipped y b)) e)
-    ∙ ap (next_step (code n) c.args.word.now _ c.args.out.now) (sym (ap comes_next_of c.in-Flip.is))
+    ∙ ap (next_step (code n) c.args.received.word.now _ c.args.out.now) (sym (ap comes_next_of c.in-Flip.is))

@@ -9,13 +9,13 @@ use Rattle.codes.proofs.write_flipped.Goals as goal
 
 pub write-requires : goal.write-requires
 write-requires c = (
-  (small c.requires.0).unsent,
-  omega (arith, c.requires.2, (small c.requires.0).word),
-  λ h. (small c.requires.0).plain (omega (arith, h, c.requires.2)),
-  omega (arith, c.requires.2, (small c.requires.0).ends),
+  (small c.args.code.known).unsent,
+  omega (arith, c.requires.1, (small c.args.code.known).word),
+  λ h. (small c.args.code.known).plain (omega (arith, h, c.requires.1)),
+  omega (arith, c.requires.1, (small c.args.code.known).ends),
 )
 
 pub returns : goal.returns
 returns c n off is =
-    c.write.ensures (code n) (unsent_is n is off) (bits_are n is off) (word_long n is off c.requires.2)
+    c.write.ensures (code n) (unsent_is n is off) (bits_are n is off) (word_long n is off c.requires.1)
     ∙ ap (written (code n)) c.flip_bit.ensures

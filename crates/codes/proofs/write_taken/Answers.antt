@@ -8,16 +8,16 @@ use Rattle.codes.proofs.write_taken.Goals as goal
 
 pub write-requires : goal.write-requires
 write-requires c = (
-  (small c.requires.0).unsent,
-  omega (arith, c.requires.1, (small c.requires.0).word),
-  λ h. (small c.requires.0).plain (omega (arith, h, c.requires.1)),
-  omega (arith, c.requires.1, (small c.requires.0).ends),
+  (small c.args.code.known).unsent,
+  omega (arith, c.requires, (small c.args.code.known).word),
+  λ h. (small c.args.code.known).plain (omega (arith, h, c.requires)),
+  omega (arith, c.requires, (small c.args.code.known).ends),
 )
 
 pub returns-then-number-eq0 : goal.returns-then-number-eq0
 returns-then-number-eq0 c n off is =
     wrote_word _ _ _ _ c.if-number-eq0.true
-    (c.write.ensures (code n) (unsent_is n is off) (bits_are n is off) (word_long n is off c.requires.1))
+    (c.write.ensures (code n) (unsent_is n is off) (bits_are n is off) (word_long n is off c.requires))
 
 pub returns-else-number-eq0 : goal.returns-else-number-eq0
 returns-else-number-eq0 c n off is = wrote_none _ _ _ c.if-number-eq0.false

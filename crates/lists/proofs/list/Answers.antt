@@ -1,14 +1,10 @@
 -- `lists::list`: each pass puts one record of the list into the table. Assumes nothing.
 use mathlib.Core.Path.{ap, sym, ◌∙◌}
 use lib.ListN.{length, length-map, length-set}
-use Rattle.vectors.proofs.Filling.{zero_words}
 use Rattle.lists.specs.listing.Answers.{as_entry, as_entries}
 use Rattle.lists.specs.listing.Listings.{list_of, so_far}
 use Rattle.lists.proofs.listing.Writing.{put_next}
 use Rattle.lists.proofs.list.Goals as goal
-
-pub begin-l-requires : goal.begin-l-requires
-begin-l-requires c = (zero_words 130, zero_words 16)
 
 pub loop-l-preserved : goal.loop-l-preserved
 loop-l-preserved c =
@@ -22,7 +18,7 @@ loop-l-preserved c =
     record {
       lists = told.1 cd lim (length ys) i.lists;
       so =
-          put_next cd w lim (length ys) (as_entries ys) c.loop-l.table l c.loop-l.h c.loop-l.y c.loop-l.z i.lists c.loop-l-test.true
+          put_next cd w lim (length ys) (as_entries ys) c.loop-l.table l c.loop-l.room.h c.loop-l.room.y c.loop-l.room.z i.lists c.loop-l-test.true
           (length-map ys as_entry) i.so
           ∙ ap (λ k. so_far (list_of cd w lim) k (as_entries ys)) (sym told.0);
       long = length-set c.loop-l.table l.place l.record ∙ i.long;

@@ -6,7 +6,7 @@ use Rattle.lists.proofs.list.Given as goal
 
 abbrev pub invariant-loop-l : goal.invariant-loop-l
 invariant-loop-l l = record {
-  lists : Lists l.fn.code l.fn.word l.fn.limit (length l.fn.table) l.l l.h l.y l.z;
+  lists : Lists l.fn.code l.fn.word l.fn.limit (length l.fn.table) l.l l.room.h l.room.y l.room.z;
   so : as_entries l.table ≡ so_far (list_of l.fn.code l.fn.word l.fn.limit) l.l.place (as_entries l.fn.table);
   long : length l.table ≡ length l.fn.table;
 }

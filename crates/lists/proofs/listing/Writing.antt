@@ -26,7 +26,7 @@ use Rattle.vectors.specs.Vectors.{wbit}
 use Rattle.layout.specs.declared.Shape.{Shape}
 use Rattle.layout.specs.Lent.{laid}
 use Rattle.catalogue.specs.declared.offer.Offer.{Offer}
-use Rattle.catalogue.specs.offer.Offers.{offer_of, Known}
+use Rattle.catalogue.specs.offer.Offers.{offer_of}
 use Rattle.catalogue.proofs.offer.Offers.{is_offered}
 use Rattle.flipping.specs.endings.Ends.{EndsAt}
 use Rattle.refusals.proofs.Admitted.{word_long}
@@ -111,10 +111,6 @@ refused_lists n word limit room l h y z number off at is told = record {
   record_is = λ on. absurd (subst T (sym on ∙ off) tt);
   ends = λ _ table long. ap (λ k. listed_as l.answer (so_far (list_of n word limit) k table)) at ∙ is table ∙ told table long;
 }
-
--- what a list was measured with is some code's
-pub known_of : (n : ℕ) (word : List ℕ) (limit : ℕ) (l : Listing) → Measures n word limit l → Known l.offer
-known_of n word limit l m = record { number = n; offers = m.offers; is = m.is }
 
 -- ---- the bounds
 

@@ -27,10 +27,6 @@ abbrev pub ends_with : ℕ → List ℕ → ℕ → List Entry → ListedAnswer
 ends_with n word limit table =
     listed_by (ran_correct (code n) (word_of n word) (run_of n word limit) []) (reason (code n) (run_of n word limit)) table
 
--- Room for what is measured of a word, as zeros.
-abbrev pub Blank : List ℕ → List ℕ → Type 0
-Blank y z = (wbit y ≡ (λ n. false)) × (wbit z ≡ (λ n. false))
-
 -- The list is of this code, word and limit, and knows what was measured of the word.
 pub record Measures (n : ℕ) (word : List ℕ) (limit : ℕ) (l : Listing) : Type 0 where
   pub offers : offered n ≡ true

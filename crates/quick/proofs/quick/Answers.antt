@@ -7,12 +7,6 @@ use Rattle.refusals.proofs.Numbers.{some}
 use Rattle.quick.proofs.Promises.{quick_taken, quick_refused}
 use Rattle.quick.proofs.quick.Goals as goal
 
-pub quick_taken-requires : goal.quick_taken-requires
-quick_taken-requires c =
-    let is = c.of-o.ensures in
-    let t = taken c.args.code is c.of-o.result.offered (offered_by c.args.code is) (length c.args.word.now) _ 0 0 c.in-Ok.ensures refl in
-    (t.known, t.input_is)
-
 pub returns-in-Ok : goal.returns-in-Ok
 returns-in-Ok c =
     let n = c.args.code in

@@ -13,7 +13,7 @@ pub correct_taken-requires : goal.correct_taken-requires
 correct_taken-requires c =
     let o = c.of-o in
     let t = taken c.args.code o.ensures o.result.steps (steps_offered c.args.code o.ensures) _ _ _ _ c.in-Ok.ensures refl in
-    (t.known, t.chosen, t.input_is, t.output-is)
+    t.output-is
 
 pub returns-in-Ok : goal.returns-in-Ok
 returns-in-Ok c =

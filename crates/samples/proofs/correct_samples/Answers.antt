@@ -12,7 +12,7 @@ pub correct_loaded-requires : goal.correct_loaded-requires
 correct_loaded-requires c =
     let o = c.of-o in
     let t = taken c.args.code o.ensures o.result.steps (steps_offered c.args.code o.ensures) _ _ _ _ c.in-Ok.ensures refl in
-    (t.known, t.chosen, t.input_is, t.output-is)
+    (t.chosen, t.input_is, t.output-is)
 
 pub returns-in-Ok : goal.returns-in-Ok
 returns-in-Ok c =

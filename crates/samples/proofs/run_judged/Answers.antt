@@ -6,7 +6,7 @@ use Rattle.samples.proofs.run_judged.Goals as goal
 
 pub run-end-requires : goal.run-end-requires
 run-end-requires c =
-    (c.requires.1, c.requires.2, c.requires.3, c.requires.4)
+    c.requires
 
 pub returns : goal.returns
 returns c n off is t begins low =
@@ -14,7 +14,7 @@ returns c n off is t begins low =
     let g = c.run-end in
     let j = c.judge in
     let x = a.samples.now in
-    let at = c.requires.3 in
+    let at = c.requires.2 in
     let number = c.number.ensures in
     let to = g.ensures (code n) begins in
     record {

@@ -4,7 +4,7 @@ use Rattle.samples.proofs.run_read.Goals as goal
 
 pub run_within-requires : goal.run_within-requires
 run_within-requires c =
-    (c.requires.0, c.requires.1, c.requires.2, c.requires.3, zero_words 16)
+    (c.requires, zero_words 16)
 
 pub returns : goal.returns
 returns c = c.run_within.ensures

@@ -4,7 +4,7 @@ use Rattle.lists.specs.listing.Listings.{Lists}
 use Rattle.why.proofs.follow.Given as goal
 
 abbrev pub invariant-loop-l : goal.invariant-loop-l
-invariant-loop-l g l = Lists l.code l.word l.limit 511 l.l l.h l.y l.z
+invariant-loop-l g l = Lists l.code l.word l.limit 511 l.l l.room.h l.room.y l.room.z
 
 abbrev pub decreases-loop-l : goal.decreases-loop-l
 decreases-loop-l g l = 511 - l.l.place

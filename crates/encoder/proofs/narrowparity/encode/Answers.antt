@@ -17,15 +17,15 @@ use Rattle.encoder.proofs.narrowparity.encode.Goals as goal
 
 pub solve_narrow-requires : goal.solve_narrow-requires
 solve_narrow-requires c =
-    let k = c.requires.0 in
-    let same = narrow_is k.number k.offers k.is c.requires.1 in
+    let k = c.args.code.known in
+    let same = narrow_is k.number k.offers k.is c.requires.0 in
     let ok = ready_as k.number k.offers k.is same in
     let e = c.telecommand_shape-sh.ensures in (
       record { number = k.number; offers = k.offers; is = e ∙ sym same ∙ ap (λ z. z.shape) k.is },
       e ∙ ap (λ z. narrow_shape z.size) (sym e),
       subst (λ (m : ℕ). (m ≡ 16 → ⊥) → (m ≡ 32 → ⊥) → m ≡ 64) (sym (ap (λ z. z.size) e))
-          (last_size k.number k.offers k.is c.requires.1),
-      omega (arith, c.requires.2, (ok.small c.requires.1).0, ap (λ z. z.information) k.is),
+          (last_size k.number k.offers k.is c.requires.0),
+      omega (arith, c.requires.1, (ok.small c.requires.0).0, ap (λ z. z.information) k.is),
       zero_words 16,
     )
 
@@ -33,12 +33,12 @@ pub returns : goal.returns
 returns c =
     λ n off is short.
     let info = c.args.information.now in
-    let sh = narrow_shape c.args.o.shape.size in
-    let same = narrow_is n off is c.requires.1 in
+    let sh = narrow_shape c.args.code.offer.shape.size in
+    let same = narrow_is n off is c.requires.0 in
     let ok = ready_as n off is same in
     let own = fixed n off in
-    let unsent : 0 ≡ (code n).unsent = sym (ok.small c.requires.1).1 ∙ own.unsent in
-    let long = c.requires.3 ∙ ap (λ z. z.word) is ∙ own.word in
+    let unsent : 0 ≡ (code n).unsent = sym (ok.small c.requires.0).1 ∙ own.unsent in
+    let long = c.requires.2 ∙ ap (λ z. z.word) is ∙ own.word in
     let x : Word = bit info in
     let whole = taken_whole (code n) unsent x in
     let only = subst (λ (z : Word). z ≡ up_to (information (code n)) z) (sym whole) short in
@@ -51,4 +51,4 @@ returns c =
     ∙ ap (λ (z : Shape). octets (length c.args.word.now) (completed z 1 f (4 * sh.size) x)) is_shape
     ∙ ap₂ (λ (l m : ℕ). octets l (completed sh 1 f m x)) long sends
     ∙ all_sent n sh ok (omega (arith, unsent)) 1 f x (λ p h.
-    ok.other_rows c.requires.1 x (short_of (information (code n)) x only) p h ∙ ap (λ (z : Word). parity_bit (code n) z p) whole)
+    ok.other_rows c.requires.0 x (short_of (information (code n)) x only) p h ∙ ap (λ (z : Word). parity_bit (code n) z p) whole)

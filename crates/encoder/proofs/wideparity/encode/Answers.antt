@@ -15,14 +15,14 @@ use Rattle.encoder.proofs.wideparity.encode.Goals as goal
 
 pub solve_wide-requires : goal.solve_wide-requires
 solve_wide-requires c =
-    let k = c.requires.0 in
-    let same = wide_is k.number k.offers k.is c.requires.1 in
+    let k = c.args.code.known in
+    let same = wide_is k.number k.offers k.is c.requires.0 in
     let ok = ready_as k.number k.offers k.is same in
     let few = small k in (
       record { number = k.number; offers = k.offers; is = sym same ∙ ap (λ z. z.shape) k.is },
       refl,
-      omega (arith, ok.enough, c.requires.2, ap (λ z. z.information) k.is, ap (λ z. z.unsent) k.is),
-      omega (arith, c.requires.2, few.information, few.word),
+      omega (arith, ok.enough, c.requires.1, ap (λ z. z.information) k.is, ap (λ z. z.unsent) k.is),
+      omega (arith, c.requires.1, few.information, few.word),
       few.unsent,
       zero_words 16,
     )
@@ -30,14 +30,14 @@ solve_wide-requires c =
 pub returns : goal.returns
 returns c =
     λ n off is short.
-    let o = c.args.o in
+    let o = c.args.code.offer in
     let info = c.args.information.now in
     let sh = wide_shape in
-    let same = wide_is n off is c.requires.1 in
+    let same = wide_is n off is c.requires.0 in
     let ok = ready_as n off is same in
     let own = fixed n off in
     let unsent : o.unsent ≡ (code n).unsent = ap (λ z. z.unsent) is ∙ own.unsent in
-    let long = c.requires.3 ∙ ap (λ z. z.word) is ∙ own.word in
+    let long = c.requires.2 ∙ ap (λ z. z.word) is ∙ own.word in
     let x : Word = lifted (code n) (bit info) in
     let g : ℕ → Word = λ r i. end_rows n sh.size x r i ⊕ odd_together_of x r in
     let solved = c.solve_wide.ensures n x off (sym same ∙ ap (λ z. z.shape) is)

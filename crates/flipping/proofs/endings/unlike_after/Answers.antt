@@ -15,15 +15,15 @@ returns-then-flips-le1 c =
     λ n off is ends. omega (arith, c.if-flips-le1.true, ends.within, ends.even)
 
 pub overflow_sub-o : goal.overflow_sub-o
-overflow_sub-o c = omega (arith, (small c.requires.0).sends)
+overflow_sub-o c = omega (arith, (small c.args.received.code.known).sends)
 
 pub unlike-requires : goal.unlike-requires
 unlike-requires c =
-    let f = small c.requires.0 in (
-      omega (arith, f.fits, c.requires.1),
-      omega (arith, f.full, c.requires.1),
-      omega (arith, f.word, c.requires.1),
-      omega (arith, f.bits, c.unlike-arg-1.given),
+    let f = small c.args.received.code.known in (
+      omega (arith, f.fits, c.args.received.whole),
+      omega (arith, f.full, c.args.received.whole),
+      omega (arith, f.word, c.args.received.whole),
+      omega (arith, f.bits),
       omega (arith, f.unsent),
     )
 
@@ -31,6 +31,6 @@ pub returns : goal.returns
 returns c =
     λ n off is ends.
     c.unlike.ensures.0
-    ∙ sent_differ (code n) c.args.o.unsent c.args.o.bits (unsent_is n is off) (bits_are n is off)
+    ∙ sent_differ (code n) c.args.received.code.offer.unsent c.args.received.code.offer.bits (unsent_is n is off) (bits_are n is off)
     (published n (is_offered n off)).some
-    (bit c.args.word.now) (wbit c.args.y.now) ends.unsent
+    (bit c.args.received.word.now) (wbit c.args.y.now) ends.unsent

@@ -7,12 +7,6 @@ use Rattle.refusals.proofs.Numbers.{some}
 use Rattle.lists.proofs.listing.Writing.{refused_lists}
 use Rattle.lists.proofs.listing.begin.Goals as goal
 
-pub begin_taken-requires : goal.begin_taken-requires
-begin_taken-requires c =
-    let is = c.of-o.ensures in
-    let t = taken c.args.code is c.of-o.result.offered (offered_by c.args.code is) (length c.args.word.now) _ 0 0 c.in-Ok.ensures refl in
-    (t.known, t.input_is, c.requires)
-
 pub returns-in-Ok : goal.returns-in-Ok
 returns-in-Ok c =
     let n = c.args.code in
@@ -26,7 +20,7 @@ returns-in-Err c =
     let n = c.args.code in
     let r = c.refused in (
       r.ensures.1,
-      refused_lists n c.args.word.now c.args.limit c.args.room _ _ _ _ _ r.ensures.0 r.ensures.1 r.ensures.2
+      refused_lists n c.args.word.now c.args.limit c.args.places _ _ _ _ _ r.ensures.0 r.ensures.1 r.ensures.2
           (λ table long. sym (list_refused n c.args.word.now c.args.limit table _
           (check_refusal n c.of-o.ensures _ c.in-Err.ensures) (some c.in-Err.refusal))),
     )

@@ -3,30 +3,22 @@ use mathlib.Core.Path.{sym, ap, ◌∙◌}
 use lib.ListN.{length}
 use Rattle.rules.specs.Codes.{code}
 use Rattle.rules.specs.Flipping.{by_excess, run}
-use Rattle.vectors.proofs.Filling.{zero_words}
 use Rattle.refusals.proofs.Admitted.{shaped, unsent_is}
 use Rattle.flipping.proofs.endings.Ends.{begins, beginning}
-use borrow.Author.Rules.{rules}
 use Rattle.lists.proofs.listing.count_flips.Goals as goal
-
-pub measure-sh-requires : goal.measure-sh-requires
-measure-sh-requires c =
-    let y = zero_words 130 in
-    let s = zero_words 16 in
-    search rules
 
 pub invariant_of-parity : goal.invariant_of-parity
 invariant_of-parity c =
-    let k = c.requires.0 in
+    let k = c.args.received.code.known in
     record { fit = (c.measure-sh.ensures.1 k.number k.offers k.is).lends.fit }
 
 pub run-ended-requires : goal.run-ended-requires
 run-ended-requires c =
-    let k = c.requires.0 in
+    let k = c.args.received.code.known in
     let e = c.measure-sh.ensures.1 k.number k.offers k.is in (
       (shaped k c.measure-sh.ensures.0).0,
       (shaped k c.measure-sh.ensures.0).1,
-      beginning k.number c.args.word.now _ _ _ _ e c.broken-first.result c.broken-first.ensures c.args.o.unsent
+      beginning k.number c.args.received.word.now _ _ _ _ e c.broken-first.result c.broken-first.ensures c.args.received.code.offer.unsent
           (sym (unsent_is k.number k.is k.offers)),
     )
 
@@ -34,6 +26,6 @@ pub returns : goal.returns
 returns c =
     λ n off is.
     let e = c.measure-sh.ensures.1 n off is in
-    let counted = begins n c.args.word.now _ _ _ _ e c.broken-first.result c.broken-first.ensures c.args.o.unsent
+    let counted = begins n c.args.received.word.now _ _ _ _ e c.broken-first.result c.broken-first.ensures c.args.received.code.offer.unsent
     (sym (unsent_is n is off)) in
     (c.run-ended.ensures (code n) counted).0.flips ∙ ap (λ x. length (run (by_excess (code n)) c.args.limit x).flips) e.bits

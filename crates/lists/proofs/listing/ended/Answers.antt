@@ -13,11 +13,11 @@ returns c =
     let fits : SFits w8 c.args.excess = search rules in (
       refl,
       refl,
-      λ n limit e table.
+      λ n limit is e table.
           let m = e.measures in
-          ended_is n c.args.word.now limit _ _ _ _ _ _ e _ (to_z-of_z w8 c.args.excess fits) _ _
-          (c.judge-judged.ensures n m.offers m.is (run_of n c.args.word.now limit) (sym e.number_is) (sym e.word_is)
-          (end_met n c.args.word.now limit _ _ _ _ _ _ e) (end_unsent n c.args.word.now limit _ _ _ _ _ _ e))
-          (c.unlike_after-unlike.ensures n m.offers m.is (end_at n c.args.word.now limit _ _ _ _ _ _ e))
+          ended_is n c.args.received.word.now limit _ _ _ _ _ _ e _ (to_z-of_z w8 c.args.excess fits) _ _
+          (c.judge-judged.ensures n m.offers is (run_of n c.args.received.word.now limit) (sym e.number_is) (sym e.word_is)
+          (end_met n c.args.received.word.now limit _ _ _ _ _ _ e) (end_unsent n c.args.received.word.now limit _ _ _ _ _ _ e))
+          (c.unlike_after-unlike.ensures n m.offers is (end_at n c.args.received.word.now limit _ _ _ _ _ _ e))
           table,
     )

@@ -8,7 +8,7 @@ use Rattle.lists.proofs.listing.measured_list.Goals as goal
 
 pub lowest-lowest-requires : goal.lowest-lowest-requires
 lowest-lowest-requires c =
-    let k = c.requires.0 in
+    let k = c.args.received.code.known in
     fitting (c.measure-sh.ensures.1 k.number k.offers k.is).lends.fit
 
 pub returns : goal.returns
@@ -18,7 +18,7 @@ returns c n off is =
     let low = c.lowest-lowest.ensures (code n) _ _ e.lends.fit e.lends.lent e.held in
     let l = c.begun.ensures in (
       l.2 ∙ broke ∙ ap (broken (code n)) e.bits,
-      λ room some. starts n off _ _ is c.requires.1 _ room _ _ _ _ e c.measure-sh.ensures.0 _ _ broke low some _ l.5 l.4 l.2
+      λ room some. starts n off _ _ is c.args.received.whole _ room _ _ _ _ e c.measure-sh.ensures.0 _ _ broke low some _ l.5 l.4 l.2
           l.3
           l.1,
     )

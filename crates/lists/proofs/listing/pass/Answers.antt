@@ -9,22 +9,22 @@ use Rattle.rules.specs.Codes.{code}
 use Rattle.rules.specs.Flipping.{flip}
 use Rattle.flipping.specs.runs.Passes.{Within, comes_next_of}
 use Rattle.refusals.proofs.Admitted.{unsent_is}
-use Rattle.lists.proofs.listing.Writing.{known_of, ends_by_quiet, ends_by_stuck, ended_lists}
+use Rattle.lists.proofs.listing.Writing.{ends_by_quiet, ends_by_stuck, ended_lists}
 use borrow.Author.Rules.{rules}
 use Rattle.lists.proofs.listing.pass.Goals as goal
 
-pub coming-next-requires : goal.coming-next-requires
-coming-next-requires c =
+pub coming-requires : goal.coming-requires
+coming-requires c =
     let n = c.requires.number in
     let st = c.requires.stands in
-    (known_of n _ _ _ st.measures, st.lends.fit, record { code = code n; word = _; lent = st.lends.lent; held = st.going.held })
+    (st.lends.fit, record { code = code n; word = _; lent = st.lends.lent; held = st.going.held })
 
 pub ended-requires : goal.ended-requires
 ended-requires c =
     let st = c.requires.stands in
     let under = st.measures.under in
     let within = st.going.within in
-    (known_of c.requires.number _ _ _ st.measures, st.measures.long, search rules)
+    search rules
 
 pub overflow_cast-bit : goal.overflow_cast-bit
 overflow_cast-bit c =
@@ -32,7 +32,7 @@ overflow_cast-bit c =
     omega (
       arith,
       c.requires.stands.lends.fit.bits,
-      subst (Within (sh.blocks * sh.size)) c.in-Stuck.is c.coming-next.ensures.0,
+      subst (Within (sh.blocks * sh.size)) c.in-Stuck.is c.coming.ensures.0,
     )
 
 pub ended-requires-in-Stuck : goal.ended-requires-in-Stuck
@@ -40,22 +40,22 @@ ended-requires-in-Stuck c =
     let st = c.requires.stands in
     let under = st.measures.under in
     let within = st.going.within in
-    (known_of c.requires.number _ _ _ st.measures, st.measures.long, search rules)
+    search rules
 
 pub flip_on-requires : goal.flip_on-requires
 flip_on-requires c =
     let sh = c.args.l.offer.shape in
-    (c.requires, subst (Within (sh.blocks * sh.size)) c.in-Flip.is c.coming-next.ensures.0)
+    (c.requires, subst (Within (sh.blocks * sh.size)) c.in-Flip.is c.coming.ensures.0)
 
 pub returns-in-Quiet : goal.returns-in-Quiet
 returns-in-Quiet c =
     let r = c.ended in (
       r.ensures.1,
       λ n limit room st.
-          let next = c.coming-next.ensures.1 (code n) st.lends.lent (sym (unsent_is n st.measures.is st.measures.offers))
+          let next = c.coming.ensures.1 (code n) st.lends.lent (sym (unsent_is n st.measures.is st.measures.offers))
           _ st.going.held ∙ ap comes_next_of c.in-Quiet.is in
           let ends = ends_by_quiet n _ limit room _ _ _ _ _ st next in
-          ended_lists n _ limit room _ _ _ _ _ st _ _ _ ends _ _ _ _ r.ensures.0 r.ensures.1 (r.ensures.2 n limit ends),
+          ended_lists n _ limit room _ _ _ _ _ st _ _ _ ends _ _ _ _ r.ensures.0 r.ensures.1 (r.ensures.2 n limit st.measures.is ends),
     )
 
 pub returns-in-Stuck : goal.returns-in-Stuck
@@ -65,10 +65,10 @@ returns-in-Stuck c =
     let r = c.ended-in-Stuck in (
       r.ensures.1,
       λ n limit room st.
-          let next = c.coming-next.ensures.1 (code n) st.lends.lent (sym (unsent_is n st.measures.is st.measures.offers))
+          let next = c.coming.ensures.1 (code n) st.lends.lent (sym (unsent_is n st.measures.is st.measures.offers))
           _ st.going.held ∙ ap comes_next_of c.in-Stuck.is in
           let ends = ends_by_stuck n _ limit room _ _ _ _ _ st _ ex _ (to_z-of_z w8 ex fits) next in
-          ended_lists n _ limit room _ _ _ _ _ st _ _ _ ends _ _ _ _ r.ensures.0 r.ensures.1 (r.ensures.2 n limit ends),
+          ended_lists n _ limit room _ _ _ _ _ st _ _ _ ends _ _ _ _ r.ensures.0 r.ensures.1 (r.ensures.2 n limit st.measures.is ends),
     )
 
 pub returns-in-Flip : goal.returns-in-Flip
@@ -78,7 +78,7 @@ returns-in-Flip c =
     let r = c.flip_on in (
       r.ensures.0,
       λ n limit room st.
-          let next = c.coming-next.ensures.1 (code n) st.lends.lent (sym (unsent_is n st.measures.is st.measures.offers))
+          let next = c.coming.ensures.1 (code n) st.lends.lent (sym (unsent_is n st.measures.is st.measures.offers))
           _ st.going.held ∙ ap comes_next_of c.in-Flip.is in
-          r.ensures.1 n limit room st (next ∙ ap (flip c.in-Flip.bit) (sym (to_z-of_z w8 ex fits))),
+          r.ensures.1 n limit room st.measures.is st (next ∙ ap (flip c.in-Flip.bit) (sym (to_z-of_z w8 ex fits))),
     )

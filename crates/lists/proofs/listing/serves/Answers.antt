@@ -10,26 +10,26 @@ use Rattle.rules.proofs.Runs.{run_within}
 use Rattle.flipping.specs.endings.Ends.{word_of, run_of}
 use Rattle.lists.proofs.listing.serves.Goals as goal
 
-pub returns-then-limit-room : goal.returns-then-limit-room
-returns-then-limit-room c =
+pub returns-then-limit-places : goal.returns-then-limit-places
+returns-then-limit-places c =
     λ n off is first.
-    sym (le-leb (length (run_of n c.args.word.now c.args.limit).flips) c.args.room (omega (
+    sym (le-leb (length (run_of n c.args.received.word.now c.args.limit).flips) c.args.places (omega (
       arith,
-      c.if-limit-room.true,
+      c.if-limit-places.true,
       run_within
-          (by_excess (code n)) c.args.limit (word_of n c.args.word.now),
+          (by_excess (code n)) c.args.limit (word_of n c.args.received.word.now),
     )))
 
-pub returns-then-most_flips-room : goal.returns-then-most_flips-room
-returns-then-most_flips-room c =
+pub returns-then-most_flips-places : goal.returns-then-most_flips-places
+returns-then-most_flips-places c =
     λ n off is first.
-    sym (le-leb (length (run_of n c.args.word.now c.args.limit).flips) c.args.room (omega (
+    sym (le-leb (length (run_of n c.args.received.word.now c.args.limit).flips) c.args.places (omega (
       arith,
-      c.if-most_flips-room.true,
-      c.most_flips.ensures n off is (word_of n c.args.word.now) first
+      c.if-most_flips-places.true,
+      c.most_flips.ensures n off is (word_of n c.args.received.word.now) first
           c.args.limit,
     )))
 
 pub returns : goal.returns
 returns c =
-    λ n off is first. ap (λ k. leb k c.args.room) (c.count_flips.ensures n off is)
+    λ n off is first. ap (λ k. leb k c.args.places) (c.count_flips.ensures n off is)

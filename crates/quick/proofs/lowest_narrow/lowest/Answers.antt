@@ -12,15 +12,15 @@ use Rattle.quick.proofs.lowest_narrow.lowest.Goals as goal
 
 pub load-requires : goal.load-requires
 load-requires c =
-    let k = c.requires.0 in
-    let w = (checked k.number k.offers).narrow (λ e. c.requires.2 (ap (λ o. o.shape.size) k.is ∙ e)) in
-    let word = c.requires.1 ∙ ap (λ o. o.word) k.is in
+    let k = c.args.received.code.known in
+    let w = (checked k.number k.offers).narrow (λ e. c.requires (ap (λ o. o.shape.size) k.is ∙ e)) in
+    let word = c.args.received.whole ∙ ap (λ o. o.word) k.is in
     (omega (arith, w.0, word), zero_words 17)
 
 pub returns : goal.returns
 returns c n off is =
-    let w = (checked n off).narrow (λ e. c.requires.2 (ap (λ o. o.shape.size) is ∙ e)) in
+    let w = (checked n off).narrow (λ e. c.requires (ap (λ o. o.shape.size) is ∙ e)) in
     let lends = (c.lend_narrow-sh.ensures.0 n off (ap (λ o. o.shape.size) is)).1 in
-    let bits = taken_whole (code n) (sym w.1 ∙ (fixed n off).unsent) (bit c.args.word.now) in
+    let bits = taken_whole (code n) (sym w.1 ∙ (fixed n off).unsent) (bit c.args.received.word.now) in
     c.rows_lowest.ensures (code n) lends.lent
     ∙ ap (lowest (code n)) (c.load.ensures ∙ bits)

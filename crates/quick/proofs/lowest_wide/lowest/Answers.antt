@@ -39,16 +39,16 @@ full h is = subst (λ z. Full z near) (sym is) every_shift
 
 pub invariant_of-parity : goal.invariant_of-parity
 invariant_of-parity c =
-    let k = c.requires.0 in
-    let e : 511 ≡ (offer_of k.number).shape.size = sym c.requires.2 ∙ ap (λ o. o.shape.size) k.is in
+    let k = c.args.received.code.known in
+    let e : 511 ≡ (offer_of k.number).shape.size = sym c.requires ∙ ap (λ o. o.shape.size) k.is in
     record { fit = (lent k.number k.offers e _ c.lend511.ensures).fit }
 
 pub first_group-v-requires : goal.first_group-v-requires
 first_group-v-requires c =
-    let k = c.requires.0 in
-    let e : 511 ≡ (offer_of k.number).shape.size = sym c.requires.2 ∙ ap (λ o. o.shape.size) k.is in
+    let k = c.args.received.code.known in
+    let e : 511 ≡ (offer_of k.number).shape.size = sym c.requires ∙ ap (λ o. o.shape.size) k.is in
     let w = (checked k.number k.offers).wide (sym e) in
-    let word = c.requires.1 ∙ ap (λ o. o.word) k.is in
+    let word = c.args.received.whole ∙ ap (λ o. o.word) k.is in
     let unsent = ap (λ o. o.unsent) k.is in
     let few = small k in (
       lit≤ tt,
@@ -56,27 +56,27 @@ first_group-v-requires c =
       omega (arith, w.0, word, unsent),
       few.unsent,
       omega (arith, w.0, w.1, word),
-      omega (arith, few.word, c.requires.1),
+      omega (arith, few.word, c.args.received.whole),
     )
 
 pub returns-then-v-ne0 : goal.returns-then-v-ne0
 returns-then-v-ne0 c n off is =
-    let e : 511 ≡ (offer_of n).shape.size = sym c.requires.2 ∙ ap (λ o. o.shape.size) is in
+    let e : 511 ≡ (offer_of n).shape.size = sym c.requires ∙ ap (λ o. o.shape.size) is in
     let l = lent n off e _ c.lend511.ensures in
     let v = c.first_group-v.result in
     let f = first_digit 64 v (pos_of_ne-zero c.if-v-ne0.true) c.first_group-v.type_inv in
     sym (zero-add (count_leading_zeros 64 v))
-    ∙ group_found near _ (lifted (code n) (bit c.args.word.now)) (code n) l.lent 0 (lit< tt) 64 v (count_leading_zeros 64 v) (lit≤ tt)
+    ∙ group_found near _ (lifted (code n) (bit c.args.received.word.now)) (code n) l.lent 0 (lit< tt) 64 v (count_leading_zeros 64 v) (lit≤ tt)
     (c.first_group-v.ensures (code n) (ap (λ o. o.unsent) is ∙ (fixed n off).unsent))
     f.inside f.here f.clear (λ j h. absurd (omega arith))
 
 pub whole_lowest-requires : goal.whole_lowest-requires
 whole_lowest-requires c =
-    let few = small c.requires.0 in
-    (full _ c.lend511.ensures, lit< tt, refl, few.unsent, omega (arith, few.word, c.requires.1))
+    let few = small c.args.received.code.known in
+    (full _ c.lend511.ensures, lit< tt, refl, few.unsent, omega (arith, few.word, c.args.received.whole))
 
 pub returns : goal.returns
 returns c n off is =
-    let e : 511 ≡ (offer_of n).shape.size = sym c.requires.2 ∙ ap (λ o. o.shape.size) is in
+    let e : 511 ≡ (offer_of n).shape.size = sym c.requires ∙ ap (λ o. o.shape.size) is in
     let l = lent n off e _ c.lend511.ensures in
     c.whole_lowest.ensures (code n) l.lent (ap (λ o. o.unsent) is ∙ (fixed n off).unsent)
