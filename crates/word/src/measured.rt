@@ -41,9 +41,7 @@ pub fn checks(size: usize, y: &[u64; WORD], h: &mut [u16; TABLE], z: &mut [u64; 
     sh
 }
 
-// What is measured, by the two numbers of a code's record that it takes: the record itself would be written out for each call. It is
-// not inlined, so that `measure` is.
-#[inline(never)]
+// What is measured, by the two numbers of a code's record that it takes: the record itself would be written out for each call.
 fn measure_by(unsent: usize, size: usize, word: &[u8], room: &mut Room) -> Shape
     requires { Size size × (unsent ≤ 18) × (length word.now ≤ 1022) × Blank room.old.y room.old.z }
     ensures { (n : ℕ) → offered n ≡ true → unsent ≡ (offer_of n).unsent → size ≡ (offer_of n).shape.size → (result ≡ (offer_of n).shape)
