@@ -32,7 +32,7 @@ pub struct Offer {
 #[derive(Clone, Copy)]
 pub struct KnownOffer {
     pub offer: Offer,
-    pub ghost known: { Known offer } by { known_once offer },
+    pub ghost known: { Known offer } by { known_once offer-code offer },
 }
 
 // The shape of a near-Earth code's parity table: two rows of 16 blocks, each in eight words.

@@ -90,7 +90,8 @@ fn refused(refusal: Refusal) -> Listing
     }
 }
 
-// The list at the end of the run: its number, and bit and excess of the reason.
+// The list at the end of the run: its number, and bit and excess of the reason. Inlined, as the list would be written out for a call.
+#[inline(always)]
 fn ended(
     l: Listing,
     flips: usize,

@@ -44,8 +44,8 @@ pub fn judge(code: KnownOffer, y: &[u64; WORD], number: u8) -> u8
 
 // What is wrong with a measured word: a broken check, a bit set after the parity, or parity unlike the encoder's.
 pub fn fault(code: KnownOffer, y: &[u64; WORD], z: &[u64; SYNDROME]) -> Result<(), Refusal>
-    ensures { (n : ℕ) → offered n ≡ true → code.offer ≡ offer_of n → (word h : List ℕ) (sh : Shape) → length word ≡ (code_of n).octets_of_word
-        → Measured n word h (wbit y.now) (wbit z.now) sh → number_in result ≡ fault_of n word }
+    ensures { (n : ℕ) → offered n ≡ true → code.offer ≡ offer_of n → (word h : List ℕ) (sh : Shape)
+        → length word ≡ (code_of n).octets_of_word → Measured n word h (wbit y.now) (wbit z.now) sh → number_in result ≡ fault_of n word }
 {
     if !syndromes::is_quiet(z) {
         return Err(Refusal::Broken);

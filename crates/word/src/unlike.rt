@@ -29,7 +29,8 @@ fn apart_whole(octets: &[u8], y: &[u64], u: usize, k: usize) -> usize
 }
 
 // In how many of the first n bits the octets differ from what stands in y from bit u on; they hold these bits, and end within 64 of the
-// last.
+// last. It is not inlined, so that the function above it, which has the code's record, is.
+#[inline(never)]
 pub fn unlike(octets: &[u8], y: &[u64], u: usize, n: usize) -> usize
     requires { (n ≤ 8 * length octets.now) × (length octets.now < 8 * (n / 64) + 8) × (length octets.now ≤ 1022)
         × (n / 64 + 2 ≤ length y.now) × (u < 64) }

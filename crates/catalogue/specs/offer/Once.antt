@@ -1,10 +1,10 @@
 -- No two code numbers fix the same record: that one does can be known in one way alone.
 use mathlib.Core.Path.{◌≡◌, refl, sym, ap, ◌∙◌, subst}
-use mathlib.Core.HLevel.{Σ_prop_path}
+use mathlib.Core.HLevel.{Σ_prop_path, ×_prop}
 use mathlib.Core.Bool.{true}
 use Prim.Native.Nat.{ℕ}
 use lib.Dec.{T, eqb}
-use Rattle.std.proofs.Props.{props}
+use Rattle.std.specs.Coded.{Coded, Coded-set, coded_bool}
 use Rattle.bits.specs.Bits.{when◌then◌else◌}
 use Rattle.rules.specs.Codes.{offered}
 use Rattle.rules.proofs.Numbers.{five}
@@ -30,10 +30,11 @@ made : (o : Offer) → (n : ℕ) × fixes o n → Known o
 unfolding fixes
 made o (n, (offers, is)) = record { number = n; offers = offers; is = is }
 
-pub known_once : (o : Offer) → IsProp (Known o)
+pub known_once : Coded Offer → (o : Offer) → IsProp (Known o)
 unfolding fixes made
-known_once o j k =
+known_once coded o j k =
     let u : (n : ℕ) × fixes o n = (j.number, (j.offers, j.is)) in
     let v : (n : ℕ) × fixes o n = (k.number, (k.offers, k.is)) in
-    let e : u ≡ v = Σ_prop_path (λ n. hlevel props) (sym (number_is j) ∙ number_is k) in
+    let e : u ≡ v = Σ_prop_path (λ n. ×_prop (Coded-set coded_bool (offered n) true) (Coded-set coded o (offer_of n)))
+    (sym (number_is j) ∙ number_is k) in
     ap (made o) e

@@ -15,10 +15,11 @@ loop-l-preserved c =
     let w = c.args.word.now in
     let lim = c.args.limit in
     let told = c.next-l.ensures in
+    let room = c.loop-l.room in
     record {
       lists = told.1 cd lim (length ys) i.lists;
       so =
-          put_next cd w lim (length ys) (as_entries ys) c.loop-l.table l c.loop-l.room.h c.loop-l.room.y c.loop-l.room.z i.lists c.loop-l-test.true
+          put_next cd w lim (length ys) (as_entries ys) c.loop-l.table l room.h room.y room.z i.lists c.loop-l-test.true
           (length-map ys as_entry) i.so
           ∙ ap (λ k. so_far (list_of cd w lim) k (as_entries ys)) (sym told.0);
       long = length-set c.loop-l.table l.place l.record ∙ i.long;

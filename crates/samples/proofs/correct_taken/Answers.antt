@@ -27,8 +27,8 @@ returns-then-not-read c n off is =
     let as_long = length-map x (of_bits binary32) in
     let r = c.read in
     c.refused_correct.ensures a.out.now
-    ∙ sym (samples_sixteen n (samples_of x) a.limit a.out.now (as_truth (steps_by n is c.args.sampled.taken)) (as_long ∙ c.args.sampled.whole
-    ∙ bits_are n is off) (word_long n is off c.requires) (finite_same x
+    ∙ sym (samples_sixteen n (samples_of x) a.limit a.out.now (as_truth (steps_by n is c.args.sampled.taken))
+    (as_long ∙ c.args.sampled.whole ∙ bits_are n is off) (word_long n is off c.requires) (finite_same x
     ∙ sym r.ensures.1 ∙ not-true r.result (ap not c.if-not-read.true)))
 
 pub correct_read-requires : goal.correct_read-requires
@@ -44,5 +44,5 @@ returns c n off is =
     let finite = sym r.ensures.1 ∙ not-false r.result (ap not c.if-not-read.false) in
     c.correct_read.ensures n off is
     ∙ by_patterns n (as_truth (steps_by n is c.args.sampled.taken)) x (c.args.sampled.whole ∙ bits_are n is off) finite a.limit a.out.now
-    ∙ sym (samples_taken n (samples_of x) a.limit a.out.now (as_truth (steps_by n is c.args.sampled.taken)) (as_long ∙ c.args.sampled.whole
-    ∙ bits_are n is off) (word_long n is off c.requires) (finite_same x ∙ finite))
+    ∙ sym (samples_taken n (samples_of x) a.limit a.out.now (as_truth (steps_by n is c.args.sampled.taken))
+    (as_long ∙ c.args.sampled.whole ∙ bits_are n is off) (word_long n is off c.requires) (finite_same x ∙ finite))

@@ -66,7 +66,8 @@ returns-then-v-ne0 c n off is =
     let v = c.first_group-v.result in
     let f = first_digit 64 v (pos_of_ne-zero c.if-v-ne0.true) c.first_group-v.type_inv in
     sym (zero-add (count_leading_zeros 64 v))
-    ∙ group_found near _ (lifted (code n) (bit c.args.received.word.now)) (code n) l.lent 0 (lit< tt) 64 v (count_leading_zeros 64 v) (lit≤ tt)
+    ∙ group_found near _ (lifted (code n) (bit c.args.received.word.now)) (code n) l.lent 0 (lit< tt) 64 v
+    (count_leading_zeros 64 v) (lit≤ tt)
     (c.first_group-v.ensures (code n) (ap (λ o. o.unsent) is ∙ (fixed n off).unsent))
     f.inside f.here f.clear (λ j h. absurd (omega arith))
 

@@ -7,7 +7,8 @@ use Rattle.word.proofs.judging.judge.Goals as goal
 pub returns-then-not-code : goal.returns-then-not-code
 returns-then-not-code c =
     λ n off is r e w q none.
-    by_telecommand n off c.args.code.offer is c.args.number (wbit c.args.y.now) c.if-number-ne0.false r e w q none (not-true _ c.if-not-code.true)
+    by_telecommand n off c.args.code.offer is c.args.number (wbit c.args.y.now) c.if-number-ne0.false r e w q none
+    (not-true _ c.if-not-code.true)
 
 pub returns-then-own_parity : goal.returns-then-own_parity
 returns-then-own_parity c =
