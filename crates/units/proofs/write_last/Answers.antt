@@ -45,7 +45,8 @@ pub slice_bounds-write_part-end : goal.slice_bounds-write_part-end
 slice_bounds-write_part-end c =
     let s = c.information_octets-size in
     s.ensures.0 ∙ sym (filled_part_length c.args.rest.now c.copy_from_slice.new.self c.fill-part.result s.result
-    (code c.args.code.number).octets_of_information c.copy_from_slice.ensures.after c.fill-part.ensures c.requires.0 s.ensures.0 s.ensures.2)
+    (code c.args.code.number).octets_of_information c.copy_from_slice.ensures.after c.fill-part.ensures c.requires.0
+    s.ensures.0 s.ensures.2)
 
 pub write_part-requires : goal.write_part-requires
 write_part-requires c =
@@ -61,4 +62,5 @@ returns c =
     let s = c.information_octets-size in
     c.write_part.ensures ∙ ap (λ z. randomised telecommand c.args.used (encoded_of c.args.code.number z))
     (filled_part c.args.rest.now c.copy_from_slice.new.self c.fill-part.result s.result
-    (code c.args.code.number).octets_of_information c.copy_from_slice.ensures.after c.fill-part.ensures c.requires.0 s.ensures.0 s.ensures.2)
+    (code c.args.code.number).octets_of_information c.copy_from_slice.ensures.after c.fill-part.ensures c.requires.0
+    s.ensures.0 s.ensures.2)

@@ -31,11 +31,12 @@ pub loop-octet-preserved : goal.loop-octet-preserved
 loop-octet-preserved c =
     let h = c.loop-octet in
     let octets = c.args.octets.now in
-    let entry = get_or c.args.t.now.entries (bit_xor (h.r / 256) c.from.result) 0 in
+    let t = c.args.t.now in
+    let entry = get_or t.entries (bit_xor (h.r / 256) c.from.result) 0 in
     let small : c.from.result < 256 = search rules in (
       xor_lt 16 (h.r * 2 ^ 8 % 2 ^ 16) _ (omega arith) (search rules),
       ap (λ z. check_from (bit_xor z entry) (drop (h.octet-index + 1) octets)) (shifted h.r)
-          ∙ check_step octets c.args.t.now.entries h.r h.octet-index _ _ c.args.t.now.right c.loop-octet-test.true h.invariant.0 small c.from.ensures refl
+          ∙ check_step octets t.entries h.r h.octet-index _ _ t.right c.loop-octet-test.true h.invariant.0 small c.from.ensures refl
           ∙ h.invariant.1,
     )
 

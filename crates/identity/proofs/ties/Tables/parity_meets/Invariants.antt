@@ -19,4 +19,5 @@ invariant-loop-part l =
     let parts = a.sizes.parity_blocks in
     let f = meets m parts l.d a.generator.now l.at in
     (l.part ≤ parts)
-    × (l.sum ⊕ blocks (row m (parts - l.part) a.parity.now (l.place + 3 * l.part)) l.part f ≡ blocks (row m parts a.parity.now l.place) 0 f)
+    × (l.sum ⊕ blocks (row m (parts - l.part) a.parity.now (l.place + 3 * l.part)) l.part f
+    ≡ blocks (row m parts a.parity.now l.place) 0 f)
