@@ -147,28 +147,26 @@ pub trait Keeper {
 
 // What a run by the bounds of the blocks keeps; bits before bit `from` are not sent.
 #[derive(Drop)]
-struct ByBounds {
-    bounds: Bounds,
-    rows: [u64; ROWS],
+struct ByBounds<'a> {
+    bounds: &'a mut Bounds,
+    rows: &'a mut [u64; ROWS],
     from: usize,
-    ghost some: { 1 ≤ bounds.places.shape.blocks },
-    ghost begins: { from < bounds.places.shape.size },
 }
 
-impl Keeper for ByBounds {
-    ghost stands = { λ s. KeptIn s.bounds.places s.from s.rows s.bounds.met };
+impl<'a> Keeper for ByBounds<'a> {
+    ghost stands = { λ s. KeptIn s.bounds.now.places s.from s.rows.now s.bounds.now.met };
 
-    ghost chosen = { λ s. MetIn s.bounds.places s.from s.rows s.bounds.met };
+    ghost chosen = { λ s. MetIn s.bounds.now.places s.from s.rows.now s.bounds.now.met };
 
     ghost sizes = { λ s. [] };
 
     fn choose(&mut self) -> Best {
-        self.bounds.choose(&self.rows, self.from)
+        self.bounds.choose(self.rows, self.from)
     }
 
     fn flip(&mut self, y: &mut [u64; WORD], bit: usize, left: u32) {
         vectors::flip_bit(y, bit);
-        self.bounds.flip(&mut self.rows, bit);
+        self.bounds.flip(self.rows, bit);
     }
 }
 
@@ -246,8 +244,12 @@ fn run_bounded(
         × (result.last ≡ broken c (wbit y.new)) }
 {
     let mut rows = [0u64; ROWS];
-    let bounds = bounds::begin(z, parity, &mut rows);
-    let mut kept = ByBounds { bounds, rows, from };
+    let mut bounds = bounds::begin(z, parity, &mut rows);
+    let mut kept = ByBounds {
+        bounds: &mut bounds,
+        rows: &mut rows,
+        from,
+    };
     go_on(&mut kept, y, limit, first)
 }
 

@@ -55,23 +55,21 @@ fn flip_counted(samples: &[u32], y: &mut [u64; WORD], bit: usize, unlike: u32) -
 #[derive(Drop)]
 struct BySizes<'a> {
     samples: &'a [u32],
-    kept: Kept,
-    rows: [u64; ROWS],
+    kept: &'a mut Kept,
+    rows: &'a mut [u64; ROWS],
     unlike: u32,
-    ghost some: { 1 ≤ kept.bounds.places.shape.blocks },
-    ghost sampled: { Sampled samples.now kept.bounds.places },
 }
 
 impl<'a> Keeper for BySizes<'a> {
-    ghost stands = { λ s. SizedIn s.samples.now s.kept.bounds.places s.rows s.kept.bounds.met s.kept.bits s.unlike };
+    ghost stands = { λ s. SizedIn s.samples.now s.kept.now.bounds.places s.rows.now s.kept.now.bounds.met s.kept.now.bits s.unlike };
 
-    ghost chosen = { λ s. ChosenIn s.samples.now s.kept.bounds.places s.rows s.kept.bounds.met s.kept.bits s.unlike };
+    ghost chosen = { λ s. ChosenIn s.samples.now s.kept.now.bounds.places s.rows.now s.kept.now.bounds.met s.kept.now.bits s.unlike };
 
     ghost sizes = { λ s. s.samples.now };
 
     fn choose(&mut self) -> Best {
         let samples = self.samples;
-        self.kept.choose(samples, &self.rows)
+        self.kept.choose(samples, self.rows)
     }
 
     // What is kept follows if a check is broken then.
@@ -80,7 +78,7 @@ impl<'a> Keeper for BySizes<'a> {
         let unlike = flip_counted(samples, y, bit, self.unlike);
         self.unlike = unlike;
         if left > 0 {
-            self.kept.flip(samples, &mut self.rows, bit);
+            self.kept.flip(samples, self.rows, bit);
         }
     }
 }
@@ -101,14 +99,14 @@ fn run_bounded(
         → SizesTo c parity.entry.shape samples.now limit (wbit y.old) result (wbit y.new) }
 {
     let mut rows = [0u64; ROWS];
-    let kept = Kept {
+    let mut kept = Kept {
         bounds: bounds::begin(z, parity, &mut rows),
         bits: [UNKNOWN; BLOCKS],
     };
     let mut all = BySizes {
         samples,
-        kept,
-        rows,
+        kept: &mut kept,
+        rows: &mut rows,
         unlike: 0,
     };
     let end = runs::go_on(&mut all, y, limit, first);

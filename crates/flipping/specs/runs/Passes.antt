@@ -41,6 +41,8 @@ pub record KeptIn (p : Places) (from : ℕ) (d met : List ℕ) (c : Code) (y : W
   pub fit : Fit table p.shape
   pub lent : Lent c table p.shape
   pub laid_in : Laid table p
+  pub some : 1 ≤ p.shape.blocks
+  pub begins : from < p.shape.size
   pub unsent : c.unsent ≡ from
   pub kept : Kept c p.shape from y d p.counts met
 

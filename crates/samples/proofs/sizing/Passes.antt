@@ -69,16 +69,19 @@ begun_stands c sh samples x z p d met of blocks long e two none = record {
 
 -- that of the word that was read, before any flip
 pub begun_in : {c : Code} {h : List ℕ} {sh : Shape} {samples : List ℕ} {x z : Word} {p : Places} {d met : List ℕ} → Lent c h sh
-    → Fit h sh → p.shape ≡ sh → Gathered h p.shape p.starts p.counts p.shape.blocks → c.unsent ≡ 0 → length samples ≤ 8176
+    → Fit h sh → p.shape ≡ sh → Gathered h p.shape p.starts p.counts p.shape.blocks → c.unsent ≡ 0
+    → 1 ≤ sh.blocks → length samples ≡ sh.blocks * sh.size
     → z ≡ laid c sh x → Twice sh sh.rows z (wbit d) → ((b : ℕ) → get_or met b 0 ≡ 0) → x ≡ read samples
     → SizedIn samples p d met (replicate 16 8176) 0 c x
-begun_in {c} {h} {sh} {samples} {x} {z} {p} {d} {met} lent fit of g u long e two none first = record {
+begun_in {c} {h} {sh} {samples} {x} {z} {p} {d} {met} lent fit of g u some long e two none first = record {
   table = h;
   fit = subst (Fit h) (sym of) fit;
   lent = subst (Lent c h) (sym of) lent;
   gathered = g;
+  some = subst (λ s. 1 ≤ s.blocks) (sym of) some;
+  sampled = subst (λ s. length samples ≡ s.blocks * s.size) (sym of) long;
   unsent = u;
-  stands = λ some. begun_stands c sh samples x z p d met of fit.blocks long e two none;
+  stands = λ l. begun_stands c sh samples x z p d met of fit.blocks (omega (arith, long, fit.bits)) e two none;
   differs = sym (ap (differing c (read samples)) first ∙ differ_self c (read samples));
 }
 

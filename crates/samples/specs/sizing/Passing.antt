@@ -1,5 +1,5 @@
 -- What a run by sizes keeps, and the run.
-use Rattle.std.specs.Prelude.{◌≡◌, List, ℕ, ◌*◌, ◌<◌}
+use Rattle.std.specs.Prelude.{◌≡◌, List, ℕ, ◌*◌, ◌<◌, ◌≤◌}
 use Rattle.bits.specs.Bits.{Word}
 use Rattle.rules.specs.Codes.{Code}
 use Rattle.rules.specs.Checks.{broken}
@@ -12,7 +12,7 @@ use Rattle.flipping.specs.bounds.Reading.{Twice, Gathered}
 use Rattle.flipping.specs.runs.Passes.{RunsTo}
 use Rattle.magnitudes.specs.Patterns.{read, smaller}
 use Rattle.magnitudes.specs.Sizes.{by_size}
-use Rattle.samples.specs.raising.Knowing.{Knows, whole}
+use Rattle.samples.specs.raising.Knowing.{Knows, whole, Sampled}
 use Rattle.samples.specs.declared.sizing.Ended.{Ended}
 
 -- What is kept is that of the word y: its syndrome, doubled, and what is known of each block.
@@ -27,6 +27,8 @@ pub record SizedIn (samples : List ℕ) (p : Places) (d met kept : List ℕ) (un
   pub fit : Fit table p.shape
   pub lent : Lent c table p.shape
   pub gathered : Gathered table p.shape p.starts p.counts p.shape.blocks
+  pub some : 1 ≤ p.shape.blocks
+  pub sampled : Sampled samples p
   pub unsent : c.unsent ≡ 0
   pub stands : 0 < broken c y → Stands c p.shape samples y d p.starts p.counts met kept
   pub differs : unlike ≡ differing c (read samples) y

@@ -1,6 +1,5 @@
 -- `sizing::run_bounded`: what is kept is the word's, and the run goes on from it. Assumes nothing.
 use mathlib.Core.Path.{sym, ap, ◌∙◌}
-use native.Mathlib.Omega.{arith}
 use Rattle.answers.specs.Calls.{differing}
 use Rattle.vectors.specs.Vectors.{wbit}
 use Rattle.magnitudes.specs.Patterns.{read}
@@ -15,7 +14,7 @@ go_on-end-requires c =
     let k = w.begins in
     record {
       code = w.code;
-      is = begun_in k.lent a.parity.fit b.ensures.1 b.ensures.2 k.unsent (omega (arith, c.requires.1, a.parity.fit.bits)) k.held
+      is = begun_in k.lent a.parity.fit b.ensures.1 b.ensures.2 k.unsent c.requires.0 c.requires.1 k.held
           b.ensures.0 b.ensures.3 c.requires.2;
       first_is = k.broken;
     }
@@ -26,7 +25,7 @@ returns c k w =
     let b = c.begin in
     let e = c.go_on-end.ensures in
     let done = e.1 k a.parity.shape
-    (begun_in w.lent a.parity.fit b.ensures.1 b.ensures.2 w.unsent (omega (arith, c.requires.1, a.parity.fit.bits)) w.held b.ensures.0
+    (begun_in w.lent a.parity.fit b.ensures.1 b.ensures.2 w.unsent c.requires.0 c.requires.1 w.held b.ensures.0
     b.ensures.3 c.requires.2) w.broken in
     record {
       runs = done.0;

@@ -20,6 +20,8 @@ returns c =
             fit = v.fit;
             lent = v.lent;
             laid_in = v.laid_in;
+            some = v.some;
+            begins = v.begins;
             unsent = v.unsent;
             kept = f.ensures.1 k v.table s.from y v.lent v.laid_in v.kept w.met_is;
           }),

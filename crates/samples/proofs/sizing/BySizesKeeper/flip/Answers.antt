@@ -13,8 +13,8 @@ flip_counted-unlike-requires c =
     let s = c.args.self.now in
     let w = c.requires.is in
     let v = w.sized_in in (
-      omega (arith, s.sampled, v.fit.bits),
-      omega (arith, s.sampled, w.inside),
+      omega (arith, v.sampled, v.fit.bits),
+      omega (arith, v.sampled, w.inside),
       omega (
         arith,
         v.differs,
@@ -43,6 +43,8 @@ returns-then-left-gt0 c =
             fit = v.fit;
             lent = v.lent;
             gathered = v.gathered;
+            some = v.some;
+            sampled = v.sampled;
             unsent = v.unsent;
             stands = λ some. record { twice = e.0; knows = e.1 was.knows };
             differs = differs_flip k x y a.bit (omega (arith, v.lent.bits_are, w.inside)) s.unlike n.result v.differs n.ensures.2;
@@ -63,6 +65,8 @@ returns-else-left-gt0 c =
             fit = v.fit;
             lent = v.lent;
             gathered = v.gathered;
+            some = v.some;
+            sampled = v.sampled;
             unsent = v.unsent;
             stands = λ some. absurd (omega (arith, is, some, c.if-left-gt0.false));
             differs = differs_flip k s.samples.now (wbit a.y.now) a.bit (omega (arith, v.lent.bits_are, w.inside)) s.unlike n.result
