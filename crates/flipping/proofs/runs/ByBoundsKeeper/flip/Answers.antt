@@ -13,7 +13,7 @@ returns c =
     let f = c.flip in (
       refl,
       c.flip_bit.ensures,
-      λ k w left.
+      λ k w.
           let v = w.kept_in in
           subst (λ q. KeptIn q s.from f.new.rows f.new.self.met k (flipped y a.bit)) (sym f.ensures.0) (record {
             table = v.table;
