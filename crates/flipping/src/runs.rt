@@ -9,7 +9,8 @@ ghost use Rattle.layout.specs.declared.Shape.{Shape};
 ghost use Rattle.layout.specs.Lent.{Lent, laid};
 ghost use Rattle.magnitudes.specs.Patterns.{smaller};
 ghost use Rattle.magnitudes.specs.Sizes.{by_size};
-ghost use Rattle.flipping.specs.runs.Passes.{Holding, Begins, Beginning, KeptIn, MetIn, RowsIn, InsideIn, Known, Running, Flipping, Chooses};
+ghost use Rattle.flipping.specs.runs.Passes.{Holding, Begins, Beginning, KeptIn, MetIn, RowsIn, InsideIn};
+ghost use Rattle.flipping.specs.runs.Passes.{Known, Running, Flipping, Chooses};
 ghost use Rattle.flipping.specs.runs.Endings.{number_of};
 ghost use Rattle.flipping.specs.runs.Passes.{Within, comes_next_of, RunsTo};
 
@@ -121,7 +122,7 @@ fn at_end(ending: Ending, flips: u32, last: u32) -> Ended
 }
 
 // What a run keeps of its word from flip to flip: it chooses the bit that is next, and follows when that is flipped.
-pub trait Keeper {
+trait Keeper {
     // What is kept is that of this word under this code.
     ghost stands: { Self → Code → Word → Type 0 };
 
@@ -135,40 +136,37 @@ pub trait Keeper {
     fn choose(&mut self) -> Best
         requires { Known (stands self.old) }
         ensures { (sizes self.new ≡ sizes self.old) × ((c : Code) (y : Word) → stands self.old c y → (broken c y ≡ 0 → ⊥)
-            → Chooses (by_size (smaller (sizes self.old)) c) c y result × stands self.new c y × (8 < result.score → chosen self.new c y result.bit)) };
+            → Chooses (by_size (smaller (sizes self.old)) c) c y result × (8 < result.score → chosen self.new c y result.bit)) };
 
-    // Flips a bit of the word, and what is kept follows; so many checks are broken then.
-    fn flip(&mut self, y: &mut [u64; WORD], bit: usize, left: u32)
-        requires { Flipping (chosen self.old) (wbit y.old) bit left }
+    // Flips a bit of the word, and what is kept follows.
+    fn flip(&mut self, y: &mut [u64; WORD], bit: usize)
+        requires { Flipping (chosen self.old) (wbit y.old) bit }
         ensures { (sizes self.new ≡ sizes self.old) × (wbit y.new ≡ flipped (wbit y.old) bit)
-            × ((c : Code) → chosen self.old c (wbit y.old) bit → left ≡ broken c (flipped (wbit y.old) bit)
-            → stands self.new c (flipped (wbit y.old) bit)) };
+            × ((c : Code) → chosen self.old c (wbit y.old) bit → stands self.new c (flipped (wbit y.old) bit)) };
 }
 
 // What a run by the bounds of the blocks keeps; bits before bit `from` are not sent.
 #[derive(Drop)]
-struct ByBounds {
-    bounds: Bounds,
-    rows: [u64; ROWS],
+struct ByBounds<'a> {
+    bounds: &'a mut Bounds,
+    rows: &'a mut [u64; ROWS],
     from: usize,
-    ghost some: { 1 ≤ bounds.places.shape.blocks },
-    ghost begins: { from < bounds.places.shape.size },
 }
 
-impl Keeper for ByBounds {
-    ghost stands = { λ s. KeptIn s.bounds.places s.from s.rows s.bounds.met };
+impl<'a> Keeper for ByBounds<'a> {
+    ghost stands = { λ s. KeptIn s.bounds.now.places s.from s.rows.now s.bounds.now.met };
 
-    ghost chosen = { λ s. MetIn s.bounds.places s.from s.rows s.bounds.met };
+    ghost chosen = { λ s. MetIn s.bounds.now.places s.from s.rows.now s.bounds.now.met };
 
     ghost sizes = { λ s. [] };
 
     fn choose(&mut self) -> Best {
-        self.bounds.choose(&self.rows, self.from)
+        self.bounds.choose(self.rows, self.from)
     }
 
-    fn flip(&mut self, y: &mut [u64; WORD], bit: usize, left: u32) {
+    fn flip(&mut self, y: &mut [u64; WORD], bit: usize) {
         vectors::flip_bit(y, bit);
-        self.bounds.flip(&mut self.rows, bit);
+        self.bounds.flip(self.rows, bit);
     }
 }
 
@@ -198,18 +196,17 @@ impl<'a> Keeper for ByRows<'a> {
         narrow::choose(samples, &self.rows, self.parity, self.from)
     }
 
-    fn flip(&mut self, y: &mut [u64; WORD], bit: usize, left: u32) {
+    fn flip(&mut self, y: &mut [u64; WORD], bit: usize) {
         narrow::flip(y, &mut self.rows, self.parity, bit);
     }
 }
 
 // The run from the word y, of which this is kept, under a limit: flips until it ends. So many checks are broken.
-pub fn go_on<K: Keeper>(kept: &mut K, y: &mut [u64; WORD], limit: u16, first: u32) -> Ended
+fn go_on<K: Keeper>(kept: &mut K, y: &mut [u64; WORD], limit: u16, first: u32) -> Ended
     requires { Running (K.stands kept.old) first (wbit y.old) }
-    ensures { (K.sizes kept.new ≡ K.sizes kept.old)
-        × ((c : Code) (sh : Shape) → K.stands kept.old c (wbit y.old) → first ≡ broken c (wbit y.old)
+    ensures { (c : Code) (sh : Shape) → K.stands kept.old c (wbit y.old) → first ≡ broken c (wbit y.old)
         → RunsTo (by_size (smaller (K.sizes kept.old)) c) c sh limit (wbit y.old) result.ran (wbit y.new) (laid c sh (wbit y.new))
-        × (result.last ≡ broken c (wbit y.new)) × K.stands kept.new c (wbit y.new)) }
+        × (result.last ≡ broken c (wbit y.new)) }
 {
     let most = limit as u32;
     let mut flips: u32 = 0;
@@ -223,8 +220,8 @@ pub fn go_on<K: Keeper>(kept: &mut K, y: &mut [u64; WORD], limit: u16, first: u3
         if flips >= most {
             return at_end(Ending::Limit, flips, left); // no flip more
         }
+        kept.flip(y, best.bit);
         left -= top - 8;
-        kept.flip(y, best.bit, left);
         flips += 1;
     }
     at_end(Ending::Quiet, flips, 0)
@@ -246,8 +243,12 @@ fn run_bounded(
         × (result.last ≡ broken c (wbit y.new)) }
 {
     let mut rows = [0u64; ROWS];
-    let bounds = bounds::begin(z, parity, &mut rows);
-    let mut kept = ByBounds { bounds, rows, from };
+    let mut bounds = bounds::begin(z, parity, &mut rows);
+    let mut kept = ByBounds {
+        bounds: &mut bounds,
+        rows: &mut rows,
+        from,
+    };
     go_on(&mut kept, y, limit, first)
 }
 

@@ -8,12 +8,11 @@ ghost use Rattle.layout.specs.Lent.{Fit, Lent};
 ghost use Rattle.flipping.specs.bounds.Keeping.{Laid};
 ghost use Rattle.magnitudes.specs.Patterns.{read as read_of};
 ghost use Rattle.samples.specs.raising.Knowing.{Sampled};
-ghost use Rattle.samples.specs.sizing.Passing.{SizesTo, SizedIn, ChosenIn};
+ghost use Rattle.samples.specs.sizing.Passing.{Chooses, SizesTo, StandsIn, StartingIn, ComingIn, PassesIn};
 ghost use Rattle.flipping.specs.runs.Passes.{Begins, Beginning};
 
 use super::raising::{Kept, UNKNOWN};
-use flipping::choice::Best;
-use flipping::runs::{Ending, Keeper, Ran};
+use flipping::runs::{Ending, Ran};
 use flipping::{bounds, runs};
 use layout::{BLOCKS, Parity, ROWS, SYNDROME, WORD};
 use word::unlike;
@@ -24,6 +23,20 @@ pub struct Ended {
     pub ran: Ran,
     pub last: u32,
     pub unlike: u32,
+}
+
+// The bit that is flipped next, and by how many checks fewer are broken then.
+#[derive(Clone, Copy)]
+struct Flip {
+    bit: usize,
+    fewer: u32,
+}
+
+// What a pass comes to: the broken checks that are left, and in how many bits the word differs then.
+#[derive(Clone, Copy)]
+struct Passed {
+    left: u32,
+    unlike: u32,
 }
 
 // In how many bits the word y differs from the one that was read, once bit `bit` is flipped; before that in so many.
@@ -50,39 +63,133 @@ fn flip_counted(samples: &[u32], y: &mut [u64; WORD], bit: usize, unlike: u32) -
     r
 }
 
-// What a run by sizes keeps: the rows of the syndrome, what is known of each block, and in how many bits the word differs from the one
-// that was read.
-#[derive(Drop)]
-struct BySizes<'a> {
-    samples: &'a [u32],
-    kept: Kept,
-    rows: [u64; ROWS],
+// Flips a bit in y, and in what is kept if a check is broken then: so many fewer than before are.
+fn pass(
+    samples: &[u32],
+    y: &mut [u64; WORD],
+    rows: &mut [u64; ROWS],
+    kept: &mut Kept,
+    flip: Flip,
+    was: u32,
     unlike: u32,
-    ghost some: { 1 ≤ kept.bounds.places.shape.blocks },
-    ghost sampled: { Sampled samples.now kept.bounds.places },
+) -> Passed
+    requires { Sampled samples.now kept.old.bounds.places × (length samples.now ≤ 8176) × (flip.bit < length samples.now)
+        × (flip.fewer ≤ was) × (unlike < 65536) }
+    ensures { (kept.new.bounds.places ≡ kept.old.bounds.places)
+        × (result.left ≡ was - flip.fewer) × (result.unlike ≤ unlike + 1) × (wbit y.new ≡ flipped (wbit y.old) flip.bit)
+        × (tally (read_of samples.now flip.bit ⊕ wbit y.old flip.bit) ≤ unlike
+        → result.unlike + 2 * tally (read_of samples.now flip.bit ⊕ wbit y.old flip.bit) ≡ unlike + 1)
+        × ((c : Code) (h : List ℕ) → Lent c h kept.old.bounds.places.shape → Laid h kept.old.bounds.places → 0 < result.left
+        → StandsIn c samples.now (wbit y.old) kept.old.bounds.places rows.old kept.old.bounds.met kept.old.bits
+        → StandsIn c samples.now (flipped (wbit y.old) flip.bit) kept.old.bounds.places rows.new kept.new.bounds.met kept.new.bits) }
+{
+    let now = flip_counted(samples, y, flip.bit, unlike);
+    let left = was - flip.fewer;
+    if left > 0 {
+        kept.flip(samples, rows, flip.bit);
+    }
+    Passed { left, unlike: now }
 }
 
-impl<'a> Keeper for BySizes<'a> {
-    ghost stands = { λ s. SizedIn s.samples.now s.kept.bounds.places s.rows s.kept.bounds.met s.kept.bits s.unlike };
-
-    ghost chosen = { λ s. ChosenIn s.samples.now s.kept.bounds.places s.rows s.kept.bounds.met s.kept.bits s.unlike };
-
-    ghost sizes = { λ s. s.samples.now };
-
-    fn choose(&mut self) -> Best {
-        let samples = self.samples;
-        self.kept.choose(samples, &self.rows)
+// What comes next for a word of which rows and blocks are kept, and that has a broken check: the bit that is flipped; or the run ends,
+// stuck, or with as many flips as the limit allows.
+fn comes_next(
+    samples: &[u32],
+    rows: &[u64; ROWS],
+    kept: &mut Kept,
+    limit: u16,
+    flips: u32,
+) -> Result<Flip, Ending>
+    requires { (1 ≤ kept.old.bounds.places.shape.blocks) × Sampled samples.now kept.old.bounds.places }
+    ensures { (kept.new.bounds.places ≡ kept.old.bounds.places)
+        × IfOk result (λ f. (f.bit < kept.old.bounds.places.shape.blocks * kept.old.bounds.places.shape.size) × (flips < limit))
+        × ((c : Code) (h : List ℕ) (y : Word) → Lent c h kept.old.bounds.places.shape
+        → c.unsent ≡ 0 → Fit h kept.old.bounds.places.shape → Laid h kept.old.bounds.places → (broken c y ≡ 0 → ⊥)
+        → StandsIn c samples.now y kept.old.bounds.places rows.now kept.old.bounds.met kept.old.bits
+        → StandsIn c samples.now y kept.old.bounds.places rows.now kept.new.bounds.met kept.new.bits
+        × Chooses c kept.old.bounds.places.shape samples.now limit flips y result) }
+{
+    let best = kept.choose(samples, rows);
+    if best.score <= 8 {
+        return Err(Ending::Stuck);
     }
+    if flips >= limit as u32 {
+        return Err(Ending::Limit);
+    }
+    Ok(Flip {
+        bit: best.bit,
+        fewer: best.score - 8,
+    })
+}
 
-    // What is kept follows if a check is broken then.
-    fn flip(&mut self, y: &mut [u64; WORD], bit: usize, left: u32) {
-        let samples = self.samples;
-        let unlike = flip_counted(samples, y, bit, self.unlike);
-        self.unlike = unlike;
-        if left > 0 {
-            self.kept.flip(samples, &mut self.rows, bit);
+// A pass of the run, for a word y with so many broken checks, one or more: a bit is flipped, or the run ends.
+fn go_once(
+    samples: &[u32],
+    y: &mut [u64; WORD],
+    rows: &mut [u64; ROWS],
+    kept: &mut Kept,
+    limit: u16,
+    flips: u32,
+    left: u32,
+    unlike: u32,
+) -> Result<Passed, Ending>
+    requires { (1 ≤ kept.old.bounds.places.shape.blocks) × Sampled samples.now kept.old.bounds.places
+        × (unlike < 65536) × (0 < left)
+        × StartingIn samples.now left (wbit y.old) kept.old.bounds.places rows.old kept.old.bounds.met kept.old.bits }
+    ensures { (kept.new.bounds.places ≡ kept.old.bounds.places)
+        × IfOk result (λ p. (flips < limit) × (p.unlike ≤ unlike + 1))
+        × ((c : Code) (h : List ℕ) (x : Word) → Lent c h kept.old.bounds.places.shape → c.unsent ≡ 0
+        → Fit h kept.old.bounds.places.shape → Laid h kept.old.bounds.places
+        → ComingIn c samples.now limit x flips y.old kept.old.bounds.places rows.old kept.old.bounds.met kept.old.bits left unlike
+        → PassesIn c samples.now limit x flips y.new kept.old.bounds.places rows.new kept.new.bounds.met kept.new.bits
+        left unlike result) }
+{
+    let flip = comes_next(samples, rows, kept, limit, flips)?;
+    Ok(pass(samples, y, rows, kept, flip, left, unlike))
+}
+
+// A run that ends.
+fn at_end(ending: Ending, flips: u32, last: u32, unlike: u32) -> Ended
+    ensures { (result.ran.ending ≡ ending) × (result.ran.flips ≡ flips) × (result.last ≡ last) × (result.unlike ≡ unlike) }
+{
+    Ended {
+        ran: Ran { ending, flips },
+        last,
+        unlike,
+    }
+}
+
+// The run from the word y that was read, of which rows and blocks are kept, under a limit: flips until it ends. So many checks are broken.
+fn go_on(
+    samples: &[u32],
+    y: &mut [u64; WORD],
+    rows: &mut [u64; ROWS],
+    kept: &mut Kept,
+    limit: u16,
+    first: u32,
+) -> Ended
+    requires { (1 ≤ kept.old.bounds.places.shape.blocks) × Sampled samples.now kept.old.bounds.places
+        × (wbit y.old ≡ read_of samples.now)
+        × StartingIn samples.now first (wbit y.old) kept.old.bounds.places rows.old kept.old.bounds.met kept.old.bits }
+    ensures { (c : Code) (h : List ℕ) → Lent c h kept.old.bounds.places.shape → c.unsent ≡ 0
+        → Fit h kept.old.bounds.places.shape → Laid h kept.old.bounds.places → first ≡ broken c (wbit y.old)
+        → StandsIn c samples.now (wbit y.old) kept.old.bounds.places rows.old kept.old.bounds.met kept.old.bits
+        → SizesTo c kept.old.bounds.places.shape samples.now limit (wbit y.old) result (wbit y.new) }
+{
+    let mut flips: u32 = 0;
+    let mut left = first;
+    let mut unlike: u32 = 0;
+    while left > 0 {
+        match go_once(samples, y, rows, kept, limit, flips, left, unlike) {
+            Ok(passed) => {
+                left = passed.left;
+                unlike = passed.unlike;
+            }
+            Err(ending) => return at_end(ending, flips, left, unlike),
         }
+        flips += 1;
     }
+    at_end(Ending::Quiet, flips, 0, unlike)
 }
 
 // The run from the word y that was read, with the syndrome z, of which so many checks are broken, by the bounds of its blocks.
@@ -101,22 +208,11 @@ fn run_bounded(
         → SizesTo c parity.entry.shape samples.now limit (wbit y.old) result (wbit y.new) }
 {
     let mut rows = [0u64; ROWS];
-    let kept = Kept {
+    let mut kept = Kept {
         bounds: bounds::begin(z, parity, &mut rows),
         bits: [UNKNOWN; BLOCKS],
     };
-    let mut all = BySizes {
-        samples,
-        kept,
-        rows,
-        unlike: 0,
-    };
-    let end = runs::go_on(&mut all, y, limit, first);
-    Ended {
-        ran: end.ran,
-        last: end.last,
-        unlike: all.unlike,
-    }
+    go_on(samples, y, &mut rows, &mut kept, limit, first)
 }
 
 // The words that hold a word whose blocks one word holds each.
@@ -172,14 +268,7 @@ pub fn run(
         → SizesTo c parity.entry.shape samples.now limit (wbit y.old) result (wbit y.new) }
 {
     if first == 0 {
-        return Ended {
-            ran: Ran {
-                ending: Ending::Quiet,
-                flips: 0,
-            },
-            last: 0,
-            unlike: 0,
-        };
+        return at_end(Ending::Quiet, 0, 0, 0);
     }
     if parity.shape.words == 1 {
         return run_narrow(samples, y, z, parity, limit, first);

@@ -148,12 +148,14 @@ module _ (c : Code) (h : List ℕ) (sh : Shape) (lent : Lent c h sh) (fit : Fit 
     under = begun_under c h p.shape lent_here from p.starts p.counts g x met none;
   }
 
-  pub begun_in : c.unsent ≡ from → KeptIn p from d met c x
-  begun_in u = record {
+  pub begun_in : 1 ≤ sh.blocks → from < sh.size → c.unsent ≡ from → KeptIn p from d met c x
+  begun_in some begins u = record {
     table = h;
     fit = subst (Fit h) (sym of) fit;
     lent = lent_here;
     laid_in = g;
+    some = subst (λ s. 1 ≤ s.blocks) (sym of) some;
+    begins = subst (λ s. from < s.size) (sym of) begins;
     unsent = u;
     kept = begun_kept;
   }

@@ -41,6 +41,8 @@ pub record KeptIn (p : Places) (from : ℕ) (d met : List ℕ) (c : Code) (y : W
   pub fit : Fit table p.shape
   pub lent : Lent c table p.shape
   pub laid_in : Laid table p
+  pub some : 1 ≤ p.shape.blocks
+  pub begins : from < p.shape.size
   pub unsent : c.unsent ≡ from
   pub kept : Kept c p.shape from y d p.counts met
 
@@ -73,11 +75,10 @@ pub record Running (stands : Code → Word → Type 0) (first : ℕ) (y : Word) 
   pub is : stands code y
   pub first_is : first ≡ broken code y
 
--- There is a code of which this bit was chosen, and so many checks are broken once it is flipped.
-pub record Flipping (chosen : Code → Word → ℕ → Type 0) (y : Word) (bit left : ℕ) : Type 0 where
+-- There is a code of which this bit was chosen.
+pub record Flipping (chosen : Code → Word → ℕ → Type 0) (y : Word) (bit : ℕ) : Type 0 where
   pub code : Code
   pub is : chosen code y bit
-  pub left_is : left ≡ broken code (flipped y bit)
 
 -- What comes next for the word y, as it was chosen: a bit of a score above 8 is flipped, by which so many fewer of its checks are broken;
 -- else the run is stuck.

@@ -25,6 +25,7 @@ loop-b-preserved c =
     (λ (q : get_or s l.b 0 ≤ l.p.score).
     greatest_kept s l.b l.p.score l.p.block p.score p.block l.invariant q (e.1 (omega (arith, here, q))).0 (e.1 (omega (arith, here, q))).1)
     (λ (q : l.p.score < get_or s l.b 0).
-    greatest_more s l.b l.p.score l.p.block p.score p.block l.invariant (omega (arith, long)) q ((e.0 (omega (arith, here, q))).0 ∙ sym here)
+    greatest_more s l.b l.p.score l.p.block p.score p.block l.invariant (omega (arith, long)) q
+    ((e.0 (omega (arith, here, q))).0 ∙ sym here)
     (e.0 (omega (arith, here, q))).1)
     (le-or-lt (get_or s l.b 0) l.p.score)

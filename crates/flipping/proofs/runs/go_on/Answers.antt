@@ -31,43 +31,35 @@ choose-best-requires g c =
     record { code = w.code; word = wbit c.loop-left.y; is = (c.loop-left.invariant.3 w.code w.is w.first_is).0 }
 
 pub returns-then-top-le8 : goal.returns-then-top-le8
-returns-then-top-le8 g c = (
-  c.choose-best.ensures.0 ∙ c.loop-left.invariant.2,
-  λ k sh is e.
-      let a = c.args in
-      let l = c.loop-left in
-      let y = wbit l.y in
-      let way = by_size (smaller (g.K.Keeper.sizes a.kept.now)) k in
-      let i = l.invariant.3 k is e in
-      let b = c.choose-best.ensures.1 k y i.0 (λ z. omega (arith, i.1, z, c.loop-left-test.true)) in
-      let next = b.0.ends c.if-top-le8.true in (
-        runs_as _ _ c.at_end.ensures.0 c.at_end.ensures.1
-            (ends_stuck way k sh a.limit (wbit a.y.now) l.flips y _ (l.invariant.4 k sh is e) next.0 next.1
-            (ap (λ x. by_size (smaller x) k y) (sym l.invariant.2) ∙ next.2)),
-        c.at_end.ensures.2 ∙ i.1,
-        b.1,
-      ),
-)
+returns-then-top-le8 g c k sh is e =
+    let a = c.args in
+    let l = c.loop-left in
+    let y = wbit l.y in
+    let way = by_size (smaller (g.K.Keeper.sizes a.kept.now)) k in
+    let i = l.invariant.3 k is e in
+    let b = c.choose-best.ensures.1 k y i.0 (λ z. omega (arith, i.1, z, c.loop-left-test.true)) in
+    let next = b.0.ends c.if-top-le8.true in (
+      runs_as _ _ c.at_end.ensures.0 c.at_end.ensures.1
+          (ends_stuck way k sh a.limit (wbit a.y.now) l.flips y _ (l.invariant.4 k sh is e) next.0 next.1
+          (ap (λ x. by_size (smaller x) k y) (sym l.invariant.2) ∙ next.2)),
+      c.at_end.ensures.2 ∙ i.1,
+    )
 
 pub returns-then-flips-most : goal.returns-then-flips-most
-returns-then-flips-most g c = (
-  c.choose-best.ensures.0 ∙ c.loop-left.invariant.2,
-  λ k sh is e.
-      let a = c.args in
-      let l = c.loop-left in
-      let y = wbit l.y in
-      let end = c.at_end-then-flips-most.ensures in
-      let way = by_size (smaller (g.K.Keeper.sizes a.kept.now)) k in
-      let i = l.invariant.3 k is e in
-      let b = c.choose-best.ensures.1 k y i.0 (λ z. omega (arith, i.1, z, c.loop-left-test.true)) in
-      let next = b.0.goes c.if-top-le8.false in (
-        runs_as _ _ end.0 end.1
-            (ends_limit way k sh a.limit (wbit a.y.now) l.flips y _ (l.invariant.4 k sh is e) _ next.0
-            (ap (λ x. by_size (smaller x) k y) (sym l.invariant.2) ∙ next.1) c.if-flips-most.true),
-        end.2 ∙ i.1,
-        b.1,
-      ),
-)
+returns-then-flips-most g c k sh is e =
+    let a = c.args in
+    let l = c.loop-left in
+    let y = wbit l.y in
+    let end = c.at_end-then-flips-most.ensures in
+    let way = by_size (smaller (g.K.Keeper.sizes a.kept.now)) k in
+    let i = l.invariant.3 k is e in
+    let b = c.choose-best.ensures.1 k y i.0 (λ z. omega (arith, i.1, z, c.loop-left-test.true)) in
+    let next = b.0.goes c.if-top-le8.false in (
+      runs_as _ _ end.0 end.1
+          (ends_limit way k sh a.limit (wbit a.y.now) l.flips y _ (l.invariant.4 k sh is e) _ next.0
+          (ap (λ x. by_size (smaller x) k y) (sym l.invariant.2) ∙ next.1) c.if-flips-most.true),
+      end.2 ∙ i.1,
+    )
 
 pub overflow_sub-left : goal.overflow_sub-left
 overflow_sub-left g c = omega (arith, c.if-top-le8.false)
@@ -86,11 +78,7 @@ flip-requires g c =
     let w = c.requires in
     let i = l.invariant.3 w.code w.is w.first_is in
     let b = c.choose-best.ensures.1 w.code (wbit l.y) i.0 (λ z. omega (arith, i.1, z, c.loop-left-test.true)) in
-    record {
-      code = w.code;
-      is = b.2 c.if-top-le8.false;
-      left_is = omega (arith, i.1, b.0.fewer c.if-top-le8.false);
-    }
+    record { code = w.code; is = b.1 c.if-top-le8.false }
 
 pub overflow_add-flips : goal.overflow_add-flips
 overflow_add-flips g c = omega (arith, c.loop-left.invariant.1, c.if-flips-most.false)
@@ -114,7 +102,7 @@ loop-left-preserved g c =
           let b = c.choose-best.ensures.1 k y i.0 (λ z. omega (arith, i.1, z, c.loop-left-test.true)) in
           let left : l.left - (c.choose-best.result.score - 8) ≡ broken k (flipped y c.choose-best.result.bit) =
           omega (arith, i.1, b.0.fewer high) in
-          (subst (g.K.Keeper.stands c.flip.new.self k) (sym f.1) (f.2 k (b.2 high) left), left ∙ ap (broken k) (sym f.1)),
+          (subst (g.K.Keeper.stands c.flip.new.self k) (sym f.1) (f.2 k (b.1 high)), left ∙ ap (broken k) (sym f.1)),
       λ k sh is e.
           let i = l.invariant.3 k is e in
           let b = c.choose-best.ensures.1 k y i.0 (λ z. omega (arith, i.1, z, c.loop-left-test.true)) in
@@ -126,18 +114,14 @@ loop-left-preserved g c =
     )
 
 pub returns : goal.returns
-returns g c = (
-  c.loop-left.invariant.2,
-  λ k sh is e.
-      let a = c.args in
-      let l = c.loop-left in
-      let y = wbit l.y in
-      let i = l.invariant.3 k is e in
-      let none : broken k y ≡ 0 = omega (arith, i.1, c.loop-left-test.false) in (
-        runs_as _ _ c.at_end-2.ensures.0 c.at_end-2.ensures.1
-            (ends_quiet (by_size (smaller (g.K.Keeper.sizes a.kept.now)) k) k sh a.limit (wbit a.y.now) l.flips y _ (l.invariant.4 k sh is e)
-            (sized_quiet (smaller (g.K.Keeper.sizes a.kept.now)) k y none)),
-        c.at_end-2.ensures.2 ∙ sym none,
-        i.0,
-      ),
-)
+returns g c k sh is e =
+    let a = c.args in
+    let l = c.loop-left in
+    let y = wbit l.y in
+    let less = smaller (g.K.Keeper.sizes a.kept.now) in
+    let i = l.invariant.3 k is e in
+    let none : broken k y ≡ 0 = omega (arith, i.1, c.loop-left-test.false) in (
+      runs_as _ _ c.at_end-2.ensures.0 c.at_end-2.ensures.1
+          (ends_quiet (by_size less k) k sh a.limit (wbit a.y.now) l.flips y _ (l.invariant.4 k sh is e) (sized_quiet less k y none)),
+      c.at_end-2.ensures.2 ∙ sym none,
+    )

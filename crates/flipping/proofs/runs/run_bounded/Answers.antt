@@ -13,7 +13,7 @@ go_on-requires c =
     record {
       code = w.code;
       is = begun_in w.code a.parity.places.now a.parity.shape k.lent a.parity.fit a.from (wbit a.y.now) _ k.held b.result.places
-          b.ensures.1 b.ensures.2 _ _ b.ensures.0 b.ensures.3 k.unsent;
+          b.ensures.1 b.ensures.2 _ _ b.ensures.0 b.ensures.3 c.requires.0 c.requires.1 k.unsent;
       first_is = k.broken;
     }
 
@@ -21,7 +21,7 @@ pub returns : goal.returns
 returns c k w =
     let a = c.args in
     let b = c.begin-bounds in
-    let done = c.go_on.ensures.1 k a.parity.shape
+    let done = c.go_on.ensures k a.parity.shape
     (begun_in k a.parity.places.now a.parity.shape w.lent a.parity.fit a.from (wbit a.y.now) _ w.held b.result.places b.ensures.1
-    b.ensures.2 _ _ b.ensures.0 b.ensures.3 w.unsent) w.broken in
+    b.ensures.2 _ _ b.ensures.0 b.ensures.3 c.requires.0 c.requires.1 w.unsent) w.broken in
     (equal_runs done.0, done.1)

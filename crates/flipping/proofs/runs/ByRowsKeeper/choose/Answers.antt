@@ -18,7 +18,6 @@ returns c =
               goes = λ l. (sub_ℕ b.score 8, chosen_flip x w.lent y b was l w.unsent some);
               fewer = chosen_left x w.lent y b was;
             },
-            w,
             λ high. record { rows_in = w; inside = chosen_inside x w.lent y b was high },
           ),
     )
