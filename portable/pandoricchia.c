@@ -46,6 +46,12 @@ typedef char widths_of_imported[OCTETS(imported, number) == 1 && OCTETS(imported
 #undef OCTETS
 
 /* A part of an array that is lent: where it begins, and how many. */
+typedef struct lent_float {
+    const float *at;
+    uint64_t len;
+} lent_float;
+
+/* A part of an array that is lent: where it begins, and how many. */
 typedef struct lent_uint16_t {
     const uint16_t *at;
     uint64_t len;
@@ -56,6 +62,12 @@ typedef struct lent_uint32_t {
     const uint32_t *at;
     uint64_t len;
 } lent_uint32_t;
+
+/* A part of an array that is lent: where it begins, and how many. */
+typedef struct lent_uint64_t {
+    const uint64_t *at;
+    uint64_t len;
+} lent_uint64_t;
 
 /* A part of an array that is lent: where it begins, and how many. */
 typedef struct lent_uint8_t {
@@ -377,6 +389,12 @@ static inline void core_fill_u64(uint64_t *restrict p0, uint64_t p0_len, uint64_
     p0[t2 - 1] = t;
 }
 
+static inline bool core_is_empty_u32(const float *p0, uint64_t p0_len)
+{
+    (void)p0;
+    return p0_len == 0;
+}
+
 static inline uint8_t core_int_u8_max(uint8_t p0, uint8_t p1)
 {
     if (p1 < p0) {
@@ -421,6 +439,14 @@ static inline void core_copy_from_slice_u64(uint64_t *restrict p0, uint64_t p0_l
 static inline uint8_t core_convert_others_U8FromBool_from(bool p0)
 {
     return (uint8_t)p0;
+}
+
+static inline uint32_t core_int_u32_saturating_sub(uint32_t p0, uint32_t p1)
+{
+    if (p1 <= p0) {
+        return p0 - p1;
+    }
+    return 0;
 }
 
 static inline core_ControlFlow_NoValue_u64 core_OptionTry_branch_u64(core_Option_u64 p0)
@@ -613,6 +639,11 @@ static inline bool core_slices_equal_u8(const uint8_t *p0, uint64_t p0_len, cons
 static inline bool core_RefSlicePartialEq_eq_u8(const lent_uint8_t *p0, const lent_uint8_t *p1)
 {
     return core_slices_equal_u8((*p0).at, (*p0).len, (*p1).at, (*p1).len);
+}
+
+static inline uint16_t core_convert_U16FromU8_from(uint8_t p0)
+{
+    return p0;
 }
 
 static inline uint16_t core_int_u16_from_be_bytes(const uint8_t *p0)
@@ -1175,6 +1206,11 @@ static inline bch_Mended bch_bch_check(bool detect_only, const uint8_t *word, ui
 
 /* No functions: recordings in blocks of 512 octets, the definitions in specs/ and the theorems in proofs/. */
 
+/* The table, for a caller to lend again and again. */
+typedef struct blocks_framecheck_Remainders {
+    uint16_t entries[256];
+} blocks_framecheck_Remainders;
+
 typedef struct blocks_importing_fn_clear_all_Self {
     uint8_t nothing; /* it has no fields, but C asks for one */
 } blocks_importing_fn_clear_all_Self;
@@ -1234,22 +1270,31 @@ static inline bool blocks_importing_is_whole(uint64_t long_)
     return long_ % 512 == 0 && long_ / 512 <= 128;
 }
 
-/* The frame check over octets; the table is lent. */
-static inline uint16_t blocks_framecheck_over(const uint8_t *octets, uint64_t octets_len, const uint16_t *t)
+static inline blocks_framecheck_Remainders blocks_framecheck_table(void)
 {
-    uint64_t r = 65535;
+    blocks_framecheck_Remainders result;
+    memcpy(result.entries, blocks_framecheck_TABLE, 256 * sizeof(uint16_t));
+    return result;
+}
+
+/* The frame check over octets; the table is lent. */
+static inline uint16_t blocks_framecheck_over(const uint8_t *octets, uint64_t octets_len,
+        const blocks_framecheck_Remainders *t)
+{
+    uint16_t r = 65535;
     uint64_t t2 = 0;
     uint64_t t3 = octets_len;
     while (t2 < t3) {
         const uint8_t *octet = octets + t2;
-        r = (r % 256 * 256) ^ (uint64_t)t[(r / 256) ^ (uint64_t)*octet];
+        r = (uint16_t)((uint16_t)((uint32_t)r << 8)
+                ^ t->entries[(uint64_t)((r >> 8) ^ core_convert_U16FromU8_from(*octet))]);
         t2 += 1;
     }
-    return (uint16_t)r;
+    return r;
 }
 
 /* Whether the check of a block is right. */
-static inline bool blocks_importing_is_sound(const uint8_t *block, const uint16_t *t)
+static inline bool blocks_importing_is_sound(const uint8_t *block, const blocks_framecheck_Remainders *t)
 {
     uint8_t t2[2] = {block[510], block[511]};
     return blocks_framecheck_over(block, 510, t) == core_int_u16_from_be_bytes(t2);
@@ -1326,7 +1371,7 @@ static inline bool blocks_importing_is_filled(const uint8_t *block, uint64_t use
 
 /* The fault of a block at a place: its check, its number, its count or its filling. */
 static inline refusals_Result_unit_Refusal blocks_importing_fault(uint64_t place, bool last, const uint8_t *block,
-        const uint16_t *t)
+        const blocks_framecheck_Remainders *t)
 {
     if (!blocks_importing_is_sound(block, t)) {
         return (refusals_Result_unit_Refusal){.tag = refusals_Result_unit_Refusal_Err,
@@ -1350,7 +1395,7 @@ static inline refusals_Result_unit_Refusal blocks_importing_fault(uint64_t place
 
 /* The fault of the lowest block at fault, with its place. */
 static inline blocks_Result_unit_Faulty blocks_importing_first_fault(const uint8_t *blocks, uint64_t n,
-        const uint16_t *t)
+        const blocks_framecheck_Remainders *t)
 {
     uint64_t k = 0;
     while (k < n) {
@@ -1379,7 +1424,8 @@ static inline blocks_Result_unit_Faulty blocks_importing_found(const uint8_t *bl
                 .as.Err = {.field0 = (blocks_importing_Faulty){.refusal = (
                 refusals_Refusal){.tag = refusals_Refusal_TooLong}, .block = 0}}};
     }
-    return blocks_importing_first_fault(blocks, blocks_len / 512, blocks_framecheck_TABLE);
+    blocks_framecheck_Remainders t = blocks_framecheck_table();
+    return blocks_importing_first_fault(blocks, blocks_len / 512, &t);
 }
 
 static inline blocks_ControlFlow_ErrResidual_Faulty_unit blocks_ResultTry_branch_unit_Faulty(
@@ -1517,7 +1563,8 @@ static inline void blocks_exporting_put_front(uint32_t place, const uint8_t *use
 }
 
 /* The check behind the 510 octets that it is made over. */
-static inline void blocks_exporting_put_check(uint8_t *restrict out, uint64_t out_len, const uint16_t *t)
+static inline void blocks_exporting_put_check(uint8_t *restrict out, uint64_t out_len,
+        const blocks_framecheck_Remainders *t)
 {
     uint16_t check = blocks_framecheck_over(out, 510, t);
     uint8_t t2[2];
@@ -1527,7 +1574,7 @@ static inline void blocks_exporting_put_check(uint8_t *restrict out, uint64_t ou
 
 /* One block. */
 static inline void blocks_exporting_put_block(uint32_t place, const uint8_t *used, uint64_t used_len,
-        uint8_t *restrict out, uint64_t out_len, const uint16_t *t)
+        uint8_t *restrict out, uint64_t out_len, const blocks_framecheck_Remainders *t)
 {
     blocks_exporting_put_front(place, used, used_len, out, 510);
     blocks_exporting_put_check(out, out_len, t);
@@ -1535,7 +1582,7 @@ static inline void blocks_exporting_put_block(uint32_t place, const uint8_t *use
 
 /* As many blocks as the output holds. */
 static inline void blocks_exporting_put_blocks(const uint8_t *octets, uint64_t octets_len, uint64_t n,
-        uint8_t *restrict out, const uint16_t *t)
+        uint8_t *restrict out, const blocks_framecheck_Remainders *t)
 {
     uint64_t k = 0;
     while (k < n) {
@@ -1561,7 +1608,8 @@ static inline refusals_Result_unit_Refusal blocks_exporting_exported(const uint8
         return (refusals_Result_unit_Refusal){.tag = refusals_Result_unit_Refusal_Err,
                 .as.Err = {.field0 = (refusals_Refusal){.tag = refusals_Refusal_OutputLength}}};
     }
-    blocks_exporting_put_blocks(octets, octets_len, n, out, blocks_framecheck_TABLE);
+    blocks_framecheck_Remainders t = blocks_framecheck_table();
+    blocks_exporting_put_blocks(octets, octets_len, n, out, &t);
     return (refusals_Result_unit_Refusal){.tag = refusals_Result_unit_Refusal_Ok};
 }
 
@@ -1593,6 +1641,12 @@ typedef struct layout_Shape {
     uint64_t rows;
 } layout_Shape;
 
+/* A code's parity table as the engine has it: two places for each block, row after row, and its shape. */
+typedef struct layout_Parity {
+    const uint16_t *places;
+    layout_Shape shape;
+} layout_Parity;
+
 /* ---- catalogue -------------------------------------------------------------------------------------- */
 
 /* What is fixed by a code number: lengths and shapes (offer), and the parity tables as constants (tables). */
@@ -1610,6 +1664,11 @@ typedef struct catalogue_offer_Offer {
     bool asked;
     layout_Shape shape;
 } catalogue_offer_Offer;
+
+/* What some code number fixes, of a code that is offered. */
+typedef struct catalogue_offer_KnownOffer {
+    catalogue_offer_Offer offer;
+} catalogue_offer_KnownOffer;
 
 /* Table 1 of document 000, M = 511. */
 static const uint16_t catalogue_tables_PARITY511[64] = {
@@ -1817,39 +1876,57 @@ typedef struct syndromes_Places {
     uint64_t second;
 } syndromes_Places;
 
+/* A block, doubled in words. */
+typedef struct syndromes_addends_Doubled {
+    lent_uint64_t words;
+} syndromes_addends_Doubled;
+
+/* The checks that cover one bit of a block. */
+typedef struct syndromes_addends_Covering {
+    uint64_t bit;
+} syndromes_addends_Covering;
+
 /* The two places of block b of row r. */
-static inline syndromes_Places syndromes_read_places(const uint16_t *h, layout_Shape sh, uint64_t b, uint64_t r)
+static inline syndromes_Places syndromes_read_places(layout_Parity parity, uint64_t b, uint64_t r)
 {
-    uint64_t at = 2 * (r * sh.blocks + b);
+    const uint16_t *h = parity.places;
+    uint64_t at = 2 * (r * parity.shape.blocks + b);
     return (syndromes_Places){.first = h[at], .second = h[at + 1]};
 }
 
-/* Adds a doubled block to row r, turned by s; a number that is M or more is no shift. */
-static inline void syndromes_add_entry(const uint64_t *d, uint64_t s, layout_Shape sh, uint64_t *restrict acc,
-        uint64_t r)
+static inline void syndromes_addends_DoubledAddend_add(syndromes_addends_Doubled self, uint64_t s, layout_Shape sh,
+        uint64_t *restrict acc, uint64_t r)
+{
+    vectors_add_turned(self.words.at, s, acc, r * sh.words, sh.words);
+}
+
+/* Adds what the shift s adds to row r; a number that is M or more is no shift. */
+static inline void syndromes_add_entry_Doubled(syndromes_addends_Doubled addend, uint64_t s, layout_Shape sh,
+        uint64_t *restrict acc, uint64_t r)
 {
     if (s < sh.size) {
-        vectors_add_turned(d, s, acc, r * sh.words, sh.words);
+        syndromes_addends_DoubledAddend_add(addend, s, sh, acc, r);
     }
 }
 
-/* Adds a doubled block to row r, turned by each of its shifts there. */
-static inline void syndromes_add_row(const uint64_t *d, const uint16_t *h, layout_Shape sh, uint64_t b,
+/* Adds what each shift of block b adds to row r. */
+static inline void syndromes_add_row_Doubled(syndromes_addends_Doubled addend, layout_Parity parity, uint64_t b,
         uint64_t *restrict acc, uint64_t r)
 {
-    syndromes_Places p = syndromes_read_places(h, sh, b, r);
-    syndromes_add_entry(d, p.first, sh, acc, r);
-    syndromes_add_entry(d, p.second, sh, acc, r);
+    layout_Shape sh = parity.shape;
+    syndromes_Places p = syndromes_read_places(parity, b, r);
+    syndromes_add_entry_Doubled(addend, p.first, sh, acc, r);
+    syndromes_add_entry_Doubled(addend, p.second, sh, acc, r);
 }
 
-/* Adds block b, doubled, to every row. */
-static inline void syndromes_add_block(const uint64_t *d, const uint16_t *h, layout_Shape sh, uint64_t b,
+/* Adds what the shifts of block b add to every row. */
+static inline void syndromes_add_block_Doubled(syndromes_addends_Doubled addend, layout_Parity parity, uint64_t b,
         uint64_t *restrict acc)
 {
     uint64_t r = 0;
-    uint64_t t = sh.rows;
+    uint64_t t = parity.shape.rows;
     while (r < t) {
-        syndromes_add_row(d, h, sh, b, acc, r);
+        syndromes_add_row_Doubled(addend, parity, b, acc, r);
         r += 1;
     }
 }
@@ -1875,45 +1952,53 @@ static inline void syndromes_trim_rows(uint64_t *restrict z, layout_Shape sh)
     }
 }
 
-/* The same for blocks that one word holds, doubled in two. */
-static inline void syndromes_add_narrow_entry(vectors_Pair d, uint64_t s, layout_Shape sh, uint64_t *restrict acc,
+static inline void syndromes_addends_PairAddend_add(vectors_Pair self, uint64_t s, layout_Shape sh,
+        uint64_t *restrict acc, uint64_t r)
+{
+    (void)sh;
+    vectors_add_word(vectors_funnel(self.first, self.second, s), acc, r);
+}
+
+/* Adds what the shift s adds to row r; a number that is M or more is no shift. */
+static inline void syndromes_add_entry_Pair(vectors_Pair addend, uint64_t s, layout_Shape sh, uint64_t *restrict acc,
         uint64_t r)
 {
     if (s < sh.size) {
-        vectors_add_word(vectors_funnel(d.first, d.second, s), acc, r);
+        syndromes_addends_PairAddend_add(addend, s, sh, acc, r);
     }
 }
 
-/* Adds it to row r, turned by each of its shifts there. */
-static inline void syndromes_add_narrow_row(vectors_Pair d, const uint16_t *h, layout_Shape sh, uint64_t b,
+/* Adds what each shift of block b adds to row r. */
+static inline void syndromes_add_row_Pair(vectors_Pair addend, layout_Parity parity, uint64_t b,
         uint64_t *restrict acc, uint64_t r)
 {
-    syndromes_Places p = syndromes_read_places(h, sh, b, r);
-    syndromes_add_narrow_entry(d, p.first, sh, acc, r);
-    syndromes_add_narrow_entry(d, p.second, sh, acc, r);
+    layout_Shape sh = parity.shape;
+    syndromes_Places p = syndromes_read_places(parity, b, r);
+    syndromes_add_entry_Pair(addend, p.first, sh, acc, r);
+    syndromes_add_entry_Pair(addend, p.second, sh, acc, r);
 }
 
-/* Adds it to every row. */
-static inline void syndromes_add_narrow_block(vectors_Pair d, const uint16_t *h, layout_Shape sh, uint64_t b,
+/* Adds what the shifts of block b add to every row. */
+static inline void syndromes_add_block_Pair(vectors_Pair addend, layout_Parity parity, uint64_t b,
         uint64_t *restrict acc)
 {
     uint64_t r = 0;
-    uint64_t t = sh.rows;
+    uint64_t t = parity.shape.rows;
     while (r < t) {
-        syndromes_add_narrow_row(d, h, sh, b, acc, r);
+        syndromes_add_row_Pair(addend, parity, b, acc, r);
         r += 1;
     }
 }
 
-/* Adds every block of y to the rows. */
-static inline void syndromes_add_narrow_blocks(const uint64_t *y, const uint16_t *h, layout_Shape sh,
-        uint64_t *restrict acc)
+/* The same where one word holds a block. */
+static inline void syndromes_add_narrow_blocks(const uint64_t *y, layout_Parity parity, uint64_t *restrict acc)
 {
+    layout_Shape sh = parity.shape;
     uint64_t b = 0;
     uint64_t t = sh.blocks;
     while (b < t) {
         uint64_t v = vectors_front(vectors_window(y, b * sh.size), sh.size);
-        syndromes_add_narrow_block(vectors_double_word(v, sh.size), h, sh, b, acc);
+        syndromes_add_block_Pair(vectors_double_word(v, sh.size), parity, b, acc);
         b += 1;
     }
 }
@@ -1927,42 +2012,45 @@ static inline void syndromes_double_block(const uint64_t *y, uint64_t p, uint64_
 }
 
 /* Adds block b of y to every row; part and d have room for a block, and for a doubled one. */
-static inline void syndromes_add_wide_block(const uint64_t *y, const uint16_t *h, layout_Shape sh, uint64_t b,
+static inline void syndromes_add_wide_block(const uint64_t *y, layout_Parity parity, uint64_t b,
         uint64_t *restrict part, uint64_t part_len, uint64_t *restrict d, uint64_t d_len, uint64_t *restrict acc)
 {
+    layout_Shape sh = parity.shape;
     syndromes_double_block(y, b * sh.size, sh.size, part, part_len, d, d_len);
-    syndromes_add_block(d, h, sh, b, acc);
+    syndromes_add_block_Doubled((syndromes_addends_Doubled){.words = (lent_uint64_t){d, d_len}}, parity, b, acc);
 }
 
 /* Adds every block of y to the rows. */
-static inline void syndromes_add_blocks(const uint64_t *y, const uint16_t *h, layout_Shape sh, uint64_t *restrict part,
+static inline void syndromes_add_blocks(const uint64_t *y, layout_Parity parity, uint64_t *restrict part,
         uint64_t part_len, uint64_t *restrict d, uint64_t d_len, uint64_t *restrict acc)
 {
     uint64_t b = 0;
-    uint64_t t = sh.blocks;
+    uint64_t t = parity.shape.blocks;
     while (b < t) {
-        syndromes_add_wide_block(y, h, sh, b, part, part_len, d, d_len, acc);
+        syndromes_add_wide_block(y, parity, b, part, part_len, d, d_len, acc);
         b += 1;
     }
 }
 
 /* Adds every block of y to the rows, of whatever width. */
-static inline void syndromes_add_all(const uint64_t *y, const uint16_t *h, layout_Shape sh, uint64_t *restrict acc)
+static inline void syndromes_add_all(const uint64_t *y, layout_Parity parity, uint64_t *restrict acc)
 {
+    layout_Shape sh = parity.shape;
     if (sh.words == 1) {
-        syndromes_add_narrow_blocks(y, h, sh, acc);
+        syndromes_add_narrow_blocks(y, parity, acc);
         return;
     }
     uint64_t part[8] = {0};
     uint64_t d[16] = {0};
     uint64_t words = sh.words;
-    syndromes_add_blocks(y, h, sh, part, words, d, 2 * words, acc);
+    syndromes_add_blocks(y, parity, part, words, d, 2 * words, acc);
 }
 
 /* The syndrome of y, made from zeros. */
-static inline void syndromes_syndrome(const uint64_t *y, const uint16_t *h, layout_Shape sh, uint64_t *restrict z)
+static inline void syndromes_syndrome(const uint64_t *y, layout_Parity parity, uint64_t *restrict z)
 {
-    syndromes_add_all(y, h, sh, z);
+    layout_Shape sh = parity.shape;
+    syndromes_add_all(y, parity, z);
     syndromes_trim_rows(z, sh);
 }
 
@@ -1989,45 +2077,54 @@ static inline bool syndromes_is_quiet(const uint64_t *z)
     return !vectors_any(z, 16);
 }
 
-/* Flips the check of row r that covers bit k by the shift s; a number that is M or more is no shift. */
-static inline void syndromes_flip_entry(uint64_t *restrict z, uint64_t s, layout_Shape sh, uint64_t k, uint64_t r)
+static inline void syndromes_addends_CoveringAddend_add(syndromes_addends_Covering self, uint64_t s, layout_Shape sh,
+        uint64_t *restrict acc, uint64_t r)
+{
+    uint64_t i = self.bit + (sh.size - s);
+    if (sh.size <= i) {
+        i -= sh.size;
+    }
+    vectors_flip_bit(acc, 64 * sh.words * r + i);
+}
+
+/* Adds what the shift s adds to row r; a number that is M or more is no shift. */
+static inline void syndromes_add_entry_Covering(syndromes_addends_Covering addend, uint64_t s, layout_Shape sh,
+        uint64_t *restrict acc, uint64_t r)
 {
     if (s < sh.size) {
-        uint64_t i = k + (sh.size - s);
-        if (sh.size <= i) {
-            i -= sh.size;
-        }
-        vectors_flip_bit(z, 64 * sh.words * r + i);
+        syndromes_addends_CoveringAddend_add(addend, s, sh, acc, r);
     }
 }
 
-/* Flips the checks of row r that cover bit k of block b. */
-static inline void syndromes_flip_row(uint64_t *restrict z, const uint16_t *h, layout_Shape sh, uint64_t b, uint64_t k,
-        uint64_t r)
+/* Adds what each shift of block b adds to row r. */
+static inline void syndromes_add_row_Covering(syndromes_addends_Covering addend, layout_Parity parity, uint64_t b,
+        uint64_t *restrict acc, uint64_t r)
 {
-    syndromes_Places p = syndromes_read_places(h, sh, b, r);
-    syndromes_flip_entry(z, p.first, sh, k, r);
-    syndromes_flip_entry(z, p.second, sh, k, r);
+    layout_Shape sh = parity.shape;
+    syndromes_Places p = syndromes_read_places(parity, b, r);
+    syndromes_add_entry_Covering(addend, p.first, sh, acc, r);
+    syndromes_add_entry_Covering(addend, p.second, sh, acc, r);
 }
 
-/* Flips the checks that cover bit k of block b. */
-static inline void syndromes_flip_checks(uint64_t *restrict z, const uint16_t *h, layout_Shape sh, uint64_t b,
-        uint64_t k)
+/* Adds what the shifts of block b add to every row. */
+static inline void syndromes_add_block_Covering(syndromes_addends_Covering addend, layout_Parity parity, uint64_t b,
+        uint64_t *restrict acc)
 {
     uint64_t r = 0;
-    uint64_t t = sh.rows;
+    uint64_t t = parity.shape.rows;
     while (r < t) {
-        syndromes_flip_row(z, h, sh, b, k, r);
+        syndromes_add_row_Covering(addend, parity, b, acc, r);
         r += 1;
     }
 }
 
 /* Flips bit n of a word, and its checks with it. */
-static inline void syndromes_flip(uint64_t *restrict y, uint64_t *restrict z, const uint16_t *h, layout_Shape sh,
-        uint64_t n)
+static inline void syndromes_flip(uint64_t *restrict y, uint64_t *restrict z, layout_Parity parity, uint64_t n)
 {
+    layout_Shape sh = parity.shape;
     vectors_flip_bit(y, n);
-    syndromes_flip_checks(z, h, sh, n / sh.size, n % sh.size);
+    syndromes_addends_Covering covering = (syndromes_addends_Covering){.bit = n % sh.size};
+    syndromes_add_block_Covering(covering, parity, n / sh.size, z);
 }
 
 /* ---- word ------------------------------------------------------------------------------------------- */
@@ -2039,6 +2136,19 @@ typedef struct word_ownparity_Together {
     uint64_t first;
     uint64_t second;
 } word_ownparity_Together;
+
+/* Room for what is measured of a word: the places of its code's parity table, its bits, and its syndrome. */
+typedef struct word_measured_Room {
+    uint16_t h[64];
+    uint64_t y[130];
+    uint64_t z[16];
+} word_measured_Room;
+
+/* A received word, and its code, which says how long it is. */
+typedef struct word_received_Received {
+    catalogue_offer_KnownOffer code;
+    lent_uint8_t word;
+} word_received_Received;
 
 /* An octet, and zeros behind it. */
 static inline uint64_t word_received_leading(uint8_t octet)
@@ -2129,6 +2239,16 @@ static inline word_ownparity_Together word_ownparity_odd_together(uint64_t v)
             .second = word_ownparity_odd_word(3453 & v)};
 }
 
+/* Of zeros. */
+static inline word_measured_Room word_measured_Room_new(void)
+{
+    word_measured_Room result;
+    memset(result.h, 0, 64 * sizeof(uint16_t));
+    memset(result.y, 0, 130 * sizeof(uint64_t));
+    memset(result.z, 0, 16 * sizeof(uint64_t));
+    return result;
+}
+
 /* The bits that the checks are over, from octets that are handed in, into a vector of zeros; the unsent ones stand
  * in front as zeros. */
 static inline void word_received_take(const uint8_t *octets, uint64_t octets_len, uint64_t unsent,
@@ -2147,25 +2267,26 @@ static inline layout_Shape word_measured_checks(uint64_t size, const uint64_t *y
         uint64_t *restrict z)
 {
     layout_Shape sh = catalogue_tables_lend(size, h);
-    syndromes_syndrome(y, h, sh, z);
+    syndromes_syndrome(y, (layout_Parity){.places = h, .shape = sh}, z);
     return sh;
 }
 
 /* What is measured, by the two numbers of a code's record that it takes: the record itself would be written out for
  * each call. */
 static inline layout_Shape word_measured_measure_by(uint64_t unsent, uint64_t size, const uint8_t *word,
-        uint64_t word_len, uint16_t *restrict h, uint64_t *restrict y, uint64_t *restrict z)
+        uint64_t word_len, word_measured_Room *restrict room)
 {
-    word_received_take(word, word_len, unsent, y, 130);
-    return word_measured_checks(size, y, h, z);
+    word_received_take(word, word_len, unsent, room->y, 130);
+    return word_measured_checks(size, room->y, room->h, room->z);
 }
 
 /* The parity table into h, its shape, the word's bits into y, and its syndrome into z; y and z are handed over as
  * zeros. */
-static inline layout_Shape word_measured_measure(catalogue_offer_Offer o, const uint8_t *word, uint64_t word_len,
-        uint16_t *restrict h, uint64_t *restrict y, uint64_t *restrict z)
+static inline layout_Shape word_measured_Room_measure(word_measured_Room *restrict self,
+        word_received_Received received)
 {
-    return word_measured_measure_by(o.unsent, o.shape.size, word, word_len, h, y, z);
+    catalogue_offer_Offer o = received.code.offer;
+    return word_measured_measure_by(o.unsent, o.shape.size, received.word.at, received.word.len, self);
 }
 
 /* Whether one of n bits from bit `at` on is set. */
@@ -2203,23 +2324,27 @@ static inline bool word_ownparity_own_parity(const uint64_t *y)
     return odd.first + odd.second == 0;
 }
 
-/* What is wrong with a measured word: a broken check, a bit set after the parity, or parity unlike the encoder's; 0
- * for a codeword. */
-static inline uint8_t word_judging_fault(catalogue_offer_Offer o, const uint64_t *y, const uint64_t *z)
+/* What is wrong with a measured word: a broken check, a bit set after the parity, or parity unlike the encoder's. */
+static inline refusals_Result_unit_Refusal word_judging_fault(catalogue_offer_KnownOffer code, const uint64_t *y,
+        const uint64_t *z)
 {
     if (!syndromes_is_quiet(z)) {
-        return 9;
+        return (refusals_Result_unit_Refusal){.tag = refusals_Result_unit_Refusal_Err,
+                .as.Err = {.field0 = (refusals_Refusal){.tag = refusals_Refusal_Broken}}};
     }
+    catalogue_offer_Offer o = code.offer;
     if (!o.asked) {
-        return 0;
+        return (refusals_Result_unit_Refusal){.tag = refusals_Result_unit_Refusal_Ok};
     }
     if (word_judging_some_set(y, o.bits, o.fill)) {
-        return 14;
+        return (refusals_Result_unit_Refusal){.tag = refusals_Result_unit_Refusal_Err,
+                .as.Err = {.field0 = (refusals_Refusal){.tag = refusals_Refusal_LastTwo}}};
     }
     if (word_ownparity_own_parity(y)) {
-        return 0;
+        return (refusals_Result_unit_Refusal){.tag = refusals_Result_unit_Refusal_Ok};
     }
-    return 15;
+    return (refusals_Result_unit_Refusal){.tag = refusals_Result_unit_Refusal_Err,
+            .as.Err = {.field0 = (refusals_Refusal){.tag = refusals_Refusal_OtherParity}}};
 }
 
 /* In how many of their 64 bits two words differ. */
@@ -2244,7 +2369,7 @@ static inline uint64_t word_unlike_apart_whole(const uint8_t *octets, const uint
 }
 
 /* In how many of the first n bits the octets differ from what stands in y from bit u on; they hold these bits, and
- * end within 64 of the last. */
+ * end within 64 of the last. It is not inlined, so that the function above it, which has the code's record, is. */
 static inline uint64_t word_unlike_unlike(const uint8_t *octets, uint64_t octets_len, const uint64_t *y, uint64_t u,
         uint64_t n)
 {
@@ -2261,12 +2386,12 @@ static inline uint64_t word_unlike_unlike(const uint8_t *octets, uint64_t octets
 
 /* The number of a run: after a quiet end 8 for parity unlike the encoder's. No run sets an unsent bit, so 7 is never
  * given. */
-static inline uint8_t word_judging_judge(catalogue_offer_Offer o, const uint64_t *y, uint8_t number)
+static inline uint8_t word_judging_judge(catalogue_offer_KnownOffer code, const uint64_t *y, uint8_t number)
 {
     if (number != 0) {
         return number;
     }
-    if (!o.asked) {
+    if (!code.offer.asked) {
         return 0;
     }
     if (word_ownparity_own_parity(y)) {
@@ -2516,25 +2641,24 @@ static inline uint64_t encoder_wideparity_double_block(const uint8_t *octets, ui
 
 /* Adds information block b to the rows, by way of part and d. The number has one bit more, as above. */
 static inline uint64_t encoder_wideparity_add_wide_block(const uint8_t *octets, uint64_t unsent, uint64_t b,
-        uint64_t odd, const uint16_t *h, layout_Shape sh, uint64_t *restrict part, uint64_t *restrict d,
-        uint64_t *restrict z)
+        uint64_t odd, layout_Parity parity, uint64_t *restrict part, uint64_t *restrict d, uint64_t *restrict z)
 {
     uint64_t more = encoder_wideparity_double_block(octets, unsent, b, odd, part, d);
-    syndromes_add_block(d, h, sh, b, z);
+    syndromes_add_block_Doubled((syndromes_addends_Doubled){.words = (lent_uint64_t){d, 16}}, parity, b, z);
     return more;
 }
 
 /* Adds the information blocks to the rows. The number has a bit for each block, set where its bits are odd in
  * number. */
-static inline uint64_t encoder_wideparity_add_wide(const uint8_t *octets, uint64_t unsent, const uint16_t *h,
-        layout_Shape sh, uint64_t *restrict z)
+static inline uint64_t encoder_wideparity_add_wide(const uint8_t *octets, uint64_t unsent, layout_Parity parity,
+        uint64_t *restrict z)
 {
     uint64_t part[8] = {0};
     uint64_t d[16] = {0};
     uint64_t odd = 0;
     uint64_t b = 0;
     while (b < 14) {
-        odd = encoder_wideparity_add_wide_block(octets, unsent, b, odd, h, sh, part, d, z);
+        odd = encoder_wideparity_add_wide_block(octets, unsent, b, odd, parity, part, d, z);
         b += 1;
     }
     return odd;
@@ -2547,7 +2671,8 @@ static inline uint64_t encoder_wideparity_lay_wide(const uint8_t *octets, uint64
 {
     uint16_t h[64] = {0};
     catalogue_tables_lend511(h);
-    uint64_t odd = encoder_wideparity_add_wide(octets, unsent, h, sh, z);
+    layout_Parity parity = (layout_Parity){.places = h, .shape = sh};
+    uint64_t odd = encoder_wideparity_add_wide(octets, unsent, parity, z);
     syndromes_trim_rows(z, sh);
     return 4 * odd;
 }
@@ -2714,9 +2839,10 @@ static inline void encoder_parityrows_write(const uint8_t *information, uint64_t
 }
 
 /* The word of a near-Earth code. The shape stands in numbers, so that a compiler sees them in the walk. */
-static inline void encoder_wideparity_encode(catalogue_offer_Offer o, const uint8_t *information,
+static inline void encoder_wideparity_encode(catalogue_offer_KnownOffer code, const uint8_t *information,
         uint64_t information_len, uint8_t *restrict word, uint64_t word_len)
 {
+    catalogue_offer_Offer o = code.offer;
     layout_Shape sh = (layout_Shape){.size = 511, .words = 8, .blocks = 16, .rows = 2};
     uint64_t z[16] = {0};
     encoder_wideparity_solve_wide(information, o.unsent, sh, z);
@@ -2724,22 +2850,23 @@ static inline void encoder_wideparity_encode(catalogue_offer_Offer o, const uint
 }
 
 /* Adds information block b, of the words y, to the rows, where one word holds it. */
-static inline void encoder_narrowparity_add_narrow_block(const uint64_t *y, const uint16_t *h, layout_Shape sh,
-        uint64_t b, uint64_t *restrict z)
+static inline void encoder_narrowparity_add_narrow_block(const uint64_t *y, layout_Parity parity, uint64_t b,
+        uint64_t *restrict z)
 {
-    uint64_t v = vectors_front(vectors_window(y, b * sh.size), sh.size);
-    syndromes_add_narrow_block(vectors_double_word(v, sh.size), h, sh, b, z);
+    uint64_t size = parity.shape.size;
+    uint64_t v = vectors_front(vectors_window(y, b * size), size);
+    syndromes_add_block_Pair(vectors_double_word(v, size), parity, b, z);
 }
 
 /* Adds the information blocks to the rows, where one word holds a block. */
-static inline void encoder_narrowparity_add_narrow(const uint8_t *octets, uint64_t octets_len, const uint16_t *h,
-        layout_Shape sh, uint64_t *restrict z)
+static inline void encoder_narrowparity_add_narrow(const uint8_t *octets, uint64_t octets_len, layout_Parity parity,
+        uint64_t *restrict z)
 {
     uint64_t y[5] = {0};
     vectors_load(octets, octets_len, y, 5);
     uint64_t b = 0;
     while (b < 4) {
-        encoder_narrowparity_add_narrow_block(y, h, sh, b, z);
+        encoder_narrowparity_add_narrow_block(y, parity, b, z);
         b += 1;
     }
 }
@@ -2751,7 +2878,8 @@ static inline void encoder_narrowparity_lay_narrow(const uint8_t *octets, uint64
 {
     uint16_t h[64] = {0};
     catalogue_tables_lend_narrow(sh.size, h);
-    encoder_narrowparity_add_narrow(octets, octets_len, h, sh, z);
+    layout_Parity parity = (layout_Parity){.places = h, .shape = sh};
+    encoder_narrowparity_add_narrow(octets, octets_len, parity, z);
     syndromes_trim_rows(z, sh);
 }
 
@@ -2863,25 +2991,27 @@ static inline void encoder_narrowparity_solve_narrow(const uint8_t *octets, uint
 }
 
 /* The word of a telecommand code. */
-static inline void encoder_narrowparity_encode(catalogue_offer_Offer o, const uint8_t *information,
+static inline void encoder_narrowparity_encode(catalogue_offer_KnownOffer code, const uint8_t *information,
         uint64_t information_len, uint8_t *restrict word, uint64_t word_len)
 {
-    layout_Shape of = o.shape;
-    layout_Shape sh = (layout_Shape){.size = of.size, .words = 1, .blocks = 8, .rows = 4};
+    catalogue_offer_Offer o = code.offer;
+    uint64_t size = o.shape.size;
+    layout_Shape sh = catalogue_offer_telecommand_shape(size);
     uint64_t z[16] = {0};
     encoder_narrowparity_solve_narrow(information, information_len, sh, z);
-    encoder_parityrows_write(information, information_len, 4 * of.size, z, sh, 1, word, word_len);
+    encoder_parityrows_write(information, information_len, 4 * size, z, sh, 1, word, word_len);
 }
 
 /* The word of information of the right length whose spare bits are 0, into an output of the right length. */
-static inline void encoder_solver_encode(catalogue_offer_Offer o, const uint8_t *information, uint64_t information_len,
-        uint8_t *restrict word, uint64_t word_len)
+static inline void encoder_solver_encode(catalogue_offer_KnownOffer code, const uint8_t *information,
+        uint64_t information_len, uint8_t *restrict word, uint64_t word_len)
 {
+    catalogue_offer_Offer o = code.offer;
     layout_Shape of = o.shape;
     if (of.size == 511) {
-        encoder_wideparity_encode(o, information, information_len, word, word_len);
+        encoder_wideparity_encode(code, information, information_len, word, word_len);
     } else {
-        encoder_narrowparity_encode(o, information, information_len, word, word_len);
+        encoder_narrowparity_encode(code, information, information_len, word, word_len);
     }
 }
 
@@ -3058,9 +3188,15 @@ static inline planes_Sum planes_add(planes_Planes p, uint64_t x)
 /* The flipping run: what it keeps (bounds), the bit of greatest excess (choice, narrow), the run (runs), how correct
  * ends (endings). */
 
-/* The number is that of an ending; the calls' records give it on. */
+/* How a run ends: quiet, stuck, or with as many flips as the limit allows. */
+enum { flipping_runs_Ending_Quiet = 0, flipping_runs_Ending_Stuck = 1, flipping_runs_Ending_Limit = 2 };
+typedef struct flipping_runs_Ending {
+    uint8_t tag;
+} flipping_runs_Ending;
+
+/* How a run ended, and after how many flips. */
 typedef struct flipping_runs_Ran {
-    uint8_t number;
+    flipping_runs_Ending ending;
     uint32_t flips;
 } flipping_runs_Ran;
 
@@ -3069,12 +3205,6 @@ typedef struct flipping_runs_Ended {
     flipping_runs_Ran ran;
     uint32_t last;
 } flipping_runs_Ended;
-
-/* How a run ends: quiet, stuck, or with as many flips as the limit allows. */
-enum { flipping_runs_Ending_Quiet = 0, flipping_runs_Ending_Stuck = 1, flipping_runs_Ending_Limit = 2 };
-typedef struct flipping_runs_Ending {
-    uint8_t tag;
-} flipping_runs_Ending;
 
 /* Of the bits of a block, those that have none, at most one and at most two of some checks met; and how many checks
  * these are. */
@@ -3091,6 +3221,12 @@ typedef struct flipping_narrow_Level {
     uint64_t mask;
 } flipping_narrow_Level;
 
+/* A part of an array that is lent: where it begins, and how many. */
+typedef struct lent_flipping_narrow_Level {
+    const flipping_narrow_Level *at;
+    uint64_t len;
+} lent_flipping_narrow_Level;
+
 /* The greatest score, and the first block that has it. */
 typedef struct flipping_narrow_Peak {
     uint32_t score;
@@ -3102,6 +3238,15 @@ typedef struct flipping_choice_Best {
     uint32_t score;
     uint64_t bit;
 } flipping_choice_Best;
+
+/* What a run by the sizes of the samples keeps where one word holds a block: as many samples as bits, or none, where
+ * all bits have equal sizes. */
+typedef struct flipping_runs_ByRows {
+    lent_float samples;
+    layout_Parity parity;
+    uint64_t rows[4];
+    uint64_t from;
+} flipping_runs_ByRows;
 
 /* Where the checks of each block's bits are read, in words of this shape: the starts of every block, and how many it
  * has. */
@@ -3116,6 +3261,13 @@ typedef struct flipping_bounds_Bounds {
     flipping_bounds_Places places;
     uint8_t met[16];
 } flipping_bounds_Bounds;
+
+/* What a run by the bounds of the blocks keeps; bits before bit `from` are not sent. */
+typedef struct flipping_runs_ByBounds {
+    flipping_bounds_Bounds *bounds;
+    uint64_t *rows;
+    uint64_t from;
+} flipping_runs_ByBounds;
 
 /* A record of C's: its number says whether the rest counts. */
 typedef pandoricchia_corrected flipping_endings_Corrected;
@@ -3138,20 +3290,7 @@ typedef struct flipping_runs_Next {
 /* A run that ends. */
 static inline flipping_runs_Ended flipping_runs_at_end(flipping_runs_Ending ending, uint32_t flips, uint32_t last)
 {
-    uint8_t t;
-    switch (ending.tag) {
-    case flipping_runs_Ending_Quiet:
-        t = 0;
-        break;
-    case flipping_runs_Ending_Stuck:
-        t = 5;
-        break;
-    case flipping_runs_Ending_Limit:
-    default:
-        t = 6;
-        break;
-    }
-    return (flipping_runs_Ended){.ran = (flipping_runs_Ran){.number = t, .flips = flips}, .last = last};
+    return (flipping_runs_Ended){.ran = (flipping_runs_Ran){.ending = ending, .flips = flips}, .last = last};
 }
 
 /* The first m bits of v over and over. */
@@ -3171,7 +3310,8 @@ static inline void flipping_narrow_begin(const uint64_t *z, layout_Shape sh, uin
 {
     uint64_t r = 0;
     while (r < 4) {
-        rows[r] = flipping_narrow_repeated(z[r], sh.size);
+        uint64_t *row = rows + r;
+        *row = flipping_narrow_repeated(z[r], sh.size);
         r += 1;
     }
 }
@@ -3214,9 +3354,11 @@ static inline flipping_narrow_Weights flipping_narrow_with_row(flipping_narrow_W
 }
 
 /* The weights of those bits of block b that are in mask. */
-static inline flipping_narrow_Weights flipping_narrow_weigh(const uint64_t *rows, const uint16_t *h, layout_Shape sh,
-        uint64_t b, uint64_t mask)
+static inline flipping_narrow_Weights flipping_narrow_weigh(const uint64_t *rows, layout_Parity parity, uint64_t b,
+        uint64_t mask)
 {
+    const uint16_t *h = parity.places;
+    layout_Shape sh = parity.shape;
     flipping_narrow_Weights w = (flipping_narrow_Weights){.none = mask, .one = mask, .two = mask, .checks = 0};
     uint64_t r = 0;
     while (r < 4) {
@@ -3243,13 +3385,14 @@ static inline flipping_narrow_Level flipping_narrow_highest(flipping_narrow_Weig
 
 /* For each block the greatest score above 8 of its bits, and the bits that have it; bits before bit `from` are not
  * sent. */
-static inline void flipping_narrow_weigh_all(const uint64_t *rows, const uint16_t *h, layout_Shape sh, uint64_t from,
+static inline void flipping_narrow_weigh_all(const uint64_t *rows, layout_Parity parity, uint64_t from,
         flipping_narrow_Level *restrict levels)
 {
+    layout_Shape sh = parity.shape;
     uint64_t b = 0;
     uint64_t t = sh.blocks;
     while (b < t) {
-        levels[b] = flipping_narrow_highest(flipping_narrow_weigh(rows, h, sh, b,
+        levels[b] = flipping_narrow_highest(flipping_narrow_weigh(rows, parity, b,
                 flipping_narrow_sent_in(b, from, sh.size)));
         b += 1;
     }
@@ -3268,10 +3411,13 @@ static inline flipping_narrow_Peak flipping_narrow_better(flipping_narrow_Peak p
 static inline flipping_narrow_Peak flipping_narrow_greatest(const flipping_narrow_Level *levels, uint64_t blocks)
 {
     flipping_narrow_Peak p = (flipping_narrow_Peak){.score = 8, .block = 0};
-    uint64_t b = 0;
-    while (b < blocks) {
-        p = flipping_narrow_better(p, levels[b].score, b);
-        b += 1;
+    lent_flipping_narrow_Level b = (lent_flipping_narrow_Level){levels, blocks};
+    uint64_t level = 0;
+    uint64_t t = b.len;
+    while (level < t) {
+        const flipping_narrow_Level *t2 = b.at + level;
+        p = flipping_narrow_better(p, t2->score, level);
+        level += 1;
     }
     return p;
 }
@@ -3319,7 +3465,7 @@ static inline flipping_choice_Best flipping_narrow_best_of(const float *samples,
     if (score <= 8) {
         return (flipping_choice_Best){.score = score, .bit = low};
     }
-    if (samples_len == 0) {
+    if (core_is_empty_u32(samples, samples_len)) {
         return (flipping_choice_Best){.score = score, .bit = low};
     }
     return (flipping_choice_Best){.score = score,
@@ -3328,14 +3474,20 @@ static inline flipping_choice_Best flipping_narrow_best_of(const float *samples,
 
 /* The best bit from bit `from` on, after all blocks have been weighed. */
 static inline flipping_choice_Best flipping_narrow_choose(const float *samples, uint64_t samples_len,
-        const uint64_t *rows, const uint16_t *h, layout_Shape sh, uint64_t from)
+        const uint64_t *rows, layout_Parity parity, uint64_t from)
 {
     flipping_narrow_Level levels[16];
     for (size_t i = 0; i < 16; i++) {
         levels[i] = (flipping_narrow_Level){.score = 0, .mask = 0};
     }
-    flipping_narrow_weigh_all(rows, h, sh, from, levels);
-    return flipping_narrow_best_of(samples, samples_len, levels, sh);
+    flipping_narrow_weigh_all(rows, parity, from, levels);
+    return flipping_narrow_best_of(samples, samples_len, levels, parity.shape);
+}
+
+static inline flipping_choice_Best flipping_runs_ByRowsKeeper_choose(flipping_runs_ByRows *restrict self)
+{
+    lent_float samples = self->samples;
+    return flipping_narrow_choose(samples.at, samples.len, self->rows, self->parity, self->from);
 }
 
 /* Flips the check of a row that covers bit k by the shift s; a number that is m or more is no shift. `each` has the
@@ -3357,9 +3509,11 @@ static inline uint64_t flipping_narrow_flip_row(uint64_t row, uint64_t each, con
 }
 
 /* Flips the checks that cover bit k of block b, row after row. `each` has the first bit of every M set. */
-static inline void flipping_narrow_flip_rows(uint64_t *restrict rows, const uint16_t *h, layout_Shape sh,
-        uint64_t each, uint64_t b, uint64_t k)
+static inline void flipping_narrow_flip_rows(uint64_t *restrict rows, layout_Parity parity, uint64_t each, uint64_t b,
+        uint64_t k)
 {
+    const uint16_t *h = parity.places;
+    layout_Shape sh = parity.shape;
     uint64_t r = 0;
     while (r < 4) {
         rows[r] = flipping_narrow_flip_row(rows[r], each, h, 2 * (r * sh.blocks + b), k, sh.size);
@@ -3368,34 +3522,39 @@ static inline void flipping_narrow_flip_rows(uint64_t *restrict rows, const uint
 }
 
 /* Flips a bit of a word, and its checks with it. */
-static inline void flipping_narrow_flip(uint64_t *restrict y, uint64_t *restrict rows, const uint16_t *h,
-        layout_Shape sh, uint64_t bit)
+static inline void flipping_narrow_flip(uint64_t *restrict y, uint64_t *restrict rows, layout_Parity parity,
+        uint64_t bit)
 {
     vectors_flip_bit(y, bit);
-    uint64_t each = flipping_narrow_repeated(UINT64_C(1) << 63, sh.size);
-    flipping_narrow_flip_rows(rows, h, sh, each, bit / sh.size, bit % sh.size);
+    uint64_t m = parity.shape.size;
+    uint64_t each = flipping_narrow_repeated(UINT64_C(1) << 63, m);
+    flipping_narrow_flip_rows(rows, parity, each, bit / m, bit % m);
 }
 
-/* The run by the sizes of the samples from the word y, whose blocks one word holds each and whose rows are kept,
- * under a limit: flips until it ends. So many checks are broken. */
-static inline flipping_runs_Ended flipping_runs_go_on_narrow(const float *samples, uint64_t samples_len,
-        uint64_t *restrict y, uint64_t *restrict rows, const uint16_t *h, layout_Shape sh, uint64_t from,
+static inline void flipping_runs_ByRowsKeeper_flip(flipping_runs_ByRows *restrict self, uint64_t *restrict y,
+        uint64_t bit)
+{
+    flipping_narrow_flip(y, self->rows, self->parity, bit);
+}
+
+/* The run from the word y, of which this is kept, under a limit: flips until it ends. So many checks are broken. */
+static inline flipping_runs_Ended flipping_runs_go_on_ByRows(flipping_runs_ByRows *restrict kept, uint64_t *restrict y,
         uint16_t limit, uint32_t first)
 {
-    uint32_t end = limit;
+    uint32_t most = limit;
     uint32_t flips = 0;
     uint32_t left = first;
     while (0 < left) {
-        flipping_choice_Best chosen = flipping_narrow_choose(samples, samples_len, rows, h, sh, from);
-        uint32_t high = chosen.score;
-        if (high <= 8) {
+        flipping_choice_Best best = flipping_runs_ByRowsKeeper_choose(kept);
+        uint32_t top = best.score;
+        if (top <= 8) {
             return flipping_runs_at_end((flipping_runs_Ending){.tag = flipping_runs_Ending_Stuck}, flips, left);
         }
-        if (end <= flips) {
+        if (most <= flips) {
             return flipping_runs_at_end((flipping_runs_Ending){.tag = flipping_runs_Ending_Limit}, flips, left);
         }
-        flipping_narrow_flip(y, rows, h, sh, chosen.bit);
-        left -= high - 8;
+        flipping_runs_ByRowsKeeper_flip(kept, y, best.bit);
+        left -= top - 8;
         flips += 1;
     }
     return flipping_runs_at_end((flipping_runs_Ending){.tag = flipping_runs_Ending_Quiet}, flips, 0);
@@ -3404,12 +3563,16 @@ static inline flipping_runs_Ended flipping_runs_go_on_narrow(const float *sample
 /* The run by the sizes of the samples, where one word holds a block: as many samples as bits, or none, where all
  * bits have equal sizes. */
 static inline flipping_runs_Ended flipping_runs_run_narrow(const float *samples, uint64_t samples_len,
-        uint64_t *restrict y, const uint64_t *z, const uint16_t *h, layout_Shape sh, uint64_t from, uint16_t limit,
-        uint32_t first)
+        uint64_t *restrict y, const uint64_t *z, layout_Parity parity, uint64_t from, uint16_t limit, uint32_t first)
 {
     uint64_t rows[4] = {0};
-    flipping_narrow_begin(z, sh, rows);
-    return flipping_runs_go_on_narrow(samples, samples_len, y, rows, h, sh, from, limit, first);
+    flipping_narrow_begin(z, parity.shape, rows);
+    flipping_runs_ByRows kept;
+    kept.samples = (lent_float){samples, samples_len};
+    kept.parity = parity;
+    memcpy(kept.rows, rows, 4 * sizeof(uint64_t));
+    kept.from = from;
+    return flipping_runs_go_on_ByRows(&kept, y, limit, first);
 }
 
 /* The first m bits of v, twice over from word `to` of d on. */
@@ -3472,44 +3635,46 @@ static inline uint64_t flipping_bounds_note(const uint16_t *h, uint64_t at, uint
 }
 
 /* The starts of block b at its two places of row r, behind n others, and how many there are then. */
-static inline uint64_t flipping_bounds_note_row(const uint16_t *h, layout_Shape sh, uint64_t b, uint64_t r,
+static inline uint64_t flipping_bounds_note_row(layout_Parity parity, uint64_t b, uint64_t r,
         uint16_t *restrict starts, uint64_t n)
 {
+    const uint16_t *h = parity.places;
+    layout_Shape sh = parity.shape;
     uint64_t at = 2 * (r * sh.blocks + b);
     uint64_t next = flipping_bounds_note(h, at, sh.size, 1024 * r, starts, n);
     return flipping_bounds_note(h, at + 1, sh.size, 1024 * r, starts, next);
 }
 
 /* The starts of block b at its eight places, and how many they are. */
-static inline uint64_t flipping_bounds_gather(const uint16_t *h, layout_Shape sh, uint64_t b, uint16_t *restrict starts)
+static inline uint64_t flipping_bounds_gather(layout_Parity parity, uint64_t b, uint16_t *restrict starts)
 {
     uint64_t n = 8 * b;
     uint64_t row = 0;
-    uint64_t t = sh.rows;
+    uint64_t t = parity.shape.rows;
     while (row < t) {
-        n = flipping_bounds_note_row(h, sh, b, row, starts, n);
+        n = flipping_bounds_note_row(parity, b, row, starts, n);
         row += 1;
     }
     return n - 8 * b;
 }
 
 /* The starts of every block, and how many each has. */
-static inline void flipping_bounds_Places_gather(flipping_bounds_Places *restrict self, const uint16_t *h)
+static inline void flipping_bounds_Places_gather(flipping_bounds_Places *restrict self, layout_Parity parity)
 {
-    layout_Shape sh = self->shape;
     uint64_t b = 0;
-    uint64_t t = sh.blocks;
+    uint64_t t = parity.shape.blocks;
     while (b < t) {
-        uint64_t t2 = flipping_bounds_gather(h, sh, b, self->starts);
+        uint64_t t2 = flipping_bounds_gather(parity, b, self->starts);
         self->counts[b] = (uint8_t)t2;
         b += 1;
     }
 }
 
 /* The doubled rows of the syndrome z, and the bounds of the blocks of this shape: no met check is counted on yet. */
-static inline flipping_bounds_Bounds flipping_bounds_begin(const uint64_t *z, const uint16_t *h, layout_Shape sh,
+static inline flipping_bounds_Bounds flipping_bounds_begin(const uint64_t *z, layout_Parity parity,
         uint64_t *restrict rows)
 {
+    layout_Shape sh = parity.shape;
     uint64_t v[8] = {0};
     flipping_bounds_double_rows(z, sh, v, rows);
     flipping_bounds_Bounds bounds;
@@ -3517,7 +3682,7 @@ static inline flipping_bounds_Bounds flipping_bounds_begin(const uint64_t *z, co
     memset(bounds.places.starts, 0, 128 * sizeof(uint16_t));
     memset(bounds.places.counts, 0, 16);
     memset(bounds.met, 0, 16);
-    flipping_bounds_Places_gather(&bounds.places, h);
+    flipping_bounds_Places_gather(&bounds.places, parity);
     return bounds;
 }
 
@@ -3697,6 +3862,11 @@ static inline flipping_choice_Best flipping_bounds_Bounds_choose(flipping_bounds
     }
 }
 
+static inline flipping_choice_Best flipping_runs_ByBoundsKeeper_choose(flipping_runs_ByBounds *restrict self)
+{
+    return flipping_bounds_Bounds_choose(self->bounds, self->rows, self->from);
+}
+
 /* Flips the check at p, in both places. */
 static inline void flipping_bounds_flip_check(uint64_t *restrict d, uint64_t p, uint64_t m)
 {
@@ -3743,26 +3913,22 @@ static inline void flipping_bounds_Bounds_flip(flipping_bounds_Bounds *restrict 
     flipping_bounds_raise(self->met, 16, by);
 }
 
-/* Flips a bit of a word, and its checks in what is kept of it; the bit has as many met checks as the bound of its
- * block says. */
-static inline void flipping_runs_flip(uint64_t *restrict y, uint64_t *restrict rows,
-        flipping_bounds_Bounds *restrict bounds, uint64_t bit)
+static inline void flipping_runs_ByBoundsKeeper_flip(flipping_runs_ByBounds *restrict self, uint64_t *restrict y,
+        uint64_t bit)
 {
     vectors_flip_bit(y, bit);
-    flipping_bounds_Bounds_flip(bounds, rows, bit);
+    flipping_bounds_Bounds_flip(self->bounds, self->rows, bit);
 }
 
-/* The run from the word y, of which rows and bounds are kept, under a limit: flips until it ends. So many checks are
- * broken. */
-static inline flipping_runs_Ended flipping_runs_go_on(uint64_t *restrict y, uint64_t *restrict rows,
-        flipping_bounds_Bounds *restrict bounds, const uint16_t *h, uint64_t from, uint16_t limit, uint32_t first)
+/* The run from the word y, of which this is kept, under a limit: flips until it ends. So many checks are broken. */
+static inline flipping_runs_Ended flipping_runs_go_on_ByBounds(flipping_runs_ByBounds *restrict kept,
+        uint64_t *restrict y, uint16_t limit, uint32_t first)
 {
-    (void)h;
     uint32_t most = limit;
     uint32_t flips = 0;
     uint32_t left = first;
     while (0 < left) {
-        flipping_choice_Best best = flipping_bounds_Bounds_choose(bounds, rows, from);
+        flipping_choice_Best best = flipping_runs_ByBoundsKeeper_choose(kept);
         uint32_t top = best.score;
         if (top <= 8) {
             return flipping_runs_at_end((flipping_runs_Ending){.tag = flipping_runs_Ending_Stuck}, flips, left);
@@ -3770,7 +3936,7 @@ static inline flipping_runs_Ended flipping_runs_go_on(uint64_t *restrict y, uint
         if (most <= flips) {
             return flipping_runs_at_end((flipping_runs_Ending){.tag = flipping_runs_Ending_Limit}, flips, left);
         }
-        flipping_runs_flip(y, rows, bounds, best.bit);
+        flipping_runs_ByBoundsKeeper_flip(kept, y, best.bit);
         left -= top - 8;
         flips += 1;
     }
@@ -3778,37 +3944,52 @@ static inline flipping_runs_Ended flipping_runs_go_on(uint64_t *restrict y, uint
 }
 
 /* The run from the word y with the syndrome z, of which so many checks are broken, by the bounds of its blocks. */
-static inline flipping_runs_Ended flipping_runs_run_bounded(uint64_t *restrict y, const uint64_t *z, const uint16_t *h,
-        layout_Shape sh, uint64_t from, uint16_t limit, uint32_t first)
+static inline flipping_runs_Ended flipping_runs_run_bounded(uint64_t *restrict y, const uint64_t *z,
+        layout_Parity parity, uint64_t from, uint16_t limit, uint32_t first)
 {
     uint64_t rows[65] = {0};
-    flipping_bounds_Bounds bounds = flipping_bounds_begin(z, h, sh, rows);
-    return flipping_runs_go_on(y, rows, &bounds, h, from, limit, first);
+    flipping_bounds_Bounds bounds = flipping_bounds_begin(z, parity, rows);
+    flipping_runs_ByBounds kept = (flipping_runs_ByBounds){.bounds = &bounds, .rows = rows, .from = from};
+    return flipping_runs_go_on_ByBounds(&kept, y, limit, first);
 }
 
 /* The run from the word y with the syndrome z, of which so many checks are broken, under a limit: flips until it
  * ends. */
-static inline flipping_runs_Ended flipping_runs_run(uint64_t *restrict y, const uint64_t *z, const uint16_t *h,
-        layout_Shape sh, uint64_t from, uint16_t limit, uint32_t first)
+static inline flipping_runs_Ended flipping_runs_run(uint64_t *restrict y, const uint64_t *z, layout_Parity parity,
+        uint64_t from, uint16_t limit, uint32_t first)
 {
     if (first == 0) {
         return flipping_runs_at_end((flipping_runs_Ending){.tag = flipping_runs_Ending_Quiet}, 0, 0);
     }
-    if (sh.words == 1) {
-        return flipping_runs_run_narrow(no_float, 0, y, z, h, sh, from, limit, first);
+    if (parity.shape.words == 1) {
+        return flipping_runs_run_narrow(no_float, 0, y, z, parity, from, limit, first);
     }
-    return flipping_runs_run_bounded(y, z, h, sh, from, limit, first);
+    return flipping_runs_run_bounded(y, z, parity, from, limit, first);
 }
 
 /* In how many bits the word at the end of a run differs from the received one: no flip leaves it, and one flips one
  * bit. */
-static inline uint32_t flipping_endings_unlike_after(catalogue_offer_Offer o, const uint8_t *word, uint64_t word_len,
-        const uint64_t *y, uint32_t flips)
+static inline uint32_t flipping_endings_unlike_after(word_received_Received received, const uint64_t *y, uint32_t flips)
 {
     if (flips <= 1) {
         return flips;
     }
-    return (uint32_t)word_unlike_unlike(word, word_len, y, o.unsent, o.bits - o.unsent);
+    catalogue_offer_Offer o = received.code.offer;
+    return (uint32_t)word_unlike_unlike(received.word.at, received.word.len, y, o.unsent, o.bits - o.unsent);
+}
+
+/* The number by which the calls' records give an ending. */
+static inline uint8_t flipping_runs_Ending_number(flipping_runs_Ending self)
+{
+    switch (self.tag) {
+    case flipping_runs_Ending_Quiet:
+        return 0;
+    case flipping_runs_Ending_Stuck:
+        return 5;
+    case flipping_runs_Ending_Limit:
+    default:
+        return 6;
+    }
 }
 
 /* What correct gives besides its number where it is refused by 1 to 3, and on samples also by 16. */
@@ -3824,11 +4005,10 @@ static inline flipping_runs_Ending flipping_AnyFrom_from_Ending(flipping_runs_En
 
 /* What comes next for a word that has a broken check and the syndrome z, by the bounds of its blocks; bits before
  * bit `from` are not sent. */
-static inline flipping_runs_Next flipping_runs_next_bounded(const uint64_t *z, const uint16_t *h, layout_Shape sh,
-        uint64_t from)
+static inline flipping_runs_Next flipping_runs_next_bounded(const uint64_t *z, layout_Parity parity, uint64_t from)
 {
     uint64_t rows[65] = {0};
-    flipping_bounds_Bounds bounds = flipping_bounds_begin(z, h, sh, rows);
+    flipping_bounds_Bounds bounds = flipping_bounds_begin(z, parity, rows);
     flipping_choice_Best best = flipping_bounds_Bounds_choose(&bounds, rows, from);
     uint8_t excess = (uint8_t)(signed8((uint8_t)best.score) - 8);
     if (best.score <= 8) {
@@ -3839,30 +4019,28 @@ static inline flipping_runs_Next flipping_runs_next_bounded(const uint64_t *z, c
 }
 
 /* The same where one word holds a block: a bit that is to be flipped shows at once. All bits have equal sizes. */
-static inline flipping_runs_Next flipping_runs_next_narrow(const uint64_t *z, const uint16_t *h, layout_Shape sh,
-        uint64_t from)
+static inline flipping_runs_Next flipping_runs_next_narrow(const uint64_t *z, layout_Parity parity, uint64_t from)
 {
     uint64_t rows[4] = {0};
-    flipping_narrow_begin(z, sh, rows);
-    flipping_choice_Best best = flipping_narrow_choose(no_float, 0, rows, h, sh, from);
+    flipping_narrow_begin(z, parity.shape, rows);
+    flipping_choice_Best best = flipping_narrow_choose(no_float, 0, rows, parity, from);
     if (8 < best.score) {
         uint8_t excess = (uint8_t)(signed8((uint8_t)best.score) - 8);
         return (flipping_runs_Next){.tag = flipping_runs_Next_Flip, .as.Flip = {.field0 = best.bit, .field1 = excess}};
     }
-    return flipping_runs_next_bounded(z, h, sh, from);
+    return flipping_runs_next_bounded(z, parity, from);
 }
 
 /* What comes next for the word whose syndrome is z; bits before bit `from` are not sent. */
-static inline flipping_runs_Next flipping_runs_comes_next(const uint64_t *z, const uint16_t *h, layout_Shape sh,
-        uint64_t from)
+static inline flipping_runs_Next flipping_runs_comes_next(const uint64_t *z, layout_Parity parity, uint64_t from)
 {
     if (syndromes_is_quiet(z)) {
         return (flipping_runs_Next){.tag = flipping_runs_Next_Quiet};
     }
-    if (sh.words == 1) {
-        return flipping_runs_next_narrow(z, h, sh, from);
+    if (parity.shape.words == 1) {
+        return flipping_runs_next_narrow(z, parity, from);
     }
-    return flipping_runs_next_bounded(z, h, sh, from);
+    return flipping_runs_next_bounded(z, parity, from);
 }
 
 /* ---- codes ------------------------------------------------------------------------------------------ */
@@ -3873,9 +4051,9 @@ static inline flipping_runs_Next flipping_runs_comes_next(const uint64_t *z, con
 /* A record of C's: its number says whether the rest counts. */
 typedef pandoricchia_checked codes_Checked;
 
-/* What is wrong with a word, by the number that `judging::fault` gives, and its lowest broken check. */
+/* What is wrong with a word, if anything is, and its lowest broken check. */
 typedef struct codes_Found {
-    uint8_t number;
+    refusals_Result_unit_Refusal fault;
     uint32_t lowest;
 } codes_Found;
 
@@ -3899,8 +4077,9 @@ typedef pandoricchia_stepped codes_Stepped;
 
 /* Whether the last octet of the information is not a multiple of what it must be: one of code 4's last six bits is
  * set. */
-static inline bool codes_six_set(catalogue_offer_Offer o, const uint8_t *information)
+static inline bool codes_six_set(catalogue_offer_KnownOffer code, const uint8_t *information)
 {
+    catalogue_offer_Offer o = code.offer;
     uint64_t last = o.information - 1;
     return information[last] % o.multiple != 0;
 }
@@ -3919,11 +4098,12 @@ static inline refusals_Result_unit_Refusal codes_encoded(uint8_t code, const uin
     default:
         return refusals_ResultFromResidualErrResidual_from_residual_un(t.as.Break.field0);
     }
-    if (codes_six_set(o, information)) {
+    catalogue_offer_KnownOffer t2 = (catalogue_offer_KnownOffer){.offer = o};
+    if (codes_six_set(t2, information)) {
         return (refusals_Result_unit_Refusal){.tag = refusals_Result_unit_Refusal_Err,
                 .as.Err = {.field0 = (refusals_Refusal){.tag = refusals_Refusal_LastSix}}};
     }
-    encoder_solver_encode(o, information, information_len, word, word_len);
+    encoder_solver_encode(t2, information, information_len, word, word_len);
     return (refusals_Result_unit_Refusal){.tag = refusals_Result_unit_Refusal_Ok};
 }
 
@@ -3935,15 +4115,12 @@ static inline uint8_t codes_encode(uint8_t code, const uint8_t *information, uin
     return refusals_number(t);
 }
 
-/* How many checks of a word of the right length are broken, and the lowest of them. This and each function that
- * measures a word makes room for it: a struct of that room would be returned as a copy. */
-static inline codes_Checked codes_check_taken(catalogue_offer_Offer o, const uint8_t *word, uint64_t word_len)
+/* How many checks of a word of the right length are broken, and the lowest of them. */
+static inline codes_Checked codes_check_taken(word_received_Received received)
 {
-    uint16_t h[64] = {0};
-    uint64_t y[130] = {0};
-    uint64_t z[16] = {0};
-    layout_Shape sh = word_measured_measure(o, word, word_len, h, y, z);
-    return (codes_Checked){.number = 0, .broken = syndromes_broken(z), .lowest = syndromes_lowest(z, sh)};
+    word_measured_Room room = word_measured_Room_new();
+    layout_Shape sh = word_measured_Room_measure(&room, received);
+    return (codes_Checked){.number = 0, .broken = syndromes_broken(room.z), .lowest = syndromes_lowest(room.z, sh)};
 }
 
 /* What a refused check gives besides its number. */
@@ -3959,7 +4136,8 @@ static inline codes_Checked codes_check(uint8_t code, const uint8_t *word, uint6
     refusals_Result_unit_Refusal t = refusals_admit(o.offered, word_len, o.word, 0, 0);
     switch (t.tag) {
     case refusals_Result_unit_Refusal_Ok:
-        return codes_check_taken(o, word, word_len);
+        return codes_check_taken((word_received_Received){.code = (catalogue_offer_KnownOffer){.offer = o},
+                .word = (lent_uint8_t){word, word_len}});
     case refusals_Result_unit_Refusal_Err:
     default: {
         refusals_Refusal refusal = t.as.Err.field0;
@@ -3969,27 +4147,33 @@ static inline codes_Checked codes_check(uint8_t code, const uint8_t *word, uint6
 }
 
 /* What is wrong with a word of the right length, and its lowest broken check. */
-static inline codes_Found codes_fault_of(catalogue_offer_Offer o, const uint8_t *word, uint64_t word_len)
+static inline codes_Found codes_fault_of(word_received_Received received)
 {
-    uint16_t h[64] = {0};
-    uint64_t y[130] = {0};
-    uint64_t z[16] = {0};
-    layout_Shape sh = word_measured_measure(o, word, word_len, h, y, z);
-    return (codes_Found){.number = word_judging_fault(o, y, z), .lowest = syndromes_lowest(z, sh)};
+    word_measured_Room room = word_measured_Room_new();
+    layout_Shape sh = word_measured_Room_measure(&room, received);
+    return (codes_Found){.fault = word_judging_fault(received.code, room.y, room.z),
+            .lowest = syndromes_lowest(room.z, sh)};
 }
 
 /* The information octets of a word of the right length, where it is a codeword. */
-static inline codes_Opened codes_open_taken(catalogue_offer_Offer o, const uint8_t *word, uint64_t word_len)
+static inline codes_Opened codes_open_taken(word_received_Received received)
 {
-    codes_Found f = codes_fault_of(o, word, word_len);
+    catalogue_offer_Offer o = received.code.offer;
+    lent_uint8_t word = received.word;
+    codes_Found found = codes_fault_of(received);
     uint64_t t;
-    if (f.number == 0) {
+    switch (found.fault.tag) {
+    case refusals_Result_unit_Refusal_Ok:
         t = o.information;
-    } else {
+        break;
+    case refusals_Result_unit_Refusal_Err:
+    default:
         t = 0;
+        break;
     }
     uint64_t end = t;
-    return (codes_Opened){.number = f.number, .lowest = f.lowest, .part = (lent_uint8_t){word, end}};
+    return (codes_Opened){.number = refusals_number(found.fault), .lowest = found.lowest,
+            .part = (lent_uint8_t){word.at, end}};
 }
 
 /* The information octets of a codeword, lent back as a part of the word. */
@@ -3999,7 +4183,8 @@ static inline codes_Opened codes_open(uint8_t code, const uint8_t *word, uint64_
     refusals_Result_unit_Refusal t = refusals_admit(o.opens, word_len, o.word, 0, 0);
     switch (t.tag) {
     case refusals_Result_unit_Refusal_Ok:
-        return codes_open_taken(o, word, word_len);
+        return codes_open_taken((word_received_Received){.code = (catalogue_offer_KnownOffer){.offer = o},
+                .word = (lent_uint8_t){word, word_len}});
     case refusals_Result_unit_Refusal_Err:
     default: {
         refusals_Refusal refusal = t.as.Err.field0;
@@ -4008,49 +4193,50 @@ static inline codes_Opened codes_open(uint8_t code, const uint8_t *word, uint64_
     }
 }
 
-/* The flipping run on a word of the right length; h, y and z are handed over as zeros, and y comes back as the word
- * at its end. */
-static inline codes_Course codes_run_taken(catalogue_offer_Offer o, const uint8_t *word, uint64_t word_len,
-        uint16_t limit, uint16_t *restrict h, uint64_t *restrict y, uint64_t *restrict z)
+/* The flipping run on a word of the right length; y and z of the room are handed over as zeros, and y comes back as
+ * the word at its end. */
+static inline codes_Course codes_run_taken(word_received_Received received, uint16_t limit,
+        word_measured_Room *restrict room)
 {
-    layout_Shape sh = word_measured_measure(o, word, word_len, h, y, z);
-    uint32_t first = syndromes_broken(z);
-    uint32_t lowest = syndromes_lowest(z, sh);
-    flipping_runs_Ended ended = flipping_runs_run(y, z, h, sh, o.unsent, limit, first);
+    catalogue_offer_Offer o = received.code.offer;
+    layout_Shape sh = word_measured_Room_measure(room, received);
+    uint32_t first = syndromes_broken(room->z);
+    uint32_t lowest = syndromes_lowest(room->z, sh);
+    layout_Parity parity = (layout_Parity){.places = room->h, .shape = sh};
+    flipping_runs_Ended ended = flipping_runs_run(room->y, room->z, parity, o.unsent, limit, first);
     return (codes_Course){.ended = ended, .first = first, .lowest = lowest};
 }
 
 /* The word y into an output of the right length, if its number says that it is taken. */
-static inline void codes_write_taken(catalogue_offer_Offer o, uint8_t number, uint64_t *restrict y,
+static inline void codes_write_taken(catalogue_offer_KnownOffer code, uint8_t number, uint64_t *restrict y,
         uint8_t *restrict out, uint64_t out_len)
 {
     if (number == 0) {
+        catalogue_offer_Offer o = code.offer;
         word_received_write(y, o.unsent, o.bits, out, out_len);
     }
 }
 
 /* What correct gives of a run that has ended with the word y: its numbers, and the word where it is taken. */
-static inline flipping_endings_Corrected codes_finish(catalogue_offer_Offer o, const uint8_t *word, uint64_t word_len,
-        uint64_t *restrict y, codes_Course run, uint8_t *restrict out, uint64_t out_len)
+static inline flipping_endings_Corrected codes_finish(word_received_Received received, uint64_t *restrict y,
+        codes_Course run, uint8_t *restrict out, uint64_t out_len)
 {
     flipping_runs_Ended ended = run.ended;
     flipping_runs_Ran ran = ended.ran;
-    uint32_t unlike = flipping_endings_unlike_after(o, word, word_len, y, ran.flips);
-    uint8_t number = word_judging_judge(o, y, ran.number);
-    codes_write_taken(o, number, y, out, out_len);
+    uint32_t unlike = flipping_endings_unlike_after(received, y, ran.flips);
+    uint8_t number = word_judging_judge(received.code, y, flipping_runs_Ending_number(ran.ending));
+    codes_write_taken(received.code, number, y, out, out_len);
     return (flipping_endings_Corrected){.number = number, .flips = ran.flips, .first = run.first, .last = ended.last,
             .unlike = unlike, .lowest = run.lowest};
 }
 
 /* The flipping run on a word of the right length, into an output of the right length. */
-static inline flipping_endings_Corrected codes_correct_taken(catalogue_offer_Offer o, const uint8_t *word,
-        uint64_t word_len, uint16_t limit, uint8_t *restrict out, uint64_t out_len)
+static inline flipping_endings_Corrected codes_correct_taken(word_received_Received received, uint16_t limit,
+        uint8_t *restrict out, uint64_t out_len)
 {
-    uint16_t h[64] = {0};
-    uint64_t y[130] = {0};
-    uint64_t z[16] = {0};
-    codes_Course run = codes_run_taken(o, word, word_len, limit, h, y, z);
-    return codes_finish(o, word, word_len, y, run, out, out_len);
+    word_measured_Room room = word_measured_Room_new();
+    codes_Course run = codes_run_taken(received, limit, &room);
+    return codes_finish(received, room.y, run, out, out_len);
 }
 
 /* The flipping run on a received word, under a limit. */
@@ -4060,8 +4246,11 @@ static inline flipping_endings_Corrected codes_correct(uint8_t code, const uint8
     catalogue_offer_Offer o = catalogue_offer_of(code);
     refusals_Result_unit_Refusal t = refusals_admit(o.offered, word_len, o.word, out_len, o.word);
     switch (t.tag) {
-    case refusals_Result_unit_Refusal_Ok:
-        return codes_correct_taken(o, word, word_len, limit, out, out_len);
+    case refusals_Result_unit_Refusal_Ok: {
+        word_received_Received received = (word_received_Received){.code = (catalogue_offer_KnownOffer){.offer = o},
+                .word = (lent_uint8_t){word, word_len}};
+        return codes_correct_taken(received, limit, out, out_len);
+    }
     case refusals_Result_unit_Refusal_Err:
     default: {
         refusals_Refusal refusal = t.as.Err.field0;
@@ -4070,13 +4259,14 @@ static inline flipping_endings_Corrected codes_correct(uint8_t code, const uint8
     }
 }
 
-/* What comes next for a word of the right length; h, y and z are handed over as zeros, and y comes back as the
- * word's bits. */
-static inline flipping_runs_Next codes_next_of(catalogue_offer_Offer o, const uint8_t *word, uint64_t word_len,
-        uint16_t *restrict h, uint64_t *restrict y, uint64_t *restrict z)
+/* What comes next for a word of the right length; y and z of the room are handed over as zeros, and y comes back as
+ * the word's bits. */
+static inline flipping_runs_Next codes_next_of(word_received_Received received, word_measured_Room *restrict room)
 {
-    layout_Shape sh = word_measured_measure(o, word, word_len, h, y, z);
-    return flipping_runs_comes_next(z, h, sh, o.unsent);
+    catalogue_offer_Offer o = received.code.offer;
+    layout_Shape sh = word_measured_Room_measure(room, received);
+    layout_Parity parity = (layout_Parity){.places = room->h, .shape = sh};
+    return flipping_runs_comes_next(room->z, parity, o.unsent);
 }
 
 /* What a refused step gives besides its number. */
@@ -4086,20 +4276,21 @@ static inline codes_Stepped codes_refused_step(refusals_Refusal refusal)
 }
 
 /* A word with one bit flipped, into an output of the right length. */
-static inline void codes_write_flipped(catalogue_offer_Offer o, uint64_t *restrict y, uint64_t bit,
+static inline void codes_write_flipped(catalogue_offer_KnownOffer code, uint64_t *restrict y, uint64_t bit,
         uint8_t *restrict out, uint64_t out_len)
 {
+    catalogue_offer_Offer o = code.offer;
     vectors_flip_bit(y, bit);
     word_received_write(y, o.unsent, o.bits, out, out_len);
 }
 
 /* What step gives of a word y and what comes next for it. */
-static inline codes_Stepped codes_step_out(catalogue_offer_Offer o, const uint8_t *word, uint64_t word_len,
-        flipping_runs_Next next, uint64_t *restrict y, uint8_t *restrict out, uint64_t out_len)
+static inline codes_Stepped codes_step_out(word_received_Received received, flipping_runs_Next next,
+        uint64_t *restrict y, uint8_t *restrict out, uint64_t out_len)
 {
     switch (next.tag) {
     case flipping_runs_Next_Quiet:
-        vectors_copying_copy(word, word_len, out);
+        vectors_copying_copy(received.word.at, received.word.len, out);
         return (codes_Stepped){.number = 0, .quiet = true, .bit = 0, .excess = 0};
     case flipping_runs_Next_Stuck:
         return codes_refused_step((refusals_Refusal){.tag = refusals_Refusal_Stuck});
@@ -4107,21 +4298,18 @@ static inline codes_Stepped codes_step_out(catalogue_offer_Offer o, const uint8_
     default: {
         uint64_t bit = next.as.Flip.field0;
         uint8_t excess = next.as.Flip.field1;
-        codes_write_flipped(o, y, bit, out, out_len);
+        codes_write_flipped(received.code, y, bit, out, out_len);
         return (codes_Stepped){.number = 0, .quiet = false, .bit = (uint32_t)bit, .excess = signed8(excess)};
     }
     }
 }
 
 /* One flip of the run on a word of the right length, into an output of the right length. */
-static inline codes_Stepped codes_step_taken(catalogue_offer_Offer o, const uint8_t *word, uint64_t word_len,
-        uint8_t *restrict out, uint64_t out_len)
+static inline codes_Stepped codes_step_taken(word_received_Received received, uint8_t *restrict out, uint64_t out_len)
 {
-    uint16_t h[64] = {0};
-    uint64_t y[130] = {0};
-    uint64_t z[16] = {0};
-    flipping_runs_Next next = codes_next_of(o, word, word_len, h, y, z);
-    return codes_step_out(o, word, word_len, next, y, out, out_len);
+    word_measured_Room room = word_measured_Room_new();
+    flipping_runs_Next next = codes_next_of(received, &room);
+    return codes_step_out(received, next, room.y, out, out_len);
 }
 
 /* One flip of the run, with the bit's number and excess; or quiet, in which case the word is copied. */
@@ -4131,8 +4319,11 @@ static inline codes_Stepped codes_step(uint8_t code, const uint8_t *word, uint64
     catalogue_offer_Offer o = catalogue_offer_of(code);
     refusals_Result_unit_Refusal t = refusals_admit(o.steps, word_len, o.word, out_len, o.word);
     switch (t.tag) {
-    case refusals_Result_unit_Refusal_Ok:
-        return codes_step_taken(o, word, word_len, out, out_len);
+    case refusals_Result_unit_Refusal_Ok: {
+        word_received_Received received = (word_received_Received){.code = (catalogue_offer_KnownOffer){.offer = o},
+                .word = (lent_uint8_t){word, word_len}};
+        return codes_step_taken(received, out, out_len);
+    }
     case refusals_Result_unit_Refusal_Err:
     default: {
         refusals_Refusal refusal = t.as.Err.field0;
@@ -4173,14 +4364,14 @@ static inline lists_listing_Listing lists_listing_begun(catalogue_offer_Offer o,
             .unlike = 0, .lowest = lowest, .bit = 0, .excess = 0}, .limit = limit, .offer = o};
 }
 
-/* The list of a word of the right length before the first flip; h, y and z are handed over as zeros. */
-static inline lists_listing_Listing lists_listing_measured_list(catalogue_offer_Offer o, const uint8_t *word,
-        uint64_t word_len, uint16_t limit, uint16_t *restrict h, uint64_t *restrict y, uint64_t *restrict z)
+/* The list of a word of the right length before the first flip; y and z of the room are handed over as zeros. */
+static inline lists_listing_Listing lists_listing_measured_list(word_received_Received received, uint16_t limit,
+        word_measured_Room *restrict room)
 {
-    layout_Shape sh = word_measured_measure(o, word, word_len, h, y, z);
-    uint32_t first = syndromes_broken(z);
-    uint32_t lowest = syndromes_lowest(z, sh);
-    return lists_listing_begun(o, limit, first, lowest);
+    layout_Shape sh = word_measured_Room_measure(room, received);
+    uint32_t first = syndromes_broken(room->z);
+    uint32_t lowest = syndromes_lowest(room->z, sh);
+    return lists_listing_begun(received.code.offer, limit, first, lowest);
 }
 
 /* No run has more flips than checks are broken at its start; for the near-Earth codes than half as many. */
@@ -4193,30 +4384,29 @@ static inline uint32_t lists_listing_most_flips(catalogue_offer_Offer o, uint32_
 }
 
 /* How many flips the run on a word has. */
-static inline uint64_t lists_listing_count_flips(catalogue_offer_Offer o, const uint8_t *word, uint64_t word_len,
-        uint16_t limit)
+static inline uint64_t lists_listing_count_flips(word_received_Received received, uint16_t limit)
 {
-    uint16_t h[64] = {0};
-    uint64_t y[130] = {0};
-    uint64_t z[16] = {0};
-    layout_Shape sh = word_measured_measure(o, word, word_len, h, y, z);
-    uint32_t first = syndromes_broken(z);
-    flipping_runs_Ended ended = flipping_runs_run(y, z, h, sh, o.unsent, limit, first);
+    catalogue_offer_Offer o = received.code.offer;
+    word_measured_Room room = word_measured_Room_new();
+    layout_Shape sh = word_measured_Room_measure(&room, received);
+    uint32_t first = syndromes_broken(room.z);
+    layout_Parity parity = (layout_Parity){.places = room.h, .shape = sh};
+    flipping_runs_Ended ended = flipping_runs_run(room.y, room.z, parity, o.unsent, limit, first);
     return ended.ran.flips;
 }
 
 /* Whether a table of so many places serves the run on a word: by the bounds where they tell, else the flips are
  * counted. */
-static inline bool lists_listing_serves(catalogue_offer_Offer o, const uint8_t *word, uint64_t word_len,
-        uint16_t limit, uint32_t first, uint64_t room)
+static inline bool lists_listing_serves(word_received_Received received, uint16_t limit, uint32_t first,
+        uint64_t places)
 {
-    if ((uint64_t)limit <= room) {
+    if ((uint64_t)limit <= places) {
         return true;
     }
-    if ((uint64_t)lists_listing_most_flips(o, first) <= room) {
+    if ((uint64_t)lists_listing_most_flips(received.code.offer, first) <= places) {
         return true;
     }
-    return lists_listing_count_flips(o, word, word_len, limit) <= room;
+    return lists_listing_count_flips(received, limit) <= places;
 }
 
 /* What a refused list gives besides its number. */
@@ -4229,102 +4419,102 @@ static inline lists_listing_Listing lists_listing_refused(refusals_Refusal refus
             .offer = catalogue_offer_of(0)};
 }
 
-/* What comes next for the word whose syndrome is z. */
-static inline flipping_runs_Next lists_listing_coming(const lists_listing_Listing *l, const uint16_t *h,
-        const uint64_t *z)
+/* What comes next for the word that was measured. */
+static inline flipping_runs_Next lists_listing_coming(catalogue_offer_KnownOffer code, const word_measured_Room *room)
 {
-    catalogue_offer_Offer o = l->offer;
-    layout_Shape sh = o.shape;
-    return flipping_runs_comes_next(z, h, sh, o.unsent);
+    catalogue_offer_Offer o = code.offer;
+    layout_Parity parity = (layout_Parity){.places = room->h, .shape = o.shape};
+    return flipping_runs_comes_next(room->z, parity, o.unsent);
 }
 
-/* The list at the end of the run: its number, and bit and excess of the reason. */
+/* The list at the end of the run: its number, and bit and excess of the reason. Inlined, as the list would be
+ * written out for a call. */
 static inline lists_listing_Listing lists_listing_ended(const lists_listing_Listing *l, uint64_t flips,
-        const uint8_t *word, uint64_t word_len, const uint64_t *y, uint8_t number, uint32_t bit, uint8_t excess)
+        word_received_Received received, const uint64_t *y, uint8_t number, uint32_t bit, uint8_t excess)
 {
-    catalogue_offer_Offer o = l->offer;
     lists_listing_Listed begun = l->answer;
     lists_listing_FlipRecord record = l->record;
     uint32_t count = (uint32_t)flips;
-    uint32_t unlike = flipping_endings_unlike_after(o, word, word_len, y, count);
-    uint8_t judged = word_judging_judge(o, y, number);
+    uint32_t unlike = flipping_endings_unlike_after(received, y, count);
+    uint8_t judged = word_judging_judge(received.code, y, number);
     return (lists_listing_Listing){.goes = false, .place = flips, .record = record,
             .answer = (lists_listing_Listed){.number = judged, .flips = count, .first = begun.first,
             .last = record.left, .unlike = unlike, .lowest = begun.lowest, .bit = bit,
-            .excess = signed8(excess)}, .limit = l->limit, .offer = o};
+            .excess = signed8(excess)}, .limit = l->limit, .offer = l->offer};
 }
 
 /* The list after one more flip, with its record. */
 static inline lists_listing_Listing lists_listing_went(const lists_listing_Listing *l, uint64_t flips, uint32_t bit,
         uint8_t excess, uint32_t left)
 {
-    catalogue_offer_Offer o = l->offer;
-    lists_listing_Listed begun = l->answer;
     return (lists_listing_Listing){.goes = true, .place = flips,
-            .record = (lists_listing_FlipRecord){.bit = bit, .excess = signed8(excess), .left = left}, .answer = begun,
-            .limit = l->limit, .offer = o};
+            .record = (lists_listing_FlipRecord){.bit = bit, .excess = signed8(excess), .left = left},
+            .answer = l->answer, .limit = l->limit, .offer = l->offer};
 }
 
 /* The list after one flip more, or at the limit. */
 static inline lists_listing_Listing lists_listing_flip_on(const lists_listing_Listing *l, uint64_t flips,
-        const uint8_t *word, uint64_t word_len, uint64_t bit, uint8_t excess, const uint16_t *h, uint64_t *restrict y,
-        uint64_t *restrict z)
+        word_received_Received received, uint64_t bit, uint8_t excess, word_measured_Room *restrict room)
 {
     if ((uint64_t)l->limit <= flips) {
-        return lists_listing_ended(l, flips, word, word_len, y, 6, 0, 0);
+        return lists_listing_ended(l, flips, received, room->y, 6, 0, 0);
     }
     catalogue_offer_Offer o = l->offer;
-    layout_Shape sh = o.shape;
-    syndromes_flip(y, z, h, sh, bit);
-    uint32_t left = syndromes_broken(z);
+    layout_Parity parity = (layout_Parity){.places = room->h, .shape = o.shape};
+    syndromes_flip(room->y, room->z, parity, bit);
+    uint32_t left = syndromes_broken(room->z);
     return lists_listing_went(l, flips, (uint32_t)bit, excess, left);
 }
 
 /* What comes after so many flips: one more, or the end. */
 static inline lists_listing_Listing lists_listing_pass(const lists_listing_Listing *l, uint64_t flips,
-        const uint8_t *word, uint64_t word_len, uint16_t *restrict h, uint64_t *restrict y, uint64_t *restrict z)
+        const uint8_t *word, uint64_t word_len, word_measured_Room *restrict room)
 {
-    flipping_runs_Next next = lists_listing_coming(l, h, z);
-    switch (next.tag) {
+    catalogue_offer_KnownOffer code = (catalogue_offer_KnownOffer){.offer = l->offer};
+    word_received_Received received = (word_received_Received){.code = code, .word = (lent_uint8_t){word, word_len}};
+    flipping_runs_Next t = lists_listing_coming(code, room);
+    switch (t.tag) {
     case flipping_runs_Next_Quiet:
-        return lists_listing_ended(l, flips, word, word_len, y, 0, 0, 0);
+        return lists_listing_ended(l, flips, received, room->y, 0, 0, 0);
     case flipping_runs_Next_Stuck: {
-        uint64_t bit = next.as.Stuck.field0;
-        uint8_t excess = next.as.Stuck.field1;
-        return lists_listing_ended(l, flips, word, word_len, y, 5, (uint32_t)bit, excess);
+        uint64_t bit = t.as.Stuck.field0;
+        uint8_t excess = t.as.Stuck.field1;
+        return lists_listing_ended(l, flips, received, room->y, 5, (uint32_t)bit, excess);
     }
     case flipping_runs_Next_Flip:
     default: {
-        uint64_t bit2 = next.as.Flip.field0;
-        uint8_t excess2 = next.as.Flip.field1;
-        return lists_listing_flip_on(l, flips, word, word_len, bit2, excess2, h, y, z);
+        uint64_t bit2 = t.as.Flip.field0;
+        uint8_t excess2 = t.as.Flip.field1;
+        return lists_listing_flip_on(l, flips, received, bit2, excess2, room);
     }
     }
 }
 
 /* The list of the run on a word of the right length. */
-static inline lists_listing_Listing lists_listing_begin_taken(catalogue_offer_Offer o, const uint8_t *word,
-        uint64_t word_len, uint16_t limit, uint64_t room, uint16_t *restrict h, uint64_t *restrict y,
-        uint64_t *restrict z)
+static inline lists_listing_Listing lists_listing_begin_taken(word_received_Received received, uint16_t limit,
+        uint64_t places, word_measured_Room *restrict room)
 {
-    lists_listing_Listing l = lists_listing_measured_list(o, word, word_len, limit, h, y, z);
+    lists_listing_Listing l = lists_listing_measured_list(received, limit, room);
     lists_listing_Listed answer = l.answer;
-    if (!lists_listing_serves(o, word, word_len, limit, answer.first, room)) {
+    if (!lists_listing_serves(received, limit, answer.first, places)) {
         return lists_listing_refused((refusals_Refusal){.tag = refusals_Refusal_Places});
     }
-    return lists_listing_pass(&l, 0, word, word_len, h, y, z);
+    return lists_listing_pass(&l, 0, received.word.at, received.word.len, room);
 }
 
-/* The list of the run on a received word, under a limit, for a table of so many places; h, y and z are handed over
- * as zeros. */
+/* The list of the run on a received word, under a limit, for a table of so many places; y and z of the room are
+ * handed over as zeros. */
 static inline lists_listing_Listing lists_listing_begin(uint8_t code, const uint8_t *word, uint64_t word_len,
-        uint16_t limit, uint64_t room, uint16_t *restrict h, uint64_t *restrict y, uint64_t *restrict z)
+        uint16_t limit, uint64_t places, word_measured_Room *restrict room)
 {
     catalogue_offer_Offer o = catalogue_offer_of(code);
     refusals_Result_unit_Refusal t = refusals_admit(o.offered, word_len, o.word, 0, 0);
     switch (t.tag) {
-    case refusals_Result_unit_Refusal_Ok:
-        return lists_listing_begin_taken(o, word, word_len, limit, room, h, y, z);
+    case refusals_Result_unit_Refusal_Ok: {
+        word_received_Received received = (word_received_Received){.code = (catalogue_offer_KnownOffer){.offer = o},
+                .word = (lent_uint8_t){word, word_len}};
+        return lists_listing_begin_taken(received, limit, places, room);
+    }
     case refusals_Result_unit_Refusal_Err:
     default: {
         refusals_Refusal refusal = t.as.Err.field0;
@@ -4335,22 +4525,20 @@ static inline lists_listing_Listing lists_listing_begin(uint8_t code, const uint
 
 /* The next record of the list, or its end. */
 static inline lists_listing_Listing lists_listing_next(const lists_listing_Listing *l, const uint8_t *word,
-        uint64_t word_len, uint16_t *restrict h, uint64_t *restrict y, uint64_t *restrict z)
+        uint64_t word_len, word_measured_Room *restrict room)
 {
-    return lists_listing_pass(l, l->place + 1, word, word_len, h, y, z);
+    return lists_listing_pass(l, l->place + 1, word, word_len, room);
 }
 
 /* The list of the run on a received word, under a limit, into the caller's table. */
 static inline lists_listing_Listed lists_list(uint8_t code, const uint8_t *word, uint64_t word_len, uint16_t limit,
         lists_listing_FlipRecord *restrict table, uint64_t table_len)
 {
-    uint16_t h[64] = {0};
-    uint64_t y[130] = {0};
-    uint64_t z[16] = {0};
-    lists_listing_Listing l = lists_listing_begin(code, word, word_len, limit, table_len, h, y, z);
+    word_measured_Room room = word_measured_Room_new();
+    lists_listing_Listing l = lists_listing_begin(code, word, word_len, limit, table_len, &room);
     while (l.goes) {
         table[l.place] = l.record;
-        l = lists_listing_next(&l, word, word_len, h, y, z);
+        l = lists_listing_next(&l, word, word_len, &room);
     }
     return l.answer;
 }
@@ -4718,9 +4906,10 @@ static inline uint64_t quick_lowest_wide_wide_entry(const uint8_t *octets, uint6
 }
 
 /* The first 64 checks of row 0. */
-static inline uint64_t quick_lowest_wide_first_group(const uint8_t *octets, uint64_t u, const uint16_t *h,
-        layout_Shape sh)
+static inline uint64_t quick_lowest_wide_first_group(const uint8_t *octets, uint64_t u, layout_Parity parity)
 {
+    const uint16_t *h = parity.places;
+    layout_Shape sh = parity.shape;
     uint64_t v = 0;
     uint64_t k = 0;
     uint64_t t = 2 * sh.blocks;
@@ -4755,9 +4944,10 @@ static inline void quick_lowest_wide_double_blocks(const uint64_t *y, layout_Sha
 
 /* Where each place of row r begins in the doubled blocks. It is worked out once, so that a group costs no more than
  * its windows. */
-static inline void quick_lowest_wide_begin_row(const uint16_t *h, layout_Shape sh, uint64_t r,
-        uint64_t *restrict begins)
+static inline void quick_lowest_wide_begin_row(layout_Parity parity, uint64_t r, uint64_t *restrict begins)
 {
+    const uint16_t *h = parity.places;
+    layout_Shape sh = parity.shape;
     uint64_t k = 0;
     uint64_t t = 2 * sh.blocks;
     while (k < t) {
@@ -4801,21 +4991,21 @@ static inline uint64_t quick_lowest_wide_groups_lowest(const uint64_t *d, const 
 }
 
 /* The lowest broken check of row r, counted from the row's first, or M if none is broken. */
-static inline uint64_t quick_lowest_wide_wide_row_lowest(const uint64_t *d, const uint16_t *h, layout_Shape sh,
-        uint64_t r)
+static inline uint64_t quick_lowest_wide_wide_row_lowest(const uint64_t *d, layout_Parity parity, uint64_t r)
 {
     uint64_t begins[32] = {0};
-    quick_lowest_wide_begin_row(h, sh, r, begins);
-    return quick_lowest_wide_groups_lowest(d, begins, 32, sh.size);
+    quick_lowest_wide_begin_row(parity, r, begins);
+    return quick_lowest_wide_groups_lowest(d, begins, 32, parity.shape.size);
 }
 
 /* The lowest broken check, row after row. */
-static inline uint32_t quick_lowest_wide_wide_rows_lowest(const uint64_t *d, const uint16_t *h, layout_Shape sh)
+static inline uint32_t quick_lowest_wide_wide_rows_lowest(const uint64_t *d, layout_Parity parity)
 {
+    layout_Shape sh = parity.shape;
     uint64_t row = 0;
     uint64_t t = sh.rows;
     while (row < t) {
-        uint64_t l = quick_lowest_wide_wide_row_lowest(d, h, sh, row);
+        uint64_t l = quick_lowest_wide_wide_row_lowest(d, parity, row);
         if (l < sh.size) {
             return (uint32_t)(row * sh.size + l);
         }
@@ -4826,28 +5016,30 @@ static inline uint32_t quick_lowest_wide_wide_rows_lowest(const uint64_t *d, con
 
 /* The lowest broken check of a word that is laid out whole. */
 static inline uint32_t quick_lowest_wide_whole_lowest(const uint8_t *octets, uint64_t octets_len, uint64_t u,
-        const uint16_t *h, layout_Shape sh)
+        layout_Parity parity)
 {
     uint64_t y[130] = {0};
     word_received_take(octets, octets_len, u, y, 130);
     uint64_t d[256] = {0};
-    quick_lowest_wide_double_blocks(y, sh, d);
-    return quick_lowest_wide_wide_rows_lowest(d, h, sh);
+    quick_lowest_wide_double_blocks(y, parity.shape, d);
+    return quick_lowest_wide_wide_rows_lowest(d, parity);
 }
 
 /* The lowest broken check where a row is wider than a group. The first group comes straight from the octets; if it
  * is met, the word is laid out, and group comes after group, from the first on: to begin with the second would cost
  * more instructions, not fewer. */
-static inline uint32_t quick_lowest_wide_lowest(catalogue_offer_Offer o, const uint8_t *word, uint64_t word_len)
+static inline uint32_t quick_lowest_wide_lowest(word_received_Received received)
 {
+    catalogue_offer_Offer o = received.code.offer;
     uint16_t h[64] = {0};
     catalogue_tables_lend511(h);
-    layout_Shape sh = (layout_Shape){.size = 511, .words = 8, .blocks = 16, .rows = 2};
-    uint64_t v = quick_lowest_wide_first_group(word, o.unsent, h, sh);
+    layout_Parity parity = (layout_Parity){.places = h,
+            .shape = (layout_Shape){.size = 511, .words = 8, .blocks = 16, .rows = 2}};
+    uint64_t v = quick_lowest_wide_first_group(received.word.at, o.unsent, parity);
     if (v != 0) {
         return leading_zeros64(v);
     }
-    return quick_lowest_wide_whole_lowest(word, word_len, o.unsent, h, sh);
+    return quick_lowest_wide_whole_lowest(received.word.at, received.word.len, o.unsent, parity);
 }
 
 /* What the shift s adds to the checks of a row, where one word holds the block of m bits; d is the block twice over. */
@@ -4860,9 +5052,10 @@ static inline uint64_t quick_lowest_narrow_narrow_entry(vectors_Pair d, uint64_t
 }
 
 /* What block b adds to the checks of row r. */
-static inline uint64_t quick_lowest_narrow_narrow_block(const uint64_t *y, const uint16_t *h, layout_Shape sh,
-        uint64_t b, uint64_t r)
+static inline uint64_t quick_lowest_narrow_narrow_block(const uint64_t *y, layout_Parity parity, uint64_t b, uint64_t r)
 {
+    const uint16_t *h = parity.places;
+    layout_Shape sh = parity.shape;
     uint64_t block = vectors_front(vectors_window(y, b * sh.size), sh.size);
     vectors_Pair d = vectors_double_word(block, sh.size);
     uint64_t at = 2 * (r * sh.blocks + b);
@@ -4871,26 +5064,26 @@ static inline uint64_t quick_lowest_narrow_narrow_block(const uint64_t *y, const
 }
 
 /* The checks of row r. */
-static inline uint64_t quick_lowest_narrow_narrow_group(const uint64_t *y, const uint16_t *h, layout_Shape sh,
-        uint64_t r)
+static inline uint64_t quick_lowest_narrow_narrow_group(const uint64_t *y, layout_Parity parity, uint64_t r)
 {
     uint64_t v = 0;
     uint64_t b = 0;
-    uint64_t t = sh.blocks;
+    uint64_t t = parity.shape.blocks;
     while (b < t) {
-        v ^= quick_lowest_narrow_narrow_block(y, h, sh, b, r);
+        v ^= quick_lowest_narrow_narrow_block(y, parity, b, r);
         b += 1;
     }
     return v;
 }
 
 /* The lowest broken check, row after row. */
-static inline uint32_t quick_lowest_narrow_rows_lowest(const uint64_t *y, const uint16_t *h, layout_Shape sh)
+static inline uint32_t quick_lowest_narrow_rows_lowest(const uint64_t *y, layout_Parity parity)
 {
+    layout_Shape sh = parity.shape;
     uint64_t r = 0;
     uint64_t t = sh.rows;
     while (r < t) {
-        uint64_t v = vectors_front(quick_lowest_narrow_narrow_group(y, h, sh, r), sh.size);
+        uint64_t v = vectors_front(quick_lowest_narrow_narrow_group(y, parity, r), sh.size);
         if (v != 0) {
             return (uint32_t)(r * sh.size) + leading_zeros64(v);
         }
@@ -4900,24 +5093,27 @@ static inline uint32_t quick_lowest_narrow_rows_lowest(const uint64_t *y, const 
 }
 
 /* The lowest broken check where one word holds a row. */
-static inline uint32_t quick_lowest_narrow_lowest(catalogue_offer_Offer o, const uint8_t *word, uint64_t word_len)
+static inline uint32_t quick_lowest_narrow_lowest(word_received_Received received)
 {
+    catalogue_offer_Offer o = received.code.offer;
     layout_Shape of = o.shape;
     uint16_t h[64] = {0};
     layout_Shape sh = catalogue_tables_lend_narrow(of.size, h);
     uint64_t y[17] = {0};
-    vectors_load(word, word_len, y, 17);
-    return quick_lowest_narrow_rows_lowest(y, h, sh);
+    vectors_load(received.word.at, received.word.len, y, 17);
+    layout_Parity parity = (layout_Parity){.places = h, .shape = sh};
+    return quick_lowest_narrow_rows_lowest(y, parity);
 }
 
 /* The lowest broken check, or the number of checks if none is broken. */
-static inline uint32_t quick_lowest_broken(catalogue_offer_Offer o, const uint8_t *word, uint64_t word_len)
+static inline uint32_t quick_lowest_broken(word_received_Received received)
 {
+    catalogue_offer_Offer o = received.code.offer;
     layout_Shape sh = o.shape;
     if (sh.size == 511) {
-        return quick_lowest_wide_lowest(o, word, word_len);
+        return quick_lowest_wide_lowest(received);
     }
-    return quick_lowest_narrow_lowest(o, word, word_len);
+    return quick_lowest_narrow_lowest(received);
 }
 
 /* The answer by the lowest broken check: that many checks were evaluated, and it; or all of them. */
@@ -4930,10 +5126,11 @@ static inline quick_Answered quick_answer(uint32_t lowest, uint32_t all)
 }
 
 /* Whether every check of a word of the right length is met, and how many were evaluated. */
-static inline quick_Answered quick_quick_taken(catalogue_offer_Offer o, const uint8_t *word, uint64_t word_len)
+static inline quick_Answered quick_quick_taken(word_received_Received received)
 {
+    catalogue_offer_Offer o = received.code.offer;
     layout_Shape sh = o.shape;
-    uint32_t lowest = quick_lowest_broken(o, word, word_len);
+    uint32_t lowest = quick_lowest_broken(received);
     return quick_answer(lowest, (uint32_t)(sh.rows * sh.size));
 }
 
@@ -4950,7 +5147,8 @@ static inline quick_Answered quick_quick(uint8_t code, const uint8_t *word, uint
     refusals_Result_unit_Refusal t = refusals_admit(o.offered, word_len, o.word, 0, 0);
     switch (t.tag) {
     case refusals_Result_unit_Refusal_Ok:
-        return quick_quick_taken(o, word, word_len);
+        return quick_quick_taken((word_received_Received){.code = (catalogue_offer_KnownOffer){.offer = o},
+                .word = (lent_uint8_t){word, word_len}});
     case refusals_Result_unit_Refusal_Err:
     default: {
         refusals_Refusal refusal = t.as.Err.field0;
@@ -5031,6 +5229,12 @@ typedef struct samples_raising_Low {
     uint64_t bit;
 } samples_raising_Low;
 
+/* Samples by their bit patterns, one for each bit of a word, of a code that correct on samples takes. */
+typedef struct samples_Sampled {
+    catalogue_offer_KnownOffer code;
+    lent_float samples;
+} samples_Sampled;
+
 static const uint64_t samples_sizing_run_bounded_table[16] = {
     UINT64_C(0x0000000000001FF0), UINT64_C(0x0000000000001FF0), UINT64_C(0x0000000000001FF0),
     UINT64_C(0x0000000000001FF0), UINT64_C(0x0000000000001FF0), UINT64_C(0x0000000000001FF0),
@@ -5058,20 +5262,7 @@ static inline samples_Begun samples_begin(uint64_t size, const uint64_t *y, uint
 static inline samples_sizing_Ended samples_sizing_at_end(flipping_runs_Ending ending, uint32_t flips, uint32_t last,
         uint32_t unlike)
 {
-    uint8_t t;
-    switch (ending.tag) {
-    case flipping_runs_Ending_Quiet:
-        t = 0;
-        break;
-    case flipping_runs_Ending_Stuck:
-        t = 5;
-        break;
-    case flipping_runs_Ending_Limit:
-    default:
-        t = 6;
-        break;
-    }
-    return (samples_sizing_Ended){.ran = (flipping_runs_Ran){.number = t, .flips = flips}, .last = last,
+    return (samples_sizing_Ended){.ran = (flipping_runs_Ran){.ending = ending, .flips = flips}, .last = last,
             .unlike = unlike};
 }
 
@@ -5086,11 +5277,11 @@ static inline samples_sizing_Ended samples_sizing_ended_narrow(const float *samp
 
 /* The same where one word holds a block: the run of `runs`, and the words as they were read beside those at its end. */
 static inline samples_sizing_Ended samples_sizing_run_narrow(const float *samples, uint64_t samples_len,
-        uint64_t *restrict y, const uint64_t *z, const uint16_t *h, layout_Shape sh, uint16_t limit, uint32_t first)
+        uint64_t *restrict y, const uint64_t *z, layout_Parity parity, uint16_t limit, uint32_t first)
 {
     uint64_t x[16] = {0};
     core_copy_from_slice_u64(x, 16, y);
-    flipping_runs_Ended end = flipping_runs_run_narrow(samples, samples_len, y, z, h, sh, 0, limit, first);
+    flipping_runs_Ended end = flipping_runs_run_narrow(samples, samples_len, y, z, parity, 0, limit, first);
     return samples_sizing_ended_narrow(samples, samples_len, x, y, end);
 }
 
@@ -5326,10 +5517,7 @@ static inline uint32_t samples_sizing_counted(const float *samples, const uint64
     if (magnitudes_is_one(pattern_of(samples + bit)) == vectors_is_set(y, bit)) {
         return unlike + 1;
     }
-    if (unlike == 0) {
-        return 0;
-    }
-    return unlike - 1;
+    return core_int_u32_saturating_sub(unlike, 1);
 }
 
 /* Flips a bit of the word y, and says in how many bits y differs from what was read then; before that in so many. */
@@ -5485,10 +5673,9 @@ static inline samples_sizing_Passed samples_sizing_pass(const float *samples, ui
 
 /* A pass of the run, for a word y with so many broken checks, one or more: a bit is flipped, or the run ends. */
 static inline samples_Result_Passed_Ending samples_sizing_go_once(const float *samples, uint64_t samples_len,
-        uint64_t *restrict y, uint64_t *restrict rows, samples_raising_Kept *restrict kept, const uint16_t *h,
-        uint16_t limit, uint32_t flips, uint32_t left, uint32_t unlike)
+        uint64_t *restrict y, uint64_t *restrict rows, samples_raising_Kept *restrict kept, uint16_t limit,
+        uint32_t flips, uint32_t left, uint32_t unlike)
 {
-    (void)h;
     samples_Result_Flip_Ending t = samples_sizing_comes_next(samples, samples_len, rows, kept, limit, flips);
     samples_ControlFlow_ErrResidual_Ending_Flip t2 = samples_ResultTry_branch_Flip_Ending(t);
     samples_sizing_Flip t3;
@@ -5508,14 +5695,14 @@ static inline samples_Result_Passed_Ending samples_sizing_go_once(const float *s
 /* The run from the word y that was read, of which rows and blocks are kept, under a limit: flips until it ends. So
  * many checks are broken. */
 static inline samples_sizing_Ended samples_sizing_go_on(const float *samples, uint64_t samples_len,
-        uint64_t *restrict y, uint64_t *restrict rows, samples_raising_Kept *restrict kept, const uint16_t *h,
-        uint16_t limit, uint32_t first)
+        uint64_t *restrict y, uint64_t *restrict rows, samples_raising_Kept *restrict kept, uint16_t limit,
+        uint32_t first)
 {
     uint32_t flips = 0;
     uint32_t left = first;
     uint32_t unlike = 0;
     while (0 < left) {
-        samples_Result_Passed_Ending t = samples_sizing_go_once(samples, samples_len, y, rows, kept, h, limit, flips,
+        samples_Result_Passed_Ending t = samples_sizing_go_once(samples, samples_len, y, rows, kept, limit, flips,
                 left, unlike);
         switch (t.tag) {
         case samples_Result_Passed_Ending_Ok: {
@@ -5538,68 +5725,70 @@ static inline samples_sizing_Ended samples_sizing_go_on(const float *samples, ui
 /* The run from the word y that was read, with the syndrome z, of which so many checks are broken, by the bounds of
  * its blocks. */
 static inline samples_sizing_Ended samples_sizing_run_bounded(const float *samples, uint64_t samples_len,
-        uint64_t *restrict y, const uint64_t *z, const uint16_t *h, layout_Shape sh, uint16_t limit, uint32_t first)
+        uint64_t *restrict y, const uint64_t *z, layout_Parity parity, uint16_t limit, uint32_t first)
 {
     uint64_t rows[65] = {0};
-    flipping_bounds_Bounds t = flipping_bounds_begin(z, h, sh, rows);
+    flipping_bounds_Bounds t = flipping_bounds_begin(z, parity, rows);
     samples_raising_Kept kept;
     kept.bounds = t;
     memcpy(kept.bits, samples_sizing_run_bounded_table, 16 * sizeof(uint64_t));
-    return samples_sizing_go_on(samples, samples_len, y, rows, &kept, h, limit, first);
+    return samples_sizing_go_on(samples, samples_len, y, rows, &kept, limit, first);
 }
 
 /* The run from the word y that was read, with the syndrome z, of which so many checks are broken, under a limit:
  * flips until it ends. */
 static inline samples_sizing_Ended samples_sizing_run(const float *samples, uint64_t samples_len, uint64_t *restrict y,
-        const uint64_t *z, const uint16_t *h, layout_Shape sh, uint16_t limit, uint32_t first)
+        const uint64_t *z, layout_Parity parity, uint16_t limit, uint32_t first)
 {
     if (first == 0) {
         return samples_sizing_at_end((flipping_runs_Ending){.tag = flipping_runs_Ending_Quiet}, 0, 0, 0);
     }
-    if (sh.words == 1) {
-        return samples_sizing_run_narrow(samples, samples_len, y, z, h, sh, limit, first);
+    if (parity.shape.words == 1) {
+        return samples_sizing_run_narrow(samples, samples_len, y, z, parity, limit, first);
     }
-    return samples_sizing_run_bounded(samples, samples_len, y, z, h, sh, limit, first);
+    return samples_sizing_run_bounded(samples, samples_len, y, z, parity, limit, first);
 }
 
 /* The run on the bits y, whose syndrome is z, and its judgement; y is the word at its end. So many checks are
  * broken, and so is the lowest. */
-static inline flipping_endings_Corrected samples_run_judged(catalogue_offer_Offer o, const float *samples,
-        uint64_t samples_len, uint16_t limit, uint64_t *restrict y, const uint64_t *z, const uint16_t *h,
-        layout_Shape sh, uint32_t first, uint32_t lowest)
+static inline flipping_endings_Corrected samples_run_judged(catalogue_offer_KnownOffer code, const float *samples,
+        uint64_t samples_len, uint16_t limit, uint64_t *restrict y, const uint64_t *z, layout_Parity parity,
+        uint32_t first, uint32_t lowest)
 {
-    samples_sizing_Ended end = samples_sizing_run(samples, samples_len, y, z, h, sh, limit, first);
+    samples_sizing_Ended end = samples_sizing_run(samples, samples_len, y, z, parity, limit, first);
     flipping_runs_Ran ran = end.ran;
-    return (flipping_endings_Corrected){.number = word_judging_judge(o, y, ran.number), .flips = ran.flips,
-            .first = first, .last = end.last, .unlike = end.unlike, .lowest = lowest};
+    return (flipping_endings_Corrected){.number = word_judging_judge(code, y, flipping_runs_Ending_number(ran.ending)),
+            .flips = ran.flips, .first = first, .last = end.last, .unlike = end.unlike, .lowest = lowest};
 }
 
 /* The same from the start, with room for the table and the syndrome, which is handed over as zeros. */
-static inline flipping_endings_Corrected samples_run_within(catalogue_offer_Offer o, const float *samples,
-        uint64_t samples_len, uint16_t limit, uint64_t *restrict y, uint16_t *restrict h, uint64_t *restrict z)
+static inline flipping_endings_Corrected samples_run_within(samples_Sampled sampled, uint16_t limit,
+        uint64_t *restrict y, uint16_t *restrict h, uint64_t *restrict z)
 {
+    catalogue_offer_Offer o = sampled.code.offer;
     layout_Shape of = o.shape;
     samples_Begun begun = samples_begin(of.size, y, h, z);
-    layout_Shape sh = begun.shape;
-    return samples_run_judged(o, samples, samples_len, limit, y, z, h, sh, begun.first, begun.lowest);
+    layout_Parity parity = (layout_Parity){.places = h, .shape = begun.shape};
+    return samples_run_judged(sampled.code, sampled.samples.at, sampled.samples.len, limit, y, z, parity, begun.first,
+            begun.lowest);
 }
 
 /* The run on the bits y that were read from as many samples as the code has bits, and its judgement; y is the word
  * at its end. */
-static inline flipping_endings_Corrected samples_run_read(catalogue_offer_Offer o, const float *samples,
-        uint64_t samples_len, uint16_t limit, uint64_t *restrict y)
+static inline flipping_endings_Corrected samples_run_read(samples_Sampled sampled, uint16_t limit, uint64_t *restrict y)
 {
     uint16_t h[64] = {0};
     uint64_t z[16] = {0};
-    return samples_run_within(o, samples, samples_len, limit, y, h, z);
+    return samples_run_within(sampled, limit, y, h, z);
 }
 
 /* The same, into an output of the right length if the run is not refused. */
-static inline flipping_endings_Corrected samples_correct_read(catalogue_offer_Offer o, const float *samples,
-        uint64_t samples_len, uint16_t limit, uint64_t *restrict y, uint8_t *restrict out, uint64_t out_len)
+static inline flipping_endings_Corrected samples_correct_read(samples_Sampled sampled, uint16_t limit,
+        uint64_t *restrict y, uint8_t *restrict out, uint64_t out_len)
 {
-    flipping_endings_Corrected r = samples_run_read(o, samples, samples_len, limit, y);
+    flipping_endings_Corrected r = samples_run_read(sampled, limit, y);
     if (r.number == 0) {
+        catalogue_offer_Offer o = sampled.code.offer;
         word_received_write(y, o.unsent, o.bits, out, out_len);
     }
     return r;
@@ -5607,14 +5796,14 @@ static inline flipping_endings_Corrected samples_correct_read(catalogue_offer_Of
 
 /* The run on samples, as many as the code has bits, into an output of the right length; 16 if one of them is not
  * finite. */
-static inline flipping_endings_Corrected samples_correct_taken(catalogue_offer_Offer o, const float *samples,
-        uint64_t samples_len, uint16_t limit, uint8_t *restrict out, uint64_t out_len)
+static inline flipping_endings_Corrected samples_correct_taken(samples_Sampled sampled, uint16_t limit,
+        uint8_t *restrict out, uint64_t out_len)
 {
     uint64_t y[130] = {0};
-    if (!magnitudes_read(samples, samples_len, y)) {
+    if (!magnitudes_read(sampled.samples.at, sampled.samples.len, y)) {
         return flipping_endings_refused_correct(16);
     }
-    return samples_correct_read(o, samples, samples_len, limit, y, out, out_len);
+    return samples_correct_read(sampled, limit, y, out, out_len);
 }
 
 /* The run on samples by their bit patterns, one for each bit, under a limit. */
@@ -5624,8 +5813,11 @@ static inline flipping_endings_Corrected samples_correct_patterns(uint8_t code, 
     catalogue_offer_Offer o = catalogue_offer_of(code);
     refusals_Result_unit_Refusal t = samples_admit(o, samples_len, out_len);
     switch (t.tag) {
-    case refusals_Result_unit_Refusal_Ok:
-        return samples_correct_taken(o, samples, samples_len, limit, out, out_len);
+    case refusals_Result_unit_Refusal_Ok: {
+        samples_Sampled sampled = (samples_Sampled){.code = (catalogue_offer_KnownOffer){.offer = o},
+                .samples = (lent_float){samples, samples_len}};
+        return samples_correct_taken(sampled, limit, out, out_len);
+    }
     case refusals_Result_unit_Refusal_Err:
     default: {
         refusals_Refusal refusal = t.as.Err.field0;
@@ -6035,6 +6227,38 @@ typedef struct units_unitoffers_UnitOffer {
     uint64_t most;
 } units_unitoffers_UnitOffer;
 
+/* A code that units are of. */
+typedef struct units_unitoffers_UnitCode {
+    uint8_t number;
+} units_unitoffers_UnitCode;
+
+enum { units_Option_UnitCode_None = 0, units_Option_UnitCode_Some = 1 };
+typedef struct units_Option_UnitCode {
+    uint8_t tag;
+    union {
+        struct { units_unitoffers_UnitCode field0; } Some;
+    } as;
+} units_Option_UnitCode;
+
+enum { units_Result_UnitCode_Refusal_Ok = 0, units_Result_UnitCode_Refusal_Err = 1 };
+typedef struct units_Result_UnitCode_Refusal {
+    uint8_t tag;
+    union {
+        struct { units_unitoffers_UnitCode field0; } Ok;
+        struct { refusals_Refusal field0; } Err;
+    } as;
+} units_Result_UnitCode_Refusal;
+
+enum { units_ControlFlow_ErrResidual_Refusal_UnitCode_Continue = 0,
+        units_ControlFlow_ErrResidual_Refusal_UnitCode_Break = 1 };
+typedef struct units_ControlFlow_ErrResidual_Refusal_UnitCode {
+    uint8_t tag;
+    union {
+        struct { units_unitoffers_UnitCode field0; } Continue;
+        struct { refusals_ErrResidual_Refusal field0; } Break;
+    } as;
+} units_ControlFlow_ErrResidual_Refusal_UnitCode;
+
 /* A reading of a unit: the answer that ended it (its number is 0 while it goes on), its code and limit, and the
  * codeblocks handed out. */
 typedef pandoricchia_reading units_readings_Reading;
@@ -6087,38 +6311,61 @@ static inline uint64_t units_unit_octets(uint8_t code, uint64_t long_)
     return 0;
 }
 
-static inline bool units_unitoffers_is_unit_code(uint8_t code)
+static inline units_Option_UnitCode units_unitoffers_UnitCode_of(uint8_t code)
 {
     units_unitoffers_UnitOffer u = units_unitoffers_unit_of(code);
-    return u.offered;
+    if (u.offered) {
+        return (units_Option_UnitCode){.tag = units_Option_UnitCode_Some,
+                .as.Some = {.field0 = (units_unitoffers_UnitCode){.number = code}}};
+    }
+    return (units_Option_UnitCode){.tag = units_Option_UnitCode_None};
 }
 
-/* Whether so much information can be written into so much room. */
-static inline refusals_Result_unit_Refusal units_writable(uint8_t code, uint64_t long_, uint64_t room)
+/* Whether so much information can be written into so much room: the code that it is written by. */
+static inline units_Result_UnitCode_Refusal units_writable(uint8_t code, uint64_t long_, uint64_t room)
 {
-    if (!units_unitoffers_is_unit_code(code)) {
-        return (refusals_Result_unit_Refusal){.tag = refusals_Result_unit_Refusal_Err,
+    units_Option_UnitCode t = units_unitoffers_UnitCode_of(code);
+    units_unitoffers_UnitCode unit_code;
+    switch (t.tag) {
+    case units_Option_UnitCode_Some:
+        unit_code = t.as.Some.field0;
+        break;
+    case units_Option_UnitCode_None:
+    default:
+        return (units_Result_UnitCode_Refusal){.tag = units_Result_UnitCode_Refusal_Err,
                 .as.Err = {.field0 = (refusals_Refusal){.tag = refusals_Refusal_Code}}};
     }
     if (long_ == 0) {
-        return (refusals_Result_unit_Refusal){.tag = refusals_Result_unit_Refusal_Err,
+        return (units_Result_UnitCode_Refusal){.tag = units_Result_UnitCode_Refusal_Err,
                 .as.Err = {.field0 = (refusals_Refusal){.tag = refusals_Refusal_InputLength}}};
     }
     uint64_t needed = units_unit_octets(code, long_);
     if (needed == 0) {
-        return (refusals_Result_unit_Refusal){.tag = refusals_Result_unit_Refusal_Err,
+        return (units_Result_UnitCode_Refusal){.tag = units_Result_UnitCode_Refusal_Err,
                 .as.Err = {.field0 = (refusals_Refusal){.tag = refusals_Refusal_OutputLength}}};
     }
     if (room != needed) {
-        return (refusals_Result_unit_Refusal){.tag = refusals_Result_unit_Refusal_Err,
+        return (units_Result_UnitCode_Refusal){.tag = units_Result_UnitCode_Refusal_Err,
                 .as.Err = {.field0 = (refusals_Refusal){.tag = refusals_Refusal_OutputLength}}};
     }
-    return (refusals_Result_unit_Refusal){.tag = refusals_Result_unit_Refusal_Ok};
+    return (units_Result_UnitCode_Refusal){.tag = units_Result_UnitCode_Refusal_Ok, .as.Ok = {.field0 = unit_code}};
 }
 
-static inline uint64_t units_unitoffers_tail_octets(uint8_t code)
+static inline units_ControlFlow_ErrResidual_Refusal_UnitCode units_ResultTry_branch_UnitCode_Refusal(
+        units_Result_UnitCode_Refusal p0)
 {
-    units_unitoffers_UnitOffer u = units_unitoffers_unit_of(code);
+    switch (p0.tag) {
+    case units_Result_UnitCode_Refusal_Ok:
+        return (units_ControlFlow_ErrResidual_Refusal_UnitCode){.tag = units_ControlFlow_ErrResidual_Refusal_UnitCode_Continue, .as.Continue = {.field0 = p0.as.Ok.field0}};
+    case units_Result_UnitCode_Refusal_Err:
+    default:
+        return (units_ControlFlow_ErrResidual_Refusal_UnitCode){.tag = units_ControlFlow_ErrResidual_Refusal_UnitCode_Break, .as.Break = {.field0 = (refusals_ErrResidual_Refusal){.field0 = p0.as.Err.field0}}};
+    }
+}
+
+static inline uint64_t units_unitoffers_UnitCode_tail_octets(units_unitoffers_UnitCode self)
+{
+    units_unitoffers_UnitOffer u = units_unitoffers_unit_of(self.number);
     return u.tail;
 }
 
@@ -6127,46 +6374,48 @@ static inline void units_write_start(uint8_t *restrict out, uint64_t out_len)
     core_copy_from_slice_u8(out, out_len, units_unitoffers_START);
 }
 
-static inline uint64_t units_unitoffers_word_octets(uint8_t code)
+/* The octets of a codeblock. */
+static inline uint64_t units_unitoffers_UnitCode_word_octets(units_unitoffers_UnitCode self)
 {
-    units_unitoffers_UnitOffer u = units_unitoffers_unit_of(code);
+    units_unitoffers_UnitOffer u = units_unitoffers_unit_of(self.number);
     return u.word;
 }
 
-static inline uint64_t units_unitoffers_information_octets(uint8_t code)
+static inline uint64_t units_unitoffers_UnitCode_information_octets(units_unitoffers_UnitCode self)
 {
-    units_unitoffers_UnitOffer u = units_unitoffers_unit_of(code);
+    units_unitoffers_UnitOffer u = units_unitoffers_unit_of(self.number);
     return u.information;
 }
 
 /* A whole part of the information as a codeblock, randomised; `used` octets of codeblocks came before. */
-static inline void units_write_part(uint8_t code, const uint8_t *part, uint64_t part_len, uint64_t used,
-        uint8_t *restrict out, uint64_t out_len)
+static inline void units_write_part(units_unitoffers_UnitCode code, const uint8_t *part, uint64_t part_len,
+        uint64_t used, uint8_t *restrict out, uint64_t out_len)
 {
-    codes_encode(code, part, part_len, out, out_len);
+    codes_encode(code.number, part, part_len, out, out_len);
     randomiser_randomise(out, out_len, used);
 }
 
-/* The last part of the information, with its fill: `size` octets together. */
-static inline void units_write_last(uint8_t code, const uint8_t *rest, uint64_t rest_len, uint64_t size, uint64_t used,
-        uint8_t *restrict out, uint64_t out_len)
+/* The last part of the information, with its fill. */
+static inline void units_write_last(units_unitoffers_UnitCode code, const uint8_t *rest, uint64_t rest_len,
+        uint64_t used, uint8_t *restrict out, uint64_t out_len)
 {
     uint8_t part[32];
     memcpy(part, units_write_last_table, 32);
     uint64_t long_ = rest_len;
     core_copy_from_slice_u8(part, long_, rest);
+    uint64_t size = units_unitoffers_UnitCode_information_octets(code);
     units_write_part(code, part, size, used, out, out_len);
 }
 
 /* Codeblock k. */
-static inline void units_write_block(uint8_t code, const uint8_t *information, uint64_t information_len, uint64_t k,
-        uint64_t used, uint8_t *restrict out, uint64_t out_len)
+static inline void units_write_block(units_unitoffers_UnitCode code, const uint8_t *information,
+        uint64_t information_len, uint64_t k, uint64_t used, uint8_t *restrict out, uint64_t out_len)
 {
-    uint64_t size = units_unitoffers_information_octets(code);
+    uint64_t size = units_unitoffers_UnitCode_information_octets(code);
     uint64_t from = k * size;
     uint64_t left = information_len - from;
     if (left < size) {
-        units_write_last(code, information + from, information_len - from, size, used, out, out_len);
+        units_write_last(code, information + from, information_len - from, used, out, out_len);
     } else {
         uint64_t end = from + size;
         units_write_part(code, information + from, end - from, used, out, out_len);
@@ -6174,10 +6423,10 @@ static inline void units_write_block(uint8_t code, const uint8_t *information, u
 }
 
 /* All codeblocks, into an output that they fill. */
-static inline void units_write_blocks(uint8_t code, const uint8_t *information, uint64_t information_len,
-        uint8_t *restrict out, uint64_t out_len)
+static inline void units_write_blocks(units_unitoffers_UnitCode code, const uint8_t *information,
+        uint64_t information_len, uint8_t *restrict out, uint64_t out_len)
 {
-    uint64_t word = units_unitoffers_word_octets(code);
+    uint64_t word = units_unitoffers_UnitCode_word_octets(code);
     uint64_t k = 0;
     uint64_t t = out_len / word;
     while (k < t) {
@@ -6189,24 +6438,24 @@ static inline void units_write_blocks(uint8_t code, const uint8_t *information, 
 }
 
 /* The start and all codeblocks, into an output that they fill. */
-static inline void units_write_front(uint8_t code, const uint8_t *information, uint64_t information_len,
-        uint8_t *restrict out, uint64_t out_len)
+static inline void units_write_front(units_unitoffers_UnitCode code, const uint8_t *information,
+        uint64_t information_len, uint8_t *restrict out, uint64_t out_len)
 {
     units_write_start(out, 8);
     units_write_blocks(code, information, information_len, out + 8, out_len - 8);
 }
 
-static inline void units_write_tail(uint8_t code, uint8_t *restrict out, uint64_t out_len)
+static inline void units_write_tail(units_unitoffers_UnitCode code, uint8_t *restrict out, uint64_t out_len)
 {
     (void)code;
     core_copy_from_slice_u8(out, out_len, units_unitoffers_TAIL);
 }
 
 /* The tail behind them. */
-static inline void units_write_taken(uint8_t code, const uint8_t *information, uint64_t information_len,
-        uint8_t *restrict out, uint64_t out_len)
+static inline void units_write_taken(units_unitoffers_UnitCode code, const uint8_t *information,
+        uint64_t information_len, uint8_t *restrict out, uint64_t out_len)
 {
-    uint64_t room = out_len - units_unitoffers_tail_octets(code);
+    uint64_t room = out_len - units_unitoffers_UnitCode_tail_octets(code);
     units_write_front(code, information, information_len, out, room);
     units_write_tail(code, out + room, out_len - room);
 }
@@ -6215,16 +6464,19 @@ static inline void units_write_taken(uint8_t code, const uint8_t *information, u
 static inline refusals_Result_unit_Refusal units_written(uint8_t code, const uint8_t *information,
         uint64_t information_len, uint8_t *restrict out, uint64_t out_len)
 {
-    refusals_ControlFlow_ErrResidual_Refusal_unit t = refusals_ResultTry_branch_unit_Refusal(units_writable(code,
+    units_ControlFlow_ErrResidual_Refusal_UnitCode t = units_ResultTry_branch_UnitCode_Refusal(units_writable(code,
             information_len, out_len));
+    units_unitoffers_UnitCode t2;
     switch (t.tag) {
-    case refusals_ControlFlow_ErrResidual_Refusal_unit_Continue:
+    case units_ControlFlow_ErrResidual_Refusal_UnitCode_Continue:
+        t2 = t.as.Continue.field0;
         break;
-    case refusals_ControlFlow_ErrResidual_Refusal_unit_Break:
+    case units_ControlFlow_ErrResidual_Refusal_UnitCode_Break:
     default:
         return refusals_ResultFromResidualErrResidual_from_residual_un(t.as.Break.field0);
     }
-    units_write_taken(code, information, information_len, out, out_len);
+    units_unitoffers_UnitCode unit_code = t2;
+    units_write_taken(unit_code, information, information_len, out, out_len);
     return (refusals_Result_unit_Refusal){.tag = refusals_Result_unit_Refusal_Ok};
 }
 
@@ -6242,26 +6494,22 @@ static inline bool units_readings_is_started(const uint8_t *unit, uint64_t unit_
 }
 
 /* The octets between the start and the tail of a unit of so many octets. */
-static inline uint64_t units_readings_between(uint8_t code, uint64_t long_)
+static inline uint64_t units_readings_between(units_unitoffers_UnitCode code, uint64_t long_)
 {
-    uint64_t ends = 8 + units_unitoffers_tail_octets(code);
-    if (long_ < ends) {
-        return 0;
-    }
-    return long_ - ends;
+    return core_int_usize_saturating_sub(long_, 8 + units_unitoffers_UnitCode_tail_octets(code));
 }
 
-static inline bool units_readings_is_tail(uint8_t code, const uint8_t *end, uint64_t end_len)
+static inline bool units_readings_is_tail(units_unitoffers_UnitCode code, const uint8_t *end, uint64_t end_len)
 {
     lent_uint8_t long_ = (lent_uint8_t){end, end_len};
-    lent_uint8_t t = (lent_uint8_t){units_unitoffers_TAIL, units_unitoffers_tail_octets(code)};
+    lent_uint8_t t = (lent_uint8_t){units_unitoffers_TAIL, units_unitoffers_UnitCode_tail_octets(code)};
     return core_RefSlicePartialEq_eq_u8(&long_, &t);
 }
 
 /* Whether what follows the start is one or more whole codeblocks and the tail. */
-static inline bool units_readings_is_shaped(uint8_t code, const uint8_t *unit, uint64_t unit_len)
+static inline bool units_readings_is_shaped(units_unitoffers_UnitCode code, const uint8_t *unit, uint64_t unit_len)
 {
-    uint64_t word = units_unitoffers_word_octets(code);
+    uint64_t word = units_unitoffers_UnitCode_word_octets(code);
     uint64_t rest = units_readings_between(code, unit_len);
     if (rest < word) {
         return false;
@@ -6276,7 +6524,14 @@ static inline bool units_readings_is_shaped(uint8_t code, const uint8_t *unit, u
 /* Whether a unit can be read. */
 static inline refusals_Result_unit_Refusal units_readings_readable(uint8_t code, const uint8_t *unit, uint64_t unit_len)
 {
-    if (!units_unitoffers_is_unit_code(code)) {
+    units_Option_UnitCode t = units_unitoffers_UnitCode_of(code);
+    units_unitoffers_UnitCode unit_code;
+    switch (t.tag) {
+    case units_Option_UnitCode_Some:
+        unit_code = t.as.Some.field0;
+        break;
+    case units_Option_UnitCode_None:
+    default:
         return (refusals_Result_unit_Refusal){.tag = refusals_Result_unit_Refusal_Err,
                 .as.Err = {.field0 = (refusals_Refusal){.tag = refusals_Refusal_Code}}};
     }
@@ -6284,7 +6539,7 @@ static inline refusals_Result_unit_Refusal units_readings_readable(uint8_t code,
         return (refusals_Result_unit_Refusal){.tag = refusals_Result_unit_Refusal_Err,
                 .as.Err = {.field0 = (refusals_Refusal){.tag = refusals_Refusal_NoStart}}};
     }
-    if (!units_readings_is_shaped(code, unit, unit_len)) {
+    if (!units_readings_is_shaped(unit_code, unit, unit_len)) {
         return (refusals_Result_unit_Refusal){.tag = refusals_Result_unit_Refusal_Err,
                 .as.Err = {.field0 = (refusals_Refusal){.tag = refusals_Refusal_NoTail}}};
     }
@@ -6313,9 +6568,9 @@ static inline units_readings_Handed units_readings_handed_again(units_readings_R
 }
 
 /* The whole codeblocks that they hold. */
-static inline uint64_t units_readings_blocks_in(uint8_t code, uint64_t long_)
+static inline uint64_t units_readings_blocks_in(units_unitoffers_UnitCode code, uint64_t long_)
 {
-    return units_readings_between(code, long_) / units_unitoffers_word_octets(code);
+    return units_readings_between(code, long_) / units_unitoffers_UnitCode_word_octets(code);
 }
 
 static inline void units_readings_word_buffer(uint8_t *restrict result)
@@ -6324,8 +6579,8 @@ static inline void units_readings_word_buffer(uint8_t *restrict result)
 }
 
 /* Codeblock k of a unit, derandomised. */
-static inline void units_readings_receive(uint8_t code, const uint8_t *unit, uint64_t k, uint8_t *restrict word,
-        uint64_t word_len)
+static inline void units_readings_receive(units_unitoffers_UnitCode code, const uint8_t *unit, uint64_t k,
+        uint8_t *restrict word, uint64_t word_len)
 {
     (void)code;
     uint64_t size = word_len;
@@ -6345,22 +6600,22 @@ static inline void units_readings_hand_out(uint8_t number, const uint8_t *inform
 }
 
 /* A codeblock corrected, and its information handed out. */
-static inline flipping_endings_Corrected units_readings_correct_part(uint8_t code, const uint8_t *word,
-        uint64_t word_len, uint16_t limit, uint8_t *restrict out, uint64_t out_len)
+static inline flipping_endings_Corrected units_readings_correct_part(units_unitoffers_UnitCode code,
+        const uint8_t *word, uint64_t word_len, uint16_t limit, uint8_t *restrict out, uint64_t out_len)
 {
     uint64_t size = word_len;
     uint8_t mended[64];
     units_readings_word_buffer(mended);
-    flipping_endings_Corrected r = codes_correct(code, word, word_len, limit, mended, size);
+    flipping_endings_Corrected r = codes_correct(code.number, word, word_len, limit, mended, size);
     units_readings_hand_out(r.number, mended, out, out_len);
     return r;
 }
 
 /* Codeblock k of a unit. */
-static inline flipping_endings_Corrected units_readings_read_block(uint8_t code, const uint8_t *unit, uint64_t k,
-        uint16_t limit, uint8_t *restrict out, uint64_t out_len)
+static inline flipping_endings_Corrected units_readings_read_block(units_unitoffers_UnitCode code, const uint8_t *unit,
+        uint64_t k, uint16_t limit, uint8_t *restrict out, uint64_t out_len)
 {
-    uint64_t size = units_unitoffers_word_octets(code);
+    uint64_t size = units_unitoffers_UnitCode_word_octets(code);
     uint8_t word[64];
     units_readings_word_buffer(word);
     units_readings_receive(code, unit, k, word, size);
@@ -6380,55 +6635,47 @@ static inline units_readings_Handed units_readings_handed_last(units_readings_Re
 static inline units_readings_Handed units_readings_handed_on(units_readings_Reading state,
         flipping_endings_Corrected answer)
 {
-    flipping_endings_Corrected kept = state.kept;
-    units_readings_Reading next = (units_readings_Reading){.kept = kept, .code = state.code, .limit = state.limit,
-            .place = (size_t)((uint64_t)state.place + 1)};
+    units_readings_Reading next = (units_readings_Reading){.kept = state.kept, .code = state.code,
+            .limit = state.limit, .place = (size_t)((uint64_t)state.place + 1)};
     return (units_readings_Handed){.corrected = answer, .none = false, .next = next};
 }
 
-/* The next codeblock. */
-static inline units_readings_Handed units_readings_read_next(units_readings_Reading state, const uint8_t *unit,
-        uint8_t *restrict out, uint64_t out_len)
-{
-    flipping_endings_Corrected r = units_readings_read_block(state.code, unit, state.place, state.limit, out, out_len);
-    if (r.number != 0) {
-        return units_readings_handed_last(state, r);
-    }
-    return units_readings_handed_on(state, r);
-}
-
-/* The answer that ended the reading, that there is none, or the next codeblock. */
-static inline units_readings_Handed units_readings_read_on(units_readings_Reading state, const uint8_t *unit,
-        uint64_t unit_len, uint8_t *restrict out, uint64_t out_len)
-{
-    if (state.kept.number != 0) {
-        flipping_endings_Corrected kept = state.kept;
-        return units_readings_handed_again(state, kept, false);
-    }
-    uint64_t blocks = units_readings_blocks_in(state.code, unit_len);
-    if (blocks <= (uint64_t)state.place) {
-        return units_readings_handed_again(state,
-                units_readings_numbered((refusals_Result_unit_Refusal){.tag = refusals_Result_unit_Refusal_Ok}), true);
-    }
-    return units_readings_read_next(state, unit, out, out_len);
-}
-
-/* Asks a reading of a unit for the next codeblock's information octets. */
+/* Asks a reading of a unit for the next codeblock's information octets: the answer that ended the reading, that
+ * there is none, or the codeblock's. */
 static inline units_readings_Handed units_readings_read(units_readings_Reading state, const uint8_t *unit,
         uint64_t unit_len, uint8_t *restrict out, uint64_t out_len)
 {
-    uint8_t code = state.code;
-    if (!units_unitoffers_is_unit_code(code)) {
+    units_Option_UnitCode t = units_unitoffers_UnitCode_of(state.code);
+    units_unitoffers_UnitCode code;
+    switch (t.tag) {
+    case units_Option_UnitCode_Some:
+        code = t.as.Some.field0;
+        break;
+    case units_Option_UnitCode_None:
+    default:
         return units_readings_handed_again(state,
                 units_readings_numbered((refusals_Result_unit_Refusal){.tag = refusals_Result_unit_Refusal_Err,
                 .as.Err = {.field0 = (refusals_Refusal){.tag = refusals_Refusal_Code}}}), false);
     }
-    if (out_len != units_unitoffers_information_octets(code)) {
+    if (out_len != units_unitoffers_UnitCode_information_octets(code)) {
         return units_readings_handed_again(state,
                 units_readings_numbered((refusals_Result_unit_Refusal){.tag = refusals_Result_unit_Refusal_Err,
                 .as.Err = {.field0 = (refusals_Refusal){.tag = refusals_Refusal_OutputLength}}}), false);
     }
-    return units_readings_read_on(state, unit, unit_len, out, out_len);
+    flipping_endings_Corrected kept = state.kept;
+    if (kept.number != 0) {
+        return units_readings_handed_again(state, kept, false);
+    }
+    uint64_t blocks = units_readings_blocks_in(code, unit_len);
+    if (blocks <= (uint64_t)state.place) {
+        return units_readings_handed_again(state,
+                units_readings_numbered((refusals_Result_unit_Refusal){.tag = refusals_Result_unit_Refusal_Ok}), true);
+    }
+    flipping_endings_Corrected r = units_readings_read_block(code, unit, state.place, state.limit, out, out_len);
+    if (r.number != 0) {
+        return units_readings_handed_last(state, r);
+    }
+    return units_readings_handed_on(state, r);
 }
 
 /* ---- capi ------------------------------------------------------------------------------------------- */

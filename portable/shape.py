@@ -21,7 +21,6 @@ class Var:
         self.assigned = 0       # how many assignments
         self.read = 0           # how many reads
         self.partly = False     # a field of it is assigned
-        self.pattern = False    # it lends floats whose patterns are read
         self.value = None       # what is assigned, where that happens once
 
 

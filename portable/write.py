@@ -333,16 +333,28 @@ class Writer:
             self.use_lengths()
 
     def spread_patterns(self):
-        """Where floats whose patterns are read are handed on to: no number of C's may be read through a pointer to another type."""
-        todo = sorted(self.patterns)
-        while todo:
-            name, at = todo.pop()
-            var = self.shapes[name].params[at]
-            if not var.pattern:
-                var.pattern = True
-                todo += self.shapes[name].hands_on(var)
-        for routine in self.shapes.values():
-            routine.check_patterns()
+        """Where floats whose patterns are read are handed on to or kept: variables, and the fields of structs. A slice there is one of floats,
+        since no number of C's may be read through a pointer to another type."""
+        found = {self.shapes[name].params[at] for name, at in self.patterns}
+        flows = [flow for routine in self.shapes.values() for flow in routine.flows()]
+        grown = bool(found)
+        while grown:
+            more = {to for origin, to, _ in flows if origin in found} - found
+            grown, found = bool(more), found | more
+        for origin, to, where in flows:
+            if to in found and origin not in found and origin is not NONE:
+                raise Refused("%s is handed floats, and numbers that are none" % where)
+        if NOWHERE in found:
+            raise Refused("floats whose patterns are read are kept where no slice of floats can be")
+        for to in found:
+            if isinstance(to, tuple):
+                name, index = to
+                kind, parts = self.reader.shapes[name]
+                self.reader.shapes[name] = (kind, [of_floats(ty) if i == index else ty for i, ty in enumerate(parts)])
+            else:
+                to.ty = of_floats(to.ty)
+        for routine in self.shapes.values() if found else []:
+            routine.retype(found)
 
     def use_lengths(self):
         for name, routine in self.shapes.items():
@@ -370,6 +382,16 @@ def comment_lines(text, indent=""):
             line = indent + " *"
         line += " " + word
     return lines + [line + " */"]
+
+
+NONE, NOWHERE, LENDING = "of no elements", "nowhere", ("slice", "ref", "ptr")
+
+
+def of_floats(ty):
+    """The type of a slice or a pointer, to floats."""
+    if ty[0] not in ("slice", "ref"):
+        raise Refused("floats whose patterns are read are kept by %s" % (ty,))
+    return ty[:2] + (("float", 32),)
 
 
 def without_elements(arg):
@@ -430,38 +452,51 @@ class Routine:
 
     # -- patterns
 
-    def lender(self, e):
-        """The variable that a slice or a pointer comes from."""
+    def origin(self, e):
+        """What a slice or a pointer comes from: a variable, the field of a struct (its name and the field's number), NONE where it has no
+        elements, or None."""
         if isinstance(e, Aggregate):
-            return self.lender(e.items[0])
+            return self.origin(e.items[0])
         e = self.counted(e)[0]
-        while isinstance(e, (Field, AddrOf)):
+        if isinstance(e, AddrOf):
+            return NONE if isinstance(e.of, NoElements) or base_type(e.of.ty)[1] == 0 else None
+        if isinstance(e, Field) and e.of.ty[0] == "slice":
             e = e.of
+        if isinstance(e, Field) and e.of.ty[0] == "named" and not isinstance(e.of, Variant):
+            return e.of.ty[1], e.index
         return e.var if isinstance(e, Use) else None
 
-    def hands_on(self, var):
-        """The parameters of other functions that a slice is handed on to."""
-        for value in all_values(self.body):
-            for e in within(value):
-                if isinstance(e, Call):
-                    for i, arg in enumerate(e.args):
-                        if arg.ty[0] in ("slice", "ref") and self.lender(arg) is var:
-                            yield e.name, i
-
-    def check_patterns(self):
+    def flows(self):
+        """From where to where slices and pointers go, and in which function: to a parameter, a variable, a struct's field, or NOWHERE."""
         for statement in all_statements(self.body):
-            if isinstance(statement, (Assign, Return)) and statement.value is not None and statement.value.ty[0] in ("slice", "ref", "ptr"):
-                if getattr(self.lender(statement.value), "pattern", False):
-                    raise Refused("floats whose patterns are read are kept by %s" % self.function.name)
             for value in values_in(statement):
                 for e in within(value):
-                    for part in e.items if isinstance(e, Aggregate) and e.ty[0] == "named" else []:
-                        if part.ty[0] in ("slice", "ref", "ptr") and getattr(self.lender(part), "pattern", False):
-                            raise Refused("floats whose patterns are read are kept by %s" % self.function.name)
-                    for arg, var in zip(e.args, self.writer.shapes[e.name].params) if isinstance(e, Call) else []:
-                        lender = self.lender(arg) if var.pattern else None
-                        if var.pattern and not without_elements(arg) and not (lender and (lender.pattern or base_type(lender.ty)[1] == 0)):
-                            raise Refused("%s is handed floats, and numbers that are none" % e.name)
+                    if isinstance(e, Call):
+                        for arg, var in zip(e.args, self.writer.shapes[e.name].params):
+                            if arg.ty[0] in LENDING:
+                                yield self.origin(arg), var, e.name
+                    elif isinstance(e, Aggregate) and e.ty[0] == "named":
+                        struct = self.writer.reader.shapes[e.ty[1]][0] == "struct"
+                        for i, part in enumerate(e.items):
+                            if part.ty[0] in LENDING:
+                                yield self.origin(part), (e.ty[1], i) if struct else NOWHERE, self.function.name
+            if isinstance(statement, (Assign, Return)) and statement.value is not None and statement.value.ty[0] in LENDING:
+                to = self.origin(statement.place) if isinstance(statement, Assign) else None
+                yield self.origin(statement.value), to or NOWHERE, self.function.name
+
+    def retype(self, found):
+        """Slices and pointers of what was found are to floats, and so are those without elements that go there."""
+        for value in all_values(self.body):
+            for e in within(value):
+                if isinstance(e, (Use, Field, Aggregate)) and e.ty[0] in LENDING and self.origin(e) in found:
+                    e.ty = of_floats(e.ty)
+        for statement in all_statements(self.body):
+            for value in values_in(statement):
+                for e in within(value):
+                    if isinstance(e, Aggregate) and e.ty[0] == "named":
+                        for part, ty in zip(e.items, self.writer.reader.shapes[e.ty[1]][1]):
+                            if without_elements(part) and ty[0] == "slice":
+                                part.ty, part.items[0].of.ty = ty, ("array", ty[2], 0)
 
     # -- lengths
 
@@ -516,7 +551,7 @@ class Routine:
         params = []
         for i, var in enumerate(self.params):
             if var.ty[0] == "slice":
-                params.append(w.pointer(("float", 32) if var.pattern else base_type(var.ty[2])[0], var.ty[1], var.name, var.ty[1]))
+                params.append(w.pointer(base_type(var.ty[2])[0], var.ty[1], var.name, var.ty[1]))
                 if i in w.lengths[function.name]:
                     params.append("uint64_t %s_len" % var.name)
             elif var.ty[0] == "ref":
@@ -593,8 +628,7 @@ class Routine:
         if isinstance(e, Op2) and e.op == "Offset":
             return self.pointee(e.a)
         if e.ty[0] == "ref":
-            lender = e.of.var if isinstance(e, Field) and isinstance(e.of, Use) else e.var if isinstance(e, Use) else None
-            return ("float", 32) if lender and lender.pattern else base_type(e.ty[2])[0]
+            return base_type(e.ty[2])[0]
         if isinstance(e, Use) and e.var.value is not None:
             return self.pointee(e.var.value)
         raise Refused("a pointer to nothing known")
@@ -899,8 +933,7 @@ class Routine:
         return made
 
     def lent_elements(self, arg, var):
-        lender = self.lender(arg) if var.pattern else None
-        if var.pattern and without_elements(arg) or lender and not lender.pattern:
+        if base_type(var.ty[2])[0] == ("float", 32) and self.origin(arg) is NONE:
             self.writer.nothings.add("float")
             return "no_float"
         return self.slice_part(arg, 0).text
@@ -973,7 +1006,7 @@ class Routine:
 
     def not_null(self, var):
         """Where the caller hands over no elements the pointer may be NULL, from which C must not count on."""
-        base = ("float", 32) if var.pattern else base_type(var.ty[2])[0]
+        base = base_type(var.ty[2])[0]
         name = "no_%s" % self.writer.scalar(base)
         if var.ty[1]:
             name = self.fresh("nothing")
