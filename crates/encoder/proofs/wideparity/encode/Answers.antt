@@ -22,8 +22,6 @@ solve_wide-requires c =
       record { number = k.number; offers = k.offers; is = sym same ∙ ap (λ z. z.shape) k.is },
       refl,
       omega (arith, ok.enough, c.requires.1, ap (λ z. z.information) k.is, ap (λ z. z.unsent) k.is),
-      omega (arith, c.requires.1, few.information, few.word),
-      few.unsent,
       zero_words 16,
     )
 
