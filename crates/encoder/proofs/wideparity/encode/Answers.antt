@@ -13,12 +13,16 @@ use Rattle.encoder.specs.parityrows.Rows.{wide_shape, end_rows, informed, comple
 use Rattle.encoder.proofs.parityrows.Ready.{wide_is, ready_as, all_sent, short_of, short_sent}
 use Rattle.encoder.proofs.wideparity.encode.Goals as goal
 
+pub invariant_of-sent : goal.invariant_of-sent
+invariant_of-sent c =
+    let few = small c.args.code.known in
+    record { few = few.unsent; held = omega (arith, c.requires.1, few.information, few.word) }
+
 pub solve_wide-requires : goal.solve_wide-requires
 solve_wide-requires c =
     let k = c.args.code.known in
     let same = wide_is k.number k.offers k.is c.requires.0 in
-    let ok = ready_as k.number k.offers k.is same in
-    let few = small k in (
+    let ok = ready_as k.number k.offers k.is same in (
       record { number = k.number; offers = k.offers; is = sym same ∙ ap (λ z. z.shape) k.is },
       refl,
       omega (arith, ok.enough, c.requires.1, ap (λ z. z.information) k.is, ap (λ z. z.unsent) k.is),

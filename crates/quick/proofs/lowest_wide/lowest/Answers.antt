@@ -43,20 +43,22 @@ invariant_of-parity c =
     let e : 511 ≡ (offer_of k.number).shape.size = sym c.requires ∙ ap (λ o. o.shape.size) k.is in
     record { fit = (lent k.number k.offers e _ c.lend511.ensures).fit }
 
+pub invariant_of-sent : goal.invariant_of-sent
+invariant_of-sent c =
+    let few = small c.args.received.code.known in
+    record { few = few.unsent; held = omega (arith, few.word, c.args.received.whole) }
+
 pub first_group-v-requires : goal.first_group-v-requires
 first_group-v-requires c =
     let k = c.args.received.code.known in
     let e : 511 ≡ (offer_of k.number).shape.size = sym c.requires ∙ ap (λ o. o.shape.size) k.is in
     let w = (checked k.number k.offers).wide (sym e) in
     let word = c.args.received.whole ∙ ap (λ o. o.word) k.is in
-    let unsent = ap (λ o. o.unsent) k.is in
-    let few = small k in (
+    let unsent = ap (λ o. o.unsent) k.is in (
       lit≤ tt,
       lit≤ tt,
       omega (arith, w.0, word, unsent),
-      few.unsent,
       omega (arith, w.0, w.1, word),
-      omega (arith, few.word, c.args.received.whole),
     )
 
 pub returns-then-v-ne0 : goal.returns-then-v-ne0
@@ -72,9 +74,7 @@ returns-then-v-ne0 c n off is =
     f.inside f.here f.clear (λ j h. absurd (omega arith))
 
 pub whole_lowest-requires : goal.whole_lowest-requires
-whole_lowest-requires c =
-    let few = small c.args.received.code.known in
-    (full _ c.lend511.ensures, lit< tt, refl, few.unsent, omega (arith, few.word, c.args.received.whole))
+whole_lowest-requires c = (full _ c.lend511.ensures, lit< tt, refl)
 
 pub returns : goal.returns
 returns c n off is =

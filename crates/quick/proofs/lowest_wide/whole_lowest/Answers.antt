@@ -7,8 +7,7 @@ use Rattle.quick.specs.groups.Groups.{Twofold}
 use Rattle.quick.proofs.lowest_wide.whole_lowest.Goals as goal
 
 pub take-requires : goal.take-requires
-take-requires c =
-    (refl, zero_words 130)
+take-requires c = (refl, zero_words 130)
 
 pub returns : goal.returns
 returns c code lent e =

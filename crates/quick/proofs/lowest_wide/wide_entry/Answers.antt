@@ -7,10 +7,6 @@ use Rattle.quick.proofs.groups.Groups.{reached_none}
 use Rattle.quick.proofs.lowest_wide.Windows.{lifted_high, turned_on, turned_round}
 use Rattle.quick.proofs.lowest_wide.wide_entry.Goals as goal
 
-pub lifted_from-requires : goal.lifted_from-requires
-lifted_from-requires c =
-    (omega arith, c.requires.2)
-
 pub returns-then-s-end : goal.returns-then-s-end
 returns-then-s-end c code e =
     let a = c.args in
