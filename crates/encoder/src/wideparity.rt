@@ -187,10 +187,10 @@ fn add_wide(sent: Sent, parity: Parity, z: &mut [u64; SYNDROME]) -> u64
 
 // The checks that the information breaks while the parity is 0, into z, which is handed over as zeros; and the number for all 16 blocks.
 fn lay_wide(sent: Sent, sh: Shape, z: &mut [u64; SYNDROME]) -> u64
-    requires { Shaped sh × (sh ≡ wide_shape) × (7154 ≤ 8 * length sent.octets.now + sent.unsent)
-        × (wbit z.old ≡ (λ i. false)) }
+    requires { Shaped sh × (sh ≡ wide_shape) × (7154 ≤ 8 * length sent.octets.now + sent.unsent) × (wbit z.old ≡ (λ i. false)) }
     ensures kept { Kept sh (wbit z.new) }
-    ensures checks { (n : ℕ) (x : Word) → offered n ≡ true → sh ≡ (offer_of n).shape → x ≡ later sent.entry.unsent (bit sent.entry.octets.now)
+    ensures checks { (n : ℕ) (x : Word) → offered n ≡ true → sh ≡ (offer_of n).shape
+        → x ≡ later sent.entry.unsent (bit sent.entry.octets.now)
         → x ≡ up_to (information (code_of n)) x → (result ≡ number 16 (odd_block x)) × (wbit z.new ≡ laid (code_of n) sh x) }
 {
     let mut h = [0u16; TABLE];
@@ -206,9 +206,9 @@ fn lay_wide(sent: Sent, sh: Shape, z: &mut [u64; SYNDROME]) -> u64
 
 // The parity of the information of a near-Earth code, row after row, into z, which is handed over as zeros.
 fn solve_wide(sent: Sent, sh: Shape, z: &mut [u64; SYNDROME])
-    requires { Shaped sh × (sh ≡ wide_shape) × (7154 ≤ 8 * length sent.octets.now + sent.unsent)
-        × (wbit z.old ≡ (λ i. false)) }
-    ensures { (n : ℕ) (x : Word) → offered n ≡ true → sh ≡ (offer_of n).shape → x ≡ later sent.entry.unsent (bit sent.entry.octets.now)
+    requires { Shaped sh × (sh ≡ wide_shape) × (7154 ≤ 8 * length sent.octets.now + sent.unsent) × (wbit z.old ≡ (λ i. false)) }
+    ensures { (n : ℕ) (x : Word) → offered n ≡ true → sh ≡ (offer_of n).shape
+        → x ≡ later sent.entry.unsent (bit sent.entry.octets.now)
         → x ≡ up_to (information (code_of n)) x → wbit z.new ≡ held sh (λ r i. end_rows n sh.size x r i ⊕ odd_together_of x r) }
 {
     let odd = lay_wide(sent, sh, z);

@@ -6,17 +6,12 @@ use Rattle.bits.specs.Bits.{Word, bit, octets, ◌⊕◌}
 use Rattle.rules.specs.Codes.{code, information}
 use Rattle.rules.specs.Encoding.{lifted}
 use Rattle.vectors.proofs.Filling.{zero_words}
-use Rattle.catalogue.proofs.offer.Offers.{small, fixed}
+use Rattle.catalogue.proofs.offer.Offers.{fixed}
 use Rattle.word.specs.ownparity.Odd.{odd_together_of}
 use Rattle.word.proofs.received.Handed.{taken_later}
 use Rattle.encoder.specs.parityrows.Rows.{wide_shape, end_rows, informed, completed}
 use Rattle.encoder.proofs.parityrows.Ready.{wide_is, ready_as, all_sent, short_of, short_sent}
 use Rattle.encoder.proofs.wideparity.encode.Goals as goal
-
-pub invariant_of-sent : goal.invariant_of-sent
-invariant_of-sent c =
-    let few = small c.args.code.known in
-    record { few = few.unsent; held = omega (arith, c.requires.1, few.information, few.word) }
 
 pub solve_wide-requires : goal.solve_wide-requires
 solve_wide-requires c =

@@ -13,7 +13,7 @@ use Rattle.rules.specs.Encoding.{lifted}
 use Rattle.rules.specs.Tables.{parity511}
 use Rattle.layout.specs.declared.Shape.{Shape}
 use Rattle.catalogue.specs.offer.Offers.{offer_of}
-use Rattle.catalogue.proofs.offer.Offers.{small, fixed}
+use Rattle.catalogue.proofs.offer.Offers.{fixed}
 use Rattle.catalogue.specs.tables.Flat.{Lends, flat16, pairs}
 use Rattle.catalogue.proofs.tables.Lending.{by_size_lem}
 use Rattle.vectors.proofs.Firsts.{first_digit}
@@ -42,11 +42,6 @@ invariant_of-parity c =
     let k = c.args.received.code.known in
     let e : 511 ≡ (offer_of k.number).shape.size = sym c.requires ∙ ap (λ o. o.shape.size) k.is in
     record { fit = (lent k.number k.offers e _ c.lend511.ensures).fit }
-
-pub invariant_of-sent : goal.invariant_of-sent
-invariant_of-sent c =
-    let few = small c.args.received.code.known in
-    record { few = few.unsent; held = omega (arith, few.word, c.args.received.whole) }
 
 pub first_group-v-requires : goal.first_group-v-requires
 first_group-v-requires c =
