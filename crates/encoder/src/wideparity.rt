@@ -20,6 +20,7 @@ use catalogue::offer::{KnownOffer, NEAR_EARTH};
 use catalogue::tables;
 use layout::{BLOCK, DOUBLED, Parity, SYNDROME, Shape, TABLE};
 use syndromes::addends::Doubled;
+use word::received::Sent;
 use word::{ownparity, received};
 
 // M = 511.
@@ -131,18 +132,17 @@ fn invert(odd: u64, z: &mut [u64; SYNDROME])
 // Cuts information block b straight from the octets and doubles it into d; part has room for a block. The number has one bit more, set
 // where the block's bits are odd in number.
 fn double_block(
-    octets: &[u8],
-    unsent: usize,
+    sent: Sent,
     b: usize,
     odd: u64,
     part: &mut [u64; BLOCK],
     d: &mut [u64; DOUBLED],
 ) -> u64
-    requires { (b < 14) × (odd < 2 ^ 14) × (7154 ≤ 8 * length octets.now + unsent) × (length octets.now ≤ 1022) × (unsent ≤ 18) }
-    ensures odd { result ≡ 2 * odd + tally (odd_block (later unsent (bit octets.now)) b) }
-    ensures twofold { wbit d.new ≡ doubled 511 (later unsent (bit octets.now)) b }
+    requires { (b < 14) × (odd < 2 ^ 14) × (7154 ≤ 8 * length sent.octets.now + sent.unsent) }
+    ensures odd { result ≡ 2 * odd + tally (odd_block (later sent.entry.unsent (bit sent.entry.octets.now)) b) }
+    ensures twofold { wbit d.new ≡ doubled 511 (later sent.entry.unsent (bit sent.entry.octets.now)) b }
 {
-    received::cut_block(octets, unsent, b, part);
+    received::cut_block(sent, b, part);
     let more = 2 * odd + ownparity::odd_of(part);
     vectors::double(part, 511, d);
     more
@@ -150,8 +150,7 @@ fn double_block(
 
 // Adds information block b to the rows, by way of part and d. The number has one bit more, as above.
 fn add_wide_block(
-    octets: &[u8],
-    unsent: usize,
+    sent: Sent,
     b: usize,
     odd: u64,
     parity: Parity,
@@ -160,38 +159,38 @@ fn add_wide_block(
     z: &mut [u64; SYNDROME],
 ) -> u64
     requires { (parity.shape.size ≡ 511) × (parity.shape.words ≡ 8) × (parity.shape.blocks ≡ 16) × (b < 14) × (odd < 2 ^ 14)
-        × (7154 ≤ 8 * length octets.now + unsent) × (length octets.now ≤ 1022) × (unsent ≤ 18) }
-    ensures odd { result ≡ 2 * odd + tally (odd_block (later unsent (bit octets.now)) b) }
+        × (7154 ≤ 8 * length sent.octets.now + sent.unsent) }
+    ensures odd { result ≡ 2 * odd + tally (odd_block (later sent.entry.unsent (bit sent.entry.octets.now)) b) }
     ensures rows { wbit z.new ≡ plus (wbit z.old)
-        (block_rows parity.entry b (turned (doubled parity.entry.shape.size (later unsent (bit octets.now)) b))) }
+        (block_rows parity.entry b (turned (doubled parity.entry.shape.size (later sent.entry.unsent (bit sent.entry.octets.now)) b))) }
 {
-    let more = double_block(octets, unsent, b, odd, part, d);
+    let more = double_block(sent, b, odd, part, d);
     syndromes::add_block(Doubled { words: d }, parity, b, z);
     more
 }
 
 // Adds the information blocks to the rows. The number has a bit for each block, set where its bits are odd in number.
-fn add_wide(octets: &[u8], unsent: usize, parity: Parity, z: &mut [u64; SYNDROME]) -> u64
+fn add_wide(sent: Sent, parity: Parity, z: &mut [u64; SYNDROME]) -> u64
     requires { (parity.shape.size ≡ 511) × (parity.shape.words ≡ 8) × (parity.shape.blocks ≡ 16)
-        × (7154 ≤ 8 * length octets.now + unsent) × (length octets.now ≤ 1022) × (unsent ≤ 18) × (wbit z.old ≡ (λ i. false)) }
-    ensures odd { (result < 2 ^ 14) × (result ≡ number 14 (odd_block (later unsent (bit octets.now)))) }
-    ensures rows { wbit z.new ≡ word_rows parity.entry (later unsent (bit octets.now)) 14 }
+        × (7154 ≤ 8 * length sent.octets.now + sent.unsent) × (wbit z.old ≡ (λ i. false)) }
+    ensures odd { (result < 2 ^ 14) × (result ≡ number 14 (odd_block (later sent.entry.unsent (bit sent.entry.octets.now)))) }
+    ensures rows { wbit z.new ≡ word_rows parity.entry (later sent.entry.unsent (bit sent.entry.octets.now)) 14 }
 {
     let mut part = [0u64; BLOCK];
     let mut d = [0u64; DOUBLED];
     let mut odd: u64 = 0;
     for b in 0..14 {
-        odd = add_wide_block(octets, unsent, b, odd, parity, &mut part, &mut d, z);
+        odd = add_wide_block(sent, b, odd, parity, &mut part, &mut d, z);
     }
     odd
 }
 
 // The checks that the information breaks while the parity is 0, into z, which is handed over as zeros; and the number for all 16 blocks.
-fn lay_wide(octets: &[u8], unsent: usize, sh: Shape, z: &mut [u64; SYNDROME]) -> u64
-    requires { Shaped sh × (sh ≡ wide_shape) × (7154 ≤ 8 * length octets.now + unsent) × (length octets.now ≤ 1022)
-        × (unsent ≤ 18) × (wbit z.old ≡ (λ i. false)) }
+fn lay_wide(sent: Sent, sh: Shape, z: &mut [u64; SYNDROME]) -> u64
+    requires { Shaped sh × (sh ≡ wide_shape) × (7154 ≤ 8 * length sent.octets.now + sent.unsent) × (wbit z.old ≡ (λ i. false)) }
     ensures kept { Kept sh (wbit z.new) }
-    ensures checks { (n : ℕ) (x : Word) → offered n ≡ true → sh ≡ (offer_of n).shape → x ≡ later unsent (bit octets.now)
+    ensures checks { (n : ℕ) (x : Word) → offered n ≡ true → sh ≡ (offer_of n).shape
+        → x ≡ later sent.entry.unsent (bit sent.entry.octets.now)
         → x ≡ up_to (information (code_of n)) x → (result ≡ number 16 (odd_block x)) × (wbit z.new ≡ laid (code_of n) sh x) }
 {
     let mut h = [0u16; TABLE];
@@ -200,19 +199,19 @@ fn lay_wide(octets: &[u8], unsent: usize, sh: Shape, z: &mut [u64; SYNDROME]) ->
         places: &h,
         shape: sh,
     };
-    let odd = add_wide(octets, unsent, parity, z);
+    let odd = add_wide(sent, parity, z);
     syndromes::trim_rows(z, sh);
     4 * odd
 }
 
 // The parity of the information of a near-Earth code, row after row, into z, which is handed over as zeros.
-fn solve_wide(octets: &[u8], unsent: usize, sh: Shape, z: &mut [u64; SYNDROME])
-    requires { Shaped sh × (sh ≡ wide_shape) × (7154 ≤ 8 * length octets.now + unsent) × (length octets.now ≤ 1022)
-        × (unsent ≤ 18) × (wbit z.old ≡ (λ i. false)) }
-    ensures { (n : ℕ) (x : Word) → offered n ≡ true → sh ≡ (offer_of n).shape → x ≡ later unsent (bit octets.now)
+fn solve_wide(sent: Sent, sh: Shape, z: &mut [u64; SYNDROME])
+    requires { Shaped sh × (sh ≡ wide_shape) × (7154 ≤ 8 * length sent.octets.now + sent.unsent) × (wbit z.old ≡ (λ i. false)) }
+    ensures { (n : ℕ) (x : Word) → offered n ≡ true → sh ≡ (offer_of n).shape
+        → x ≡ later sent.entry.unsent (bit sent.entry.octets.now)
         → x ≡ up_to (information (code_of n)) x → wbit z.new ≡ held sh (λ r i. end_rows n sh.size x r i ⊕ odd_together_of x r) }
 {
-    let odd = lay_wide(octets, unsent, sh, z);
+    let odd = lay_wide(sent, sh, z);
     walk_wide(sh, z);
     invert(odd, z);
 }
@@ -226,6 +225,10 @@ pub fn encode(code: KnownOffer, information: &[u8], word: &mut [u8])
     let o = code.offer;
     let sh = NEAR_EARTH;
     let mut z = [0u64; SYNDROME];
-    solve_wide(information, o.unsent, sh, &mut z);
+    let sent = Sent {
+        octets: information,
+        unsent: o.unsent,
+    };
+    solve_wide(sent, sh, &mut z);
     parityrows::write(information, 7154 - o.unsent, &z, sh, 0, word);
 }

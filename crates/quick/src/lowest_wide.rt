@@ -13,7 +13,7 @@ use catalogue::offer::NEAR_EARTH;
 use catalogue::tables;
 use layout::{BLOCK, Parity, Shape, TABLE, WORD};
 use word::received;
-use word::received::Received;
+use word::received::{Received, Sent};
 
 // The 64 bits of the octets from bit p on, of nine octets.
 fn octets_from(octets: &[u8], p: usize) -> u64
@@ -39,11 +39,13 @@ fn octets_to(octets: &[u8], p: usize) -> u64
     octets_from(octets, p)
 }
 
-// The same of the word that the checks are over, of which the first u bits are not sent.
-fn lifted_from(octets: &[u8], u: usize, p: usize) -> u64
-    requires { (p + 65 ≤ 8 * length octets.now + u) × (u ≤ 18) × (9 ≤ length octets.now) × (length octets.now ≤ 1022) }
-    ensures { (c : Code) → u ≡ c.unsent → Holds result (from p (lifted c (bit octets.now))) }
+// The same of the word that the checks are over, with the bits that are not sent.
+fn lifted_from(sent: Sent, p: usize) -> u64
+    requires { (p + 65 ≤ 8 * length sent.octets.now + sent.unsent) × (9 ≤ length sent.octets.now) }
+    ensures { (c : Code) → sent.entry.unsent ≡ c.unsent → Holds result (from p (lifted c (bit sent.entry.octets.now))) }
 {
+    let octets = sent.octets;
+    let u = sent.unsent;
     if p < u {
         return vectors::eight(octets, 0) >> (u - p);
     }
@@ -52,18 +54,18 @@ fn lifted_from(octets: &[u8], u: usize, p: usize) -> u64
 
 // What the shift s adds to the first 64 checks of a row, where the block has the m bits from bit p on. Its last 64 bits and its first ones
 // are read where it goes round.
-fn wide_entry(octets: &[u8], u: usize, p: usize, m: usize, s: usize) -> u64
-    requires { (130 ≤ m) × (p + m ≤ 8 * length octets.now + u) × (u ≤ 18) × (9 ≤ length octets.now) × (length octets.now ≤ 1022) }
-    ensures { (c : Code) → u ≡ c.unsent → Holds result (reached m (lifted c (bit octets.now)) p s) }
+fn wide_entry(sent: Sent, p: usize, m: usize, s: usize) -> u64
+    requires { (130 ≤ m) × (p + m ≤ 8 * length sent.octets.now + sent.unsent) × (9 ≤ length sent.octets.now) }
+    ensures { (c : Code) → sent.entry.unsent ≡ c.unsent → Holds result (reached m (lifted c (bit sent.entry.octets.now)) p s) }
 {
     let end = m - 64;
     if s < end {
-        return lifted_from(octets, u, p + s);
+        return lifted_from(sent, p + s);
     }
     if s < m {
         return vectors::funnel(
-            octets_to(octets, p + end - u),
-            lifted_from(octets, u, p),
+            octets_to(sent.octets, p + end - sent.unsent),
+            lifted_from(sent, p),
             s - end,
         );
     }
@@ -71,18 +73,17 @@ fn wide_entry(octets: &[u8], u: usize, p: usize, m: usize, s: usize) -> u64
 }
 
 // The first 64 checks of row 0.
-fn first_group(octets: &[u8], u: usize, parity: Parity) -> u64
+fn first_group(sent: Sent, parity: Parity) -> u64
     requires { (1 ≤ parity.shape.rows) × (130 ≤ parity.shape.size)
-        × (parity.shape.blocks * parity.shape.size ≤ 8 * length octets.now + u) × (u ≤ 18)
-        × (9 ≤ length octets.now) × (length octets.now ≤ 1022) }
-    ensures { (c : Code) → u ≡ c.unsent → Has 64 result
-        (group parity.entry.shape parity.entry.places.now (lifted c (bit octets.now)) 0 (2 * parity.entry.shape.blocks)) }
+        × (parity.shape.blocks * parity.shape.size ≤ 8 * length sent.octets.now + sent.unsent) × (9 ≤ length sent.octets.now) }
+    ensures { (c : Code) → sent.entry.unsent ≡ c.unsent → Has 64 result
+        (group parity.entry.shape parity.entry.places.now (lifted c (bit sent.entry.octets.now)) 0 (2 * parity.entry.shape.blocks)) }
 {
     let h = parity.places;
     let sh = parity.shape;
     let mut v: u64 = 0;
     for k in 0..2 * sh.blocks {
-        v ^= wide_entry(octets, u, k / 2 * sh.size, sh.size, h[k] as usize);
+        v ^= wide_entry(sent, k / 2 * sh.size, sh.size, h[k] as usize);
     }
     v
 }
@@ -182,14 +183,13 @@ fn wide_rows_lowest(d: &[u64], parity: Parity) -> u32
 }
 
 // The lowest broken check of a word that is laid out whole.
-fn whole_lowest(octets: &[u8], u: usize, parity: Parity) -> u32
-    requires { Full parity.places.now parity.shape × (448 < parity.shape.size) × (parity.shape.blocks ≡ 16) × (u ≤ 18)
-        × (length octets.now ≤ 1022) }
-    ensures { (c : Code) → Lent c parity.entry.places.now parity.entry.shape → u ≡ c.unsent
-        → result ≡ lowest_of c (lifted c (bit octets.now)) }
+fn whole_lowest(sent: Sent, parity: Parity) -> u32
+    requires { Full parity.places.now parity.shape × (448 < parity.shape.size) × (parity.shape.blocks ≡ 16) }
+    ensures { (c : Code) → Lent c parity.entry.places.now parity.entry.shape → sent.entry.unsent ≡ c.unsent
+        → result ≡ lowest_of c (lifted c (bit sent.entry.octets.now)) }
 {
     let mut y = [0u64; WORD];
-    received::take(octets, u, &mut y);
+    received::take(sent, &mut y);
     let mut d = [0u64; 256];
     double_blocks(&y, parity.shape, &mut d);
     wide_rows_lowest(&d, parity)
@@ -209,9 +209,13 @@ pub fn lowest(received: Received) -> u32
         places: &h,
         shape: NEAR_EARTH,
     };
-    let v = first_group(received.word, o.unsent, parity);
+    let sent = Sent {
+        octets: received.word,
+        unsent: o.unsent,
+    };
+    let v = first_group(sent, parity);
     if v != 0 {
         return u64::leading_zeros(v);
     }
-    whole_lowest(received.word, o.unsent, parity)
+    whole_lowest(sent, parity)
 }

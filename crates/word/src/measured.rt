@@ -10,7 +10,7 @@ ghost use Rattle.word.specs.measured.Measured.{Size, Blank, Measured};
 ghost use Rattle.layout.specs.Rooms.{syndrome_room, table_room, word_room};
 
 use super::received;
-use super::received::Received;
+use super::received::{Received, Sent};
 use catalogue::tables;
 use layout::{Parity, SYNDROME, Shape, TABLE, WORD};
 
@@ -42,12 +42,13 @@ pub fn checks(size: usize, y: &[u64; WORD], h: &mut [u16; TABLE], z: &mut [u64; 
 }
 
 // What is measured, by the two numbers of a code's record that it takes: the record itself would be written out for each call.
-fn measure_by(unsent: usize, size: usize, word: &[u8], room: &mut Room) -> Shape
-    requires { Size size × (unsent ≤ 18) × (length word.now ≤ 1022) × Blank room.old.y room.old.z }
-    ensures { (n : ℕ) → offered n ≡ true → unsent ≡ (offer_of n).unsent → size ≡ (offer_of n).shape.size → (result ≡ (offer_of n).shape)
-        × Measured n word.now room.new.h (wbit room.new.y) (wbit room.new.z) result }
+fn measure_by(sent: Sent, size: usize, room: &mut Room) -> Shape
+    requires { Size size × Blank room.old.y room.old.z }
+    ensures { (n : ℕ) → offered n ≡ true → sent.entry.unsent ≡ (offer_of n).unsent → size ≡ (offer_of n).shape.size
+        → (result ≡ (offer_of n).shape)
+        × Measured n sent.entry.octets.now room.new.h (wbit room.new.y) (wbit room.new.z) result }
 {
-    received::take(word, unsent, &mut room.y);
+    received::take(sent, &mut room.y);
     checks(size, &room.y, &mut room.h, &mut room.z)
 }
 
@@ -70,6 +71,10 @@ impl Room {
             → Measured n received.entry.word.now self.new.h (wbit self.new.y) (wbit self.new.z) result) }
     {
         let o = received.code.offer;
-        measure_by(o.unsent, o.shape.size, received.word, self)
+        let sent = Sent {
+            octets: received.word,
+            unsent: o.unsent,
+        };
+        measure_by(sent, o.shape.size, self)
     }
 }

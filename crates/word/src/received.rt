@@ -17,11 +17,22 @@ pub struct Received<'a> {
     pub ghost whole: { length word.now ≡ code.offer.word },
 }
 
+// Octets as they are sent, and how many of the word's bits stand in front of them and are not.
+#[derive(Clone, Copy)]
+pub struct Sent<'a> {
+    pub octets: &'a [u8],
+    pub unsent: usize,
+    pub ghost few: { unsent ≤ 18 },
+    pub ghost held: { length octets.now ≤ 1022 },
+}
+
 // The bits that the checks are over, from octets that are handed in, into a vector of zeros; the unsent ones stand in front as zeros.
-pub fn take(octets: &[u8], unsent: usize, y: &mut [u64])
-    requires { (length octets.now ≤ 1022) × (unsent ≤ 18) × (length y.old ≡ word_room) × (wbit y.old ≡ (λ n. false)) }
-    ensures { (c : Code) → unsent ≡ c.unsent → wbit y.new ≡ lifted c (bit octets.now) }
+pub fn take(sent: Sent, y: &mut [u64])
+    requires { (length y.old ≡ word_room) × (wbit y.old ≡ (λ n. false)) }
+    ensures { (c : Code) → sent.entry.unsent ≡ c.unsent → wbit y.new ≡ lifted c (bit sent.entry.octets.now) }
 {
+    let octets = sent.octets;
+    let unsent = sent.unsent;
     if unsent > 0 {
         vectors::load_later(octets, unsent, y);
     } else {
@@ -79,32 +90,32 @@ fn cut(octets: &[u8], p: usize, v: &mut [u64])
 }
 
 // The first 511 bits, cut short by the unsent ones.
-fn cut_short(octets: &[u8], unsent: usize, v: &mut [u64])
-    requires { (64 ≤ length octets.now) × (length octets.now ≤ 1022) × (unsent ≤ 18) × (length v.old ≡ 8) }
-    ensures { wbit v.new ≡ up_to (511 - unsent) (up_to 511 (from 0 (bit octets.now))) }
+fn cut_short(sent: Sent, v: &mut [u64])
+    requires { (64 ≤ length sent.octets.now) × (length v.old ≡ 8) }
+    ensures { wbit v.new ≡ up_to (511 - sent.entry.unsent) (up_to 511 (from 0 (bit sent.entry.octets.now))) }
 {
-    cut(octets, 0, v);
-    vectors::trim(v, 511 - unsent);
+    cut(sent.octets, 0, v);
+    vectors::trim(v, 511 - sent.unsent);
 }
 
 // The first 511 bits, the unsent ones in front as zeros.
-fn cut_first(octets: &[u8], unsent: usize, v: &mut [u64])
-    requires { (64 ≤ length octets.now) × (length octets.now ≤ 1022) × (unsent ≤ 18) × (length v.old ≡ 8) }
-    ensures { wbit v.new ≡ up_to 511 (later unsent (bit octets.now)) }
+fn cut_first(sent: Sent, v: &mut [u64])
+    requires { (64 ≤ length sent.octets.now) × (length v.old ≡ 8) }
+    ensures { wbit v.new ≡ up_to 511 (later sent.entry.unsent (bit sent.entry.octets.now)) }
 {
-    cut_short(octets, unsent, v);
-    vectors::lift(v, unsent);
+    cut_short(sent, v);
+    vectors::lift(v, sent.unsent);
 }
 
 // Block b of a near-Earth word, from octets that reach as far, with the unsent bits in front as zeros.
-pub fn cut_block(octets: &[u8], unsent: usize, b: usize, v: &mut [u64])
-    requires { (b < 16) × (b * 511 + 511 ≤ 8 * length octets.now + unsent) × (64 ≤ length octets.now) × (length octets.now ≤ 1022)
-        × (unsent ≤ 18) × (length v.old ≡ 8) }
-    ensures { wbit v.new ≡ up_to 511 (from (b * 511) (later unsent (bit octets.now))) }
+pub fn cut_block(sent: Sent, b: usize, v: &mut [u64])
+    requires { (b < 16) × (b * 511 + 511 ≤ 8 * length sent.octets.now + sent.unsent) × (64 ≤ length sent.octets.now)
+        × (length v.old ≡ 8) }
+    ensures { wbit v.new ≡ up_to 511 (from (b * 511) (later sent.entry.unsent (bit sent.entry.octets.now))) }
 {
     if b == 0 {
-        cut_first(octets, unsent, v);
+        cut_first(sent, v);
     } else {
-        cut(octets, b * 511 - unsent, v);
+        cut(sent.octets, b * 511 - sent.unsent, v);
     }
 }

@@ -15,18 +15,18 @@ use Rattle.encoder.proofs.wideparity.add_wide.Goals as goal
 pub loop-b-init : goal.loop-b-init
 loop-b-init c =
     let a = c.args in
-    let x = later a.unsent (bit a.octets.now) in (
+    let x = later a.sent.unsent (bit a.sent.octets.now) in (
       omega arith,
       omega arith,
       number_start (odd_block x),
-      c.requires.6 ∙ summed_none a.parity.places.now a.parity.shape c.args.parity.fit x,
+      c.requires.4 ∙ summed_none a.parity.places.now a.parity.shape c.args.parity.fit x,
     )
 
 pub loop-b-preserved : goal.loop-b-preserved
 loop-b-preserved c =
     let a = c.args in
     let l = c.loop-b in
-    let x = later a.unsent (bit a.octets.now) in
+    let x = later a.sent.unsent (bit a.sent.octets.now) in
     let sh = a.parity.shape in
     let block = c.add_wide_block-odd in
     let e : block.result ≡ number (l.b + 1) (odd_block x) =
@@ -44,7 +44,7 @@ pub returns : goal.returns
 returns c =
     let a = c.args in
     let l = c.loop-b in
-    let x = later a.unsent (bit a.octets.now) in
+    let x = later a.sent.unsent (bit a.sent.octets.now) in
     let all : l.b ≡ 14 = omega arith in
     record {
       odd = (l.invariant.1, l.invariant.2 ∙ ap (λ (n : ℕ). number n (odd_block x)) all);

@@ -9,6 +9,6 @@ use Rattle.encoder.proofs.wideparity.add_wide.Given as goal
 
 abbrev pub invariant-loop-b : goal.invariant-loop-b
 invariant-loop-b l =
-    let x = later l.unsent (bit l.octets) in
+    let x = later l.sent.unsent (bit l.sent.octets.now) in
     (l.b ≤ 14) × (l.odd < 2 ^ 14) × (l.odd ≡ number l.b (odd_block x))
     × (wbit l.z ≡ word_rows l.parity x l.b)

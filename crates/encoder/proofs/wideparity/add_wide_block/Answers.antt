@@ -10,7 +10,7 @@ pub returns : goal.returns
 returns c =
     let a = c.args in
     let sh = a.parity.shape in
-    let x = later a.unsent (bit a.octets.now) in
+    let x = later a.sent.unsent (bit a.sent.octets.now) in
     let block = c.double_block-more in record {
       odd = block.ensures.odd;
       rows = c.add_block.ensures

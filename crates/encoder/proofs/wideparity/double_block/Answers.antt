@@ -12,7 +12,7 @@ use Rattle.encoder.proofs.wideparity.double_block.Goals as goal
 pub double-requires : goal.double-requires
 double-requires c =
     let cut = c.cut_block in
-    let x = later c.args.unsent (bit c.args.octets.now) in (
+    let x = later c.args.sent.unsent (bit c.args.sent.octets.now) in (
       up_to_again 511 (from (c.args.b * 511) x) (wbit cut.new.v) cut.ensures,
       search rules,
       search rules,
@@ -23,7 +23,7 @@ double-requires c =
 pub returns : goal.returns
 returns c =
     let a = c.args in
-    let x = later a.unsent (bit a.octets.now) in
+    let x = later a.sent.unsent (bit a.sent.octets.now) in
     let cut = c.cut_block in
     let odd = c.odd_of in
     let room : 511 ≤ length cut.new.v * 64 = search rules in

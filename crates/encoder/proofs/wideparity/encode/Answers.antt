@@ -6,7 +6,7 @@ use Rattle.bits.specs.Bits.{Word, bit, octets, ◌⊕◌}
 use Rattle.rules.specs.Codes.{code, information}
 use Rattle.rules.specs.Encoding.{lifted}
 use Rattle.vectors.proofs.Filling.{zero_words}
-use Rattle.catalogue.proofs.offer.Offers.{small, fixed}
+use Rattle.catalogue.proofs.offer.Offers.{fixed}
 use Rattle.word.specs.ownparity.Odd.{odd_together_of}
 use Rattle.word.proofs.received.Handed.{taken_later}
 use Rattle.encoder.specs.parityrows.Rows.{wide_shape, end_rows, informed, completed}
@@ -17,13 +17,10 @@ pub solve_wide-requires : goal.solve_wide-requires
 solve_wide-requires c =
     let k = c.args.code.known in
     let same = wide_is k.number k.offers k.is c.requires.0 in
-    let ok = ready_as k.number k.offers k.is same in
-    let few = small k in (
+    let ok = ready_as k.number k.offers k.is same in (
       record { number = k.number; offers = k.offers; is = sym same ∙ ap (λ z. z.shape) k.is },
       refl,
       omega (arith, ok.enough, c.requires.1, ap (λ z. z.information) k.is, ap (λ z. z.unsent) k.is),
-      omega (arith, c.requires.1, few.information, few.word),
-      few.unsent,
       zero_words 16,
     )
 

@@ -22,7 +22,7 @@ returns c =
     let wideness = c.requires.1 in
     let t = c.lend511 in
     let added = c.add_wide-odd.ensures in
-    let sums = summed sh t.new.h (later c.args.unsent (bit c.args.octets.now)) 14 in
+    let sums = summed sh t.new.h (later c.args.sent.unsent (bit c.args.sent.octets.now)) 14 in
     let cut = c.trim_rows.ensures
     ∙ ap (λ (z : Word). within (wide sh) sh.size sh.rows z) added.rows in
     let some = wide_some sh (ready k.number k.offers sh k.is).fits in

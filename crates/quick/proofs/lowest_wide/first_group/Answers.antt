@@ -15,7 +15,7 @@ use Rattle.quick.proofs.lowest_wide.first_group.Goals as goal
 pub loop-k-init : goal.loop-k-init
 loop-k-init c =
     let a = c.args in
-    (omega arith, λ code e i hi. group_none a.parity.shape a.parity.places.now (lifted code (bit a.octets.now)) 0 i)
+    (omega arith, λ code e i hi. group_none a.parity.shape a.parity.places.now (lifted code (bit a.sent.octets.now)) 0 i)
 
 pub loop-k-preserved : goal.loop-k-preserved
 loop-k-preserved c =
@@ -27,7 +27,7 @@ loop-k-preserved c =
     let here = read_any h l.k 0 sh.size (omega (arith, inside.0)) ∙ ap (λ q. get_or h q sh.size) at in (
       omega arith,
       λ code e i hi.
-          let x = lifted code (bit c.args.octets.now) in
+          let x = lifted code (bit c.args.sent.octets.now) in
           digit_xor 64 l.v c.wide_entry-v.result i
           ∙ ap₂ ◌⊕◌ (l.invariant.1 code e i hi)
           (c.wide_entry-v.ensures code e i hi ∙ ap (λ z. reached sh.size x (l.k / 2 * sh.size) z i) here)
@@ -40,4 +40,4 @@ returns c =
     let l = c.loop-k in
     let sh = a.parity.shape in
     let e : l.k ≡ 2 * sh.blocks = omega arith in
-    λ code eu i hi. l.invariant.1 code eu i hi ∙ ap (λ (k : ℕ). group sh a.parity.places.now (lifted code (bit a.octets.now)) 0 k i) e
+    λ code eu i hi. l.invariant.1 code eu i hi ∙ ap (λ (k : ℕ). group sh a.parity.places.now (lifted code (bit a.sent.octets.now)) 0 k i) e

@@ -10,4 +10,5 @@ use Rattle.quick.proofs.lowest_wide.first_group.Given as goal
 abbrev pub invariant-loop-k : goal.invariant-loop-k
 invariant-loop-k l =
     let sh = l.parity.shape in
-    (l.k ≤ 2 * sh.blocks) × ((c : Code) → l.u ≡ c.unsent → Has 64 l.v (group sh l.parity.places.now (lifted c (bit l.octets)) 0 l.k))
+    (l.k ≤ 2 * sh.blocks)
+    × ((c : Code) → l.sent.unsent ≡ c.unsent → Has 64 l.v (group sh l.parity.places.now (lifted c (bit l.sent.octets.now)) 0 l.k))

@@ -13,7 +13,7 @@ use Rattle.rules.specs.Encoding.{lifted}
 use Rattle.rules.specs.Tables.{parity511}
 use Rattle.layout.specs.declared.Shape.{Shape}
 use Rattle.catalogue.specs.offer.Offers.{offer_of}
-use Rattle.catalogue.proofs.offer.Offers.{small, fixed}
+use Rattle.catalogue.proofs.offer.Offers.{fixed}
 use Rattle.catalogue.specs.tables.Flat.{Lends, flat16, pairs}
 use Rattle.catalogue.proofs.tables.Lending.{by_size_lem}
 use Rattle.vectors.proofs.Firsts.{first_digit}
@@ -49,14 +49,11 @@ first_group-v-requires c =
     let e : 511 ≡ (offer_of k.number).shape.size = sym c.requires ∙ ap (λ o. o.shape.size) k.is in
     let w = (checked k.number k.offers).wide (sym e) in
     let word = c.args.received.whole ∙ ap (λ o. o.word) k.is in
-    let unsent = ap (λ o. o.unsent) k.is in
-    let few = small k in (
+    let unsent = ap (λ o. o.unsent) k.is in (
       lit≤ tt,
       lit≤ tt,
       omega (arith, w.0, word, unsent),
-      few.unsent,
       omega (arith, w.0, w.1, word),
-      omega (arith, few.word, c.args.received.whole),
     )
 
 pub returns-then-v-ne0 : goal.returns-then-v-ne0
@@ -72,9 +69,7 @@ returns-then-v-ne0 c n off is =
     f.inside f.here f.clear (λ j h. absurd (omega arith))
 
 pub whole_lowest-requires : goal.whole_lowest-requires
-whole_lowest-requires c =
-    let few = small c.args.received.code.known in
-    (full _ c.lend511.ensures, lit< tt, refl, few.unsent, omega (arith, few.word, c.args.received.whole))
+whole_lowest-requires c = (full _ c.lend511.ensures, lit< tt, refl)
 
 pub returns : goal.returns
 returns c n off is =

@@ -7,12 +7,11 @@ use Rattle.quick.specs.groups.Groups.{Twofold}
 use Rattle.quick.proofs.lowest_wide.whole_lowest.Goals as goal
 
 pub take-requires : goal.take-requires
-take-requires c =
-    (c.requires.4, c.requires.3, refl, zero_words 130)
+take-requires c = (refl, zero_words 130)
 
 pub returns : goal.returns
 returns c code lent e =
     let bits = c.take.ensures code e in
     let two = c.double_blocks in
-    c.wide_rows_lowest.ensures code (lifted code (bit c.args.octets.now)) lent
+    c.wide_rows_lowest.ensures code (lifted code (bit c.args.sent.octets.now)) lent
     (subst (λ (x : Word). Twofold c.args.parity.shape.blocks c.args.parity.shape.size x two.new.d) bits two.ensures)

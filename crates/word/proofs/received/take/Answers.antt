@@ -7,8 +7,8 @@ use Rattle.word.proofs.received.take.Goals as goal
 
 pub returns-then-unsent-gt0 : goal.returns-then-unsent-gt0
 returns-then-unsent-gt0 c =
-    λ k e. c.load_later.ensures ∙ taken_later k c.args.unsent e (bit c.args.octets.now)
+    λ k e. c.load_later.ensures ∙ taken_later k c.args.sent.unsent e (bit c.args.sent.octets.now)
 
 pub returns-else-unsent-gt0 : goal.returns-else-unsent-gt0
 returns-else-unsent-gt0 c =
-    λ k e. c.load.ensures ∙ taken_whole k (omega arith) (bit c.args.octets.now)
+    λ k e. c.load.ensures ∙ taken_whole k (omega arith) (bit c.args.sent.octets.now)
