@@ -2131,6 +2131,12 @@ static inline void syndromes_flip(uint64_t *restrict y, uint64_t *restrict z, la
 
 /* One word: as received, what is measured of it, what is made of a quiet one, in how many bits two differ. */
 
+/* Octets as they are sent, and how many of the word's bits stand in front of them and are not. */
+typedef struct word_received_Sent {
+    lent_uint8_t octets;
+    uint64_t unsent;
+} word_received_Sent;
+
 /* For each parity block, 1 if an odd number of bits are set of the blocks that it is counted with. */
 typedef struct word_ownparity_Together {
     uint64_t first;
@@ -2182,27 +2188,26 @@ static inline void word_received_cut(const uint8_t *octets, uint64_t p, uint64_t
 }
 
 /* The first 511 bits, cut short by the unsent ones. */
-static inline void word_received_cut_short(const uint8_t *octets, uint64_t unsent, uint64_t *restrict v, uint64_t v_len)
+static inline void word_received_cut_short(word_received_Sent sent, uint64_t *restrict v, uint64_t v_len)
 {
-    word_received_cut(octets, 0, v);
-    vectors_trim(v, v_len, 511 - unsent);
+    word_received_cut(sent.octets.at, 0, v);
+    vectors_trim(v, v_len, 511 - sent.unsent);
 }
 
 /* The first 511 bits, the unsent ones in front as zeros. */
-static inline void word_received_cut_first(const uint8_t *octets, uint64_t unsent, uint64_t *restrict v, uint64_t v_len)
+static inline void word_received_cut_first(word_received_Sent sent, uint64_t *restrict v, uint64_t v_len)
 {
-    word_received_cut_short(octets, unsent, v, v_len);
-    vectors_lift(v, v_len, unsent);
+    word_received_cut_short(sent, v, v_len);
+    vectors_lift(v, v_len, sent.unsent);
 }
 
 /* Block b of a near-Earth word, from octets that reach as far, with the unsent bits in front as zeros. */
-static inline void word_received_cut_block(const uint8_t *octets, uint64_t unsent, uint64_t b, uint64_t *restrict v,
-        uint64_t v_len)
+static inline void word_received_cut_block(word_received_Sent sent, uint64_t b, uint64_t *restrict v, uint64_t v_len)
 {
     if (b == 0) {
-        word_received_cut_first(octets, unsent, v, v_len);
+        word_received_cut_first(sent, v, v_len);
     } else {
-        word_received_cut(octets, b * 511 - unsent, v);
+        word_received_cut(sent.octets.at, b * 511 - sent.unsent, v);
     }
 }
 
@@ -2251,13 +2256,14 @@ static inline word_measured_Room word_measured_Room_new(void)
 
 /* The bits that the checks are over, from octets that are handed in, into a vector of zeros; the unsent ones stand
  * in front as zeros. */
-static inline void word_received_take(const uint8_t *octets, uint64_t octets_len, uint64_t unsent,
-        uint64_t *restrict y, uint64_t y_len)
+static inline void word_received_take(word_received_Sent sent, uint64_t *restrict y, uint64_t y_len)
 {
+    lent_uint8_t octets = sent.octets;
+    uint64_t unsent = sent.unsent;
     if (0 < unsent) {
-        vectors_load_later(octets, octets_len, unsent, y);
+        vectors_load_later(octets.at, octets.len, unsent, y);
     } else {
-        vectors_load(octets, octets_len, y, y_len);
+        vectors_load(octets.at, octets.len, y, y_len);
     }
 }
 
@@ -2273,10 +2279,10 @@ static inline layout_Shape word_measured_checks(uint64_t size, const uint64_t *y
 
 /* What is measured, by the two numbers of a code's record that it takes: the record itself would be written out for
  * each call. */
-static inline layout_Shape word_measured_measure_by(uint64_t unsent, uint64_t size, const uint8_t *word,
-        uint64_t word_len, word_measured_Room *restrict room)
+static inline layout_Shape word_measured_measure_by(word_received_Sent sent, uint64_t size,
+        word_measured_Room *restrict room)
 {
-    word_received_take(word, word_len, unsent, room->y, 130);
+    word_received_take(sent, room->y, 130);
     return word_measured_checks(size, room->y, room->h, room->z);
 }
 
@@ -2286,7 +2292,8 @@ static inline layout_Shape word_measured_Room_measure(word_measured_Room *restri
         word_received_Received received)
 {
     catalogue_offer_Offer o = received.code.offer;
-    return word_measured_measure_by(o.unsent, o.shape.size, received.word.at, received.word.len, self);
+    word_received_Sent sent = (word_received_Sent){.octets = received.word, .unsent = o.unsent};
+    return word_measured_measure_by(sent, o.shape.size, self);
 }
 
 /* Whether one of n bits from bit `at` on is set. */
@@ -2630,35 +2637,34 @@ static const uint16_t encoder_narrowparity_narrow_steps_table_45[10] = {
 
 /* Cuts information block b straight from the octets and doubles it into d; part has room for a block. The number has
  * one bit more, set where the block's bits are odd in number. */
-static inline uint64_t encoder_wideparity_double_block(const uint8_t *octets, uint64_t unsent, uint64_t b,
-        uint64_t odd, uint64_t *restrict part, uint64_t *restrict d)
+static inline uint64_t encoder_wideparity_double_block(word_received_Sent sent, uint64_t b, uint64_t odd,
+        uint64_t *restrict part, uint64_t *restrict d)
 {
-    word_received_cut_block(octets, unsent, b, part, 8);
+    word_received_cut_block(sent, b, part, 8);
     uint64_t more = 2 * odd + word_ownparity_odd_of(part, 8);
     vectors_double(part, 511, d, 16);
     return more;
 }
 
 /* Adds information block b to the rows, by way of part and d. The number has one bit more, as above. */
-static inline uint64_t encoder_wideparity_add_wide_block(const uint8_t *octets, uint64_t unsent, uint64_t b,
-        uint64_t odd, layout_Parity parity, uint64_t *restrict part, uint64_t *restrict d, uint64_t *restrict z)
+static inline uint64_t encoder_wideparity_add_wide_block(word_received_Sent sent, uint64_t b, uint64_t odd,
+        layout_Parity parity, uint64_t *restrict part, uint64_t *restrict d, uint64_t *restrict z)
 {
-    uint64_t more = encoder_wideparity_double_block(octets, unsent, b, odd, part, d);
+    uint64_t more = encoder_wideparity_double_block(sent, b, odd, part, d);
     syndromes_add_block_Doubled((syndromes_addends_Doubled){.words = (lent_uint64_t){d, 16}}, parity, b, z);
     return more;
 }
 
 /* Adds the information blocks to the rows. The number has a bit for each block, set where its bits are odd in
  * number. */
-static inline uint64_t encoder_wideparity_add_wide(const uint8_t *octets, uint64_t unsent, layout_Parity parity,
-        uint64_t *restrict z)
+static inline uint64_t encoder_wideparity_add_wide(word_received_Sent sent, layout_Parity parity, uint64_t *restrict z)
 {
     uint64_t part[8] = {0};
     uint64_t d[16] = {0};
     uint64_t odd = 0;
     uint64_t b = 0;
     while (b < 14) {
-        odd = encoder_wideparity_add_wide_block(octets, unsent, b, odd, parity, part, d, z);
+        odd = encoder_wideparity_add_wide_block(sent, b, odd, parity, part, d, z);
         b += 1;
     }
     return odd;
@@ -2666,13 +2672,12 @@ static inline uint64_t encoder_wideparity_add_wide(const uint8_t *octets, uint64
 
 /* The checks that the information breaks while the parity is 0, into z, which is handed over as zeros; and the
  * number for all 16 blocks. */
-static inline uint64_t encoder_wideparity_lay_wide(const uint8_t *octets, uint64_t unsent, layout_Shape sh,
-        uint64_t *restrict z)
+static inline uint64_t encoder_wideparity_lay_wide(word_received_Sent sent, layout_Shape sh, uint64_t *restrict z)
 {
     uint16_t h[64] = {0};
     catalogue_tables_lend511(h);
     layout_Parity parity = (layout_Parity){.places = h, .shape = sh};
-    uint64_t odd = encoder_wideparity_add_wide(octets, unsent, parity, z);
+    uint64_t odd = encoder_wideparity_add_wide(sent, parity, z);
     syndromes_trim_rows(z, sh);
     return 4 * odd;
 }
@@ -2755,10 +2760,9 @@ static inline void encoder_wideparity_invert(uint64_t odd, uint64_t *restrict z)
 }
 
 /* The parity of the information of a near-Earth code, row after row, into z, which is handed over as zeros. */
-static inline void encoder_wideparity_solve_wide(const uint8_t *octets, uint64_t unsent, layout_Shape sh,
-        uint64_t *restrict z)
+static inline void encoder_wideparity_solve_wide(word_received_Sent sent, layout_Shape sh, uint64_t *restrict z)
 {
-    uint64_t odd = encoder_wideparity_lay_wide(octets, unsent, sh, z);
+    uint64_t odd = encoder_wideparity_lay_wide(sent, sh, z);
     encoder_wideparity_walk_wide(sh, z);
     encoder_wideparity_invert(odd, z);
 }
@@ -2845,7 +2849,9 @@ static inline void encoder_wideparity_encode(catalogue_offer_KnownOffer code, co
     catalogue_offer_Offer o = code.offer;
     layout_Shape sh = (layout_Shape){.size = 511, .words = 8, .blocks = 16, .rows = 2};
     uint64_t z[16] = {0};
-    encoder_wideparity_solve_wide(information, o.unsent, sh, z);
+    word_received_Sent sent = (word_received_Sent){.octets = (lent_uint8_t){information, information_len},
+            .unsent = o.unsent};
+    encoder_wideparity_solve_wide(sent, sh, z);
     encoder_parityrows_write(information, information_len, 7154 - o.unsent, z, sh, 0, word, word_len);
 }
 
@@ -4871,13 +4877,15 @@ static inline uint64_t quick_lowest_wide_octets_from(const uint8_t *octets, uint
     return vectors_funnel(vectors_eight(octets, at), (uint64_t)octets[at + 8] << 56, p % 8);
 }
 
-/* The same of the word that the checks are over, of which the first u bits are not sent. */
-static inline uint64_t quick_lowest_wide_lifted_from(const uint8_t *octets, uint64_t u, uint64_t p)
+/* The same of the word that the checks are over, with the bits that are not sent. */
+static inline uint64_t quick_lowest_wide_lifted_from(word_received_Sent sent, uint64_t p)
 {
+    lent_uint8_t octets = sent.octets;
+    uint64_t u = sent.unsent;
     if (p < u) {
-        return vectors_eight(octets, 0) >> (u - p);
+        return vectors_eight(octets.at, 0) >> (u - p);
     }
-    return quick_lowest_wide_octets_from(octets, p - u);
+    return quick_lowest_wide_octets_from(octets.at, p - u);
 }
 
 /* The same where the last of them may be the last of all. */
@@ -4891,22 +4899,21 @@ static inline uint64_t quick_lowest_wide_octets_to(const uint8_t *octets, uint64
 
 /* What the shift s adds to the first 64 checks of a row, where the block has the m bits from bit p on. Its last 64
  * bits and its first ones are read where it goes round. */
-static inline uint64_t quick_lowest_wide_wide_entry(const uint8_t *octets, uint64_t u, uint64_t p, uint64_t m,
-        uint64_t s)
+static inline uint64_t quick_lowest_wide_wide_entry(word_received_Sent sent, uint64_t p, uint64_t m, uint64_t s)
 {
     uint64_t end = m - 64;
     if (s < end) {
-        return quick_lowest_wide_lifted_from(octets, u, p + s);
+        return quick_lowest_wide_lifted_from(sent, p + s);
     }
     if (s < m) {
-        return vectors_funnel(quick_lowest_wide_octets_to(octets, p + end - u),
-                quick_lowest_wide_lifted_from(octets, u, p), s - end);
+        return vectors_funnel(quick_lowest_wide_octets_to(sent.octets.at, p + end - sent.unsent),
+                quick_lowest_wide_lifted_from(sent, p), s - end);
     }
     return 0;
 }
 
 /* The first 64 checks of row 0. */
-static inline uint64_t quick_lowest_wide_first_group(const uint8_t *octets, uint64_t u, layout_Parity parity)
+static inline uint64_t quick_lowest_wide_first_group(word_received_Sent sent, layout_Parity parity)
 {
     const uint16_t *h = parity.places;
     layout_Shape sh = parity.shape;
@@ -4914,7 +4921,7 @@ static inline uint64_t quick_lowest_wide_first_group(const uint8_t *octets, uint
     uint64_t k = 0;
     uint64_t t = 2 * sh.blocks;
     while (k < t) {
-        v ^= quick_lowest_wide_wide_entry(octets, u, k / 2 * sh.size, sh.size, h[k]);
+        v ^= quick_lowest_wide_wide_entry(sent, k / 2 * sh.size, sh.size, h[k]);
         k += 1;
     }
     return v;
@@ -5015,11 +5022,10 @@ static inline uint32_t quick_lowest_wide_wide_rows_lowest(const uint64_t *d, lay
 }
 
 /* The lowest broken check of a word that is laid out whole. */
-static inline uint32_t quick_lowest_wide_whole_lowest(const uint8_t *octets, uint64_t octets_len, uint64_t u,
-        layout_Parity parity)
+static inline uint32_t quick_lowest_wide_whole_lowest(word_received_Sent sent, layout_Parity parity)
 {
     uint64_t y[130] = {0};
-    word_received_take(octets, octets_len, u, y, 130);
+    word_received_take(sent, y, 130);
     uint64_t d[256] = {0};
     quick_lowest_wide_double_blocks(y, parity.shape, d);
     return quick_lowest_wide_wide_rows_lowest(d, parity);
@@ -5035,11 +5041,12 @@ static inline uint32_t quick_lowest_wide_lowest(word_received_Received received)
     catalogue_tables_lend511(h);
     layout_Parity parity = (layout_Parity){.places = h,
             .shape = (layout_Shape){.size = 511, .words = 8, .blocks = 16, .rows = 2}};
-    uint64_t v = quick_lowest_wide_first_group(received.word.at, o.unsent, parity);
+    word_received_Sent sent = (word_received_Sent){.octets = received.word, .unsent = o.unsent};
+    uint64_t v = quick_lowest_wide_first_group(sent, parity);
     if (v != 0) {
         return leading_zeros64(v);
     }
-    return quick_lowest_wide_whole_lowest(received.word.at, received.word.len, o.unsent, parity);
+    return quick_lowest_wide_whole_lowest(sent, parity);
 }
 
 /* What the shift s adds to the checks of a row, where one word holds the block of m bits; d is the block twice over. */
