@@ -1,5 +1,5 @@
 // The bit of greatest excess: the blocks of the greatest bound are weighed, and the bound of one that has no such bit goes down.
-ghost use Rattle.std.specs.Prelude.{◌≡◌, ℕ, ◌*◌, ◌<◌, ◌≤◌, get_or};
+ghost use Rattle.std.specs.Prelude.{◌≡◌, ℕ, ◌*◌, ◌<◌, ◌≤◌, length, get_or};
 ghost use Rattle.bits.specs.Bits.{least};
 ghost use Rattle.vectors.specs.Vectors.{wbit};
 ghost use Rattle.flipping.specs.bounds.Reading.{light};
@@ -15,6 +15,28 @@ use layout::ROWS;
 pub struct Best {
     pub score: u32,
     pub bit: usize,
+}
+
+// The bound of block b, by how many checks its bits have and how many of these every bit has met.
+pub fn bound_of(counts: &[u8], met: &[u8], b: usize) -> u8
+    requires { (b < length counts.now) × (b < length met.now) × (get_or counts.now b 0 ≤ 8)
+        × (get_or met.now b 0 ≤ get_or counts.now b 0) }
+    ensures { result ≡ bound counts.now met.now b }
+{
+    8 + counts[b] - 2 * met[b]
+}
+
+// The greatest bound.
+pub fn greatest(counts: &[u8], met: &[u8], blocks: usize) -> u8
+    requires { (blocks ≤ length counts.now) × (blocks ≤ length met.now)
+        × ((b : ℕ) → b < blocks → (get_or counts.now b 0 ≤ 8) × (get_or met.now b 0 ≤ get_or counts.now b 0)) }
+    ensures { result ≡ highest counts.now met.now blocks }
+{
+    let mut top: u8 = 0;
+    for b in 0..blocks {
+        top = top.max(bound_of(counts, met, b));
+    }
+    top
 }
 
 // The first bit of block b that counts, where bits from bit `from` on do, which is one of block 0.
@@ -62,18 +84,14 @@ impl Bounds {
         requires { b < self.now.places.shape.blocks }
         ensures { result ≡ bound self.now.places.counts self.now.met b }
     {
-        8 + self.places.counts[b] - 2 * self.met[b]
+        bound_of(&self.places.counts, &self.met, b)
     }
 
     // The greatest bound.
     pub fn greatest(&self) -> u8
         ensures { result ≡ highest self.now.places.counts self.now.met self.now.places.shape.blocks }
     {
-        let mut top: u8 = 0;
-        for b in 0..self.places.shape.blocks {
-            top = top.max(self.bound_of(b));
-        }
-        top
+        greatest(&self.places.counts, &self.met, self.places.shape.blocks)
     }
 
     // The first bit of block b that counts and has at most as many of its checks met as the block's bound says; M if there is none.

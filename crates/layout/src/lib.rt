@@ -18,7 +18,7 @@ pub struct Shape {
 // A code's parity table as the engine has it: two places for each block, row after row, and its shape.
 #[derive(Clone, Copy)]
 pub struct Parity<'a> {
-    pub places: &'a [u16; TABLE],
+    pub places: &'a [u16],
     pub shape: Shape,
     pub ghost fit: { Fit places.now shape },
 }
