@@ -1643,7 +1643,7 @@ typedef struct layout_Shape {
 
 /* A code's parity table as the engine has it: two places for each block, row after row, and its shape. */
 typedef struct layout_Parity {
-    const uint16_t *places;
+    lent_uint16_t places;
     layout_Shape shape;
 } layout_Parity;
 
@@ -1889,9 +1889,9 @@ typedef struct syndromes_addends_Covering {
 /* The two places of block b of row r. */
 static inline syndromes_Places syndromes_read_places(layout_Parity parity, uint64_t b, uint64_t r)
 {
-    const uint16_t *h = parity.places;
+    lent_uint16_t h = parity.places;
     uint64_t at = 2 * (r * parity.shape.blocks + b);
-    return (syndromes_Places){.first = h[at], .second = h[at + 1]};
+    return (syndromes_Places){.first = h.at[at], .second = h.at[at + 1]};
 }
 
 static inline void syndromes_addends_DoubledAddend_add(syndromes_addends_Doubled self, uint64_t s, layout_Shape sh,
@@ -2273,7 +2273,7 @@ static inline layout_Shape word_measured_checks(uint64_t size, const uint64_t *y
         uint64_t *restrict z)
 {
     layout_Shape sh = catalogue_tables_lend(size, h);
-    syndromes_syndrome(y, (layout_Parity){.places = h, .shape = sh}, z);
+    syndromes_syndrome(y, (layout_Parity){.places = (lent_uint16_t){h, 64}, .shape = sh}, z);
     return sh;
 }
 
@@ -2676,7 +2676,7 @@ static inline uint64_t encoder_wideparity_lay_wide(word_received_Sent sent, layo
 {
     uint16_t h[64] = {0};
     catalogue_tables_lend511(h);
-    layout_Parity parity = (layout_Parity){.places = h, .shape = sh};
+    layout_Parity parity = (layout_Parity){.places = (lent_uint16_t){h, 64}, .shape = sh};
     uint64_t odd = encoder_wideparity_add_wide(sent, parity, z);
     syndromes_trim_rows(z, sh);
     return 4 * odd;
@@ -2884,7 +2884,7 @@ static inline void encoder_narrowparity_lay_narrow(const uint8_t *octets, uint64
 {
     uint16_t h[64] = {0};
     catalogue_tables_lend_narrow(sh.size, h);
-    layout_Parity parity = (layout_Parity){.places = h, .shape = sh};
+    layout_Parity parity = (layout_Parity){.places = (lent_uint16_t){h, 64}, .shape = sh};
     encoder_narrowparity_add_narrow(octets, octets_len, parity, z);
     syndromes_trim_rows(z, sh);
 }
@@ -3363,12 +3363,12 @@ static inline flipping_narrow_Weights flipping_narrow_with_row(flipping_narrow_W
 static inline flipping_narrow_Weights flipping_narrow_weigh(const uint64_t *rows, layout_Parity parity, uint64_t b,
         uint64_t mask)
 {
-    const uint16_t *h = parity.places;
+    lent_uint16_t h = parity.places;
     layout_Shape sh = parity.shape;
     flipping_narrow_Weights w = (flipping_narrow_Weights){.none = mask, .one = mask, .two = mask, .checks = 0};
     uint64_t r = 0;
     while (r < 4) {
-        w = flipping_narrow_with_row(w, rows[r], h, 2 * (r * sh.blocks + b), sh.size);
+        w = flipping_narrow_with_row(w, rows[r], h.at, 2 * (r * sh.blocks + b), sh.size);
         r += 1;
     }
     return w;
@@ -3518,11 +3518,11 @@ static inline uint64_t flipping_narrow_flip_row(uint64_t row, uint64_t each, con
 static inline void flipping_narrow_flip_rows(uint64_t *restrict rows, layout_Parity parity, uint64_t each, uint64_t b,
         uint64_t k)
 {
-    const uint16_t *h = parity.places;
+    lent_uint16_t h = parity.places;
     layout_Shape sh = parity.shape;
     uint64_t r = 0;
     while (r < 4) {
-        rows[r] = flipping_narrow_flip_row(rows[r], each, h, 2 * (r * sh.blocks + b), k, sh.size);
+        rows[r] = flipping_narrow_flip_row(rows[r], each, h.at, 2 * (r * sh.blocks + b), k, sh.size);
         r += 1;
     }
 }
@@ -3644,11 +3644,11 @@ static inline uint64_t flipping_bounds_note(const uint16_t *h, uint64_t at, uint
 static inline uint64_t flipping_bounds_note_row(layout_Parity parity, uint64_t b, uint64_t r,
         uint16_t *restrict starts, uint64_t n)
 {
-    const uint16_t *h = parity.places;
+    lent_uint16_t h = parity.places;
     layout_Shape sh = parity.shape;
     uint64_t at = 2 * (r * sh.blocks + b);
-    uint64_t next = flipping_bounds_note(h, at, sh.size, 1024 * r, starts, n);
-    return flipping_bounds_note(h, at + 1, sh.size, 1024 * r, starts, next);
+    uint64_t next = flipping_bounds_note(h.at, at, sh.size, 1024 * r, starts, n);
+    return flipping_bounds_note(h.at, at + 1, sh.size, 1024 * r, starts, next);
 }
 
 /* The starts of block b at its eight places, and how many they are. */
@@ -3692,21 +3692,32 @@ static inline flipping_bounds_Bounds flipping_bounds_begin(const uint64_t *z, la
     return bounds;
 }
 
-static inline uint8_t flipping_bounds_Bounds_bound_of(const flipping_bounds_Bounds *p0, uint64_t p1)
+/* The bound of block b, by how many checks its bits have and how many of these every bit has met. */
+static inline uint8_t flipping_choice_bound_of(const uint8_t *counts, const uint8_t *met, uint64_t b)
 {
-    return (uint8_t)(8 + p0->places.counts[p1] - 2 * p0->met[p1]);
+    return (uint8_t)(8 + counts[b] - 2 * met[b]);
+}
+
+/* The greatest bound. */
+static inline uint8_t flipping_choice_greatest(const uint8_t *counts, const uint8_t *met, uint64_t blocks)
+{
+    uint8_t top = 0;
+    uint64_t b = 0;
+    while (b < blocks) {
+        top = core_int_u8_max(top, flipping_choice_bound_of(counts, met, b));
+        b += 1;
+    }
+    return top;
 }
 
 static inline uint8_t flipping_bounds_Bounds_greatest(const flipping_bounds_Bounds *p0)
 {
-    uint8_t t = 0;
-    uint64_t t2 = 0;
-    uint64_t t3 = p0->places.shape.blocks;
-    while (t2 < t3) {
-        t = core_int_u8_max(t, flipping_bounds_Bounds_bound_of(p0, t2));
-        t2 += 1;
-    }
-    return t;
+    return flipping_choice_greatest(p0->places.counts, p0->met, p0->places.shape.blocks);
+}
+
+static inline uint8_t flipping_bounds_Bounds_bound_of(const flipping_bounds_Bounds *p0, uint64_t p1)
+{
+    return flipping_choice_bound_of(p0->places.counts, p0->met, p1);
 }
 
 /* The first bit of block b that counts, where bits from bit `from` on do, which is one of block 0. */
@@ -4208,7 +4219,7 @@ static inline codes_Course codes_run_taken(word_received_Received received, uint
     layout_Shape sh = word_measured_Room_measure(room, received);
     uint32_t first = syndromes_broken(room->z);
     uint32_t lowest = syndromes_lowest(room->z, sh);
-    layout_Parity parity = (layout_Parity){.places = room->h, .shape = sh};
+    layout_Parity parity = (layout_Parity){.places = (lent_uint16_t){room->h, 64}, .shape = sh};
     flipping_runs_Ended ended = flipping_runs_run(room->y, room->z, parity, o.unsent, limit, first);
     return (codes_Course){.ended = ended, .first = first, .lowest = lowest};
 }
@@ -4271,7 +4282,7 @@ static inline flipping_runs_Next codes_next_of(word_received_Received received, 
 {
     catalogue_offer_Offer o = received.code.offer;
     layout_Shape sh = word_measured_Room_measure(room, received);
-    layout_Parity parity = (layout_Parity){.places = room->h, .shape = sh};
+    layout_Parity parity = (layout_Parity){.places = (lent_uint16_t){room->h, 64}, .shape = sh};
     return flipping_runs_comes_next(room->z, parity, o.unsent);
 }
 
@@ -4396,7 +4407,7 @@ static inline uint64_t lists_listing_count_flips(word_received_Received received
     word_measured_Room room = word_measured_Room_new();
     layout_Shape sh = word_measured_Room_measure(&room, received);
     uint32_t first = syndromes_broken(room.z);
-    layout_Parity parity = (layout_Parity){.places = room.h, .shape = sh};
+    layout_Parity parity = (layout_Parity){.places = (lent_uint16_t){room.h, 64}, .shape = sh};
     flipping_runs_Ended ended = flipping_runs_run(room.y, room.z, parity, o.unsent, limit, first);
     return ended.ran.flips;
 }
@@ -4429,7 +4440,7 @@ static inline lists_listing_Listing lists_listing_refused(refusals_Refusal refus
 static inline flipping_runs_Next lists_listing_coming(catalogue_offer_KnownOffer code, const word_measured_Room *room)
 {
     catalogue_offer_Offer o = code.offer;
-    layout_Parity parity = (layout_Parity){.places = room->h, .shape = o.shape};
+    layout_Parity parity = (layout_Parity){.places = (lent_uint16_t){room->h, 64}, .shape = o.shape};
     return flipping_runs_comes_next(room->z, parity, o.unsent);
 }
 
@@ -4466,7 +4477,7 @@ static inline lists_listing_Listing lists_listing_flip_on(const lists_listing_Li
         return lists_listing_ended(l, flips, received, room->y, 6, 0, 0);
     }
     catalogue_offer_Offer o = l->offer;
-    layout_Parity parity = (layout_Parity){.places = room->h, .shape = o.shape};
+    layout_Parity parity = (layout_Parity){.places = (lent_uint16_t){room->h, 64}, .shape = o.shape};
     syndromes_flip(room->y, room->z, parity, bit);
     uint32_t left = syndromes_broken(room->z);
     return lists_listing_went(l, flips, (uint32_t)bit, excess, left);
@@ -4915,13 +4926,13 @@ static inline uint64_t quick_lowest_wide_wide_entry(word_received_Sent sent, uin
 /* The first 64 checks of row 0. */
 static inline uint64_t quick_lowest_wide_first_group(word_received_Sent sent, layout_Parity parity)
 {
-    const uint16_t *h = parity.places;
+    lent_uint16_t h = parity.places;
     layout_Shape sh = parity.shape;
     uint64_t v = 0;
     uint64_t k = 0;
     uint64_t t = 2 * sh.blocks;
     while (k < t) {
-        v ^= quick_lowest_wide_wide_entry(sent, k / 2 * sh.size, sh.size, h[k]);
+        v ^= quick_lowest_wide_wide_entry(sent, k / 2 * sh.size, sh.size, h.at[k]);
         k += 1;
     }
     return v;
@@ -4953,12 +4964,12 @@ static inline void quick_lowest_wide_double_blocks(const uint64_t *y, layout_Sha
  * its windows. */
 static inline void quick_lowest_wide_begin_row(layout_Parity parity, uint64_t r, uint64_t *restrict begins)
 {
-    const uint16_t *h = parity.places;
+    lent_uint16_t h = parity.places;
     layout_Shape sh = parity.shape;
     uint64_t k = 0;
     uint64_t t = 2 * sh.blocks;
     while (k < t) {
-        begins[k] = 1024 * (k / 2) + (uint64_t)h[2 * (r * sh.blocks) + k];
+        begins[k] = 1024 * (k / 2) + (uint64_t)h.at[2 * (r * sh.blocks) + k];
         k += 1;
     }
 }
@@ -5039,7 +5050,7 @@ static inline uint32_t quick_lowest_wide_lowest(word_received_Received received)
     catalogue_offer_Offer o = received.code.offer;
     uint16_t h[64] = {0};
     catalogue_tables_lend511(h);
-    layout_Parity parity = (layout_Parity){.places = h,
+    layout_Parity parity = (layout_Parity){.places = (lent_uint16_t){h, 64},
             .shape = (layout_Shape){.size = 511, .words = 8, .blocks = 16, .rows = 2}};
     word_received_Sent sent = (word_received_Sent){.octets = received.word, .unsent = o.unsent};
     uint64_t v = quick_lowest_wide_first_group(sent, parity);
@@ -5061,13 +5072,13 @@ static inline uint64_t quick_lowest_narrow_narrow_entry(vectors_Pair d, uint64_t
 /* What block b adds to the checks of row r. */
 static inline uint64_t quick_lowest_narrow_narrow_block(const uint64_t *y, layout_Parity parity, uint64_t b, uint64_t r)
 {
-    const uint16_t *h = parity.places;
+    lent_uint16_t h = parity.places;
     layout_Shape sh = parity.shape;
     uint64_t block = vectors_front(vectors_window(y, b * sh.size), sh.size);
     vectors_Pair d = vectors_double_word(block, sh.size);
     uint64_t at = 2 * (r * sh.blocks + b);
-    return quick_lowest_narrow_narrow_entry(d, sh.size, h[at])
-            ^ quick_lowest_narrow_narrow_entry(d, sh.size, h[at + 1]);
+    return quick_lowest_narrow_narrow_entry(d, sh.size, h.at[at])
+            ^ quick_lowest_narrow_narrow_entry(d, sh.size, h.at[at + 1]);
 }
 
 /* The checks of row r. */
@@ -5108,7 +5119,7 @@ static inline uint32_t quick_lowest_narrow_lowest(word_received_Received receive
     layout_Shape sh = catalogue_tables_lend_narrow(of.size, h);
     uint64_t y[17] = {0};
     vectors_load(received.word.at, received.word.len, y, 17);
-    layout_Parity parity = (layout_Parity){.places = h, .shape = sh};
+    layout_Parity parity = (layout_Parity){.places = (lent_uint16_t){h, 64}, .shape = sh};
     return quick_lowest_narrow_rows_lowest(y, parity);
 }
 
@@ -5775,7 +5786,7 @@ static inline flipping_endings_Corrected samples_run_within(samples_Sampled samp
     catalogue_offer_Offer o = sampled.code.offer;
     layout_Shape of = o.shape;
     samples_Begun begun = samples_begin(of.size, y, h, z);
-    layout_Parity parity = (layout_Parity){.places = h, .shape = begun.shape};
+    layout_Parity parity = (layout_Parity){.places = (lent_uint16_t){h, 64}, .shape = begun.shape};
     return samples_run_judged(sampled.code, sampled.samples.at, sampled.samples.len, limit, y, z, parity, begun.first,
             begun.lowest);
 }
