@@ -357,15 +357,13 @@ static inline bool why_put_flip(lists_listing_FlipRecord r)
 static inline lists_listing_Listing why_follow(uint8_t code, uint16_t limit, const uint8_t *word, uint64_t word_len,
         bool shown)
 {
-    uint16_t h[64] = {0};
-    uint64_t y[130] = {0};
-    uint64_t z[16] = {0};
-    lists_listing_Listing l = lists_listing_begin(code, word, word_len, limit, 511, h, y, z);
+    word_measured_Room room = word_measured_Room_new();
+    lists_listing_Listing l = lists_listing_begin(code, word, word_len, limit, 511, &room);
     while (l.goes) {
         if (shown && !why_put_flip(l.record)) {
             return l;
         }
-        l = lists_listing_next(&l, word, word_len, h, y, z);
+        l = lists_listing_next(&l, word, word_len, &room);
     }
     return l;
 }

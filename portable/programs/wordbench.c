@@ -150,30 +150,27 @@ static const uint8_t wordlog_line_put_header_table[36] = {
     108, 97, 115, 116, 32, 117, 110, 108, 105, 107, 101, 10,
 };
 
+static inline uint64_t core_convert_U64FromU8_from(uint8_t p0)
+{
+    return p0;
+}
+
+static inline uint64_t core_convert_U64FromU32_from(uint32_t p0)
+{
+    return p0;
+}
+
 /* Whether a recording has fewer than three octets, or a bad code. */
 static inline bool wordlog_lines_is_bad(const uint8_t *head, uint64_t head_len)
 {
     return head_len < 3 || !catalogue_offer_is_offered(head[0]);
 }
 
-/* A text as it stands, behind the text so far. */
-static inline uint64_t wordlog_line_put_text(const uint8_t *octets, uint64_t octets_len, uint8_t *restrict text,
-        uint64_t at)
-{
-    uint64_t end = at;
-    uint64_t k = 0;
-    while (k < octets_len) {
-        text[end] = octets[k];
-        end += 1;
-        k += 1;
-    }
-    return end;
-}
-
 /* The header, at the start of the text. */
 static inline uint64_t wordlog_line_put_header(uint8_t *restrict text)
 {
-    return wordlog_line_put_text(wordlog_line_put_header_table, 36, text, 0);
+    core_copy_from_slice_u8(text, 36, wordlog_line_put_header_table);
+    return 36;
 }
 
 /* Refusal 1: correct's record for a code that is not offered. */
@@ -182,42 +179,26 @@ static inline flipping_endings_Corrected wordlog_line_refusal(void)
     return flipping_endings_refused_correct(1);
 }
 
-static inline uint64_t wordlog_line_octet(uint8_t n)
-{
-    return n;
-}
-
-static inline uint64_t wordlog_line_wide(uint32_t n)
-{
-    return n;
-}
-
 /* What a line gives of an answer. A further field of the answer is one entry here, one in the definition, and one in
  * the proof. */
 static inline void wordlog_line_numbers(flipping_endings_Corrected a, uint64_t *restrict result)
 {
-    result[0] = wordlog_line_octet(a.number);
-    result[1] = wordlog_line_wide(a.flips);
-    result[2] = wordlog_line_wide(a.first);
-    result[3] = wordlog_line_wide(a.last);
-    result[4] = wordlog_line_wide(a.unlike);
-}
-
-/* One digit, as it is printed. */
-static inline uint8_t wordlog_line_glyph(uint64_t d)
-{
-    return (uint8_t)(48 + (uint8_t)d);
+    result[0] = core_convert_U64FromU8_from(a.number);
+    result[1] = core_convert_U64FromU32_from(a.flips);
+    result[2] = core_convert_U64FromU32_from(a.first);
+    result[3] = core_convert_U64FromU32_from(a.last);
+    result[4] = core_convert_U64FromU32_from(a.unlike);
 }
 
 /* A number behind the text so far: answers where the text ends then. */
 static inline uint64_t wordlog_line_put(uint64_t n, uint8_t *restrict text, uint64_t at)
 {
     if (n < 10) {
-        text[at] = wordlog_line_glyph(n);
+        text[at] = (uint8_t)(48 + (uint8_t)n);
         return at + 1;
     }
     uint64_t end = wordlog_line_put(n / 10, text, at);
-    text[end] = wordlog_line_glyph(n % 10);
+    text[end] = (uint8_t)(48 + (uint8_t)(n % 10));
     return end + 1;
 }
 
@@ -233,10 +214,12 @@ static inline uint64_t wordlog_line_put_fields(const uint64_t *numbers, uint64_t
         uint64_t at)
 {
     uint64_t end = at;
-    uint64_t k = 0;
-    while (k < numbers_len) {
-        end = wordlog_line_put_field(numbers[k], text, end);
-        k += 1;
+    uint64_t t = 0;
+    uint64_t t2 = numbers_len;
+    while (t < t2) {
+        const uint64_t *n = numbers + t;
+        end = wordlog_line_put_field(*n, text, end);
+        t += 1;
     }
     return end;
 }
@@ -282,12 +265,6 @@ static inline uint64_t wordlog_lines_block_octets(uint8_t code)
     return 0x10000 / size * size;
 }
 
-/* The limit, high octet first. */
-static inline uint16_t wordlog_lines_limit(uint8_t high, uint8_t low)
-{
-    return (uint16_t)(256 * (uint16_t)high + (uint16_t)low);
-}
-
 /* A block of words, before which so many octets of words were read. Its last word may be short. */
 static inline wordlog_lines_Block wordlog_lines_block_at(const uint8_t *head, uint64_t read, const uint8_t *words,
         uint64_t words_len)
@@ -297,17 +274,9 @@ static inline wordlog_lines_Block wordlog_lines_block_at(const uint8_t *head, ui
     uint64_t size = wordlog_lines_word_octets(code);
     uint64_t index = read / size;
     uint64_t count = (words_len + (size - 1)) / size;
-    return (wordlog_lines_Block){.code = code, .limit = wordlog_lines_limit(head[1], head[2]), .size = size,
-            .index = index, .count = count};
-}
-
-/* The lesser of two numbers. */
-static inline uint64_t wordlog_lines_least(uint64_t a, uint64_t b)
-{
-    if (a < b) {
-        return a;
-    }
-    return b;
+    uint8_t t[2] = {head[1], head[2]};
+    return (wordlog_lines_Block){.code = code, .limit = core_int_u16_from_be_bytes(t), .size = size, .index = index,
+            .count = count};
 }
 
 /* Corrects a word into out, and writes its line. */
@@ -318,26 +287,25 @@ static inline uint64_t wordlog_line_write_word(uint8_t code, uint16_t limit, uin
     return wordlog_line_put_line(index, answer, text, at);
 }
 
-/* Corrects word k of those that are numbered from index on, and writes its line. */
-static inline uint64_t wordlog_lines_write_at(uint8_t code, uint16_t limit, uint64_t size, uint64_t index, uint64_t k,
-        const uint8_t *words, uint64_t words_len, uint8_t *restrict out, uint64_t out_len, uint8_t *restrict text,
-        uint64_t at)
+/* Corrects word k of the block's, and writes its line. */
+static inline uint64_t wordlog_lines_Block_write_at(const wordlog_lines_Block *self, uint64_t k, const uint8_t *words,
+        uint64_t words_len, uint8_t *restrict out, uint64_t out_len, uint8_t *restrict text, uint64_t at)
 {
-    uint64_t from = k * size;
-    uint64_t to = wordlog_lines_least(from + size, words_len);
-    return wordlog_line_write_word(code, limit, index + k, words + from, to - from, out, out_len, text, at);
+    uint64_t from = k * self->size;
+    uint64_t to = core_int_usize_min(from + self->size, words_len);
+    return wordlog_line_write_word(self->code, self->limit, self->index + k, words + from, to - from, out, out_len,
+            text, at);
 }
 
-/* Corrects words that are numbered from index on, one after another, and writes their lines: answers where the text
- * ends. */
-static inline uint64_t wordlog_lines_write_words(uint8_t code, uint16_t limit, uint64_t size, uint64_t index,
-        uint64_t count, const uint8_t *words, uint64_t words_len, uint8_t *restrict out, uint64_t out_len,
-        uint8_t *restrict text)
+/* Corrects its words, one after another, and writes their lines: answers where the text ends. */
+static inline uint64_t wordlog_lines_Block_write(const wordlog_lines_Block *self, const uint8_t *words,
+        uint64_t words_len, uint8_t *restrict out, uint64_t out_len, uint8_t *restrict text)
 {
     uint64_t end = 0;
     uint64_t k = 0;
-    while (k < count) {
-        end = wordlog_lines_write_at(code, limit, size, index, k, words, words_len, out, out_len, text, end);
+    uint64_t t = self->count;
+    while (k < t) {
+        end = wordlog_lines_Block_write_at(self, k, words, words_len, out, out_len, text, end);
         k += 1;
     }
     return end;
@@ -349,7 +317,7 @@ static inline uint64_t wordlog_lines_go_on(const uint8_t *head, uint64_t read, c
         uint64_t words_len, uint8_t *restrict out, uint64_t out_len, uint8_t *restrict text)
 {
     wordlog_lines_Block b = wordlog_lines_block_at(head, read, words, words_len);
-    return wordlog_lines_write_words(b.code, b.limit, b.size, b.index, b.count, words, words_len, out, out_len, text);
+    return wordlog_lines_Block_write(&b, words, words_len, out, out_len, text);
 }
 
 /* ---- os --------------------------------------------------------------------------------------------- */
