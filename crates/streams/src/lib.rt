@@ -3,7 +3,7 @@
 
 pub mod recordings;
 
-ghost use Rattle.std.specs.Prelude.{◌≡◌, ◌+◌, ◌≤◌, ◌↔◌, length, replicate, IfOk, IsOk};
+ghost use Rattle.std.specs.Prelude.{◌≡◌, ◌+◌, ◌≤◌, ◌↔◌, length, IfOk, IsOk};
 ghost use Rattle.std.specs.Io.{ReadsAtMost};
 ghost use Rattle.std.specs.Process.{exit_status};
 
@@ -20,7 +20,7 @@ pub enum Failure {
 
 // A long array of zeros. Of one in place the check counts the octets one by one, of this one it knows their number.
 pub fn zeros<const N: usize>() -> [u8; N]
-    ensures { (N ≡ length result) × (result ≡ replicate N 0) }
+    ensures { N ≡ length result }
 {
     [0; N]
 }
