@@ -27,14 +27,22 @@ fn digit(octets: &[u8], n: usize) -> u8
     8 * bit(octets, n) + 4 * bit(octets, n + 1) + 2 * bit(octets, n + 2) + bit(octets, n + 3)
 }
 
-// So many digits from bit n on, as the tables print them.
+// A hexadecimal digit as the tables print it.
+fn glyph(d: u8) -> u8
+    requires { d < 16 }
+{
+    if d < 10 { b'0' + d } else { b'A' + (d - 10) }
+}
+
+// So many digits from bit n on, as the tables print them; in one write, since standard output keeps nothing back.
 fn spell<W: Write>(output: &mut W, octets: &[u8], n: usize, digits: usize) -> io::Result<()>
     requires { (n < 32768) × (digits ≤ 128) }
 {
-    for i in 0..digits {
-        write!(output, "{:X}", digit(octets, n + 4 * i))?;
+    let mut text = [0u8; 128];
+    for (i, place) in text[..digits].iter_mut().enumerate() {
+        *place = glyph(digit(octets, n + 4 * i));
     }
-    Ok(())
+    output.write_all(&text[..digits])
 }
 
 // An octet with one bit set.

@@ -1,6 +1,8 @@
 // Reads a telecommand transmission unit: one octet code, two octets limit, then the unit. Prints a line for each codeblock.
 #![tactic(auto)]
 
+ghost use Rattle.std.specs.Prelude.{◌<◌};
+
 use flipping::endings;
 use std::io;
 use std::io::{Read, Write};
@@ -18,6 +20,13 @@ fn ended<R: Read, E: Write>(input: &mut R, errors: &mut E) -> Result<bool, Failu
     }
     let _ = errors.write_all(b"unitread: a unit of more than 131096 octets\n");
     Ok(false)
+}
+
+// A hexadecimal digit.
+fn glyph(d: u8) -> u8
+    requires { d < 16 }
+{
+    if d < 10 { b'0' + d } else { b'A' + (d - 10) }
 }
 
 // The line of an asking's answer: index, correct's numbers, and the information where there is some.
@@ -38,7 +47,7 @@ fn line<W: Write>(output: &mut W, index: u64, r: endings::Corrected, out: &[u8])
         return output.write_all(b"-\n");
     }
     for octet in out {
-        write!(output, "{octet:02X}")?;
+        output.write_all(&[glyph(octet / 16), glyph(octet % 16)])?;
     }
     output.write_all(b"\n")
 }
