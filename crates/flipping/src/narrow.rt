@@ -268,9 +268,11 @@ pub fn choose(samples: &[u32], rows: &[u64; NARROW_ROWS], parity: Parity, from: 
     ensures { (c : Code) (x : Word) → Lent c parity.entry.places.now parity.entry.shape → Rows c parity.entry.shape x rows.now
         → Chosen c parity.entry.shape from x samples.now result }
 {
+    // Copied, since C's compilers read what came in by value from memory for each block.
+    let here = parity;
     let mut levels = [Level { score: 0, mask: 0 }; BLOCKS];
-    weigh_all(rows, parity, from, &mut levels);
-    best_of(samples, &levels, parity.shape)
+    weigh_all(rows, here, from, &mut levels);
+    best_of(samples, &levels, here.shape)
 }
 
 // Flips the check of a row that covers bit k by the shift s; a number that is m or more is no shift. `each` has the first bit of
