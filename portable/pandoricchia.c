@@ -1,8 +1,9 @@
 /* Pandoricchia's proved library in C99: written by portable/translate from the MIR that was proved, and not to be edited.
  *
  * Crate after crate, callee before caller; `codes::correct` of the source is codes_correct here. A slice is handed over as a pointer, with
- * its length where that is used; a record above 128 octets by its address; a number of any sign as its bits, unsigned. No number overflows,
- * no index is out of bounds and no shift is as wide as its number: that is proved of the source. The translation is not proved.
+ * its length where that is used; a record above 128 octets by its address, and where it has an array and is given back, a function writes
+ * it to where its caller wants it; a number of any sign as its bits, unsigned. No number overflows, no index is out of bounds and no shift
+ * is as wide as its number: that is proved of the source. The translation is not proved.
  * docs/PORTABLE.md says what it was compared with. */
 #include "pandoricchia.h"
 
@@ -1270,11 +1271,9 @@ static inline bool blocks_importing_is_whole(uint64_t long_)
     return long_ % 512 == 0 && long_ / 512 <= 128;
 }
 
-static inline blocks_framecheck_Remainders blocks_framecheck_table(void)
+static inline void blocks_framecheck_table(blocks_framecheck_Remainders *restrict result)
 {
-    blocks_framecheck_Remainders result;
-    memcpy(result.entries, blocks_framecheck_TABLE, 256 * sizeof(uint16_t));
-    return result;
+    memcpy(result->entries, blocks_framecheck_TABLE, 256 * sizeof(uint16_t));
 }
 
 /* The frame check over octets; the table is lent. */
@@ -1424,7 +1423,8 @@ static inline blocks_Result_unit_Faulty blocks_importing_found(const uint8_t *bl
                 .as.Err = {.field0 = (blocks_importing_Faulty){.refusal = (
                 refusals_Refusal){.tag = refusals_Refusal_TooLong}, .block = 0}}};
     }
-    blocks_framecheck_Remainders t = blocks_framecheck_table();
+    blocks_framecheck_Remainders t;
+    blocks_framecheck_table(&t);
     return blocks_importing_first_fault(blocks, blocks_len / 512, &t);
 }
 
@@ -1608,7 +1608,8 @@ static inline refusals_Result_unit_Refusal blocks_exporting_exported(const uint8
         return (refusals_Result_unit_Refusal){.tag = refusals_Result_unit_Refusal_Err,
                 .as.Err = {.field0 = (refusals_Refusal){.tag = refusals_Refusal_OutputLength}}};
     }
-    blocks_framecheck_Remainders t = blocks_framecheck_table();
+    blocks_framecheck_Remainders t;
+    blocks_framecheck_table(&t);
     blocks_exporting_put_blocks(octets, octets_len, n, out, &t);
     return (refusals_Result_unit_Refusal){.tag = refusals_Result_unit_Refusal_Ok};
 }
@@ -2245,13 +2246,11 @@ static inline word_ownparity_Together word_ownparity_odd_together(uint64_t v)
 }
 
 /* Of zeros. */
-static inline word_measured_Room word_measured_Room_new(void)
+static inline void word_measured_Room_new(word_measured_Room *restrict result)
 {
-    word_measured_Room result;
-    memset(result.h, 0, 64 * sizeof(uint16_t));
-    memset(result.y, 0, 130 * sizeof(uint64_t));
-    memset(result.z, 0, 16 * sizeof(uint64_t));
-    return result;
+    memset(result->h, 0, 64 * sizeof(uint16_t));
+    memset(result->y, 0, 130 * sizeof(uint64_t));
+    memset(result->z, 0, 16 * sizeof(uint64_t));
 }
 
 /* The bits that the checks are over, from octets that are handed in, into a vector of zeros; the unsent ones stand
@@ -3677,19 +3676,17 @@ static inline void flipping_bounds_Places_gather(flipping_bounds_Places *restric
 }
 
 /* The doubled rows of the syndrome z, and the bounds of the blocks of this shape: no met check is counted on yet. */
-static inline flipping_bounds_Bounds flipping_bounds_begin(const uint64_t *z, layout_Parity parity,
-        uint64_t *restrict rows)
+static inline void flipping_bounds_begin(const uint64_t *z, layout_Parity parity, uint64_t *restrict rows,
+        flipping_bounds_Bounds *restrict result)
 {
     layout_Shape sh = parity.shape;
     uint64_t v[8] = {0};
     flipping_bounds_double_rows(z, sh, v, rows);
-    flipping_bounds_Bounds bounds;
-    bounds.places.shape = sh;
-    memset(bounds.places.starts, 0, 128 * sizeof(uint16_t));
-    memset(bounds.places.counts, 0, 16);
-    memset(bounds.met, 0, 16);
-    flipping_bounds_Places_gather(&bounds.places, parity);
-    return bounds;
+    result->places.shape = sh;
+    memset(result->places.starts, 0, 128 * sizeof(uint16_t));
+    memset(result->places.counts, 0, 16);
+    memset(result->met, 0, 16);
+    flipping_bounds_Places_gather(&result->places, parity);
 }
 
 /* The bound of block b, by how many checks its bits have and how many of these every bit has met. */
@@ -3965,7 +3962,8 @@ static inline flipping_runs_Ended flipping_runs_run_bounded(uint64_t *restrict y
         layout_Parity parity, uint64_t from, uint16_t limit, uint32_t first)
 {
     uint64_t rows[65] = {0};
-    flipping_bounds_Bounds bounds = flipping_bounds_begin(z, parity, rows);
+    flipping_bounds_Bounds bounds;
+    flipping_bounds_begin(z, parity, rows, &bounds);
     flipping_runs_ByBounds kept = (flipping_runs_ByBounds){.bounds = &bounds, .rows = rows, .from = from};
     return flipping_runs_go_on_ByBounds(&kept, y, limit, first);
 }
@@ -4025,7 +4023,8 @@ static inline flipping_runs_Ending flipping_AnyFrom_from_Ending(flipping_runs_En
 static inline flipping_runs_Next flipping_runs_next_bounded(const uint64_t *z, layout_Parity parity, uint64_t from)
 {
     uint64_t rows[65] = {0};
-    flipping_bounds_Bounds bounds = flipping_bounds_begin(z, parity, rows);
+    flipping_bounds_Bounds bounds;
+    flipping_bounds_begin(z, parity, rows, &bounds);
     flipping_choice_Best best = flipping_bounds_Bounds_choose(&bounds, rows, from);
     uint8_t excess = (uint8_t)(signed8((uint8_t)best.score) - 8);
     if (best.score <= 8) {
@@ -4135,7 +4134,8 @@ static inline uint8_t codes_encode(uint8_t code, const uint8_t *information, uin
 /* How many checks of a word of the right length are broken, and the lowest of them. */
 static inline codes_Checked codes_check_taken(word_received_Received received)
 {
-    word_measured_Room room = word_measured_Room_new();
+    word_measured_Room room;
+    word_measured_Room_new(&room);
     layout_Shape sh = word_measured_Room_measure(&room, received);
     return (codes_Checked){.number = 0, .broken = syndromes_broken(room.z), .lowest = syndromes_lowest(room.z, sh)};
 }
@@ -4166,7 +4166,8 @@ static inline codes_Checked codes_check(uint8_t code, const uint8_t *word, uint6
 /* What is wrong with a word of the right length, and its lowest broken check. */
 static inline codes_Found codes_fault_of(word_received_Received received)
 {
-    word_measured_Room room = word_measured_Room_new();
+    word_measured_Room room;
+    word_measured_Room_new(&room);
     layout_Shape sh = word_measured_Room_measure(&room, received);
     return (codes_Found){.fault = word_judging_fault(received.code, room.y, room.z),
             .lowest = syndromes_lowest(room.z, sh)};
@@ -4251,7 +4252,8 @@ static inline flipping_endings_Corrected codes_finish(word_received_Received rec
 static inline flipping_endings_Corrected codes_correct_taken(word_received_Received received, uint16_t limit,
         uint8_t *restrict out, uint64_t out_len)
 {
-    word_measured_Room room = word_measured_Room_new();
+    word_measured_Room room;
+    word_measured_Room_new(&room);
     codes_Course run = codes_run_taken(received, limit, &room);
     return codes_finish(received, room.y, run, out, out_len);
 }
@@ -4324,7 +4326,8 @@ static inline codes_Stepped codes_step_out(word_received_Received received, flip
 /* One flip of the run on a word of the right length, into an output of the right length. */
 static inline codes_Stepped codes_step_taken(word_received_Received received, uint8_t *restrict out, uint64_t out_len)
 {
-    word_measured_Room room = word_measured_Room_new();
+    word_measured_Room room;
+    word_measured_Room_new(&room);
     flipping_runs_Next next = codes_next_of(received, &room);
     return codes_step_out(received, next, room.y, out, out_len);
 }
@@ -4404,7 +4407,8 @@ static inline uint32_t lists_listing_most_flips(catalogue_offer_Offer o, uint32_
 static inline uint64_t lists_listing_count_flips(word_received_Received received, uint16_t limit)
 {
     catalogue_offer_Offer o = received.code.offer;
-    word_measured_Room room = word_measured_Room_new();
+    word_measured_Room room;
+    word_measured_Room_new(&room);
     layout_Shape sh = word_measured_Room_measure(&room, received);
     uint32_t first = syndromes_broken(room.z);
     layout_Parity parity = (layout_Parity){.places = (lent_uint16_t){room.h, 64}, .shape = sh};
@@ -4551,7 +4555,8 @@ static inline lists_listing_Listing lists_listing_next(const lists_listing_Listi
 static inline lists_listing_Listed lists_list(uint8_t code, const uint8_t *word, uint64_t word_len, uint16_t limit,
         lists_listing_FlipRecord *restrict table, uint64_t table_len)
 {
-    word_measured_Room room = word_measured_Room_new();
+    word_measured_Room room;
+    word_measured_Room_new(&room);
     lists_listing_Listing l = lists_listing_begin(code, word, word_len, limit, table_len, &room);
     while (l.goes) {
         table[l.place] = l.record;
@@ -5746,7 +5751,8 @@ static inline samples_sizing_Ended samples_sizing_run_bounded(const float *sampl
         uint64_t *restrict y, const uint64_t *z, layout_Parity parity, uint16_t limit, uint32_t first)
 {
     uint64_t rows[65] = {0};
-    flipping_bounds_Bounds t = flipping_bounds_begin(z, parity, rows);
+    flipping_bounds_Bounds t;
+    flipping_bounds_begin(z, parity, rows, &t);
     samples_raising_Kept kept;
     kept.bounds = t;
     memcpy(kept.bits, samples_sizing_run_bounded_table, 16 * sizeof(uint64_t));
@@ -5968,35 +5974,30 @@ static inline void telemetry_taker_zeros(uint8_t *restrict result)
     memset(result, 0, 1020);
 }
 
-static inline telemetry_taker_Taker telemetry_taker_fresh(uint8_t edition, uint16_t limit)
+static inline void telemetry_taker_fresh(uint8_t edition, uint16_t limit, telemetry_taker_Taker *restrict result)
 {
-    telemetry_taker_Taker result;
-    result.place = 0;
-    result.edition = edition;
-    result.limit = limit;
-    telemetry_taker_zeros(result.octets);
-    return result;
+    result->place = 0;
+    result->edition = edition;
+    result->limit = limit;
+    telemetry_taker_zeros(result->octets);
 }
 
 /* A taker at the start of a stream, under a limit, for the old sequence. */
-static inline telemetry_taker_Taker telemetry_taker_Taker_new(uint16_t limit)
+static inline void telemetry_taker_Taker_new(uint16_t limit, telemetry_taker_Taker *restrict result)
 {
-    return telemetry_taker_fresh(0, limit);
+    telemetry_taker_fresh(0, limit, result);
 }
 
 /* The same for an edition: 0 where none is stated, or 1 to 5. */
-static inline telemetry_taker_Made telemetry_taker_Taker_told(uint8_t edition, uint16_t limit)
+static inline void telemetry_taker_Taker_told(uint8_t edition, uint16_t limit, telemetry_taker_Made *restrict result)
 {
     if (5 < edition) {
-        telemetry_taker_Made result;
-        result.number = refusals_Refusal_number((refusals_Refusal){.tag = refusals_Refusal_Edition});
-        result.taker = telemetry_taker_fresh(0, limit);
-        return result;
+        result->number = refusals_Refusal_number((refusals_Refusal){.tag = refusals_Refusal_Edition});
+        telemetry_taker_fresh(0, limit, &result->taker);
+        return;
     }
-    telemetry_taker_Made result2;
-    result2.number = 0;
-    result2.taker = telemetry_taker_fresh(edition, limit);
-    return result2;
+    result->number = 0;
+    telemetry_taker_fresh(edition, limit, &result->taker);
 }
 
 static inline uint64_t telemetry_taker_read_place(uint64_t place)
@@ -6100,20 +6101,18 @@ static inline flipping_endings_Corrected telemetry_taker_none(void)
     return flipping_endings_refused_correct(0);
 }
 
-static inline telemetry_taker_Taken telemetry_taker_waiting(uint64_t taken, uint64_t place, uint8_t edition,
-        uint16_t limit, const uint8_t *octets)
+static inline void telemetry_taker_waiting(uint64_t taken, uint64_t place, uint8_t edition, uint16_t limit,
+        const uint8_t *octets, telemetry_taker_Taken *restrict result)
 {
     flipping_endings_Corrected corrected = telemetry_taker_none();
-    telemetry_taker_Taken result;
-    result.next.place = (size_t)place;
-    result.next.edition = edition;
-    result.next.limit = limit;
-    memcpy(result.next.octets, octets, 1020);
-    result.taken = (size_t)taken;
-    result.complete = false;
-    result.corrected = corrected;
-    telemetry_taker_zeros(result.word);
-    return result;
+    result->next.place = (size_t)place;
+    result->next.edition = edition;
+    result->next.limit = limit;
+    memcpy(result->next.octets, octets, 1020);
+    result->taken = (size_t)taken;
+    result->complete = false;
+    result->corrected = corrected;
+    telemetry_taker_zeros(result->word);
 }
 
 /* Octets of a part into their places behind those held. */
@@ -6184,8 +6183,8 @@ static inline void telemetry_sequences_randomise_word(uint8_t edition, uint8_t *
 }
 
 /* A whole word: derandomised, corrected and handed out. */
-static inline telemetry_taker_Taken telemetry_taker_completed(uint64_t taken, uint8_t edition, uint16_t limit,
-        const uint8_t *octets)
+static inline void telemetry_taker_completed(uint64_t taken, uint8_t edition, uint16_t limit, const uint8_t *octets,
+        telemetry_taker_Taken *restrict result)
 {
     uint8_t received[1020];
     memcpy(received, octets, 1020);
@@ -6193,21 +6192,19 @@ static inline telemetry_taker_Taken telemetry_taker_completed(uint64_t taken, ui
     uint8_t mended[1020];
     telemetry_taker_zeros(mended);
     flipping_endings_Corrected corrected = codes_correct(5, received, 1020, limit, mended, 1020);
-    telemetry_taker_Taken result;
-    result.next.place = 0;
-    result.next.edition = edition;
-    result.next.limit = limit;
-    memcpy(result.next.octets, octets, 1020);
-    result.taken = (size_t)taken;
-    result.complete = true;
-    result.corrected = corrected;
-    memcpy(result.word, mended, 1020);
-    return result;
+    result->next.place = 0;
+    result->next.edition = edition;
+    result->next.limit = limit;
+    memcpy(result->next.octets, octets, 1020);
+    result->taken = (size_t)taken;
+    result->complete = true;
+    result->corrected = corrected;
+    memcpy(result->word, mended, 1020);
 }
 
 /* Goes on with a part of the stream until a word is complete or the part is used up. */
-static inline telemetry_taker_Taken telemetry_taker_Taker_take(const telemetry_taker_Taker *self, const uint8_t *part,
-        uint64_t part_len)
+static inline void telemetry_taker_Taker_take(const telemetry_taker_Taker *self, const uint8_t *part,
+        uint64_t part_len, telemetry_taker_Taken *restrict result)
 {
     uint8_t edition = self->edition;
     uint16_t limit = self->limit;
@@ -6217,17 +6214,19 @@ static inline telemetry_taker_Taken telemetry_taker_Taker_take(const telemetry_t
     uint64_t place = searched.place;
     uint64_t at = searched.at;
     if (place < 4) {
-        return telemetry_taker_waiting(at, place, edition, limit, octets);
+        telemetry_taker_waiting(at, place, edition, limit, octets, result);
+        return;
     }
     uint64_t room = 1024 - place;
     uint64_t left = part_len - at;
     if (left < room) {
         telemetry_taker_hold(octets, place - 4, part + at, part_len - at);
-        return telemetry_taker_waiting(part_len, place + left, edition, limit, octets);
+        telemetry_taker_waiting(part_len, place + left, edition, limit, octets, result);
+        return;
     }
     uint64_t end = at + room;
     telemetry_taker_hold(octets, place - 4, part + at, end - at);
-    return telemetry_taker_completed(end, edition, limit, octets);
+    telemetry_taker_completed(end, edition, limit, octets, result);
 }
 
 /* ---- units ------------------------------------------------------------------------------------------ */
@@ -6878,12 +6877,16 @@ pandoricchia_handed pandoricchia_read(pandoricchia_reading state, const uint8_t 
 
 pandoricchia_taking pandoricchia_taker(uint16_t limit)
 {
-    return telemetry_taker_Taker_new(limit);
+    telemetry_taker_Taker result;
+    telemetry_taker_Taker_new(limit, &result);
+    return result;
 }
 
 pandoricchia_made pandoricchia_taker_for(uint8_t edition, uint16_t limit)
 {
-    return telemetry_taker_Taker_told(edition, limit);
+    telemetry_taker_Made result;
+    telemetry_taker_Taker_told(edition, limit, &result);
+    return result;
 }
 
 pandoricchia_taken pandoricchia_take(pandoricchia_taking state, const uint8_t *part, size_t part_len)
@@ -6891,7 +6894,9 @@ pandoricchia_taken pandoricchia_take(pandoricchia_taking state, const uint8_t *p
     if (part_len == 0) {
         part = no_uint8_t;
     }
-    return telemetry_taker_Taker_take(&state, part, part_len);
+    telemetry_taker_Taken result;
+    telemetry_taker_Taker_take(&state, part, part_len, &result);
+    return result;
 }
 
 uint8_t pandoricchia_bch_encode(const uint8_t *information, size_t information_len, uint8_t *restrict word,

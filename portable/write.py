@@ -282,6 +282,11 @@ class Writer:
         """Whether a value is handed over by its address."""
         return ty[0] == "array" or ty[0] == "named" and (self.reader.size(ty) > self.large or self.has_array(ty))
 
+    def filled(self, ty):
+        """Whether a function of the library writes its result where its caller wants it: C returns no array, and of a large struct with one
+        inside a compiler keeps two."""
+        return ty[0] == "array" or ty[0] == "named" and self.has_array(ty) and self.reader.size(ty) > self.large
+
     def empty(self, types):
         """Whether fields of some types have nothing in them."""
         return all(ty == UNIT for ty in types)
@@ -408,11 +413,17 @@ class Routine:
         self.crate = function.name.split("::")[0]
         self.params, self.out, self.depth, self.labels, self.breaks, self.declared_at = function.param_vars, [], 1, {}, [], {}
         self.exported = function.name in writer.exported
+        self.fills = not self.exported and writer.filled(function.result)
 
     # -- names
 
     def name_all(self):
         taken = set(KEYWORDS)
+        self.given_back = self.one_result() if self.fills and self.function.result[0] == "named" else None
+        if self.given_back:
+            self.given_back.name = "result"
+        if self.fills:
+            taken.add("result")
         order = list(self.params)
         for e in all_values(self.body):
             for use in uses_of(e):
@@ -432,9 +443,16 @@ class Routine:
         self.taken = taken
         for var in order:
             var.by_address = False
+        if self.given_back:
+            self.given_back.by_address = True
         for var in self.params:
             var.by_address = var.ty[0] == "array" or not self.exported and self.writer.bulky(var.ty) and not var.assigned and not var.addressed
             var.kind = "size" if self.exported and var.ty == ("int", 64) else kind_of(var.ty)
+
+    def one_result(self):
+        """The variable that is given back at each end, if there is one: it is made where the caller wants it."""
+        given = [s.value.var if isinstance(s.value, Use) else None for s in all_statements(self.body) if isinstance(s, Return)]
+        return given[0] if given and given[0] and all(var is given[0] for var in given) and not given[0].param else None
 
     def take(self, var, name, taken):
         made, more = self.writer.safe(name), 2
@@ -561,7 +579,7 @@ class Routine:
             elif var.ty != UNIT:
                 params.append(w.declared(var.ty, var.name))
         result = "void" if function.result == UNIT else None
-        if function.result[0] == "array":
+        if self.fills:
             params.append(w.pointer(base_type(function.result)[0], True, "result", True))
             result = "void"
         result = result or ("%s" % w.declared(function.result, "").strip())
@@ -687,6 +705,12 @@ class Routine:
             return Value("%s->%s" % (self.arrow(e.of), field), POSTFIX, kind)
         return Value("%s.%s" % (self.place(e.of).at(POSTFIX), field), POSTFIX, kind)
 
+    def where(self, e):
+        """The address of a place that is no array."""
+        if self.is_pointer(e):
+            return Value(self.arrow(e), POSTFIX, "ptr")
+        return Value("&" + self.place(e).at(UNARY), UNARY, "ptr")
+
     def arrow(self, e):
         if isinstance(e, Use):
             return e.var.name
@@ -714,11 +738,10 @@ class Routine:
             self.writer.nothings.add(name)
             return Value("(%s *)no_%s" % (name, name), UNARY, "ptr")
         if isinstance(start, AddrOf):
-            place = start.of
-            made = self.place(place)
-            if place.ty[0] == "array":
-                return Value(made.text, made.binds, "ptr")
-            return Value("&" + made.at(UNARY), UNARY, "ptr")
+            if start.of.ty[0] != "array":
+                return self.where(start.of)
+            made = self.place(start.of)
+            return Value(made.text, made.binds, "ptr")
         if isinstance(start, (Use, Field)):
             return self.place(start)
         if isinstance(start, Deref):
@@ -915,7 +938,13 @@ class Routine:
     # -- calls and structs
 
     def call(self, e, into=None):
+        if self.fills_struct(e) and into is None:
+            raise Refused("a large struct is made where it has no place")
         return Value("%s(%s)" % (c_name(e.name), ", ".join(self.arguments(e) + ([into] if into else []))), POSTFIX, kind_of(e.ty))
+
+    def fills_struct(self, e):
+        """Whether a value is a struct that a call fills."""
+        return isinstance(e, Call) and e.ty[0] == "named" and self.writer.shapes[e.name].fills
 
     def arguments(self, e):
         w = self.writer
@@ -948,11 +977,7 @@ class Routine:
         if isinstance(arg, (Use, Field, Deref)):
             if self.writer.effects.writes(call.name) and self.writer.effects.reads_memory(arg):
                 raise Refused("a copy of %s is needed" % self.place(arg).text)
-            if arg.ty[0] == "array":
-                return self.place(arg).text
-            if self.is_pointer(arg):
-                return self.arrow(arg)
-            return "&" + self.place(arg).at(UNARY)
+            return self.place(arg).text if arg.ty[0] == "array" else self.where(arg).text
         if isinstance(arg, Aggregate):
             return "&" + self.aggregate(arg).text
         raise Refused("a value that has no address is handed over by it")
@@ -991,7 +1016,7 @@ class Routine:
 
     def write(self):
         self.out = []
-        self.place_declarations(self.body, set(self.params))
+        self.place_declarations(self.body, set(self.params + ([self.given_back] if self.given_back else [])))
         for var in self.params:
             if var.ty != UNIT and not self.pointed(var):
                 self.line("(void)%s;" % var.name)
@@ -1089,7 +1114,10 @@ class Routine:
             value = s.value
             if value.ty[0] == "array":
                 raise Refused("an array is made and not used")
-            self.line(self.call(value).text + ";")
+            if self.fills_struct(value):
+                self.made_apart("t", value)
+            else:
+                self.line(self.call(value).text + ";")
         elif isinstance(s, Return):
             self.returns(s)
         elif isinstance(s, If):
@@ -1193,10 +1221,22 @@ class Routine:
         elif s.value.ty[0] == "array":
             self.fill("result", s.value)
             self.line("return;")
+        elif self.fills:
+            if isinstance(s.value, Use) and s.value.var is self.given_back:
+                pass
+            elif self.fills_struct(s.value):
+                self.line(self.call(s.value, "result").text + ";")
+            elif self.writer.by_parts(s.value):
+                self.fill_struct("result->", s.value)
+            else:
+                self.line("*result = %s;" % self.as_type(s.value, s.value.ty).text)
+            self.line("return;")
+        elif self.fills_struct(s.value):
+            self.line("return %s;" % self.made_apart("result", s.value))
         elif self.writer.by_parts(s.value):
             name = self.fresh("result")
             self.line("%s %s;" % (self.writer.scalar(s.value.ty), name))
-            self.fill_struct(name, s.value)
+            self.fill_struct(name + ".", s.value)
             self.line("return %s;" % name)
         elif self.exported and s.value.ty == ("int", 64):
             made = self.value(s.value)
@@ -1218,7 +1258,10 @@ class Routine:
                 self.declare_array(head, var, value)
             elif w.by_parts(value):
                 self.line(head + ";")
-                self.fill_struct(var.name, value)
+                self.fill_struct(var.name + ".", value)
+            elif self.fills_struct(value):
+                self.line(head + ";")
+                self.line(self.call(value, "&" + var.name).text + ";")
             else:
                 self.line("%s = %s;" % (head, self.as_type(value, place.ty).text))
             return
@@ -1233,10 +1276,14 @@ class Routine:
         elif w.by_parts(value) and self.made_of(place, value):
             name = self.fresh("t")
             self.line(w.declared(place.ty, name) + ";")
-            self.fill_struct(name, value)
+            self.fill_struct(name + ".", value)
             self.line("%s = %s;" % (made.text, name))
         elif w.by_parts(value):
-            self.fill_struct(made.at(POSTFIX), value)
+            self.fill_struct(self.arrow(place) + "->" if self.is_pointer(place) else made.at(POSTFIX) + ".", value)
+        elif self.fills_struct(value) and self.made_of(place, value):
+            self.line("%s = %s;" % (made.text, self.made_apart("t", value)))
+        elif self.fills_struct(value):
+            self.line(self.call(value, self.where(place).text).text + ";")
         else:
             self.store(made, place, value)
 
@@ -1269,7 +1316,7 @@ class Routine:
             return
         octets = "%d * sizeof(%s)" % (n, w.scalar(base)) if w.reader.size(base) > 1 else "%d" % n
         if isinstance(value, Call):
-            if place is not None and self.seen_by(place, value):
+            if place is not None and self.made_of(place, value):
                 name = self.fresh("t")
                 self.line(w.declared(value.ty, name) + ";")
                 self.line(self.call(value, name).text + ";")
@@ -1296,7 +1343,7 @@ class Routine:
         elif isinstance(value, Aggregate) and value.ty[1][0] != "array":
             for i, item in enumerate(value.items):
                 if w.by_parts(item):
-                    self.fill_struct("%s[%d]" % (into, i), item)
+                    self.fill_struct("%s[%d]." % (into, i), item)
                     continue
                 self.line("%s[%d] = %s;" % (into, i, self.as_type(item, base).text))
         elif isinstance(value, (Use, Field, Deref)):
@@ -1305,19 +1352,21 @@ class Routine:
             raise Refused("an array that is made in a way not known")
 
     def made_of(self, place, value):
-        """Whether a value that is written part by part may read the place that it is for."""
+        """Whether a value that is written part by part, or by a call, may read the place that it is for."""
         base = base_of(place)
         if isinstance(base, Use) and any(use.var is base.var for use in uses_of(value)):
             return True
         return (isinstance(base, Deref) or base.var.addressed) and self.writer.effects.reads_memory(value)
 
-    def seen_by(self, place, call):
-        base = base_of(place)
-        if isinstance(base, Use):
-            return any(use.var is base.var for use in uses_of(call))
-        return any(self.writer.effects.points(arg.ty) for arg in call.args)
+    def made_apart(self, name, value):
+        """The variable that a struct which a call fills is made in."""
+        name = self.fresh(name)
+        self.line(self.writer.declared(value.ty, name) + ";")
+        self.line(self.call(value, "&" + name).text + ";")
+        return name
 
     def fill_struct(self, into, value):
+        """The fields of a struct, behind `name.` or `pointer->`."""
         w = self.writer
         name = value.ty[1]
         kind, parts = w.reader.shapes[name]
@@ -1326,15 +1375,17 @@ class Routine:
             tag, items = items[0].value, items[1:]
             variant, parts = w.variant_names(name)[tag], parts[tag]
             fields = ["as.%s.field%d" % (variant, i) for i in range(len(parts))]
-            self.line("%s.tag = %s_%s;" % (into, c_name(name), variant))
+            self.line("%stag = %s_%s;" % (into, c_name(name), variant))
         for i, (field, ty, item) in enumerate(zip(fields, parts, items)):
             if ty[0] == "array":
-                self.fill("%s.%s" % (into, field), item)
+                self.fill(into + field, item)
             elif w.by_parts(item):
-                self.fill_struct("%s.%s" % (into, field), item)
+                self.fill_struct("%s%s." % (into, field), item)
+            elif self.fills_struct(item):
+                self.line(self.call(item, "&%s%s" % (into, field)).text + ";")
             elif ty != UNIT:
                 number = w.field_kind(name, i) if ty[0] == "int" and kind == "struct" else None
-                self.line("%s.%s = %s;" % (into, field, self.as_type(item, ty, number).text))
+                self.line("%s%s = %s;" % (into, field, self.as_type(item, ty, number).text))
 
 
 def wrap(line):

@@ -483,62 +483,63 @@ static inline bool frames_line(uint64_t index, uint64_t offset, flipping_endings
 }
 
 /* One call of the taker. A complete word has its line; its first octet lies 1020 before the octets taken so far. */
-static inline frames_Standing frames_take(const frames_Standing *s, const uint8_t *part, uint64_t part_len)
+static inline void frames_take(const frames_Standing *s, const uint8_t *part, uint64_t part_len,
+        frames_Standing *restrict result)
 {
     telemetry_taker_Taker taker = s->taker;
-    telemetry_taker_Taken r = telemetry_taker_Taker_take(&taker, part, part_len);
+    telemetry_taker_Taken r;
+    telemetry_taker_Taker_take(&taker, part, part_len, &r);
     telemetry_taker_Taker next = r.next;
     flipping_endings_Corrected corrected = r.corrected;
     uint64_t octets = std_num_wrapping_add_u64(s->octets, r.taken);
     if (!r.complete) {
-        frames_Standing result;
-        result.taker = next;
-        result.taken = r.taken;
-        result.more = s->more;
-        result.words = s->words;
-        result.octets = octets;
-        return result;
+        result->taker = next;
+        result->taken = r.taken;
+        result->more = s->more;
+        result->words = s->words;
+        result->octets = octets;
+        return;
     }
     bool more = frames_line(s->words, std_num_wrapping_sub_u64(octets, 1020), corrected);
-    frames_Standing result2;
-    result2.taker = next;
-    result2.taken = r.taken;
-    result2.more = more;
-    result2.words = std_num_wrapping_add_u64(s->words, 1);
-    result2.octets = octets;
-    return result2;
+    result->taker = next;
+    result->taken = r.taken;
+    result->more = more;
+    result->words = std_num_wrapping_add_u64(s->words, 1);
+    result->octets = octets;
 }
 
 /* Call after call until the part is used up; the rest of it is brought again. */
-static inline frames_Standing frames_take_all(const frames_Standing *s, const uint8_t *part, uint64_t part_len)
+static inline void frames_take_all(const frames_Standing *s, const uint8_t *part, uint64_t part_len,
+        frames_Standing *restrict result)
 {
-    frames_Standing now = *s;
+    *result = *s;
     uint64_t at = 0;
     while (at < part_len) {
-        if (!now.more) {
-            return now;
+        if (!result->more) {
+            return;
         }
-        now = frames_take(&now, part + at, part_len - at);
-        at += now.taken;
+        frames_Standing t;
+        frames_take(result, part + at, part_len - at, &t);
+        *result = t;
+        at += result->taken;
     }
-    return now;
 }
 
 /* The next part of the stream; none ends it. */
-static inline frames_Standing frames_go_on(const frames_Standing *s, uint8_t *restrict part, uint64_t part_len)
+static inline void frames_go_on(const frames_Standing *s, uint8_t *restrict part, uint64_t part_len,
+        frames_Standing *restrict result)
 {
     uint64_t n = frames_read(part, part_len);
     if (n == 0) {
         telemetry_taker_Taker taker = s->taker;
-        frames_Standing result;
-        result.taker = taker;
-        result.taken = 0;
-        result.more = false;
-        result.words = s->words;
-        result.octets = s->octets;
-        return result;
+        result->taker = taker;
+        result->taken = 0;
+        result->more = false;
+        result->words = s->words;
+        result->octets = s->octets;
+        return;
     }
-    return frames_take_all(s, part, n);
+    frames_take_all(s, part, n, result);
 }
 
 /* Part after part. */
@@ -552,7 +553,9 @@ static inline void frames_stream(const telemetry_taker_Taker *taker, uint8_t *re
     s.octets = 0;
     uint64_t parts = 0;
     while (parts < UINT64_C(0x8000000000000000)) {
-        s = frames_go_on(&s, part, part_len);
+        frames_Standing t;
+        frames_go_on(&s, part, part_len, &t);
+        s = t;
         if (!s.more) {
             return;
         }
@@ -569,7 +572,8 @@ static inline void frames_main(void)
         return;
     }
     uint8_t t = frames_edition();
-    telemetry_taker_Made made = telemetry_taker_Taker_told(t, frames_limit_of(head[0], head[1]));
+    telemetry_taker_Made made;
+    telemetry_taker_Taker_told(t, frames_limit_of(head[0], head[1]), &made);
     if (made.number != 0) {
         io_write_all(2, frames_main_table, 37);
         return;

@@ -357,7 +357,8 @@ static inline bool why_put_flip(lists_listing_FlipRecord r)
 static inline lists_listing_Listing why_follow(uint8_t code, uint16_t limit, const uint8_t *word, uint64_t word_len,
         bool shown)
 {
-    word_measured_Room room = word_measured_Room_new();
+    word_measured_Room room;
+    word_measured_Room_new(&room);
     lists_listing_Listing l = lists_listing_begin(code, word, word_len, limit, 511, &room);
     while (l.goes) {
         if (shown && !why_put_flip(l.record)) {

@@ -41,7 +41,11 @@ CALLED = [("holds", ("u16", "u16"), PAIRS),
           ("arrays", ("u8", "u8"), [(a, b) for a in OCTETS for b in OCTETS]),
           ("moves", ("u8",), [(n,) for n in OCTETS]),
           ("ends", ("u8", "u8"), [(a, b) for a in OCTETS for b in OCTETS]),
-          ("small_numbers", ("u8", "u8"), [(a, b) for a in OCTETS for b in OCTETS])]
+          ("small_numbers", ("u8", "u8"), [(a, b) for a in OCTETS for b in OCTETS]),
+          ("constants", ("u16",), [(n,) for n in (0, 1, 2, 99, 100, 255, 256, 65535)]),
+          ("large", ("u16", "u16"), PAIRS),
+          ("large_within", ("u16", "u16"), PAIRS),
+          ("large_again", ("u16", "u16"), PAIRS)]
 
 PIECES = HEAD + """
 pub fn mix(h: u64, x: u64) -> u64 {
@@ -551,10 +555,13 @@ pub fn nests_of_two(x: u8) -> u64 {
 }
 
 pub fn wraps(a: u16, b: u16) -> u64 {
-    let h = mix(a.wrapping_mul(b) as u64, a.wrapping_sub(b) as u64);
-    let h = mix(h, ((a % 256) as u8).wrapping_add((b % 256) as u8) as u64);
-    let h = mix(h, (a as u64).wrapping_mul(0x9E37_79B9_7F4A_7C15));
-    mix(h, (a as u32).wrapping_sub(b as u32) as u64)
+    let (p, q) = ((a % 256) as u8, (b % 256) as u8);
+    let h = mix(mix(p.wrapping_add(q) as u64, p.wrapping_sub(q) as u64), p.wrapping_mul(q) as u64);
+    let h = mix(mix(mix(h, a.wrapping_add(b) as u64), a.wrapping_sub(b) as u64), a.wrapping_mul(b) as u64);
+    let (r, s) = (a as u32 ^ 0xFFFF_0F00, b as u32 ^ 0xF0FF_FF00);
+    let h = mix(mix(mix(h, r.wrapping_add(s) as u64), s.wrapping_sub(r) as u64), r.wrapping_mul(s) as u64);
+    let (v, w) = (a as u64 ^ 0xFFFF_FFFF_FFFF_0F00, b as u64 ^ 0xF0FF_FFFF_FFFF_FF00);
+    mix(mix(mix(h, v.wrapping_add(w)), w.wrapping_sub(v)), v.wrapping_mul(w))
 }
 
 pub fn selections(a: u8, b: u8) -> u64 {
@@ -681,6 +688,249 @@ pub fn small_numbers(a: u8, b: u8) -> u64 {
     let h = mix(mix(h, a.count_ones() as u64), (b as u32).is_power_of_two() as u64);
     let h = mix(h, a.saturating_add(b) as u64);
     mix(h, match u32::try_from(a as usize) { Ok(v) => v as u64, Err(_) => 1 })
+}
+
+fn lent_truth(x: &bool) -> u64 {
+    *x as u64
+}
+
+fn lent_float(x: &f32, y: f32) -> bool {
+    *x < y
+}
+
+fn lent_refusal(x: &Refusal) -> u64 {
+    match x { Refusal::Short => 1000, Refusal::Bad(n) => *n as u64 }
+}
+
+fn lent_point(x: &Point) -> u64 {
+    mix(x.x as u64, x.y as u64)
+}
+
+fn lent_held(x: &Held<u16>) -> u64 {
+    mix(mix(x.a as u64, x.b as u64), x.many[2] as u64)
+}
+
+pub fn constants(a: u16) -> u64 {
+    let h = mix(mix(lent_truth(&true), lent_float(&1.5, 2.5) as u64), lent_refusal(&Refusal::Short));
+    let h = mix(mix(h, lent_refusal(&Refusal::Bad(9))), lent_point(&Point { x: 3, y: 4 }));
+    let h = mix(h, lent_held(&Held { a: 5, b: 6, many: [7, 8, 9] }));
+    let mut points = [Point { x: a, y: 1 }, Point { x: 2, y: a }];
+    points[..1].copy_from_slice(&[Point { x: 5, y: 6 }]);
+    mix(mix(h, lent_point(&points[0])), lent_point(&points[1]))
+}
+
+#[derive(Clone, Copy)]
+pub struct Room {
+    pub n: u64,
+    pub many: [u64; 20],
+}
+
+#[derive(Clone, Copy)]
+pub struct Rooms {
+    pub first: Room,
+    pub n: u8,
+    pub second: Room,
+    pub third: [Room; 2],
+}
+
+fn room_of(x: u64) -> Room {
+    Room { n: x, many: [x; 20] }
+}
+
+fn room_changed(x: u64, y: u64) -> Room {
+    let mut made = room_of(x);
+    made.many[3] = y;
+    made.n = mix(made.n, made.many[2]);
+    made
+}
+
+fn room_of_two_ends(x: u64, y: u64) -> Room {
+    let mut made = room_changed(x, y);
+    if y < x {
+        return made;
+    }
+    made.many[0] = mix(made.many[3], x);
+    made
+}
+
+fn room_of_two(x: u64, y: u64) -> Room {
+    let mut a = room_of(x);
+    let mut b = room_of(y);
+    a.many[1] = y;
+    b.many[2] = x;
+    if x < y {
+        return a;
+    }
+    b.many[5] = a.many[1];
+    b
+}
+
+fn room_of_branches(x: u64, y: u64) -> Room {
+    let mut result;
+    if x < y {
+        result = room_of(x);
+    } else if x == y {
+        result = Room { n: 7, many: [y; 20] };
+    } else {
+        result = room_changed(y, x);
+    }
+    result.many[7] = mix(result.many[3], y);
+    result
+}
+
+fn room_as_lent(from: &Room, x: u64) -> Room {
+    if x == 5 {
+        return *from;
+    }
+    let mut made = *from;
+    made.many[19] = x;
+    made
+}
+
+fn stepped(old: Room, x: u64) -> Room {
+    let mut made = room_of(x);
+    made.many[1] = mix(old.many[1], old.n);
+    made.many[2] = mix(old.many[2], old.many[1]);
+    made.n = mix(old.many[19], old.many[3]);
+    made
+}
+
+fn stepped_lent(old: &Room, x: u64) -> Room {
+    let mut made = room_of(x);
+    made.many[1] = mix(old.many[1], old.n);
+    made.many[2] = mix(old.many[2], old.many[1]);
+    made.n = mix(old.many[19], old.many[3]);
+    made
+}
+
+fn handed_on(old: &Room, x: u64) -> Room {
+    stepped_lent(old, mix(x, 1))
+}
+
+fn filled_up(made: &mut Room, x: u64) {
+    made.many[4] = x;
+    made.many[5] = made.n;
+}
+
+fn room_lent_on(x: u64) -> Room {
+    let mut made = room_of(x);
+    filled_up(&mut made, mix(x, 2));
+    let lent = &mut made;
+    lent.many[6] = lent.many[4];
+    made.many[7] = total_of(&made);
+    made
+}
+
+fn room_counted(calls: &mut u64, x: u64) -> Room {
+    *calls = mix(*calls, x);
+    room_of(*calls)
+}
+
+fn total_of(made: &Room) -> u64 {
+    let mut h = made.n;
+    for x in &made.many {
+        h = mix(h, *x);
+    }
+    h
+}
+
+pub fn large(a: u16, b: u16) -> u64 {
+    let (x, y) = (a as u64, b as u64);
+    let h = mix(total_of(&room_of(x)), total_of(&room_changed(x, y)));
+    let h = mix(mix(h, total_of(&room_of_two_ends(x, y))), total_of(&room_of_two(x, y)));
+    let h = mix(mix(h, total_of(&room_of_branches(x, y))), total_of(&room_lent_on(y)));
+    let made = room_changed(y, x);
+    let h = mix(mix(h, total_of(&handed_on(&made, x))), total_of(&stepped(made, y)));
+    mix(mix(h, total_of(&room_as_lent(&made, x))), made.many[3])
+}
+
+fn rooms_of(x: u64, y: u64) -> Rooms {
+    Rooms { first: room_changed(x, y), n: 3, second: room_of(y), third: [room_of_two(x, y), room_of_two(y, x)] }
+}
+
+fn rooms_changed(x: u64, y: u64) -> Rooms {
+    let mut made = rooms_of(x, y);
+    made.second = stepped(made.first, x);
+    made.first = stepped_lent(&made.first, y);
+    made.third[1] = room_changed(y, y);
+    made.third[0] = stepped(made.third[1], x);
+    made
+}
+
+fn room_or_none(x: u64, y: u64) -> Option<Room> {
+    if x < y { None } else { Some(room_changed(x, y)) }
+}
+
+fn room_or_refusal(x: u64, y: u64) -> Result<Room, Refusal> {
+    let made = room_or_none(x, y).ok_or(Refusal::Short)?;
+    if made.n == 99 {
+        return Err(Refusal::Bad(9));
+    }
+    Ok(stepped(made, y))
+}
+
+pub fn large_within(a: u16, b: u16) -> u64 {
+    let (x, y) = (a as u64, b as u64);
+    let made = rooms_changed(x, y);
+    let h = mix(mix(total_of(&made.first), total_of(&made.second)), made.n as u64);
+    let h = mix(mix(h, total_of(&made.third[0])), total_of(&made.third[1]));
+    let many = [room_of(x), room_changed(x, y), room_or_none(y, x).unwrap_or(room_of(5))];
+    let mut h = h;
+    for one in &many {
+        h = mix(h, total_of(one));
+    }
+    match room_or_refusal(x, y) {
+        Ok(made) => mix(h, total_of(&made)),
+        Err(Refusal::Short) => mix(h, 1),
+        Err(Refusal::Bad(n)) => mix(h, n as u64),
+    }
+}
+
+pub fn large_again(a: u16, b: u16) -> u64 {
+    let (x, y) = (a as u64, b as u64);
+    let mut made = room_changed(x, y);
+    made = stepped(made, y);
+    made = handed_on(&made, x);
+    let seen = &made;
+    made = stepped_lent(seen, y);
+    let lent = &mut made;
+    *lent = stepped(*lent, x);
+    *lent = stepped_lent(lent, 3);
+    let mut other = room_of(y);
+    *lent = stepped(other, x);
+    other = *lent;
+    let mut h = total_of(lent);
+    for i in 0..4u64 {
+        other = stepped(other, i);
+        let next = room_changed(i, other.n);
+        h = mix(h, total_of(&next));
+        if i == x {
+            other = next;
+        }
+    }
+    let mut calls = y;
+    room_counted(&mut calls, x);
+    let _ = room_counted(&mut calls, 9);
+    made = room_counted(&mut calls, y);
+    made.many[2] = room_counted(&mut made.many[3], y).n;
+    let mut numbers = [x, y, 7];
+    numbers = turned(numbers);
+    let all = &mut numbers;
+    *all = turned(*all);
+    let three = &numbers;
+    numbers = turned_lent(three);
+    mix(mix(mix(h, calls), mix(total_of(&made), total_of(&other))), mix(numbers[0], mix(numbers[1], numbers[2])))
+}
+
+fn turned(old: [u64; 3]) -> [u64; 3] {
+    [old[1], old[2], old[0]]
+}
+
+fn turned_lent(old: &[u64; 3]) -> [u64; 3] {
+    let mut result = [old[2]; 3];
+    result[1] = old[0];
+    result[2] = mix(old[1], old[0]);
+    result
 }
 """
 
