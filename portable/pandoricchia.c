@@ -3481,12 +3481,10 @@ static inline flipping_choice_Best flipping_narrow_best_of(const float *samples,
 static inline flipping_choice_Best flipping_narrow_choose(const float *samples, uint64_t samples_len,
         const uint64_t *rows, layout_Parity parity, uint64_t from)
 {
-    flipping_narrow_Level levels[16];
-    for (size_t i = 0; i < 16; i++) {
-        levels[i] = (flipping_narrow_Level){.score = 0, .mask = 0};
-    }
-    flipping_narrow_weigh_all(rows, parity, from, levels);
-    return flipping_narrow_best_of(samples, samples_len, levels, parity.shape);
+    layout_Parity here = parity;
+    flipping_narrow_Level levels[16] = {0};
+    flipping_narrow_weigh_all(rows, here, from, levels);
+    return flipping_narrow_best_of(samples, samples_len, levels, here.shape);
 }
 
 static inline flipping_choice_Best flipping_runs_ByRowsKeeper_choose(flipping_runs_ByRows *restrict self)
@@ -5574,6 +5572,25 @@ static inline uint64_t samples_raising_bit_at(uint64_t p, uint64_t s, uint64_t m
     return m;
 }
 
+/* Whether more than `met` of the n checks of bit k of a block are met; they are looked at until that shows. */
+static inline bool samples_raising_more_met(const uint64_t *d, const uint16_t *starts, uint64_t from, uint8_t n,
+        uint8_t met, uint64_t k)
+{
+    uint64_t end = n;
+    uint8_t spare = met;
+    uint64_t e = 0;
+    while (e < end) {
+        if (!vectors_is_set(d, (uint64_t)starts[from + e] + k)) {
+            if (spare == 0) {
+                return true;
+            }
+            spare = (uint8_t)(spare - 1);
+        }
+        e += 1;
+    }
+    return false;
+}
+
 /* What is known of a block, by the number of checks that every bit has met and the smallest bit, when bit k of it is
  * seen too, of whose n checks so many are broken. It is made of numbers: a record that came in whole would be copied
  * whole. */
@@ -5598,6 +5615,9 @@ static inline samples_raising_Low samples_raising_look(const float *samples, uin
         samples_raising_Low low)
 {
     if (m <= k) {
+        return low;
+    }
+    if (samples_raising_more_met(d, starts, from, n, low.met, k)) {
         return low;
     }
     return samples_raising_meet(samples, samples_len, n, samples_raising_broken_of(d, starts, from, n, k), first, k,
@@ -6034,34 +6054,34 @@ static inline uint64_t telemetry_taker_jump(uint64_t m, const uint8_t *part, uin
 /* The octets of the marker matched after one octet more. Only the marker's first octet begins one. */
 static inline uint64_t telemetry_taker_matched(uint64_t m, uint8_t octet)
 {
-    uint64_t t = m;
-    uint8_t t2 = octet;
+    if (octet == 26) {
+        return 1;
+    }
+    uint8_t t = octet;
+    uint64_t t2 = m;
     uint64_t t3;
     switch (t2) {
-    case 26:
-        t3 = 1;
-        goto end;
-    case 207:
+    case 1:
         switch (t) {
-        case 1:
+        case 207:
             t3 = 2;
             goto end;
         default:
             break;
         }
         break;
-    case 252:
+    case 2:
         switch (t) {
-        case 2:
+        case 252:
             t3 = 3;
             goto end;
         default:
             break;
         }
         break;
-    case 29:
+    case 3:
         switch (t) {
-        case 3:
+        case 29:
             t3 = 4;
             goto end;
         default:

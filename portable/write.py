@@ -1295,8 +1295,14 @@ class Routine:
                 return
         self.line("%s = %s;" % (made.text, self.as_type(value, place.ty, kind).text))
 
+    def zero(self, e):
+        """Whether a value is 0, or a struct of such."""
+        if isinstance(e, Aggregate) and e.ty[0] == "named" and self.writer.reader.shapes[e.ty[1]][0] == "struct":
+            return all(self.zero(item) for item in e.items)
+        return isinstance(e, Const) and e.value == 0
+
     def declare_array(self, head, var, value):
-        if isinstance(value, Repeat) and isinstance(value.item, Const) and value.item.value == 0:
+        if isinstance(value, Repeat) and self.zero(value.item):
             self.line("%s = {0};" % head)
         elif isinstance(value, Aggregate) and not value.items:
             self.line("%s = {0};" % head)
@@ -1323,7 +1329,7 @@ class Routine:
                 self.line("memcpy(%s, %s, %s);" % (alone, name, octets))
             else:
                 self.line(self.call(value, alone).text + ";")
-        elif isinstance(value, Repeat) and isinstance(value.item, Const) and value.item.value == 0:
+        elif isinstance(value, Repeat) and self.zero(value.item):
             self.line("memset(%s, 0, %s);" % (alone, octets))
         elif isinstance(value, Repeat) and value.item.ty[0] == "array":
             i = self.fresh("i")

@@ -1,5 +1,5 @@
 // What a run by sizes keeps of each block: a bound, and the block's smallest bit at that bound; and how a flip raises it.
-ghost use Rattle.std.specs.Prelude.{◌≡◌, Bool, true, ◌&&◌, ◌||◌, List, ◌⊎◌, ℕ, ◌+◌, ◌*◌, ◌%◌, ◌<◌, ◌≤◌, eqb, ltb, length, get_or};
+ghost use Rattle.std.specs.Prelude.{◌≡◌, Bool, true, ◌&&◌, ◌||◌, List, ◌⊎◌, ℕ, ◌+◌, ◌*◌, ◌%◌, ◌<◌, ◌≤◌, eqb, length, get_or};
 ghost use Rattle.bits.specs.Bits.{Word, flipped};
 ghost use Rattle.rules.specs.Codes.{Code};
 ghost use Rattle.vectors.specs.Vectors.{wbit};
@@ -53,24 +53,6 @@ pub fn lesser(samples: &[u32], a: usize, b: usize) -> usize
         return magnitudes::smaller(samples, a, b);
     }
     magnitudes::smaller(samples, b, a)
-}
-
-// Whether more than `met` of the n checks of bit k of a block are met; they are looked at until that shows.
-fn more_met(d: &[u64], starts: &[u16], from: usize, n: u8, met: u8, k: usize) -> bool
-    requires { Within starts.now d.now from n k }
-    ensures { result ≡ ltb (hits (wbit d.now) starts.now from n k + met) n }
-{
-    let end = n as usize;
-    let mut spare = met;
-    for e in 0..end {
-        if !vectors::is_set(d, starts[from + e] as usize + k) {
-            if spare == 0 {
-                return true;
-            }
-            spare -= 1;
-        }
-    }
-    false
 }
 
 // The bit of a block that the check at p covers by the start s, where the check stands M places on once more; M or more if there is none.
@@ -134,10 +116,6 @@ fn look(
         result.met result.bit) }
 {
     if k >= m {
-        return low;
-    }
-    // Most bits have more met, which one check or two show.
-    if more_met(d, starts, from, n, low.met, k) {
         return low;
     }
     meet(

@@ -49,10 +49,12 @@ fn smallest_in(
     ensures { Lightest samples.now (wbit d.now) starts.now from n met m first m result }
 {
     let mut best = samples.len();
-    for k in 0..(m + 63) / 64 {
-        let at = 64 * k;
+    let mut at = 0;
+    // no `for`: a step more for each word of each block that is weighed
+    while at < m {
         let mask = bounds::weigh(d, starts, from, n, met, at, 0, m);
         best = among(samples, mask, first + at, best);
+        at += 64;
     }
     best
 }
@@ -91,8 +93,9 @@ fn smallest_none(
     let s2 = starts[from + 2] as usize;
     let s3 = starts[from + 3] as usize;
     let mut best = samples.len();
-    for k in 0..(m + 63) / 64 {
-        let at = 64 * k;
+    let mut at = 0;
+    // no `for`, as in smallest_in
+    while at < m {
         let v = none_met(d, s0 + at, s1 + at, s2 + at, s3 + at);
         if v != 0 {
             best = among(
@@ -102,6 +105,7 @@ fn smallest_none(
                 best,
             );
         }
+        at += 64;
     }
     best
 }

@@ -1,13 +1,10 @@
 -- `raising::look`: a bit past the block's end is none of its bits. Assumes nothing.
-use mathlib.Core.Path.{sym, ◌∙◌}
 use Prim.Native.Nat.{◌+◌}
 use native.Mathlib.Omega.{arith}
-use borrow.Author.Tests.{ltb-true}
 use lib.ListN.{get_or}
 use Rattle.bits.proofs.Counting.{count-le}
 use Rattle.vectors.specs.Vectors.{wbit}
-use Rattle.flipping.specs.bounds.Reading.{hits}
-use Rattle.samples.proofs.raising.Seeing.{within_less, look_past, look_higher}
+use Rattle.samples.proofs.raising.Seeing.{within_less, look_past}
 use Rattle.samples.proofs.raising.look.Goals as goal
 
 pub returns-then-k-m : goal.returns-then-k-m
@@ -16,21 +13,6 @@ returns-then-k-m c =
       c.requires.2,
       λ seen was. look_past a.samples.now (wbit a.d.now) a.starts.now a.from a.n a.m a.first seen a.low.met
           a.low.bit was a.k c.if-k-m.true,
-    )
-
-pub more_met-requires : goal.more_met-requires
-more_met-requires c =
-    let a = c.args in
-    within_less a.starts.now a.d.now a.from a.n a.m a.k c.requires.0 (omega (arith, c.if-k-m.false))
-
-pub returns-then-more_met : goal.returns-then-more_met
-returns-then-more_met c =
-    let a = c.args in (
-      c.requires.2,
-      λ seen was. look_higher a.samples.now (wbit a.d.now) a.starts.now a.from a.n a.m a.first seen a.low.met
-          a.low.bit was a.k
-          (ltb-true (hits (wbit a.d.now) a.starts.now a.from a.n a.k + a.low.met) a.n
-          (sym c.more_met.ensures ∙ c.if-more_met.true)),
     )
 
 pub broken_of-requires : goal.broken_of-requires
