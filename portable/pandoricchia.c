@@ -9,6 +9,13 @@
 
 #include <string.h>
 
+/* A function of which each call has the loop to itself, where the compiler can be told so. */
+#if defined(__GNUC__)
+#define OWN_LOOP inline __attribute__((always_inline))
+#else
+#define OWN_LOOP inline
+#endif
+
 /* What this file takes for granted of the machine: each line is an error of the compiler where it does not hold. */
 typedef char an_octet_has_8_bits[UINT8_MAX == 255 && sizeof(uint64_t) == 8 ? 1 : -1];
 typedef char a_length_has_at_most_64_bits[sizeof(size_t) <= sizeof(uint64_t) ? 1 : -1];
@@ -3705,14 +3712,16 @@ static inline uint8_t flipping_choice_greatest(const uint8_t *counts, const uint
     return top;
 }
 
-static inline uint8_t flipping_bounds_Bounds_greatest(const flipping_bounds_Bounds *p0)
+/* The greatest bound. */
+static inline uint8_t flipping_bounds_Bounds_greatest(const flipping_bounds_Bounds *self)
 {
-    return flipping_choice_greatest(p0->places.counts, p0->met, p0->places.shape.blocks);
+    return flipping_choice_greatest(self->places.counts, self->met, self->places.shape.blocks);
 }
 
-static inline uint8_t flipping_bounds_Bounds_bound_of(const flipping_bounds_Bounds *p0, uint64_t p1)
+/* The bound of block b. */
+static inline uint8_t flipping_bounds_Bounds_bound_of(const flipping_bounds_Bounds *self, uint64_t b)
 {
-    return flipping_choice_bound_of(p0->places.counts, p0->met, p1);
+    return flipping_choice_bound_of(self->places.counts, self->met, b);
 }
 
 /* The first bit of block b that counts, where bits from bit `from` on do, which is one of block 0. */
@@ -3798,78 +3807,86 @@ static inline uint64_t flipping_bounds_weigh(const uint64_t *d, const uint16_t *
     return flipping_bounds_between(found, at, begin, m);
 }
 
-static inline uint64_t flipping_bounds_Bounds_first_in_block(const flipping_bounds_Bounds *p0, const uint64_t *p1,
-        uint64_t p2, uint64_t p3, uint64_t p4)
+/* The first bit of block b from bit `begin` on that has at most so many of its checks met; M if there is none. */
+static OWN_LOOP uint64_t flipping_bounds_Bounds_first_in_block(const flipping_bounds_Bounds *self,
+        const uint64_t *rows, uint64_t b, uint64_t met, uint64_t begin)
 {
-    uint64_t t = p0->places.shape.size;
-    uint64_t t2 = 0;
-    uint64_t t3 = p0->places.counts[p2];
-    uint64_t t4 = p0->places.shape.words;
-    while (t2 < t4) {
-        uint64_t t5 = flipping_bounds_weigh(p1, p0->places.starts, 8 * p2, t3, p3, 64 * t2, p4, t);
-        if (t5 != 0) {
-            return 64 * t2 + (uint64_t)leading_zeros64(t5);
+    uint64_t m = self->places.shape.size;
+    uint64_t n = self->places.counts[b];
+    uint64_t k = 0;
+    uint64_t t = self->places.shape.words;
+    while (k < t) {
+        uint64_t found = flipping_bounds_weigh(rows, self->places.starts, 8 * b, n, met, 64 * k, begin, m);
+        if (found != 0) {
+            return 64 * k + (uint64_t)leading_zeros64(found);
         }
-        t2 += 1;
+        k += 1;
     }
-    return t;
+    return m;
 }
 
-static inline uint64_t flipping_bounds_Bounds_first_light(const flipping_bounds_Bounds *p0, const uint64_t *p1,
-        uint64_t p2, uint64_t p3, uint64_t p4)
+/* The same: a search for bits without a met check is the most frequent one, and a loop of its own for the compiler. */
+static inline uint64_t flipping_bounds_Bounds_first_light(const flipping_bounds_Bounds *self, const uint64_t *rows,
+        uint64_t b, uint64_t met, uint64_t begin)
 {
-    if (p3 == 0) {
-        return flipping_bounds_Bounds_first_in_block(p0, p1, p2, 0, p4);
+    if (met == 0) {
+        return flipping_bounds_Bounds_first_in_block(self, rows, b, 0, begin);
     }
-    return flipping_bounds_Bounds_first_in_block(p0, p1, p2, p3, p4);
+    return flipping_bounds_Bounds_first_in_block(self, rows, b, met, begin);
 }
 
-static inline uint64_t flipping_bounds_Bounds_first_met(const flipping_bounds_Bounds *p0, const uint64_t *p1,
-        uint64_t p2, uint64_t p3)
+/* The first bit of block b that counts and has at most as many of its checks met as the block's bound says; M if
+ * there is none. */
+static inline uint64_t flipping_bounds_Bounds_first_met(const flipping_bounds_Bounds *self, const uint64_t *rows,
+        uint64_t from, uint64_t b)
 {
-    return flipping_bounds_Bounds_first_light(p0, p1, p3, p0->met[p3], flipping_choice_begin_in(p3, p2));
+    return flipping_bounds_Bounds_first_light(self, rows, b, self->met[b], flipping_choice_begin_in(b, from));
 }
 
-static inline uint64_t flipping_bounds_Bounds_look(flipping_bounds_Bounds *restrict p0, const uint64_t *p1,
-        uint64_t p2, uint64_t p3, uint8_t p4)
+/* The first bit of block b of score `top`, where its bound is not greater; M if there is none. If the bound was
+ * `top`, it goes down then. */
+static inline uint64_t flipping_bounds_Bounds_look(flipping_bounds_Bounds *restrict self, const uint64_t *rows,
+        uint64_t from, uint64_t b, uint8_t top)
 {
-    uint64_t t = p0->places.shape.size;
-    if (flipping_bounds_Bounds_bound_of(p0, p3) != p4) {
-        return t;
+    uint64_t m = self->places.shape.size;
+    if (flipping_bounds_Bounds_bound_of(self, b) != top) {
+        return m;
     }
-    uint64_t t2 = flipping_bounds_Bounds_first_met(p0, p1, p2, p3);
-    if (t2 < t) {
-        return t2;
+    uint64_t k = flipping_bounds_Bounds_first_met(self, rows, from, b);
+    if (k < m) {
+        return k;
     }
-    p0->met[p3] = (uint8_t)(p0->met[p3] + 1);
-    return t;
+    self->met[b] = (uint8_t)(self->met[b] + 1);
+    return m;
 }
 
-static inline uint64_t flipping_bounds_Bounds_first_at(flipping_bounds_Bounds *restrict p0, const uint64_t *p1,
-        uint64_t p2, uint8_t p3)
+/* The first bit of score `top` from bit `from` on, where no bound is greater; the number of bits if there is none. */
+static inline uint64_t flipping_bounds_Bounds_first_at(flipping_bounds_Bounds *restrict self, const uint64_t *rows,
+        uint64_t from, uint8_t top)
 {
-    layout_Shape t = p0->places.shape;
-    uint64_t t2 = 0;
-    uint64_t t3 = t.blocks;
-    while (t2 < t3) {
-        uint64_t t4 = flipping_bounds_Bounds_look(p0, p1, p2, t2, p3);
-        if (t4 < t.size) {
-            return t2 * t.size + t4;
+    layout_Shape sh = self->places.shape;
+    uint64_t b = 0;
+    uint64_t t = sh.blocks;
+    while (b < t) {
+        uint64_t k = flipping_bounds_Bounds_look(self, rows, from, b, top);
+        if (k < sh.size) {
+            return b * sh.size + k;
         }
-        t2 += 1;
+        b += 1;
     }
-    return t.blocks * t.size;
+    return sh.blocks * sh.size;
 }
 
-static inline flipping_choice_Best flipping_bounds_Bounds_choose(flipping_bounds_Bounds *restrict p0,
-        const uint64_t *p1, uint64_t p2)
+/* The bit of the greatest score from bit `from` on; of several, the lowest number. */
+static inline flipping_choice_Best flipping_bounds_Bounds_choose(flipping_bounds_Bounds *restrict self,
+        const uint64_t *rows, uint64_t from)
 {
-    uint64_t t = p0->places.shape.blocks * p0->places.shape.size;
+    uint64_t end = self->places.shape.blocks * self->places.shape.size;
     for (;;) {
-        uint8_t t2 = flipping_bounds_Bounds_greatest(p0);
-        uint64_t t3 = flipping_bounds_Bounds_first_at(p0, p1, p2, t2);
-        if (t3 < t) {
-            return (flipping_choice_Best){.score = t2, .bit = t3};
+        uint8_t top = flipping_bounds_Bounds_greatest(self);
+        uint64_t bit = flipping_bounds_Bounds_first_at(self, rows, from, top);
+        if (bit < end) {
+            return (flipping_choice_Best){.score = top, .bit = bit};
         }
     }
 }
@@ -5435,61 +5452,72 @@ static inline uint64_t samples_smallest_smallest_light(const float *samples, uin
     return samples_smallest_smallest_in(samples, samples_len, d, starts, from, n, met, m, first);
 }
 
-static inline uint64_t samples_raising_Kept_weigh(samples_raising_Kept *restrict p0, const float *p1, uint64_t p1_len,
-        const uint64_t *p2, uint64_t p3, uint64_t p4)
+/* The smallest of a bit and of those of block b that have no more checks met than is kept of it. If there is none of
+ * these, one more is met. */
+static inline uint64_t samples_raising_Kept_weigh(samples_raising_Kept *restrict self, const float *samples,
+        uint64_t samples_len, const uint64_t *rows, uint64_t b, uint64_t best)
 {
-    uint64_t t = p0->bounds.places.shape.size;
-    uint64_t t2 = samples_smallest_smallest_light(p1, p1_len, p2, p0->bounds.places.starts, 8 * p3,
-            p0->bounds.places.counts[p3], p0->bounds.met[p3], t, p3 * t);
-    p0->bits[p3] = t2;
-    if (t2 < p1_len) {
-        return samples_smallest_lead(p1, p1_len, p4, t2);
+    uint64_t m = self->bounds.places.shape.size;
+    uint64_t n = self->bounds.places.counts[b];
+    uint64_t met = self->bounds.met[b];
+    uint64_t bit = samples_smallest_smallest_light(samples, samples_len, rows, self->bounds.places.starts, 8 * b, n,
+            met, m, b * m);
+    self->bits[b] = bit;
+    if (bit < samples_len) {
+        return samples_smallest_lead(samples, samples_len, best, bit);
     }
-    p0->bounds.met[p3] = (uint8_t)(p0->bounds.met[p3] + 1);
-    return p4;
+    self->bounds.met[b] = (uint8_t)(self->bounds.met[b] + 1);
+    return best;
 }
 
-static inline uint64_t samples_raising_Kept_at_bound(samples_raising_Kept *restrict p0, const float *p1,
-        uint64_t p1_len, const uint64_t *p2, uint64_t p3, uint64_t p4)
+/* The same, by the bit that is known of the block; the block is weighed only if that does not tell. */
+static inline uint64_t samples_raising_Kept_at_bound(samples_raising_Kept *restrict self, const float *samples,
+        uint64_t samples_len, const uint64_t *rows, uint64_t b, uint64_t best)
 {
-    uint64_t t = samples_smallest_still(p1, p1_len, p2, p0->bounds.places.starts, 8 * p3, p0->bounds.places.counts[p3],
-            p0->bounds.met[p3], p0->bounds.places.shape.size, p0->bits[p3], p4);
-    if (t < p1_len) {
-        return t;
+    uint64_t m = self->bounds.places.shape.size;
+    uint8_t n = self->bounds.places.counts[b];
+    uint64_t r = samples_smallest_still(samples, samples_len, rows, self->bounds.places.starts, 8 * b, n,
+            self->bounds.met[b], m, self->bits[b], best);
+    if (r < samples_len) {
+        return r;
     }
-    return samples_raising_Kept_weigh(p0, p1, p1_len, p2, p3, p4);
+    return samples_raising_Kept_weigh(self, samples, samples_len, rows, b, best);
 }
 
-static inline uint64_t samples_raising_Kept_settle(samples_raising_Kept *restrict p0, const float *p1, uint64_t p1_len,
-        const uint64_t *p2, uint64_t p3, uint8_t p4, uint64_t p5)
+/* The smallest of a bit and of those of block b that have the score `top`, where no bit of the block has a greater
+ * one. */
+static inline uint64_t samples_raising_Kept_settle(samples_raising_Kept *restrict self, const float *samples,
+        uint64_t samples_len, const uint64_t *rows, uint64_t b, uint8_t top, uint64_t best)
 {
-    if (flipping_bounds_Bounds_bound_of(&p0->bounds, p3) != p4) {
-        return p5;
+    if (flipping_bounds_Bounds_bound_of(&self->bounds, b) != top) {
+        return best;
     }
-    return samples_raising_Kept_at_bound(p0, p1, p1_len, p2, p3, p5);
+    return samples_raising_Kept_at_bound(self, samples, samples_len, rows, b, best);
 }
 
-static inline uint64_t samples_raising_Kept_smallest_at(samples_raising_Kept *restrict p0, const float *p1,
-        uint64_t p1_len, const uint64_t *p2, uint8_t p3)
+/* The smallest bit of score `top`, where no bit has a greater one; if there is none, the number of samples. */
+static inline uint64_t samples_raising_Kept_smallest_at(samples_raising_Kept *restrict self, const float *samples,
+        uint64_t samples_len, const uint64_t *rows, uint8_t top)
 {
-    uint64_t t = p1_len;
-    uint64_t t2 = 0;
-    uint64_t t3 = p0->bounds.places.shape.blocks;
-    while (t2 < t3) {
-        t = samples_raising_Kept_settle(p0, p1, p1_len, p2, t2, p3, t);
-        t2 += 1;
+    uint64_t best = samples_len;
+    uint64_t b = 0;
+    uint64_t t = self->bounds.places.shape.blocks;
+    while (b < t) {
+        best = samples_raising_Kept_settle(self, samples, samples_len, rows, b, top, best);
+        b += 1;
     }
-    return t;
+    return best;
 }
 
-static inline flipping_choice_Best samples_raising_Kept_choose(samples_raising_Kept *restrict p0, const float *p1,
-        uint64_t p1_len, const uint64_t *p2)
+/* The smallest bit of the greatest score: the bounds go down until one is found. */
+static inline flipping_choice_Best samples_raising_Kept_choose(samples_raising_Kept *restrict self,
+        const float *samples, uint64_t samples_len, const uint64_t *rows)
 {
     for (;;) {
-        uint8_t t = flipping_bounds_Bounds_greatest(&p0->bounds);
-        uint64_t t2 = samples_raising_Kept_smallest_at(p0, p1, p1_len, p2, t);
-        if (t2 < p1_len) {
-            return (flipping_choice_Best){.score = t, .bit = t2};
+        uint8_t top = flipping_bounds_Bounds_greatest(&self->bounds);
+        uint64_t bit = samples_raising_Kept_smallest_at(self, samples, samples_len, rows, top);
+        if (bit < samples_len) {
+            return (flipping_choice_Best){.score = top, .bit = bit};
         }
     }
 }

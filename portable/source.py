@@ -61,6 +61,14 @@ class Source:
                     self.crates[crate] = said(re.findall(r"//[^\n]*", head))
                 Scan(self, inside, text).items()
 
+    def function(self, name):
+        """What is known of a function. A method may stand in another module than its type: then it is found by the names of both."""
+        if name in self.functions:
+            return self.functions[name]
+        crate, *_, owner, last = name.split("::") if name.count("::") > 1 else [""] * 3
+        found = [n for n in self.functions if n.startswith(crate + "::") and n.endswith("::%s::%s" % (owner, last))]
+        return self.functions[found[0]] if len(found) == 1 else None
+
     def spread(self, sources):
         """An instance has the names and the comment of what it is one of."""
         for name, symbol in sources.items():

@@ -16,6 +16,10 @@ KEYWORDS = set("""auto break case char const continue default do double else enu
 return short signed sizeof static struct switch typedef union unsigned void volatile while bool true false NULL memcpy memset asm typeof
 size_t""".split())
 
+# The search whose two calls the source keeps apart, so that the more frequent one has a loop of its own. gcc at -O2 makes one loop for both, in
+# which correct of codes 4 and 5 takes up to a quarter more.
+OWN_LOOPS = {"flipping::bounds::Bounds::first_in_block"}
+
 # By how C binds: the higher, the tighter.
 COMMA, LOGOR, LOGAND, BITOR, BITXOR, BITAND, EQUALITY, RELATION, SHIFT, SUM, PRODUCT, UNARY, POSTFIX = range(13)
 BINARY = {"Add": ("+", SUM), "Sub": ("-", SUM), "Mul": ("*", PRODUCT), "Div": ("/", PRODUCT), "Rem": ("%", PRODUCT), "And": ("&", BITAND),
@@ -584,8 +588,9 @@ class Routine:
             result = "void"
         result = result or ("%s" % w.declared(function.result, "").strip())
         name = "%s(%s)" % (c_name(function.name), ", ".join(params) or "void")
-        made = wrap("static inline %s%s%s" % (result, "" if result.endswith("*") else " ", name))
-        return made if len(made[0]) <= WIDTH else ["static inline %s" % result] + wrap(name)
+        kind = "static OWN_LOOP" if function.name in OWN_LOOPS else "static inline"
+        made = wrap("%s %s%s%s" % (kind, result, "" if result.endswith("*") else " ", name))
+        return made if len(made[0]) <= WIDTH else ["%s %s" % (kind, result)] + wrap(name)
 
     def exported_head(self):
         name = self.function.name.split("::")[-1]
