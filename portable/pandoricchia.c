@@ -5412,16 +5412,14 @@ static inline uint64_t samples_smallest_smallest_none(const float *samples, uint
     uint64_t s2 = starts[from + 2];
     uint64_t s3 = starts[from + 3];
     uint64_t best = samples_len;
-    uint64_t k = 0;
-    uint64_t t = (m + 63) / 64;
-    while (k < t) {
-        uint64_t at = 64 * k;
+    uint64_t at = 0;
+    while (at < m) {
         uint64_t v = samples_smallest_none_met(d, s0 + at, s1 + at, s2 + at, s3 + at);
         if (v != 0) {
             best = samples_smallest_among(samples, samples_len, vectors_front(v, flipping_bounds_ahead(m, at)), first
                     + at, best);
         }
-        k += 1;
+        at += 64;
     }
     return best;
 }
@@ -5431,13 +5429,11 @@ static inline uint64_t samples_smallest_smallest_in(const float *samples, uint64
         const uint16_t *starts, uint64_t from, uint64_t n, uint64_t met, uint64_t m, uint64_t first)
 {
     uint64_t best = samples_len;
-    uint64_t k = 0;
-    uint64_t t = (m + 63) / 64;
-    while (k < t) {
-        uint64_t at = 64 * k;
+    uint64_t at = 0;
+    while (at < m) {
         uint64_t mask = flipping_bounds_weigh(d, starts, from, n, met, at, 0, m);
         best = samples_smallest_among(samples, samples_len, mask, first + at, best);
-        k += 1;
+        at += 64;
     }
     return best;
 }
@@ -5600,25 +5596,6 @@ static inline uint64_t samples_raising_bit_at(uint64_t p, uint64_t s, uint64_t m
     return m;
 }
 
-/* Whether more than `met` of the n checks of bit k of a block are met; they are looked at until that shows. */
-static inline bool samples_raising_more_met(const uint64_t *d, const uint16_t *starts, uint64_t from, uint8_t n,
-        uint8_t met, uint64_t k)
-{
-    uint64_t end = n;
-    uint8_t spare = met;
-    uint64_t e = 0;
-    while (e < end) {
-        if (!vectors_is_set(d, (uint64_t)starts[from + e] + k)) {
-            if (spare == 0) {
-                return true;
-            }
-            spare = (uint8_t)(spare - 1);
-        }
-        e += 1;
-    }
-    return false;
-}
-
 /* What is known of a block, by the number of checks that every bit has met and the smallest bit, when bit k of it is
  * seen too, of whose n checks so many are broken. It is made of numbers: a record that came in whole would be copied
  * whole. */
@@ -5643,9 +5620,6 @@ static inline samples_raising_Low samples_raising_look(const float *samples, uin
         samples_raising_Low low)
 {
     if (m <= k) {
-        return low;
-    }
-    if (samples_raising_more_met(d, starts, from, n, low.met, k)) {
         return low;
     }
     return samples_raising_meet(samples, samples_len, n, samples_raising_broken_of(d, starts, from, n, k), first, k,
