@@ -363,6 +363,14 @@ typedef struct core_Option_ref_u8 {
     } as;
 } core_Option_ref_u8;
 
+enum { core_Option_u32_None = 0, core_Option_u32_Some = 1 };
+typedef struct core_Option_u32 {
+    uint8_t tag;
+    union {
+        struct { uint32_t field0; } Some;
+    } as;
+} core_Option_u32;
+
 enum { core_Result_u8_AllocError_Ok = 0, core_Result_u8_AllocError_Err = 1 };
 typedef struct core_Result_u8_AllocError {
     uint8_t tag;
@@ -1237,18 +1245,6 @@ typedef struct blocks_Result_unit_Faulty {
     } as;
 } blocks_Result_unit_Faulty;
 
-typedef struct blocks_ErrResidual_Faulty {
-    blocks_importing_Faulty field0;
-} blocks_ErrResidual_Faulty;
-
-enum { blocks_ControlFlow_ErrResidual_Faulty_unit_Continue = 0, blocks_ControlFlow_ErrResidual_Faulty_unit_Break = 1 };
-typedef struct blocks_ControlFlow_ErrResidual_Faulty_unit {
-    uint8_t tag;
-    union {
-        struct { blocks_ErrResidual_Faulty field0; } Break;
-    } as;
-} blocks_ControlFlow_ErrResidual_Faulty_unit;
-
 /* A record of C's: its number says whether the rest counts. */
 typedef pandoricchia_imported blocks_importing_Imported;
 
@@ -1435,29 +1431,47 @@ static inline blocks_Result_unit_Faulty blocks_importing_found(const uint8_t *bl
     return blocks_importing_first_fault(blocks, blocks_len / 512, &t);
 }
 
-static inline blocks_ControlFlow_ErrResidual_Faulty_unit blocks_ResultTry_branch_unit_Faulty(
-        blocks_Result_unit_Faulty p0)
+/* The place of what is at fault with some octets. So short an answer comes back in registers, and of two equal calls
+ * the compiler makes one: a program that asks for the room and then imports has its blocks looked through once. */
+static inline core_Option_u32 blocks_importing_place_at_fault(const uint8_t *blocks, uint64_t blocks_len)
 {
-    switch (p0.tag) {
+    blocks_Result_unit_Faulty t = blocks_importing_found(blocks, blocks_len);
+    switch (t.tag) {
     case blocks_Result_unit_Faulty_Ok:
-        return (blocks_ControlFlow_ErrResidual_Faulty_unit){.tag = blocks_ControlFlow_ErrResidual_Faulty_unit_Continue};
+        return (core_Option_u32){.tag = core_Option_u32_None};
     case blocks_Result_unit_Faulty_Err:
-    default:
-        return (blocks_ControlFlow_ErrResidual_Faulty_unit){.tag = blocks_ControlFlow_ErrResidual_Faulty_unit_Break,
-                .as.Break = {.field0 = (blocks_ErrResidual_Faulty){.field0 = p0.as.Err.field0}}};
+    default: {
+        blocks_importing_Faulty faulty = t.as.Err.field0;
+        return (core_Option_u32){.tag = core_Option_u32_Some, .as.Some = {.field0 = faulty.block}};
+    }
     }
 }
 
-static inline blocks_importing_Faulty blocks_AnyFrom_from_Faulty(blocks_importing_Faulty p0)
+/* What is at fault with some octets, where its place is known: the block there alone is looked at again. */
+static inline blocks_Result_unit_Faulty blocks_importing_fault_at(const uint8_t *blocks, uint64_t blocks_len,
+        uint32_t block)
 {
-    return p0;
-}
-
-static inline blocks_Result_unit_Faulty blocks_ResultFromResidualErrResidual_from_residual_unit(
-        blocks_ErrResidual_Faulty p0)
-{
-    return (blocks_Result_unit_Faulty){.tag = blocks_Result_unit_Faulty_Err,
-            .as.Err = {.field0 = blocks_AnyFrom_from_Faulty(p0.field0)}};
+    if (!blocks_importing_is_whole(blocks_len)) {
+        return (blocks_Result_unit_Faulty){.tag = blocks_Result_unit_Faulty_Err,
+                .as.Err = {.field0 = (blocks_importing_Faulty){.refusal = (
+                refusals_Refusal){.tag = refusals_Refusal_TooLong}, .block = 0}}};
+    }
+    uint64_t n = blocks_len / 512;
+    uint64_t place = block;
+    uint64_t at = place * 512;
+    blocks_framecheck_Remainders t;
+    blocks_framecheck_table(&t);
+    refusals_Result_unit_Refusal t2 = blocks_importing_fault(place, place + 1 == n, blocks + at, &t);
+    switch (t2.tag) {
+    case refusals_Result_unit_Refusal_Ok:
+        return (blocks_Result_unit_Faulty){.tag = blocks_Result_unit_Faulty_Ok};
+    case refusals_Result_unit_Refusal_Err:
+    default: {
+        refusals_Refusal refusal = t2.as.Err.field0;
+        return (blocks_Result_unit_Faulty){.tag = blocks_Result_unit_Faulty_Err,
+                .as.Err = {.field0 = (blocks_importing_Faulty){.refusal = refusal, .block = block}}};
+    }
+    }
 }
 
 /* How many octets are used in n blocks, all but the last of them full. */
@@ -1492,22 +1506,23 @@ static inline void blocks_importing_take_data(const uint8_t *blocks, uint64_t n,
 static inline blocks_Result_unit_Faulty blocks_importing_take_blocks(const uint8_t *blocks, uint64_t blocks_len,
         uint8_t *restrict out, uint64_t out_len)
 {
-    blocks_ControlFlow_ErrResidual_Faulty_unit t = blocks_ResultTry_branch_unit_Faulty(blocks_importing_found(blocks,
-            blocks_len));
+    core_Option_u32 t = blocks_importing_place_at_fault(blocks, blocks_len);
     switch (t.tag) {
-    case blocks_ControlFlow_ErrResidual_Faulty_unit_Continue:
-        break;
-    case blocks_ControlFlow_ErrResidual_Faulty_unit_Break:
-    default:
-        return blocks_ResultFromResidualErrResidual_from_residual_unit(t.as.Break.field0);
+    case core_Option_u32_Some: {
+        uint32_t block = t.as.Some.field0;
+        return blocks_importing_fault_at(blocks, blocks_len, block);
     }
-    uint64_t t2 = blocks_len / 512;
-    if (out_len != blocks_importing_room(blocks, t2)) {
+    case core_Option_u32_None:
+    default:
+        break;
+    }
+    uint64_t n = blocks_len / 512;
+    if (out_len != blocks_importing_room(blocks, n)) {
         return (blocks_Result_unit_Faulty){.tag = blocks_Result_unit_Faulty_Err,
                 .as.Err = {.field0 = (blocks_importing_Faulty){.refusal = (
                 refusals_Refusal){.tag = refusals_Refusal_OutputLength}, .block = 0}}};
     }
-    blocks_importing_take_data(blocks, t2, out);
+    blocks_importing_take_data(blocks, n, out);
     return (blocks_Result_unit_Faulty){.tag = blocks_Result_unit_Faulty_Ok};
 }
 
@@ -1532,10 +1547,10 @@ static inline blocks_importing_Imported blocks_importing_import_blocks(const uin
 /* The room that import needs, 0 where there is none. */
 static inline uint64_t blocks_importing_imported_octets(const uint8_t *blocks, uint64_t blocks_len)
 {
-    switch (blocks_importing_found(blocks, blocks_len).tag) {
-    case blocks_Result_unit_Faulty_Ok:
+    switch (blocks_importing_place_at_fault(blocks, blocks_len).tag) {
+    case core_Option_u32_None:
         return blocks_importing_room(blocks, blocks_len / 512);
-    case blocks_Result_unit_Faulty_Err:
+    case core_Option_u32_Some:
     default:
         return 0;
     }
@@ -6044,46 +6059,66 @@ static inline uint64_t telemetry_taker_skip(const uint8_t *part, uint64_t part_l
     return part_len;
 }
 
-/* The same where nothing is matched; else the next octet counts, whatever it is. */
+/* The next place from `from` on where another octet than the marker's first stands, or the end of the part. Each of
+ * those passed begins the marker anew. */
+static inline uint64_t telemetry_taker_skip_repeats(const uint8_t *part, uint64_t part_len, uint64_t from)
+{
+    uint64_t i = from;
+    uint64_t t = part_len;
+    while (i < t) {
+        if (part[i] != 26) {
+            return i;
+        }
+        i += 1;
+    }
+    return part_len;
+}
+
+/* The next place whose octet changes how much is matched. Behind two octets of the marker or three that is the next,
+ * whatever stands there. */
 static inline uint64_t telemetry_taker_jump(uint64_t m, const uint8_t *part, uint64_t part_len, uint64_t from)
 {
-    if (m == 0) {
+    switch (m) {
+    case 0:
         return telemetry_taker_skip(part, part_len, from);
+    case 1:
+        return telemetry_taker_skip_repeats(part, part_len, from);
+    default:
+        return from;
     }
-    return from;
 }
 
 /* The octets of the marker matched after one octet more. Only the marker's first octet begins one. */
 static inline uint64_t telemetry_taker_matched(uint64_t m, uint8_t octet)
 {
-    if (octet == 26) {
-        return 1;
-    }
-    uint8_t t = octet;
-    uint64_t t2 = m;
+    uint64_t t = m;
+    uint8_t t2 = octet;
     uint64_t t3;
     switch (t2) {
-    case 1:
+    case 26:
+        t3 = 1;
+        goto end;
+    case 207:
         switch (t) {
-        case 207:
+        case 1:
             t3 = 2;
             goto end;
         default:
             break;
         }
         break;
-    case 2:
+    case 252:
         switch (t) {
-        case 252:
+        case 2:
             t3 = 3;
             goto end;
         default:
             break;
         }
         break;
-    case 3:
+    case 29:
         switch (t) {
-        case 29:
+        case 3:
             t3 = 4;
             goto end;
         default:

@@ -102,6 +102,10 @@ module _ (blocks : List ℕ) (n k f : ℕ) (h : k < n) (is : f ≡ fault k (eqb 
   unfolding m
   here = is ∙ ap₂ (fault k) (eqb_iff (k + 1) n m 0 (λ e. omega arith) (λ e. omega arith)) (block_range k blocks)
 
+  pub fault_found : f ≡ fault k (eqb (n - suc k) 0) (block_at k blocks)
+  unfolding m
+  fault_found = here
+
   left : n - k ≡ suc m
   unfolding m
   left = omega arith
@@ -172,6 +176,61 @@ all_sound (suc n) place l e k h =
         onward z =
             let q : first_fault_of (suc n) place l ≡ first_fault_of n (suc place) (drop 512 l) = simp (eq-eqb f 0 z) in
             ap (λ (r : Fault). r.number) (sym q) ∙ e
+
+abbrev pub with_fault : ℕ → Bool → List ℕ → Fault
+with_fault place last b = record { number = fault place last b; block = place }
+
+-- a fault of so many blocks is that of the block at its place
+pub record Stands (n place : ℕ) (l : List ℕ) : Type 0 where
+  pub k : ℕ
+  pub inside : k < n
+  pub is : first_fault_of n place l ≡ with_fault (place + k) (eqb (n - suc k) 0) (block_at k l)
+
+pub fault_stands : (n place : ℕ) (l : List ℕ) → ((first_fault_of n place l).number ≡ 0 → ⊥) → Stands n place l
+unfolding first_fault_of
+fault_stands zero place l d = absurd (d refl)
+fault_stands (suc n) place l d = go (ℕ_discrete f 0) (λ z. fault_stands n (suc place) (drop 512 l) z)
+  where
+    f : ℕ
+    f = fault place (eqb n 0) (take 512 l)
+
+    only : n ≡ suc n - suc 0
+    only = omega arith
+
+    go : Dec (f ≡ 0) → (((first_fault_of n (suc place) (drop 512 l)).number ≡ 0 → ⊥) → Stands n (suc place) (drop 512 l))
+        → Stands (suc n) place l
+    go (no d') ih =
+        let q : first_fault_of (suc n) place l ≡ with_fault place (eqb n 0) (take 512 l) = simp (ne_eqb f 0 d') in
+        record {
+          k = 0;
+          inside = omega arith;
+          is = q ∙ ap₂ (λ p z. with_fault p (eqb z 0) (take 512 l)) (sym (add-zero place)) only;
+        }
+    go (yes z) ih =
+        let q : first_fault_of (suc n) place l ≡ first_fault_of n (suc place) (drop 512 l) = simp (eq-eqb f 0 z) in
+        further q (ih (λ e. d (ap (λ (r : Fault). r.number) q ∙ e)))
+      where
+        further : first_fault_of (suc n) place l ≡ first_fault_of n (suc place) (drop 512 l) → Stands n (suc place) (drop 512 l)
+            → Stands (suc n) place l
+        further q s = record { k = suc s.k; inside = omega (arith, s.inside); is = q ∙ s.is ∙ ap₂ numbered at least ∙ ap read rest }
+          where
+            numbered : ℕ → ℕ → Fault
+            numbered p t = with_fault p (eqb t 0) (block_at s.k (drop 512 l))
+
+            read : List ℕ → Fault
+            read b = with_fault (place + suc s.k) (eqb (suc n - suc (suc s.k)) 0) (take 512 b)
+
+            at : suc place + s.k ≡ place + suc s.k
+            at = suc-add place s.k ∙ sym (add-suc place s.k)
+
+            least : n - suc s.k ≡ suc n - suc (suc s.k)
+            least = omega arith
+
+            more : 512 + 512 * s.k ≡ 512 * suc s.k
+            more = omega arith
+
+            rest : drop (512 * s.k) (drop 512 l) ≡ drop (512 * suc s.k) l
+            rest = drop-drop (512 * s.k) 512 l ∙ ap (λ w. drop w l) more
 
 -- ---- the used octets
 

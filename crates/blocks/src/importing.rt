@@ -1,10 +1,10 @@
 // Recordings from blocks. Each call takes any octets; what it refuses it refuses by number, and writes nothing.
-ghost use Rattle.std.specs.Prelude.{◌≡◌, ◌+◌, ◌*◌, ◌≤◌, ◌<◌, length};
+ghost use Rattle.std.specs.Prelude.{◌≡◌, ◌+◌, ◌*◌, ◌≤◌, ◌<◌, length, Some};
 ghost use Rattle.blocks.specs.framecheck.FrameCheck.{sound};
 ghost use Rattle.blocks.specs.Blocks.{number_in, used_in, count_right_of, clear as clear_of, filling_in, fault as fault_of, first_fault_of};
 ghost use Rattle.blocks.specs.Blocks.{imported as imported_of, whole_blocks, import_answer, import_room};
 ghost use Rattle.refusals.specs.Numbers.{number_in as refused_in};
-ghost use Rattle.blocks.specs.importing.Answers.{as_faulty, as_taken, as_imported, found_in};
+ghost use Rattle.blocks.specs.importing.Answers.{as_faulty, as_taken, as_imported, found_in, place_of};
 
 use super::framecheck;
 use super::framecheck::Remainders;
@@ -139,6 +139,39 @@ fn found(blocks: &[u8]) -> Result<(), Faulty>
     first_fault(blocks, blocks.len() / 512, &t)
 }
 
+// The place of what is at fault with some octets. So short an answer comes back in registers, and of two equal calls the compiler makes
+// one: a program that asks for the room and then imports has its blocks looked through once.
+fn place_at_fault(blocks: &[u8]) -> Option<u32>
+    ensures { result ≡ place_of (found_in blocks.now) }
+{
+    match found(blocks) {
+        Ok(()) => None,
+        Err(faulty) => Some(faulty.block),
+    }
+}
+
+// What is at fault with some octets, where its place is known: the block there alone is looked at again.
+fn fault_at(blocks: &[u8], block: u32) -> Result<(), Faulty>
+    requires { Some block ≡ place_of (found_in blocks.now) }
+    ensures { as_faulty result ≡ found_in blocks.now }
+{
+    if !is_whole(blocks.len()) {
+        return Err(Faulty {
+            refusal: Refusal::TooLong,
+            block: 0,
+        });
+    }
+    let n = blocks.len() / 512;
+    let place = block as usize;
+    let at = place * 512;
+    let past = at + 512;
+    let t = framecheck::table();
+    match fault(place, place + 1 == n, &blocks[at..past], &t) {
+        Ok(()) => Ok(()),
+        Err(refusal) => Err(Faulty { refusal, block }),
+    }
+}
+
 // How many octets are used in n blocks, all but the last of them full.
 fn room(blocks: &[u8], n: usize) -> usize
     requires { (length blocks.now ≡ 512 * n) × (n ≤ 128) × ((first_fault_of n 0 blocks.now).number ≡ 0) }
@@ -175,7 +208,9 @@ fn take_data(blocks: &[u8], n: usize, out: &mut [u8])
 fn take_blocks(blocks: &[u8], out: &mut [u8]) -> Result<(), Faulty>
     ensures { as_taken result out.new ≡ import_answer blocks.now out.old }
 {
-    found(blocks)?;
+    if let Some(block) = place_at_fault(blocks) {
+        return fault_at(blocks, block);
+    }
     let n = blocks.len() / 512;
     if out.len() != room(blocks, n) {
         return Err(Faulty {
@@ -211,8 +246,8 @@ pub fn import_blocks(blocks: &[u8], out: &mut [u8]) -> Imported
 pub fn imported_octets(blocks: &[u8]) -> usize
     ensures { result ≡ import_room blocks.now }
 {
-    match found(blocks) {
-        Ok(()) => room(blocks, blocks.len() / 512),
-        Err(_) => 0,
+    match place_at_fault(blocks) {
+        None => room(blocks, blocks.len() / 512),
+        Some(_) => 0,
     }
 }

@@ -68,11 +68,8 @@ fn matched(m: usize, octet: u8) -> usize
     requires { m < 4 }
     ensures { (result ≡ matched_by m octet) × (result ≤ 4) }
 {
-    // The marker's first octet counts at any place, and is asked for first, so that many of them are passed quickly.
-    if octet == 0x1A {
-        return 1;
-    }
     match (m, octet) {
+        (_, 0x1A) => 1,
         (1, 0xCF) => 2,
         (2, 0xFC) => 3,
         (3, 0x1D) => 4,
@@ -94,13 +91,32 @@ fn skip(part: &[u8], from: usize) -> usize
     part.len()
 }
 
-// The same where nothing is matched; else the next octet counts, whatever it is.
+// The next place from `from` on where another octet than the marker's first stands, or the end of the part. Each of those passed begins
+// the marker anew.
+fn skip_repeats(part: &[u8], from: usize) -> usize
+    requires { from ≤ length part.now }
+    ensures lower_bound { (from ≤ result) × (result ≤ length part.now) }
+    ensures goes_on { GoesOn part.now from 1 result 1 }
+{
+    for i in from..part.len() {
+        if part[i] != 0x1A {
+            return i;
+        }
+    }
+    part.len()
+}
+
+// The next place whose octet changes how much is matched. Behind two octets of the marker or three that is the next, whatever stands there.
 fn jump(m: usize, part: &[u8], from: usize) -> usize
     requires { from ≤ length part.now }
     ensures lower_bound { (from ≤ result) × (result ≤ length part.now) }
     ensures goes_on { GoesOn part.now from m result m }
 {
-    if m == 0 { skip(part, from) } else { from }
+    match m {
+        0 => skip(part, from),
+        1 => skip_repeats(part, from),
+        _ => from,
+    }
 }
 
 // Searches a part until the marker is whole or the part is used up. A taker that holds octets of a word searches nothing.
@@ -114,7 +130,7 @@ fn search(place: usize, part: &[u8]) -> Searched
     }
     let mut m = place;
     let mut i = jump(m, part, 0);
-    // no `for`: a jump passes over octets that begin no marker
+    // no `for`: a jump passes over octets that change nothing
     while i < part.len() {
         m = matched(m, part[i]);
         if m > 3 {
