@@ -91,7 +91,16 @@ fn skip(part: &[u8], from: usize) -> usize
     part.len()
 }
 
-// The next place from `from` on where another octet than the marker's first stands, or the end of the part. Each of those passed begins
+// The same where nothing is matched; else the next octet counts, whatever it is.
+fn jump(m: usize, part: &[u8], from: usize) -> usize
+    requires { from ≤ length part.now }
+    ensures lower_bound { (from ≤ result) × (result ≤ length part.now) }
+    ensures goes_on { GoesOn part.now from m result m }
+{
+    if m == 0 { skip(part, from) } else { from }
+}
+
+// The next place from `from` on where another octet than the marker's first stands, or the end of the part: each that is passed begins
 // the marker anew.
 fn skip_repeats(part: &[u8], from: usize) -> usize
     requires { from ≤ length part.now }
@@ -106,19 +115,6 @@ fn skip_repeats(part: &[u8], from: usize) -> usize
     part.len()
 }
 
-// The next place whose octet changes how much is matched. Behind two octets of the marker or three that is the next, whatever stands there.
-fn jump(m: usize, part: &[u8], from: usize) -> usize
-    requires { from ≤ length part.now }
-    ensures lower_bound { (from ≤ result) × (result ≤ length part.now) }
-    ensures goes_on { GoesOn part.now from m result m }
-{
-    match m {
-        0 => skip(part, from),
-        1 => skip_repeats(part, from),
-        _ => from,
-    }
-}
-
 // Searches a part until the marker is whole or the part is used up. A taker that holds octets of a word searches nothing.
 fn search(place: usize, part: &[u8]) -> Searched
     requires { place < 1024 }
@@ -130,16 +126,21 @@ fn search(place: usize, part: &[u8]) -> Searched
     }
     let mut m = place;
     let mut i = jump(m, part, 0);
-    // no `for`: a jump passes over octets that change nothing
+    // no `for`: octets that change nothing are passed over
     while i < part.len() {
-        m = matched(m, part[i]);
-        if m > 3 {
+        let next = matched(m, part[i]);
+        if next > 3 {
             return Searched {
-                place: m,
+                place: next,
                 at: i + 1,
             };
         }
-        i = jump(m, part, i + 1);
+        i = if m == 1 && next == 1 {
+            skip_repeats(part, i + 1)
+        } else {
+            jump(next, part, i + 1)
+        };
+        m = next;
     }
     Searched { place: m, at: i }
 }
