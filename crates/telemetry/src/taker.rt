@@ -13,6 +13,9 @@ use flipping::endings;
 use flipping::endings::Corrected;
 use refusals::Refusal;
 
+// The marker (CCSDS: the attached sync marker, ASM).
+const MARKER: [u8; 4] = [0x1A, 0xCF, 0xFC, 0x1D];
+
 // A taker between two parts: its place (octets of the marker matched, or 4 and the octets held of the word), what it was told, the octets.
 #[repr(C)]
 #[derive(Drop)]
@@ -68,13 +71,11 @@ fn matched(m: usize, octet: u8) -> usize
     requires { m < 4 }
     ensures { (result ≡ matched_by m octet) × (result ≤ 4) }
 {
-    match (m, octet) {
-        (_, 0x1A) => 1,
-        (1, 0xCF) => 2,
-        (2, 0xFC) => 3,
-        (3, 0x1D) => 4,
-        _ => 0,
+    // its first octet counts at any place, and is asked for first, so that many of them are passed quickly
+    if octet == 0x1A {
+        return 1;
     }
+    if octet == MARKER[m] { m + 1 } else { 0 }
 }
 
 // The next place from `from` on where the marker's first octet stands, or the end of the part.
@@ -100,21 +101,6 @@ fn jump(m: usize, part: &[u8], from: usize) -> usize
     if m == 0 { skip(part, from) } else { from }
 }
 
-// The next place from `from` on where another octet than the marker's first stands, or the end of the part: each that is passed begins
-// the marker anew.
-fn skip_repeats(part: &[u8], from: usize) -> usize
-    requires { from ≤ length part.now }
-    ensures lower_bound { (from ≤ result) × (result ≤ length part.now) }
-    ensures goes_on { GoesOn part.now from 1 result 1 }
-{
-    for i in from..part.len() {
-        if part[i] != 0x1A {
-            return i;
-        }
-    }
-    part.len()
-}
-
 // Searches a part until the marker is whole or the part is used up. A taker that holds octets of a word searches nothing.
 fn search(place: usize, part: &[u8]) -> Searched
     requires { place < 1024 }
@@ -126,21 +112,16 @@ fn search(place: usize, part: &[u8]) -> Searched
     }
     let mut m = place;
     let mut i = jump(m, part, 0);
-    // no `for`: octets that change nothing are passed over
+    // no `for`: a jump passes over octets that begin no marker
     while i < part.len() {
-        let next = matched(m, part[i]);
-        if next > 3 {
+        m = matched(m, part[i]);
+        if m > 3 {
             return Searched {
-                place: next,
+                place: m,
                 at: i + 1,
             };
         }
-        i = if m == 1 && next == 1 {
-            skip_repeats(part, i + 1)
-        } else {
-            jump(next, part, i + 1)
-        };
-        m = next;
+        i = jump(m, part, i + 1);
     }
     Searched { place: m, at: i }
 }

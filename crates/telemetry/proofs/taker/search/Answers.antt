@@ -1,5 +1,5 @@
 -- `taker::search`: a call on the whole part goes on as a call on the rest. Assumes nothing.
-use mathlib.Core.Path.{◌≡◌, refl, sym, ap, ap₂, ◌∙◌, subst}
+use mathlib.Core.Path.{◌≡◌, refl, sym, ap, ap₂, ◌∙◌}
 use mathlib.Core.List.{List}
 use Prim.Native.Nat.{ℕ, suc, ◌+◌, ◌<◌}
 use native.Mathlib.Numerals.{add-one}
@@ -23,11 +23,11 @@ returns-then-place-gt3 c = record { place_bound = (c.requires, omega arith, λ f
 pub loop-i-init : goal.loop-i-init
 loop-i-init c = (c.jump-i.ensures.lower_bound.1, omega arith, c.jump-i.ensures.goes_on)
 
-pub returns-then-next-gt3 : goal.returns-then-next-gt3
-returns-then-next-gt3 c =
+pub returns-then-m-gt3 : goal.returns-then-m-gt3
+returns-then-m-gt3 c =
     let part = c.args.part.now in
     let h = c.loop-i in
-    let k = c.matched-next in
+    let k = c.matched-m in
     record {
       place_bound = (omega (arith, k.ensures.1), omega arith, λ few. absurd (omega arith));
       goes_on = λ told octets. h.invariant.2 told octets
@@ -35,35 +35,20 @@ returns-then-next-gt3 c =
     }
 
 pub loop-i-smaller : goal.loop-i-smaller
-loop-i-smaller c = omega (arith, c.jump-i-else-m-eq1.ensures.lower_bound.0)
+loop-i-smaller c = omega (arith, c.jump-i-in-loop-i.ensures.lower_bound.0)
 
 pub loop-i-preserved : goal.loop-i-preserved
 loop-i-preserved c =
     let part = c.args.part.now in
     let h = c.loop-i in
-    let k = c.matched-next in
-    let j = c.jump-i-else-m-eq1.ensures in (
+    let k = c.matched-m in
+    let j = c.jump-i-in-loop-i.ensures in (
       j.lower_bound.1,
       omega arith,
       λ told octets.
           h.invariant.2 told octets
           ∙ one-octet part h.i h.m k.result (omega arith) h.invariant.1 k.ensures.0 told octets
           ∙ j.goes_on told octets,
-    )
-
-pub loop-i-preserved-then-next-eq1 : goal.loop-i-preserved-then-next-eq1
-loop-i-preserved-then-next-eq1 c =
-    let part = c.args.part.now in
-    let h = c.loop-i in
-    let k = c.matched-next in
-    let j = c.skip_repeats-i.ensures in
-    let one : k.result ≡ 1 = c.if-next-eq1.true in (
-      j.lower_bound.1,
-      omega arith,
-      λ told octets.
-          h.invariant.2 told octets
-          ∙ one-octet part h.i h.m k.result (omega arith) h.invariant.1 k.ensures.0 told octets
-          ∙ subst (λ m. GoesOn part (h.i + 1) m c.skip_repeats-i.result m) (sym one) j.goes_on told octets,
     )
 
 pub returns : goal.returns
