@@ -5981,6 +5981,11 @@ typedef struct telemetry_taker_Searched {
  * record of C's: `complete` says whether the numbers and the word count. */
 typedef pandoricchia_taken telemetry_taker_Taken;
 
+/* The marker (CCSDS: the attached sync marker, ASM). */
+static const uint8_t telemetry_taker_MARKER[4] = {
+    26, 207, 252, 29,
+};
+
 /* The first octets of the second sequence. Octet i is the sum of those 24 and 136 places before it. */
 static const uint8_t telemetry_sequences_START[136] = {
     28, 113, 185, 27, 169, 186, 132, 87, 180, 188, 80, 84, 191, 208, 85, 64, 47, 73, 49, 150, 82, 152, 44, 214, 207,
@@ -6059,78 +6064,25 @@ static inline uint64_t telemetry_taker_skip(const uint8_t *part, uint64_t part_l
     return part_len;
 }
 
-/* The next place from `from` on where another octet than the marker's first stands, or the end of the part. Each of
- * those passed begins the marker anew. */
-static inline uint64_t telemetry_taker_skip_repeats(const uint8_t *part, uint64_t part_len, uint64_t from)
-{
-    uint64_t i = from;
-    uint64_t t = part_len;
-    while (i < t) {
-        if (part[i] != 26) {
-            return i;
-        }
-        i += 1;
-    }
-    return part_len;
-}
-
-/* The next place whose octet changes how much is matched. Behind two octets of the marker or three that is the next,
- * whatever stands there. */
+/* The same where nothing is matched; else the next octet counts, whatever it is. */
 static inline uint64_t telemetry_taker_jump(uint64_t m, const uint8_t *part, uint64_t part_len, uint64_t from)
 {
-    switch (m) {
-    case 0:
+    if (m == 0) {
         return telemetry_taker_skip(part, part_len, from);
-    case 1:
-        return telemetry_taker_skip_repeats(part, part_len, from);
-    default:
-        return from;
     }
+    return from;
 }
 
 /* The octets of the marker matched after one octet more. Only the marker's first octet begins one. */
 static inline uint64_t telemetry_taker_matched(uint64_t m, uint8_t octet)
 {
-    uint64_t t = m;
-    uint8_t t2 = octet;
-    uint64_t t3;
-    switch (t2) {
-    case 26:
-        t3 = 1;
-        goto end;
-    case 207:
-        switch (t) {
-        case 1:
-            t3 = 2;
-            goto end;
-        default:
-            break;
-        }
-        break;
-    case 252:
-        switch (t) {
-        case 2:
-            t3 = 3;
-            goto end;
-        default:
-            break;
-        }
-        break;
-    case 29:
-        switch (t) {
-        case 3:
-            t3 = 4;
-            goto end;
-        default:
-            break;
-        }
-        break;
-    default:
-        break;
+    if (octet == 26) {
+        return 1;
     }
-    t3 = 0;
-    end:;
-    return t3;
+    if (octet == telemetry_taker_MARKER[m]) {
+        return m + 1;
+    }
+    return 0;
 }
 
 /* Searches a part until the marker is whole or the part is used up. A taker that holds octets of a word searches
