@@ -1432,7 +1432,8 @@ static inline blocks_Result_unit_Faulty blocks_importing_found(const uint8_t *bl
 }
 
 /* The place of what is at fault with some octets. So short an answer comes back in registers, and of two equal calls
- * the compiler makes one: a program that asks for the room and then imports has its blocks looked through once. */
+ * the compiler may make one: so `fromblocks`, which asks for the room and then imports, looks through its blocks
+ * once. */
 static inline core_Option_u32 blocks_importing_place_at_fault(const uint8_t *blocks, uint64_t blocks_len)
 {
     blocks_Result_unit_Faulty t = blocks_importing_found(blocks, blocks_len);
@@ -1447,7 +1448,8 @@ static inline core_Option_u32 blocks_importing_place_at_fault(const uint8_t *blo
     }
 }
 
-/* What is at fault with some octets, where its place is known: the block there alone is looked at again. */
+/* What is at fault with some octets, where its place is known: the block there alone is looked at again. It is not
+ * inlined, so that its table and that of the first look never take stack together. */
 static inline blocks_Result_unit_Faulty blocks_importing_fault_at(const uint8_t *blocks, uint64_t blocks_len,
         uint32_t block)
 {

@@ -139,8 +139,8 @@ fn found(blocks: &[u8]) -> Result<(), Faulty>
     first_fault(blocks, blocks.len() / 512, &t)
 }
 
-// The place of what is at fault with some octets. So short an answer comes back in registers, and of two equal calls the compiler makes
-// one: a program that asks for the room and then imports has its blocks looked through once.
+// The place of what is at fault with some octets. So short an answer comes back in registers, and of two equal calls the compiler may
+// make one: so `fromblocks`, which asks for the room and then imports, looks through its blocks once.
 fn place_at_fault(blocks: &[u8]) -> Option<u32>
     ensures { result ≡ place_of (found_in blocks.now) }
 {
@@ -150,7 +150,9 @@ fn place_at_fault(blocks: &[u8]) -> Option<u32>
     }
 }
 
-// What is at fault with some octets, where its place is known: the block there alone is looked at again.
+// What is at fault with some octets, where its place is known: the block there alone is looked at again. It is not inlined, so that its
+// table and that of the first look never take stack together.
+#[inline(never)]
 fn fault_at(blocks: &[u8], block: u32) -> Result<(), Faulty>
     requires { Some block ≡ place_of (found_in blocks.now) }
     ensures { as_faulty result ≡ found_in blocks.now }
